@@ -1,0 +1,4 @@
+//! Policies of registries, their ranges of values, and the evidence that an assignment asks for.
+#![tactic(auto)]
+
+pub mod text;
