@@ -1,0 +1,4 @@
+pub mod Names
+pub mod Capability
+pub mod Ask
+pub mod Command
