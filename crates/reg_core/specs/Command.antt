@@ -1,5 +1,5 @@
 -- Whose commands they are.
-use Rattle.std.specs.Prelude.{Option, Some, Bool, true, ◌&&◌}
+use Rattle.std.specs.Prelude.{Bool, true, ◌&&◌}
 use Rattle.reg_core.specs.Names.{is_name, is_token}
 use Rattle.reg_core.specs.Ask.{has_ask_form}
 use Rattle.reg_core.specs.Capability.{has_cap_form}
@@ -8,13 +8,13 @@ use Rattle.reg_core.specs.declared.capability.Kind.TheVariants.{Applicant, Clerk
 use Rattle.reg_core.specs.declared.command.Command.{Command}
 use Rattle.reg_core.specs.declared.command.Command.TheVariants.{Own, OwnOne, Submit, Grant, Revoke}
 
--- the kind of capability that a command needs; a public one needs none
-abbrev pub kind_of : Command → Option Kind
-kind_of Own = Some Applicant
-kind_of (OwnOne reference) = Some Applicant
-kind_of (Submit reference ask) = Some Applicant
-kind_of (Grant token cap) = Some Clerk
-kind_of (Revoke token) = Some Clerk
+-- the kind of capability that a command needs
+abbrev pub kind_of : Command → Kind
+kind_of Own = Applicant
+kind_of (OwnOne reference) = Applicant
+kind_of (Submit reference ask) = Applicant
+kind_of (Grant token cap) = Clerk
+kind_of (Revoke token) = Clerk
 
 -- its texts and numbers have their forms
 abbrev pub has_command_form : Command → Bool

@@ -22,13 +22,13 @@ pub enum Command {
 }
 
 impl Command {
-    /// Whose command it is: the kind of capability that it needs, or none where it is public.
-    pub fn kind(&self) -> Option<Kind>
+    /// Whose command it is: the kind of capability that it needs.
+    pub fn kind(&self) -> Kind
         ensures { result ≡ kind_of self.now }
     {
         match self {
-            Command::Own | Command::OwnOne(_) | Command::Submit(_, _) => Some(Kind::Applicant),
-            Command::Grant(_, _) | Command::Revoke(_) => Some(Kind::Clerk),
+            Command::Own | Command::OwnOne(_) | Command::Submit(_, _) => Kind::Applicant,
+            Command::Grant(_, _) | Command::Revoke(_) => Kind::Clerk,
         }
     }
 }

@@ -6,6 +6,7 @@ pub mod ask;
 pub mod capability;
 pub mod change;
 pub mod command;
+pub mod decide;
 pub mod refusal;
 pub mod reply;
 pub mod request;
