@@ -1,1 +1,4 @@
 pub mod MapLaws
+pub mod Sameness
+pub mod Stepping
+pub mod Fitting

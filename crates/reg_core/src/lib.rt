@@ -7,6 +7,7 @@ pub mod capability;
 pub mod change;
 pub mod command;
 pub mod decide;
+pub mod laws;
 pub mod refusal;
 pub mod reply;
 pub mod request;

@@ -1,0 +1,18 @@
+//! Laws of the office, as the contracts of functions that do nothing. Each holds for every function that
+//! gives tokens their digests.
+ghost use Rattle.std.specs.Prelude.{List, ℕ};
+ghost use Rattle.reg_core.specs.Ask.{same_ask};
+ghost use Rattle.reg_core.specs.Capability.{same_cap, same_kind};
+ghost use Rattle.reg_core.specs.Laws.{AnswersAreDone, ChangesFit, DecidesSame, FirstWorldsAreWellKept, GivesDigests, RefusalsChangeNothing, RepeatsActOnce, RunsKeepWell, TwoWorlds};
+
+/// A refusal changes nothing.
+pub fn refusals_change_nothing()
+    ensures { (digest_of : List ℕ → List ℕ) → RefusalsChangeNothing digest_of }
+{}
+
+/// The tests of sameness by which repeats are told from other commands decide equality.
+pub fn sameness_is_decided()
+    ensures asks { DecidesSame same_ask }
+    ensures capabilities { DecidesSame same_cap }
+    ensures kinds { DecidesSame same_kind }
+{}
