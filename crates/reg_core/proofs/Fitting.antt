@@ -1,7 +1,7 @@
 -- Each rule's change fits the world over whose rows it was decided.
-use Rattle.std.proofs.Common.{◌≡◌, ℕ, Bool, true, false, ◌&&◌, List, refl, sym, ap, subst, ◌∙◌}
+use Rattle.std.proofs.Common.{◌≡◌, ℕ, Bool, true, false, List, refl, subst}
 use Rattle.std.specs.Prelude.{Option, Some, None, Result, Ok, Err, is_some, if◌then◌else◌}
-use Rattle.std.specs.FinMap.{FinMap, get}
+use Rattle.std.specs.FinMap.{get}
 use Rattle.reg_core.specs.Ask.{same_ask}
 use Rattle.reg_core.specs.Capability.{same_cap}
 use Rattle.reg_core.specs.Maps.{same_text}
@@ -12,7 +12,6 @@ use Rattle.reg_core.specs.declared.ask.Ask.{Ask}
 use Rattle.reg_core.specs.declared.capability.Cap.{Cap}
 use Rattle.reg_core.specs.declared.change.Change.{Change}
 use Rattle.reg_core.specs.declared.change.Change.TheVariants.{Grant, Revoke, Submit}
-use Rattle.reg_core.specs.declared.decide.Decision.{Decision}
 use Rattle.reg_core.specs.declared.decide.Decision.TheVariants.{Make, Same}
 use Rattle.reg_core.specs.declared.refusal.Refusal.{Refusal}
 use Rattle.reg_core.specs.declared.refusal.Refusal.TheVariants.{Ref, Own, Exists}

@@ -1,0 +1,12 @@
+//! The office: tokens and their digests, and one command at a time over whatever keeps its content.
+#![tactic(auto)]
+
+mod applicant;
+mod carrying;
+mod clerk;
+mod digest;
+mod found;
+mod office;
+
+pub use found::FoundFault;
+pub use office::Office;
