@@ -2,3 +2,4 @@ pub mod MapLaws
 pub mod Sameness
 pub mod Stepping
 pub mod Fitting
+pub mod Isolation

@@ -5,6 +5,12 @@ ghost use Rattle.reg_core.specs.Ask.{same_ask};
 ghost use Rattle.reg_core.specs.Capability.{same_cap, same_kind};
 ghost use Rattle.reg_core.specs.Laws.{AnswersAreDone, ChangesFit, DecidesSame, FirstWorldsAreWellKept, GivesDigests, RefusalsChangeNothing, RepeatsActOnce, RunsKeepWell, TwoWorlds};
 
+/// Isolation: two well kept worlds that show a caller who is no clerk the same view answer its command
+/// alike, and then show it the same view again.
+pub fn two_worlds()
+    ensures { (digest_of : List ℕ → List ℕ) → TwoWorlds digest_of }
+{}
+
 /// A refusal changes nothing.
 pub fn refusals_change_nothing()
     ensures { (digest_of : List ℕ → List ℕ) → RefusalsChangeNothing digest_of }
