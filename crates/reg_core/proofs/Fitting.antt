@@ -21,7 +21,7 @@ use Rattle.reg_core.proofs.MapLaws.{text_keys, name_keys, insert_keeps, remove_k
 
 -- ---- The changes
 
-can_grant : (w : World) (digest : List ℕ) (cap : Cap) → WellKept w → has_grant_form digest cap ≡ true → get w.caps digest ≡ None → CanApply w (Grant digest cap)
+pub can_grant : (w : World) (digest : List ℕ) (cap : Cap) → WellKept w → has_grant_form digest cap ≡ true → get w.caps digest ≡ None → CanApply w (Grant digest cap)
 can_grant w digest cap kept form free = (
   free,
   record {

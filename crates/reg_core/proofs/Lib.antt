@@ -3,3 +3,4 @@ pub mod Sameness
 pub mod Stepping
 pub mod Fitting
 pub mod Isolation
+pub mod Keeping

@@ -11,9 +11,24 @@ pub fn two_worlds()
     ensures { (digest_of : List ℕ → List ℕ) → TwoWorlds digest_of }
 {}
 
+/// What a step changes is new to the world that it changes, and leaves it well kept.
+pub fn changes_fit()
+    ensures { (digest_of : List ℕ → List ℕ) → GivesDigests digest_of → ChangesFit digest_of }
+{}
+
+/// Every run from a well kept world ends in a well kept world.
+pub fn runs_keep_well()
+    ensures { (digest_of : List ℕ → List ℕ) → GivesDigests digest_of → RunsKeepWell digest_of }
+{}
+
 /// A refusal changes nothing.
 pub fn refusals_change_nothing()
     ensures { (digest_of : List ℕ → List ℕ) → RefusalsChangeNothing digest_of }
+{}
+
+/// The empty world is well kept, and so is that of a new office with its first clerk.
+pub fn first_worlds_are_well_kept()
+    ensures { FirstWorldsAreWellKept }
 {}
 
 /// The tests of sameness by which repeats are told from other commands decide equality.
