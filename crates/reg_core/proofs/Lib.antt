@@ -1,5 +1,6 @@
 pub mod MapLaws
 pub mod Sameness
+pub mod Deciding
 pub mod Stepping
 pub mod Fitting
 pub mod Isolation
