@@ -15,12 +15,8 @@ use Rattle.reg_core.specs.declared.decide.Decision.TheVariants.{Make, Same}
 use Rattle.reg_core.specs.declared.refusal.Refusal.{Refusal}
 use Rattle.reg_core.specs.declared.refusal.Refusal.TheVariants.{Ref, Own, Exists}
 use Rattle.reg_core.specs.declared.request.Filing.{Filing}
+use Rattle.reg_core.proofs.Cases.{by_test}
 use Rattle.reg_core.proofs.Sameness.{same_cap-is, same_ask-is}
-
--- a decision that goes by a test has one of two outcomes
-by_test : {A : Type 0} (P : A → Type 0) (b : Bool) (x y : A) → (b ≡ true → P x) → (b ≡ false → P y) → P (if b then x else y)
-by_test P true x y f g = f refl
-by_test P false x y f g = g refl
 
 -- ---- Grants
 

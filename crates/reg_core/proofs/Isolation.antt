@@ -26,6 +26,7 @@ use Rattle.reg_core.specs.declared.refusal.Refusal.{Refusal}
 use Rattle.reg_core.specs.declared.refusal.Refusal.TheVariants as no
 use Rattle.reg_core.specs.declared.reply.Reply.TheVariants as reply
 use Rattle.reg_core.specs.declared.request.Filing.{Filing}
+use Rattle.reg_core.proofs.Answering.{answer_by}
 use Rattle.reg_core.proofs.MapLaws.{name_keys, select-insert_same}
 
 -- ---- What a caller who is no clerk may change
@@ -57,24 +58,16 @@ own_answer-own p account my (SubmitIt reference ask) = submit-own (allowed p acc
 own_answer-own p account my (GrantIt token cap) = tt
 own_answer-own p account my (RevokeIt token) = tt
 
-answer_me-own : (p : Published) (found : Option (Cap × Personal)) (moment : ℕ) (command : Command) → IfSome (answer_me p found moment command).change (IsOwnIn found)
-answer_me-own p None moment command = tt
-answer_me-own p (Some me) moment command = where_admitted (admitted (Some me.0) moment (kind_of command))
-  where
-    mine : (change : Option Change) → IfSome change (IsOwn me.0.account me.1) → IfSome change (IsOwnIn (Some me))
-    mine None h = tt
-    mine (Some change) h = (me, refl, h)
+mine : (found : Option (Cap × Personal)) (me : Cap × Personal) → found ≡ Some me → (change : Option Change) → IfSome change (IsOwn me.0.account me.1) → IfSome change (IsOwnIn found)
+mine found me is None h = tt
+mine found me is (Some change) h = (me, is, h)
 
-    where_admitted : (outcome : Result Cap Refusal) → IfSome (if_admitted outcome (own_answer p me.0.account me.1 command)).change (IsOwnIn (Some me))
-    where_admitted (Err refusal) = tt
-    where_admitted (Ok cap) = mine (own_answer p me.0.account me.1 command).change (own_answer-own p me.0.account me.1 command)
-
-answer-own : (v : View) (moment : ℕ) (command : Command) → IfSome (answer v moment command).change (IsOwnIn v.me)
-answer-own v moment command =
-    elim (is_moment moment) as (λ b. IfSome (if b then answer_me v.published v.me moment command else refused no.Clock).change (IsOwnIn v.me)) [
-      | true ↦ answer_me-own v.published v.me moment command
-      | false ↦ tt
-    ]
+answer-own : (w : World) (caller : Option (List ℕ)) (moment : ℕ) (command : Command) → IfSome (answer (view_of w caller) moment command).change (IsOwnIn (view_of w caller).me)
+answer-own w caller moment command =
+    answer_by (λ a. IfSome a.change (IsOwnIn (view_of w caller).me)) (λ refusal. tt) w moment command caller (λ cap serves.
+    let own = own_answer (published w) cap.account (personal cap.account w) command in
+    mine (view_of w caller).me (with_personal w cap) (ap (option_map (with_personal w)) serves.found_it) own.change
+    (own_answer-own (published w) cap.account (personal cap.account w) command))
 
 -- ---- What two worlds share after such a change
 
@@ -156,7 +149,7 @@ module _ (digest_of : List ℕ → List ℕ) where
       record {
         replies = ap (λ (a : Answer). a.reply) in_w ∙ ap (λ x. (answer x moment command).reply) same ∙ sym (ap (λ (a : Answer). a.reply) in_v);
         views = ap (λ (a : Answer). view_of (applied_if w a.change) caller) in_w
-            ∙ views_after w v caller kept_w kept_v same (answer (view_of w caller) moment command).change (answer-own (view_of w caller) moment command)
+            ∙ views_after w v caller kept_w kept_v same (answer (view_of w caller) moment command).change (answer-own w caller moment command)
             ∙ ap (λ x. view_of (applied_if v (answer x moment command).change) caller) same
             ∙ sym (ap (λ (a : Answer). view_of (applied_if v a.change) caller) in_v);
       }

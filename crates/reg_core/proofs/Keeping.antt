@@ -2,6 +2,7 @@
 use Rattle.std.proofs.Common.{◌≡◌, ℕ, Bool, true, false, ◌&&◌, List, [], ◌∷◌, refl, sym, ap, subst, ◌∙◌}
 use Rattle.std.specs.Prelude.{Option, Some, None, Result, Ok, Err, option_map, nat_le, IfSome, if◌then◌else◌}
 use Rattle.std.specs.Cmp.{first_so, second_so}
+use Rattle.std.specs.Cmp.Derive.{both_true}
 use Rattle.std.specs.FinMap.{get, get-empty}
 use Rattle.reg_core.specs.Answer.{Answer, refused, answered, submit, admitted, if_admitted, is_moment, own_answer, answer_me, answer}
 use Rattle.reg_core.specs.Ask.{has_ask_form}
@@ -27,12 +28,9 @@ use Rattle.reg_core.specs.declared.refusal.Refusal.{Refusal}
 use Rattle.reg_core.specs.declared.refusal.Refusal.TheVariants as no
 use Rattle.reg_core.specs.declared.reply.Reply.{Reply}
 use Rattle.reg_core.specs.declared.request.Filing.{Filing}
-use Rattle.reg_core.proofs.MapLaws.{text_keys, name_keys}
+use Rattle.reg_core.proofs.Answering.{answer_to_by}
 use Rattle.reg_core.proofs.Fitting.{can_grant, grant_fits, revoke_fits, submit_fits}
 use Rattle.reg_core.proofs.Stepping.{own_request}
-
-both_so : (a b : Bool) → a ≡ true → b ≡ true → (a && b) ≡ true
-both_so a b p q = rw (p, q) refl
 
 -- what is answered changes what was decided
 answered_fits : (w : World) (decision : Result Decision Refusal) (there made : Reply)
@@ -46,7 +44,7 @@ module _ (digest_of : List ℕ → List ℕ) (digests : GivesDigests digest_of) 
   clerk_answer_fits : (in_use : List ℕ) (command : Command) → has_command_form command ≡ true → IfSome (clerk_answer digest_of w in_use command).change (CanApply w)
   clerk_answer_fits in_use (Grant token cap) form =
       let digest_form = digests token (first_so (is_token token) (has_cap_form cap) form) in
-      let grant_form = both_so (is_digest (digest_of token)) (has_cap_form cap) digest_form (second_so (is_token token) (has_cap_form cap) form) in
+      let grant_form = both_true digest_form (second_so (is_token token) (has_cap_form cap) form) in
       answered_fits w (grant_rule (get w.caps (digest_of token)) (digest_of token) cap) _ _ (λ change made. grant_fits w (digest_of token) cap change kept grant_form made)
   clerk_answer_fits in_use (Revoke token) form =
       answered_fits w (revoke_rule in_use (get w.caps (digest_of token)) (digest_of token)) _ _ (λ change made. revoke_fits w in_use (digest_of token) change kept made)
@@ -57,7 +55,7 @@ module _ (digest_of : List ℕ → List ℕ) (digests : GivesDigests digest_of) 
   submit_answer_fits : (cap : Cap) (reference : List ℕ) (ask : Ask) → is_name cap.account ≡ true → is_name reference ≡ true → has_ask_form ask ≡ true
       → IfSome (submit (allowed (published w) cap.account ask) (cap.account, reference) ask (get (requests_of cap.account w) (cap.account, reference))).change (CanApply w)
   submit_answer_fits cap reference ask account_form reference_form ask_form =
-      let form = both_so (is_name cap.account && is_name reference) (has_ask_form ask) (both_so (is_name cap.account) (is_name reference) account_form reference_form) ask_form in
+      let form = both_true (both_true account_form reference_form) ask_form in
       rw own_request
       (answered_fits w (submit_rule (allowed (published w) cap.account ask) (cap.account, reference) ask (get w.requests (cap.account, reference))) _ _
       (λ change made. submit_fits w (allowed (published w) cap.account ask) (cap.account, reference) ask change kept form made))
@@ -72,34 +70,17 @@ module _ (digest_of : List ℕ → List ℕ) (digests : GivesDigests digest_of) 
   own_answer_fits cap (Grant token granted) account_form form = tt
   own_answer_fits cap (Revoke token) account_form form = tt
 
-  answer_me_fits : (found : Option Cap) → ((cap : Cap) → found ≡ Some cap → is_name cap.account ≡ true) → (moment : ℕ) (command : Command) → has_command_form command ≡ true
-      → IfSome (answer_me (published w) (option_map (with_personal w) found) moment command).change (CanApply w)
-  answer_me_fits None account_form moment command form = tt
-  answer_me_fits (Some cap) account_form moment command form = where_admitted (admitted (Some cap) moment (kind_of command))
-    where
-      where_admitted : (outcome : Result Cap Refusal) → IfSome (if_admitted outcome (own_answer (published w) cap.account (personal cap.account w) command)).change (CanApply w)
-      where_admitted (Err refusal) = tt
-      where_admitted (Ok by) = own_answer_fits cap command (account_form cap refl) form
-
-  known_account : (digest : List ℕ) (cap : Cap) → get w.caps digest ≡ Some cap → is_name cap.account ≡ true
-  known_account digest cap found = first_so (is_name cap.account) (nat_le cap.until last_until) (second_so (is_digest digest) (has_cap_form cap) (kept.caps digest cap found))
-
-  answer_fits : (caller : Option (List ℕ)) (moment : ℕ) (command : Command) → has_command_form command ≡ true
-      → ((cap : Cap) → cap_at w caller ≡ Some cap → is_name cap.account ≡ true) → IfSome (answer (view_of w caller) moment command).change (CanApply w)
-  answer_fits caller moment command form account_form =
-      elim (is_moment moment) as (λ b. IfSome (if b then answer_me (published w) (view_of w caller).me moment command else refused no.Clock).change (CanApply w)) [
-        | true ↦ answer_me_fits (cap_at w caller) account_form moment command form
-        | false ↦ tt
-      ]
+  known_account : (caller : Option (List ℕ)) (cap : Cap) → cap_at w caller ≡ Some cap → is_name cap.account ≡ true
+  known_account None cap found = absurd (cc)
+  known_account (Some digest) cap found =
+      first_so (is_name cap.account) (nat_le cap.until last_until) (second_so (is_digest digest) (has_cap_form cap) (kept.caps digest cap found))
 
   answer_to_fits : (caller : Option (List ℕ)) (moment : ℕ) (command : Command) → has_command_form command ≡ true
       → IfSome (answer_to digest_of w caller moment command).change (CanApply w)
-  answer_to_fits None moment command form = answer_fits None moment command form (λ cap found. absurd (cc))
-  answer_to_fits (Some digest) moment command form =
-      elim (acts_as_clerk (get w.caps digest) moment command) as (λ b. IfSome (if b then clerk_answer digest_of w digest command else answer (view_of w (Some digest)) moment command).change (CanApply w)) [
-        | true ↦ clerk_answer_fits digest command form
-        | false ↦ answer_fits (Some digest) moment command form (known_account digest)
-      ]
+  answer_to_fits caller moment command form =
+      answer_to_by (λ a. IfSome a.change (CanApply w)) (λ refusal. tt) w moment command digest_of caller
+      (λ digest cap is serves. clerk_answer_fits digest command form)
+      (λ cap serves. own_answer_fits cap command (known_account caller cap serves.found_it) form)
 
   step_keeps_well : (e : Event) → has_command_form e.command ≡ true → WellKept (step_of digest_of w e).world
   step_keeps_well e form = applied_keeps_well (answer_to digest_of w e.caller e.moment e.command).change (answer_to_fits e.caller e.moment e.command form)
@@ -130,5 +111,5 @@ empty_kept = record {
 pub first_worlds_kept : FirstWorldsAreWellKept
 first_worlds_kept = (
   empty_kept,
-  λ digest form. (can_grant empty_world digest clerk_cap empty_kept (both_so (is_digest digest) (has_cap_form clerk_cap) form refl) (get-empty text_cmp digest)).1,
+  λ digest form. (can_grant empty_world digest clerk_cap empty_kept (both_true form refl) (get-empty text_cmp digest)).1,
 )

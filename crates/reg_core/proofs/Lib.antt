@@ -1,7 +1,9 @@
+pub mod Cases
 pub mod MapLaws
 pub mod Sameness
 pub mod Deciding
 pub mod Stepping
+pub mod Answering
 pub mod Fitting
 pub mod Isolation
 pub mod Keeping
