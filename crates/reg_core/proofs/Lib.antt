@@ -7,3 +7,4 @@ pub mod Answering
 pub mod Fitting
 pub mod Isolation
 pub mod Keeping
+pub mod Doing

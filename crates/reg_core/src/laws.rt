@@ -21,6 +21,11 @@ pub fn runs_keep_well()
     ensures { (digest_of : List ℕ → List ℕ) → GivesDigests digest_of → RunsKeepWell digest_of }
 {}
 
+/// What is answered was done: the world after a command has what the reply says.
+pub fn answers_are_done()
+    ensures { (digest_of : List ℕ → List ℕ) → AnswersAreDone digest_of }
+{}
+
 /// A refusal changes nothing.
 pub fn refusals_change_nothing()
     ensures { (digest_of : List ℕ → List ℕ) → RefusalsChangeNothing digest_of }
