@@ -28,7 +28,7 @@ use Rattle.reg_core.proofs.Answering.{Serves, answer_to_by}
 use Rattle.reg_core.proofs.Stepping.{own_request}
 
 -- an account's own row is a row of the world
-own_row : (account : List ℕ) (w : World) (name : RequestName) (filing : Filing) → get (requests_of account w) name ≡ Some filing → get w.requests name ≡ Some filing
+pub own_row : (account : List ℕ) (w : World) (name : RequestName) (filing : Filing) → get (requests_of account w) name ≡ Some filing → get w.requests name ≡ Some filing
 own_row account w name filing found =
     from (get w.requests name) (sym (get-select name_keys (λ name filing. only_if (same_text name.0 account) filing) w.requests name) ∙ found)
   where

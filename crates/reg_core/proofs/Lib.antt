@@ -8,3 +8,4 @@ pub mod Fitting
 pub mod Isolation
 pub mod Keeping
 pub mod Doing
+pub mod Repeating

@@ -31,6 +31,11 @@ pub fn refusals_change_nothing()
     ensures { (digest_of : List ℕ → List ℕ) → RefusalsChangeNothing digest_of }
 {}
 
+/// Repeats act once: an accepted command that is given again as the next step is accepted and changes nothing.
+pub fn repeats_act_once()
+    ensures { (digest_of : List ℕ → List ℕ) → RepeatsActOnce digest_of }
+{}
+
 /// The empty world is well kept, and so is that of a new office with its first clerk.
 pub fn first_worlds_are_well_kept()
     ensures { FirstWorldsAreWellKept }
