@@ -1,10 +1,7 @@
 -- Each rule's change fits the world over whose rows it was decided.
-use Rattle.std.proofs.Common.{◌≡◌, ℕ, Bool, true, false, List, refl, subst}
-use Rattle.std.specs.Prelude.{Option, Some, None, Result, Ok, Err, is_some, if◌then◌else◌}
+use Rattle.std.proofs.Common.{◌≡◌, ℕ, true, List, subst}
+use Rattle.std.specs.Prelude.{None, Result, Ok}
 use Rattle.std.specs.FinMap.{get}
-use Rattle.reg_core.specs.Ask.{same_ask}
-use Rattle.reg_core.specs.Capability.{same_cap}
-use Rattle.reg_core.specs.Maps.{same_text}
 use Rattle.reg_core.specs.Rules.{grant_rule, revoke_rule, submit_rule}
 use Rattle.reg_core.specs.WellKept.{WellKept, CanApply, has_grant_form, has_request_form}
 use Rattle.reg_core.specs.World.{World, RequestName, pending}
@@ -12,10 +9,8 @@ use Rattle.reg_core.specs.declared.ask.Ask.{Ask}
 use Rattle.reg_core.specs.declared.capability.Cap.{Cap}
 use Rattle.reg_core.specs.declared.change.Change.{Change}
 use Rattle.reg_core.specs.declared.change.Change.TheVariants.{Grant, Revoke, Submit}
-use Rattle.reg_core.specs.declared.decide.Decision.TheVariants.{Make, Same}
+use Rattle.reg_core.specs.declared.decide.Decision.TheVariants.{Make}
 use Rattle.reg_core.specs.declared.refusal.Refusal.{Refusal}
-use Rattle.reg_core.specs.declared.refusal.Refusal.TheVariants.{Ref, Own, Exists}
-use Rattle.reg_core.specs.declared.request.Filing.{Filing}
 use Rattle.reg_core.proofs.Deciding.{grant_made, revoke_made, submit_made}
 use Rattle.reg_core.proofs.MapLaws.{text_keys, name_keys, insert_keeps, remove_keeps}
 

@@ -6,6 +6,7 @@ mod carrying;
 mod clerk;
 mod digest;
 mod found;
+pub mod laws;
 mod office;
 
 pub use found::FoundFault;
