@@ -1,1 +1,4 @@
 pub mod Moments
+pub mod LineSoFar
+pub mod Sent
+pub mod Runs
