@@ -1,0 +1,3 @@
+pub mod Item
+pub mod Members
+pub mod Route

@@ -1,0 +1,8 @@
+//! Requests and answers in bytes: the command that a method, a path and a body spell, and the status and
+//! body of each answer.
+#![tactic(auto)]
+
+pub mod item;
+pub mod json_read;
+pub mod refusal;
+pub mod route;
