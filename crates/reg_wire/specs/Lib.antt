@@ -1,3 +1,5 @@
 pub mod Item
 pub mod Members
+pub mod Path
 pub mod Route
+pub mod Asked

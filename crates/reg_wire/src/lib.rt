@@ -2,7 +2,9 @@
 //! body of each answer.
 #![tactic(auto)]
 
+pub mod bodies;
 pub mod item;
 pub mod json_read;
+pub mod path;
 pub mod refusal;
 pub mod route;
