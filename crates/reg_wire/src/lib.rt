@@ -3,6 +3,7 @@
 #![tactic(auto)]
 
 pub mod bodies;
+pub mod command;
 pub mod item;
 pub mod json_read;
 pub mod path;
