@@ -3,3 +3,4 @@ pub mod Members
 pub mod Path
 pub mod Route
 pub mod Asked
+pub mod Tree

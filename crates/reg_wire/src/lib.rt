@@ -6,6 +6,7 @@ pub mod bodies;
 pub mod command;
 pub mod item;
 pub mod json_read;
+pub mod json_write;
 pub mod path;
 pub mod refusal;
 pub mod route;
