@@ -1,3 +1,4 @@
 pub mod Objects
 pub mod Routing
 pub mod Routed
+pub mod Whole

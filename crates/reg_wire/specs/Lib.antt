@@ -4,3 +4,5 @@ pub mod Path
 pub mod Route
 pub mod Asked
 pub mod Tree
+pub mod Refusal
+pub mod Answer

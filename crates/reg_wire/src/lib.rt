@@ -2,6 +2,7 @@
 //! body of each answer.
 #![tactic(auto)]
 
+pub mod answer;
 pub mod bodies;
 pub mod command;
 pub mod item;

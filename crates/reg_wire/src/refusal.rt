@@ -1,5 +1,6 @@
 //! Why bytes spell no command.
 ghost use Rattle.std.specs.Prelude.{◌≡◌};
+ghost use Rattle.reg_wire.specs.Refusal.{wire_name, wire_status, wire_item};
 ghost use Rattle.reg_wire.specs.declared.refusal.ReadFault.TheVariants.{Memory};
 
 use crate::item::Item;
@@ -18,6 +19,44 @@ pub enum WireRefusal {
     Body,
     /// A part of the request has not its form, is missing, or should not be there.
     Field(Item),
+}
+
+impl WireRefusal {
+    /// Its name in an answer.
+    pub fn name(self) -> &'static str
+        ensures { result.now ≡ wire_name self }
+    {
+        match self {
+            WireRefusal::Line => "line",
+            WireRefusal::Route => "route",
+            WireRefusal::Method => "method",
+            WireRefusal::Body => "body",
+            WireRefusal::Field(_) => "field",
+        }
+    }
+
+    /// The part of the request that it is about.
+    pub fn item(self) -> Option<Item>
+        ensures { result ≡ wire_item self }
+    {
+        match self {
+            WireRefusal::Field(item) => Some(item),
+            WireRefusal::Line | WireRefusal::Route | WireRefusal::Method | WireRefusal::Body =>
+                None,
+        }
+    }
+
+    /// Its status (RFC 9110 section 15.5).
+    pub fn status(self) -> u16
+        ensures { result ≡ wire_status self }
+    {
+        match self {
+            WireRefusal::Line | WireRefusal::Body => 400,
+            WireRefusal::Route => 404,
+            WireRefusal::Method => 405,
+            WireRefusal::Field(_) => 422,
+        }
+    }
 }
 
 /// Why no command was read.
