@@ -2,3 +2,5 @@ pub mod Objects
 pub mod Routing
 pub mod Routed
 pub mod Whole
+pub mod ReadBack
+pub mod Formed

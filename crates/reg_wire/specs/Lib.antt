@@ -6,3 +6,4 @@ pub mod Asked
 pub mod Tree
 pub mod Refusal
 pub mod Answer
+pub mod Laws

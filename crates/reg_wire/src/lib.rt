@@ -8,6 +8,7 @@ pub mod command;
 pub mod item;
 pub mod json_read;
 pub mod json_write;
+pub mod laws;
 pub mod path;
 pub mod refusal;
 pub mod route;
