@@ -1,10 +1,19 @@
-//! The office over bytes: requests and answers in HTTP, and scripts of them, line by line.
+//! Requests and answers in bytes: the command that a method, a path and a body spell, the status and body
+//! of each answer, and scripts, whose lines are answered in turn.
 #![tactic(auto)]
 
+pub mod answer;
+pub mod bodies;
+pub mod command;
 mod held;
+pub mod item;
+pub mod json_read;
+pub mod json_write;
+pub mod laws;
 mod line;
+pub mod path;
+pub mod refusal;
+pub mod route;
 mod script;
 mod sending;
-mod wire_fault;
-
-pub use wire_fault::WireFault;
+pub mod wire_fault;
