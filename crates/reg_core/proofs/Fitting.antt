@@ -1,10 +1,7 @@
 -- Each rule's change fits the world over whose rows it was decided.
-use Rattle.std.proofs.Common.{◌≡◌, ℕ, Bool, true, false, ◌&&◌, List, refl, sym, ap, subst, ◌∙◌}
-use Rattle.std.specs.Prelude.{Option, Some, None, Result, Ok, Err, is_some, if◌then◌else◌}
-use Rattle.std.specs.FinMap.{FinMap, get}
-use Rattle.reg_core.specs.Ask.{same_ask}
-use Rattle.reg_core.specs.Capability.{same_cap}
-use Rattle.reg_core.specs.Maps.{same_text}
+use Rattle.std.proofs.Common.{◌≡◌, ℕ, true, List, subst}
+use Rattle.std.specs.Prelude.{None, Result, Ok}
+use Rattle.std.specs.FinMap.{get}
 use Rattle.reg_core.specs.Rules.{grant_rule, revoke_rule, submit_rule}
 use Rattle.reg_core.specs.WellKept.{WellKept, CanApply, has_grant_form, has_request_form}
 use Rattle.reg_core.specs.World.{World, RequestName, pending}
@@ -12,16 +9,14 @@ use Rattle.reg_core.specs.declared.ask.Ask.{Ask}
 use Rattle.reg_core.specs.declared.capability.Cap.{Cap}
 use Rattle.reg_core.specs.declared.change.Change.{Change}
 use Rattle.reg_core.specs.declared.change.Change.TheVariants.{Grant, Revoke, Submit}
-use Rattle.reg_core.specs.declared.decide.Decision.{Decision}
-use Rattle.reg_core.specs.declared.decide.Decision.TheVariants.{Make, Same}
+use Rattle.reg_core.specs.declared.decide.Decision.TheVariants.{Make}
 use Rattle.reg_core.specs.declared.refusal.Refusal.{Refusal}
-use Rattle.reg_core.specs.declared.refusal.Refusal.TheVariants.{Ref, Own, Exists}
-use Rattle.reg_core.specs.declared.request.Filing.{Filing}
+use Rattle.reg_core.proofs.Deciding.{grant_made, revoke_made, submit_made}
 use Rattle.reg_core.proofs.MapLaws.{text_keys, name_keys, insert_keeps, remove_keeps}
 
 -- ---- The changes
 
-can_grant : (w : World) (digest : List ℕ) (cap : Cap) → WellKept w → has_grant_form digest cap ≡ true → get w.caps digest ≡ None → CanApply w (Grant digest cap)
+pub can_grant : (w : World) (digest : List ℕ) (cap : Cap) → WellKept w → has_grant_form digest cap ≡ true → get w.caps digest ≡ None → CanApply w (Grant digest cap)
 can_grant w digest cap kept form free = (
   free,
   record {
@@ -51,15 +46,6 @@ can_submit w name ask kept form free = (
 
 -- ---- The rules
 
-grant_made : (found : Option Cap) (digest : List ℕ) (cap : Cap) (change : Change) → grant_rule found digest cap ≡ Ok (Make change)
-    → (found ≡ None) × (Grant digest cap ≡ change)
-grant_made None digest cap change h = (refl, cc)
-grant_made (Some old) digest cap change h = same_or_not (same_cap old cap) h
-  where
-    same_or_not : (same : Bool) → (if same then Ok Same else Err Exists) ≡ Ok (Make change) → (Some old ≡ None) × (Grant digest cap ≡ change)
-    same_or_not true h = absurd (cc)
-    same_or_not false h = absurd (cc)
-
 -- a grant that is to be made fits the world that has this capability, or none, at the digest
 pub grant_fits : (w : World) (digest : List ℕ) (cap : Cap) (change : Change) → WellKept w → has_grant_form digest cap ≡ true
     → grant_rule (get w.caps digest) digest cap ≡ Ok (Make change) → CanApply w change
@@ -67,27 +53,11 @@ grant_fits w digest cap change kept form made =
     let decided = grant_made (get w.caps digest) digest cap change made in
     subst (CanApply w) decided.1 (can_grant w digest cap kept form decided.0)
 
-revoke_made : (own there : Bool) (digest : List ℕ) (change : Change)
-    → (if own then Err Own else if there then Ok (Make (Revoke digest)) else Ok Same) ≡ Ok (Make change) → Revoke digest ≡ change
-revoke_made true there digest change h = absurd (cc)
-revoke_made false true digest change h = cc
-revoke_made false false digest change h = absurd (cc)
-
 -- and so does a revocation
 pub revoke_fits : (w : World) (in_use digest : List ℕ) (change : Change) → WellKept w
     → revoke_rule in_use (get w.caps digest) digest ≡ Ok (Make change) → CanApply w change
 revoke_fits w in_use digest change kept made =
-    subst (CanApply w) (revoke_made (same_text in_use digest) (is_some (get w.caps digest)) digest change made) (can_revoke w digest kept)
-
-submit_made : (allowance : Result (Unit {0}) Refusal) (name : RequestName) (ask : Ask) (found : Option Filing) (change : Change)
-    → submit_rule allowance name ask found ≡ Ok (Make change) → (found ≡ None) × (Submit name.0 name.1 ask ≡ change)
-submit_made (Ok allowed) name ask None change h = (refl, cc)
-submit_made (Err refusal) name ask None change h = absurd (cc)
-submit_made allowance name ask (Some old) change h = same_or_not (same_ask old.ask ask) h
-  where
-    same_or_not : (same : Bool) → (if same then Ok Same else Err Ref) ≡ Ok (Make change) → (Some old ≡ None) × (Submit name.0 name.1 ask ≡ change)
-    same_or_not true h = absurd (cc)
-    same_or_not false h = absurd (cc)
+    subst (CanApply w) (revoke_made in_use (get w.caps digest) digest change made) (can_revoke w digest kept)
 
 -- and a request, whatever made it allowed
 pub submit_fits : (w : World) (allowance : Result (Unit {0}) Refusal) (name : RequestName) (ask : Ask) (change : Change) → WellKept w

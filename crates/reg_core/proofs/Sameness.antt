@@ -14,11 +14,20 @@ same_text-is x y = (bytes_eq-Decides x y).0
 pub same_text-itself : (x : List ℕ) → same_text x x ≡ true
 same_text-itself x = (bytes_eq-Decides x x).1 refl
 
+pub same_kind-is : (a b : Kind) → same_kind a b ≡ true → a ≡ b
+same_kind-is a b = search rules
+
 pub same_kind-itself : (kind : Kind) → same_kind kind kind ≡ true
 same_kind-itself kind = search rules
 
+pub same_cap-is : (a b : Cap) → same_cap a b ≡ true → a ≡ b
+same_cap-is a b = search rules
+
 pub same_cap-itself : (cap : Cap) → same_cap cap cap ≡ true
 same_cap-itself cap = search rules
+
+pub same_ask-is : (a b : Ask) → same_ask a b ≡ true → a ≡ b
+same_ask-is a b = search rules
 
 pub same_ask-itself : (ask : Ask) → same_ask ask ask ≡ true
 same_ask-itself ask = search rules

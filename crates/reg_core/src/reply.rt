@@ -1,4 +1,7 @@
 //! What the office answers.
+ghost use Rattle.std.specs.Prelude.{◌≡◌};
+ghost use Rattle.reg_core.specs.Laws.{is_refused as refused};
+
 use crate::capability::Cap;
 use crate::refusal::Refusal;
 use crate::request::Request;
@@ -19,4 +22,13 @@ pub enum Reply {
     Revoked,
     /// The command was refused.
     Refused(Refusal),
+}
+
+impl Reply {
+    /// Whether the command was refused.
+    pub fn is_refused(&self) -> bool
+        ensures { result ≡ refused self.now }
+    {
+        matches!(self, Reply::Refused(_))
+    }
 }
