@@ -4,3 +4,4 @@ pub mod Routed
 pub mod Whole
 pub mod ReadBack
 pub mod Formed
+pub mod AskText
