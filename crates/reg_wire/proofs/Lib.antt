@@ -8,3 +8,4 @@ pub mod Moments
 pub mod LineSoFar
 pub mod Sent
 pub mod Runs
+pub mod AskText

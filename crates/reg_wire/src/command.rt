@@ -1,5 +1,7 @@
 //! Reads the command that a method, a path and a body spell.
-ghost use Rattle.std.specs.Prelude.{◌≡◌, IfSome, option_map};
+ghost use Rattle.std.specs.Prelude.{◌≡◌, true, IfOk, IfSome, option_map};
+ghost use Rattle.reg_core.specs.Command.{has_command_form};
+ghost use Rattle.reg_wire.specs.Route.{operation_for};
 ghost use Rattle.reg_wire.specs.Members.{Gives};
 ghost use Rattle.reg_wire.specs.Asked.{asked, command_of, empty, grant_of, own_one_of, revoke_of, routed, segment, submit_of};
 
@@ -22,7 +24,12 @@ pub fn read_command(
     path: &[u8],
     body: &[u8],
 ) -> Result<Command, ReadFault>
-    ensures { Gives result (asked method.now path.now body.now) }
+    ensures spelled { Gives result (asked method.now path.now body.now) }
+    ensures form { IfOk result (λ command. has_command_form command ≡ true) }
+
+    // A path or a method that is refused takes no memory.
+    ensures no_route { routed path.now ≡ None → result ≡ Err (ReadFault.Refused WireRefusal.Route) }
+    ensures no_method { IfSome (routed path.now) (λ methods. operation_for method.now methods ≡ None → result ≡ Err (ReadFault.Refused WireRefusal.Method)) }
 {
     let Some((path, methods)) = routed(routes, path) else {
         return Err(ReadFault::Refused(WireRefusal::Route));
