@@ -6,8 +6,8 @@ use Rattle.reg_wire.specs.Line.{Line, most_bytes}
 use Rattle.reg_wire.specs.Script.{storage, ended, Cut, AreLines, BeginWith, Ran, Wrote}
 use Rattle.reg_wire.specs.declared.wire_fault.WireFault.{WireFault}
 use Rattle.reg_wire.specs.declared.wire_fault.WireFault.TheVariants.{Read, Write, Memory}
-use Rattle.reg_wire.specs.declared.script.Unanswered.{Unanswered}
-use Rattle.reg_wire.specs.declared.script.Unanswered.TheVariants as without
+use Rattle.reg_wire.specs.declared.script.responder.Unanswered.{Unanswered}
+use Rattle.reg_wire.specs.declared.script.responder.Unanswered.TheVariants as without
 
 -- what is held of a line: all of it, or so much that it is too long
 abbrev pub IsHeld : List ℕ → List ℕ → Type 0

@@ -10,3 +10,4 @@ pub mod Laws
 pub mod Line
 pub mod Script
 pub mod Held
+pub mod Served

@@ -14,6 +14,6 @@ mod line;
 pub mod path;
 pub mod refusal;
 pub mod route;
-mod script;
+pub mod script;
 mod sending;
 pub mod wire_fault;

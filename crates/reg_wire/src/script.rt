@@ -1,193 +1,45 @@
 //! A script: its lines are answered in turn.
-ghost use Rattle.std.specs.Prelude.{◌≡◌, ◌⊎◌, ◌≤◌, ◌<◌, ◌+◌, ◌++◌, ◌∷◌, [], List, ℕ, Option, OnOk, IfOk, IfErr, take, length};
-ghost use Rattle.std.specs.Io.KnownBytes.{Appends, Consumes, IsAtEnd};
-ghost use Rattle.reg_wire.specs.Line.{Line as Asked, asked_by};
-ghost use Rattle.reg_wire.specs.Script.{ended, Answered, AnswersAll, StopsAt};
-ghost use Rattle.reg_wire.specs.Held.{IsHeld, Unserved, CutShort, Progress, Whole, Halted, HaltedLast};
+ghost use Rattle.std.specs.Prelude.{◌≡◌, OnOk, IfErr};
+ghost use Rattle.reg_wire.specs.Script.{AnswersAll, StopsAt};
+ghost use Rattle.reg_wire.specs.Served.{Serves};
 
-use crate::held::Held;
-use crate::line::Line;
-use crate::sending::send_answer;
+mod lines;
+mod office;
+mod responder;
+
+use crate::route::Routes;
 use crate::wire_fault::WireFault;
+use lines::respond_all;
+use reg_office::Office;
+use reg_store::keeper::Keeper;
 use std::alloc::Global;
 use std::io::{Read, Write};
 
-const MOST_READS: u32 = 16_777_216;
-
-/// Why a line has no answer.
-#[derive(Clone, Copy, Debug, PartialEq, Eq)]
-pub(crate) enum Unanswered {
-    /// The store or memory failed, and nothing has changed.
-    Storage,
-    /// What the line asks was done, and there is no memory for the answer.
-    Memory,
-}
-
-/// What answers the lines of a script. Each promise stands under its premise after the call.
-pub(crate) trait Responder {
-    /// Where it looks up what a line asks.
-    type Routes;
-
-    /// The routes are as they must be.
-    ghost AreReady: { Self.Routes → Type 0 };
-
-    /// The premise under which what is kept is what was written.
-    ghost Holds: { Self → Type 0 };
-
-    /// What may be answered to a line, and what is there then.
-    ghost Serves: { Self → Asked → List ℕ → Self → Type 0 };
-
-    fn respond(&mut self, routes: &Self::Routes, line: &Line<'_>) -> Result<Vec<u8>, Unanswered>
-        requires { AreReady routes.now }
-        ensures held { Holds self.new → Holds self.old }
-        ensures ok { Holds self.new → IfOk result (λ answer. Serves self.old (asked_by line.now) answer.items self.new) }
-        ensures err { Holds self.new → IfErr result (λ why. Unserved Serves self.old (asked_by line.now) why self.new) };
-}
-
-/// Answers the lines of a script in turn.
-pub(crate) fn respond_all<A: Responder, R: Read, W: Write>(
+/// Answers the lines of a script in turn. A line is `moment token METHOD path body`, with one space
+/// between: the moment in seconds since 1970-01-01T00:00:00Z, the token `-` where there is none, and the
+/// body the rest of the line, with a TAB for each line feed of it, or missing with its space. The answer
+/// is a line too: the status and the body, with a TAB for each line feed of it. The last line of the
+/// script may lack its line feed.
+///
+/// A line that has not this form, or has more than 65,536 bytes, gets `400 {"error":"line"}`, and one at
+/// which the store or memory failed `503 {"error":"storage"}`, with the content of the office unchanged.
+///
+/// `Read` where a read failed, or after 16,777,216 reads: all lines whose line feed was read were
+/// answered. `Write(n)` where a write failed or took nothing: exactly the first n bytes of the answers
+/// went out, and the line whose answer was cut short was carried out. `Memory` where there was none to
+/// hold a line, or an answer: the lines before were answered, and the last may have been carried out.
+pub fn run<K: Keeper, R: Read, W: Write>(
     alloc: Global,
-    responder: &mut A,
-    routes: &A::Routes,
+    office: &mut Office<K>,
     reader: &mut R,
     writer: &mut W,
 ) -> Result<(), WireFault>
-    requires { A.AreReady routes.now }
-    ensures held { A.Holds responder.new → A.Holds responder.old }
-    ensures ok { A.Holds responder.new → OnOk result (AnswersAll A.Serves responder.old responder.new
+    ensures held { K.Holds office.new → K.Holds office.old }
+    ensures ok { K.Holds office.new → OnOk result (AnswersAll Serves (K.world office.old) (K.world office.new)
         (R.remaining reader.old) (R.remaining reader.new) (W.contents writer.old) (W.contents writer.new)) }
-    ensures err { A.Holds responder.new → IfErr result (λ fault. StopsAt A.Serves fault responder.old responder.new
+    ensures err { K.Holds office.new → IfErr result (λ fault. StopsAt Serves fault (K.world office.old) (K.world office.new)
         (R.remaining reader.old) (R.remaining reader.new) (W.contents writer.old) (W.contents writer.new)) }
 {
-    let mut held = Held::new(alloc);
-    let mut buf = [0u8; 4096];
-    let mut sent = 0;
-    for _ in 0..MOST_READS {
-        let count = match reader.read(&mut buf) {
-            Ok(count) => count,
-            Err(_) => return Err(WireFault::Read),
-        };
-        if count == 0 {
-            return finish(responder, routes, writer, &held, sent);
-        }
-        match take_piece(responder, routes, writer, &mut held, sent, &buf[..count]) {
-            Ok(total) => sent = total,
-            Err(fault) => return Err(fault),
-        }
-    }
-    Err(WireFault::Read)
-}
-
-// Answers the line that is held; gives how many bytes went out by now.
-fn answer_line<A: Responder, W: Write>(
-    responder: &mut A,
-    routes: &A::Routes,
-    writer: &mut W,
-    held: &Held,
-    sent: usize,
-) -> Result<usize, WireFault>
-    requires { A.AreReady routes.now }
-    ensures held { A.Holds responder.new → A.Holds responder.old }
-    ensures ok { A.Holds responder.new → IfOk result (λ n. (line : List ℕ) → IsHeld line held.now
-        → (answer : List ℕ) × Answered A.Serves responder.old line answer responder.new
-        × Appends (W.contents writer.old) (W.contents writer.new) (ended answer) × (n ≡ sent + length (ended answer))) }
-    ensures err { A.Holds responder.new → IfErr result (λ fault. (line : List ℕ) → IsHeld line held.now
-        → (answer : List ℕ) × Answered A.Serves responder.old line answer responder.new
-        × CutShort fault sent answer (W.contents writer.old) (W.contents writer.new)) }
-{
-    let Some(line) = held.line() else {
-        return send_answer(writer, b"400 {\"error\":\"line\"}", sent);
-    };
-    match responder.respond(routes, &line) {
-        Ok(answer) => send_answer(writer, answer.as_slice(), sent),
-        Err(Unanswered::Storage) => send_answer(writer, b"503 {\"error\":\"storage\"}", sent),
-        Err(Unanswered::Memory) => Err(WireFault::Memory),
-    }
-}
-
-// Takes one byte of the script, and answers the line that it ends.
-fn take_byte<A: Responder, W: Write>(
-    responder: &mut A,
-    routes: &A::Routes,
-    writer: &mut W,
-    held: &mut Held,
-    sent: usize,
-    byte: u8,
-) -> Result<usize, WireFault>
-    requires { A.AreReady routes.now }
-    ensures held { A.Holds responder.new → A.Holds responder.old }
-    ensures ok { A.Holds responder.new → IfOk result (λ n. (first : A) (had : Option (List ℕ)) (bytes : List ℕ)
-        → Progress A.Serves first had bytes held.old sent responder.old (W.contents writer.old)
-        → Progress A.Serves first had (bytes ++ byte ∷ []) held.new n responder.new (W.contents writer.new)) }
-    ensures err { A.Holds responder.new → IfErr result (λ fault. (first : A) (had : Option (List ℕ)) (bytes : List ℕ)
-        → Progress A.Serves first had bytes held.old sent responder.old (W.contents writer.old)
-        → Halted A.Serves fault first had (bytes ++ byte ∷ []) responder.new (W.contents writer.new)) }
-{
-    if byte != b'\n' {
-        return match held.push(byte) {
-            Ok(()) => Ok(sent),
-            Err(_) => Err(WireFault::Memory),
-        };
-    }
-    match answer_line(responder, routes, writer, held, sent) {
-        Ok(sent) => {
-            held.clear();
-            Ok(sent)
-        }
-        Err(fault) => Err(fault),
-    }
-}
-
-// Takes some bytes of the script.
-fn take_piece<A: Responder, W: Write>(
-    responder: &mut A,
-    routes: &A::Routes,
-    writer: &mut W,
-    held: &mut Held,
-    sent: usize,
-    piece: &[u8],
-) -> Result<usize, WireFault>
-    requires { A.AreReady routes.now }
-    ensures held { A.Holds responder.new → A.Holds responder.old }
-    ensures ok { A.Holds responder.new → IfOk result (λ n. (first : A) (had : Option (List ℕ)) (bytes : List ℕ)
-        → Progress A.Serves first had bytes held.old sent responder.old (W.contents writer.old)
-        → Progress A.Serves first had (bytes ++ piece.now) held.new n responder.new (W.contents writer.new)) }
-    ensures err { A.Holds responder.new → IfErr result (λ fault. (first : A) (had : Option (List ℕ)) (bytes : List ℕ)
-        → Progress A.Serves first had bytes held.old sent responder.old (W.contents writer.old)
-        → Halted A.Serves fault first had (bytes ++ piece.now) responder.new (W.contents writer.new)) }
-{
-    let mut total = sent;
-    for byte in piece {
-        match take_byte(responder, routes, writer, held, total, *byte) {
-            Ok(more) => total = more,
-            Err(fault) => return Err(fault),
-        }
-    }
-    Ok(total)
-}
-
-// Answers a last line that lacks its line feed.
-fn finish<A: Responder, W: Write>(
-    responder: &mut A,
-    routes: &A::Routes,
-    writer: &mut W,
-    held: &Held,
-    sent: usize,
-) -> Result<(), WireFault>
-    requires { A.AreReady routes.now }
-    ensures held { A.Holds responder.new → A.Holds responder.old }
-    ensures ok { A.Holds responder.new → OnOk result ((first : A) (had : Option (List ℕ)) (bytes : List ℕ)
-        → Progress A.Serves first had bytes held.now sent responder.old (W.contents writer.old)
-        → Whole A.Serves first had bytes responder.new (W.contents writer.new)) }
-    ensures err { A.Holds responder.new → IfErr result (λ fault. (first : A) (had : Option (List ℕ)) (bytes : List ℕ)
-        → Progress A.Serves first had bytes held.now sent responder.old (W.contents writer.old)
-        → HaltedLast A.Serves fault first had bytes responder.new (W.contents writer.new)) }
-{
-    if held.is_empty() {
-        return Ok(());
-    }
-    match answer_line(responder, routes, writer, held, sent) {
-        Ok(_) => Ok(()),
-        Err(fault) => Err(fault),
-    }
+    let routes = Routes::new(alloc)?;
+    respond_all(alloc, office, &routes, reader, writer)
 }

@@ -1,6 +1,6 @@
 use Rattle.std.proofs.Common.{List, ℕ, ◌++◌, take, Option}
 use Rattle.reg_wire.specs.Held.{Progress}
-use Rattle.reg_wire.proofs.script.take_piece.Given as goal
+use Rattle.reg_wire.proofs.script.lines.take_piece.Given as goal
 
 abbrev pub invariant-loop-byte : goal.invariant-loop-byte
 invariant-loop-byte g l = record {

@@ -1,6 +1,6 @@
 use Rattle.std.proofs.Common.{◌++◌, take, drop, ◌+◌}
 use Rattle.reg_wire.proofs.Runs.{halted_more, piece_all}
-use Rattle.reg_wire.proofs.script.take_piece.Goals as goal
+use Rattle.reg_wire.proofs.script.lines.take_piece.Goals as goal
 
 pub returns-in-Err-clause-err : goal.returns-in-Err-clause-err
 returns-in-Err-clause-err g c holds first had bytes p =

@@ -1,7 +1,7 @@
 use Rattle.std.proofs.Common.{List, ℕ}
 use Rattle.std.specs.Io.KnownBytes.{Consumes}
 use Rattle.reg_wire.specs.Held.{Progress}
-use Rattle.reg_wire.proofs.script.respond_all.Given as goal
+use Rattle.reg_wire.proofs.script.lines.respond_all.Given as goal
 
 abbrev pub invariant-loop : goal.invariant-loop
 invariant-loop g l = record {

@@ -3,7 +3,7 @@ use Rattle.std.proofs.KnownBytes.{Consumes-nil, Consumes-trans, Consumes-kept}
 use Rattle.std.proofs.lemmas.Result.{IfOk-weaker, IfErr-weaker}
 use Rattle.reg_wire.proofs.Sent.{read_none}
 use Rattle.reg_wire.proofs.Runs.{progress_start, stops_reading, stops_at, stops_last, answers_all}
-use Rattle.reg_wire.proofs.script.respond_all.Goals as goal
+use Rattle.reg_wire.proofs.script.lines.respond_all.Goals as goal
 
 pub loop-init : goal.loop-init
 loop-init g c = record {

@@ -1,5 +1,5 @@
 use Rattle.reg_wire.proofs.Runs.{progress_line, progress_byte, halted_line, halted_memory}
-use Rattle.reg_wire.proofs.script.take_byte.Goals as goal
+use Rattle.reg_wire.proofs.script.lines.take_byte.Goals as goal
 
 pub returns-in-Ok-clause-ok : goal.returns-in-Ok-clause-ok
 returns-in-Ok-clause-ok g c holds first had bytes p = progress_byte g.A.Responder.Serves first had bytes _ _ c.args.sent _ _ c.args.byte c.if-byte-ne10.true p c.in-Ok.ensures

@@ -1,7 +1,7 @@
 use Rattle.std.proofs.Common.{refl}
 use Rattle.std.proofs.lemmas.Bool.{false≢true}
 use Rattle.reg_wire.proofs.Runs.{halted_last, whole_line, whole_empty}
-use Rattle.reg_wire.proofs.script.finish.Goals as goal
+use Rattle.reg_wire.proofs.script.lines.finish.Goals as goal
 
 pub returns-then-is_empty-clause-ok : goal.returns-then-is_empty-clause-ok
 returns-then-is_empty-clause-ok g c holds first had bytes p = whole_empty g.A.Responder.Serves first had bytes _ c.args.sent _ _ (c.if-is_empty.ensures.0 refl) p

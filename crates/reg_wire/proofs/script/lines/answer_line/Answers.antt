@@ -4,7 +4,7 @@ use Rattle.std.specs.Prelude.{option_map}
 use Rattle.reg_wire.specs.Script.{refusal, storage}
 use Rattle.reg_wire.specs.Line.{asked_by}
 use Rattle.reg_wire.proofs.Runs.{refused, served}
-use Rattle.reg_wire.proofs.script.answer_line.Goals as goal
+use Rattle.reg_wire.proofs.script.lines.answer_line.Goals as goal
 
 pub returns-in_default-clause-ok : goal.returns-in_default-clause-ok
 returns-in_default-clause-ok g c holds = IfOk-weaker c.send_answer.result _ _ (λ n h line held. (refusal, refused g.A.Responder.Serves _ line (sym (c.line.ensures line held) ∙ ap (option_map asked_by) c.in_default.is), h.1, h.0)) c.send_answer.ensures.ok
