@@ -1,4 +1,6 @@
 //! Policies of registries, their ranges of values, and the evidence that an assignment asks for.
 #![tactic(auto)]
 
+pub mod evidence;
+pub mod policy;
 pub mod text;

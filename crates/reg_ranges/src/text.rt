@@ -77,6 +77,16 @@ impl<F: Form> Word<F> {
     }
 }
 
+/// The text again, where there is one.
+pub fn copy_optional<F: Form>(text: &Option<Word<F>>) -> Result<Option<Word<F>>, AllocError>
+    ensures { IfOk result (λ o. o ≡ text.now) }
+{
+    match text {
+        Some(text) => Ok(Some(text.copy()?)),
+        None => Ok(None),
+    }
+}
+
 fn text_of(alloc: Global, bytes: &[u8]) -> Result<String, AllocError>
     requires { IsAscii bytes.now }
     ensures { IfOk result (λ t. string_bytes t ≡ bytes.now) }

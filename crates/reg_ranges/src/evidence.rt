@@ -1,0 +1,145 @@
+//! What an applicant shows for an assignment.
+ghost use Rattle.std.specs.Prelude.{◌≡◌, IfOk};
+
+use crate::text::{Text, copy_optional};
+use std::alloc::AllocError;
+use std::marker::Model;
+
+/// What an assignment or an early allocation asks for, one thing each.
+#[derive(Clone, Copy, Debug, PartialEq, Eq)]
+pub enum Item {
+    /// A policy under which this is done at all.
+    Policy,
+    /// A contact.
+    Contact,
+    /// A permanent and readily available public specification.
+    Specification,
+    /// An RFC.
+    Rfc,
+    /// An RFC of the right stream.
+    Stream,
+    /// An RFC of the right track.
+    Track,
+    /// The minute of the IESG's approval.
+    Minute,
+    /// A description in an Internet-Draft.
+    Draft,
+    /// A specification that is stable.
+    Stable,
+    /// Sufficient interest, or danger of contention.
+    Interest,
+    /// Approval by the working group's chairs.
+    Chair,
+    /// Approval by an area director.
+    Director,
+}
+
+/// The stream in which an RFC was published.
+#[derive(Clone, Copy, Debug, PartialEq, Eq)]
+pub enum Stream {
+    Ietf,
+    Irtf,
+    Iab,
+    Independent,
+    Editorial,
+}
+
+/// The track, or the category, of an RFC.
+#[derive(Clone, Copy, Debug, PartialEq, Eq)]
+pub enum Track {
+    Standards,
+    Bcp,
+    Informational,
+    Experimental,
+    Historic,
+}
+
+/// A published RFC. Its number is 1 to 99999.
+#[derive(Clone, Copy, Debug, PartialEq, Eq)]
+pub struct Rfc {
+    number: u32,
+    stream: Stream,
+    track: Track,
+}
+
+impl Model for Rfc {
+    ghost use Rattle.std.specs.Prelude.{◌≤◌};
+    ghost use Rattle.reg_ranges.specs.Rfcs.{PublishedRfc, IsRfcNumber};
+
+    ghost Value = { PublishedRfc };
+
+    ghost view = { λ r. record { number = r.number; stream = r.stream; track = r.track } };
+
+    ghost invariant = { λ r. IsRfcNumber r.number };
+
+    ghost inverse = { λ r. record { number = r.number; stream = r.stream; track = r.track } };
+}
+
+impl Rfc {
+    ghost use Rattle.std.specs.Prelude.{◌≡◌, IfSome, IsSome, ◌↔◌};
+    ghost use Rattle.reg_ranges.specs.Rfcs.{IsRfcNumber};
+
+    /// The largest number.
+    pub const LAST: u32 = 99_999;
+
+    /// The RFC of this number, stream and track, or none where the number is not 1 to 99999.
+    pub fn make(number: u32, stream: Stream, track: Track) -> Option<Rfc>
+        ensures numbered { IsSome result ↔ IsRfcNumber number }
+        ensures value { IfSome result (λ r. r ≡ record { number = number; stream = stream; track = track }) }
+    {
+        if !(1..=Self::LAST).contains(&number) {
+            return None;
+        }
+        Some(Rfc {
+            number,
+            stream,
+            track,
+        })
+    }
+
+    /// Its number, 1 to 99999.
+    pub fn number(&self) -> u32
+        ensures number { result ≡ self.now.number }
+        ensures numbered { IsRfcNumber result }
+    {
+        self.number
+    }
+
+    pub fn stream(&self) -> Stream
+        ensures { result ≡ self.now.stream }
+    {
+        self.stream
+    }
+
+    pub fn track(&self) -> Track
+        ensures { result ≡ self.now.track }
+    {
+        self.track
+    }
+}
+
+/// What an applicant shows for an assignment; each part may be missing.
+#[derive(Drop, PartialEq, Eq)]
+pub struct Evidence {
+    /// Who can be asked about the value.
+    pub contact: Option<Text>,
+    /// Where the specification is found.
+    pub spec: Option<Text>,
+    /// The RFC that describes the value.
+    pub rfc: Option<Rfc>,
+    /// The minute of the IESG's approval.
+    pub minute: Option<Text>,
+}
+
+impl Evidence {
+    pub fn copy(&self) -> Result<Evidence, AllocError>
+        ensures { IfOk result (λ c. c ≡ self.now) }
+    {
+        Ok(Evidence {
+            contact: copy_optional(&self.contact)?,
+            spec: copy_optional(&self.spec)?,
+            rfc: self.rfc,
+            minute: copy_optional(&self.minute)?,
+        })
+    }
+}
