@@ -1,2 +1,4 @@
 pub mod Texts
 pub mod Rfcs
+pub mod Requirements
+pub mod Words

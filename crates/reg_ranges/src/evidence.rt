@@ -1,5 +1,6 @@
 //! What an applicant shows for an assignment.
 ghost use Rattle.std.specs.Prelude.{◌≡◌, IfOk};
+ghost use Rattle.reg_ranges.specs.Words.{item_word, stream_word, read_stream, track_word, read_track};
 
 use crate::text::{Text, copy_optional};
 use std::alloc::AllocError;
@@ -34,6 +35,28 @@ pub enum Item {
     Director,
 }
 
+impl Item {
+    /// The word by which messages name the item.
+    pub fn word(&self) -> &'static str
+        ensures { result.now ≡ item_word self.now }
+    {
+        match self {
+            Item::Policy => "policy",
+            Item::Contact => "contact",
+            Item::Specification => "specification",
+            Item::Rfc => "rfc",
+            Item::Stream => "stream",
+            Item::Track => "track",
+            Item::Minute => "minute",
+            Item::Draft => "draft",
+            Item::Stable => "stable",
+            Item::Interest => "interest",
+            Item::Chair => "chair",
+            Item::Director => "director",
+        }
+    }
+}
+
 /// The stream in which an RFC was published.
 #[derive(Clone, Copy, Debug, PartialEq, Eq)]
 pub enum Stream {
@@ -44,6 +67,40 @@ pub enum Stream {
     Editorial,
 }
 
+impl Stream {
+    /// All five.
+    pub const ALL: [Stream; 5] = [
+        Stream::Ietf,
+        Stream::Irtf,
+        Stream::Iab,
+        Stream::Independent,
+        Stream::Editorial,
+    ];
+
+    /// The word by which messages name the stream.
+    pub fn word(&self) -> &'static str
+        ensures { result.now ≡ stream_word self.now }
+    {
+        match self {
+            Stream::Ietf => "ietf",
+            Stream::Irtf => "irtf",
+            Stream::Iab => "iab",
+            Stream::Independent => "independent",
+            Stream::Editorial => "editorial",
+        }
+    }
+
+    /// The stream of this word, compared exactly.
+    pub fn read(word: &[u8]) -> Option<Stream>
+        ensures { result ≡ read_stream word.now }
+    {
+        Self::ALL
+            .iter()
+            .copied()
+            .find(|stream| stream.word().as_bytes() == word)
+    }
+}
+
 /// The track, or the category, of an RFC.
 #[derive(Clone, Copy, Debug, PartialEq, Eq)]
 pub enum Track {
@@ -52,6 +109,40 @@ pub enum Track {
     Informational,
     Experimental,
     Historic,
+}
+
+impl Track {
+    /// All five.
+    pub const ALL: [Track; 5] = [
+        Track::Standards,
+        Track::Bcp,
+        Track::Informational,
+        Track::Experimental,
+        Track::Historic,
+    ];
+
+    /// The word by which messages name the track.
+    pub fn word(&self) -> &'static str
+        ensures { result.now ≡ track_word self.now }
+    {
+        match self {
+            Track::Standards => "standards",
+            Track::Bcp => "bcp",
+            Track::Informational => "informational",
+            Track::Experimental => "experimental",
+            Track::Historic => "historic",
+        }
+    }
+
+    /// The track of this word, compared exactly.
+    pub fn read(word: &[u8]) -> Option<Track>
+        ensures { result ≡ read_track word.now }
+    {
+        Self::ALL
+            .iter()
+            .copied()
+            .find(|track| track.word().as_bytes() == word)
+    }
 }
 
 /// A published RFC. Its number is 1 to 99999.

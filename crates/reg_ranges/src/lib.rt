@@ -2,5 +2,7 @@
 #![tactic(auto)]
 
 pub mod evidence;
+pub mod laws;
 pub mod policy;
+pub mod requirements;
 pub mod text;

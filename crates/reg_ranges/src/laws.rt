@@ -1,0 +1,10 @@
+//! Laws of the definitions. Each function does nothing; what it ensures is the law.
+ghost use Rattle.reg_ranges.specs.Words.{ReadsWords, policy_word, read_policy, treatment_word, read_treatment, stream_word, read_stream, track_word, read_track};
+
+/// The word of a policy, a treatment, a stream or a track reads to it, and no other text does.
+pub fn words_read_back()
+    ensures policies { ReadsWords policy_word read_policy }
+    ensures treatments { ReadsWords treatment_word read_treatment }
+    ensures streams { ReadsWords stream_word read_stream }
+    ensures tracks { ReadsWords track_word read_track }
+{}
