@@ -1,1 +1,4 @@
 pub mod ReadWords
+pub mod Increasing
+pub mod Partitions
+pub mod Treatments

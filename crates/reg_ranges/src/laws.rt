@@ -1,4 +1,5 @@
 //! Laws of the definitions. Each function does nothing; what it ensures is the law.
+ghost use Rattle.reg_ranges.specs.Laws.{FaultsTellPartitions, EachValueHasOneRange, TreatmentIsOfItsRange};
 ghost use Rattle.reg_ranges.specs.Words.{ReadsWords, policy_word, read_policy, treatment_word, read_treatment, stream_word, read_stream, track_word, read_track};
 
 /// The word of a policy, a treatment, a stream or a track reads to it, and no other text does.
@@ -7,4 +8,19 @@ pub fn words_read_back()
     ensures treatments { ReadsWords treatment_word read_treatment }
     ensures streams { ReadsWords stream_word read_stream }
     ensures tracks { ReadsWords track_word read_track }
+{}
+
+/// Ranges have no fault exactly where they are a partition.
+pub fn faults_tell_partitions()
+    ensures { FaultsTellPartitions }
+{}
+
+/// Each value up to the largest lies in one range of a table, and in no other.
+pub fn each_value_has_one_range()
+    ensures { EachValueHasOneRange }
+{}
+
+/// The treatment of a value is that of the range in which it lies. Above the largest value there is none.
+pub fn treatment_is_of_its_range()
+    ensures { TreatmentIsOfItsRange }
 {}

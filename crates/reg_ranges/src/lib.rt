@@ -4,5 +4,7 @@
 pub mod evidence;
 pub mod laws;
 pub mod policy;
+pub mod range;
 pub mod requirements;
+pub mod table;
 pub mod text;

@@ -25,7 +25,7 @@ pub trait Form: Copy {
 }
 
 /// A text of the form `F`.
-#[derive(Drop)]
+#[derive(Debug, Drop)]
 pub struct Word<F: Form> {
     text: String,
     form: PhantomData<F>,

@@ -1,7 +1,7 @@
-use Rattle.std.proofs.Common.{◌≡◌, Bool, true, false, not, cond, List, [], ◌∷◌, Option, Some, None, refl, sym, ap, ◌∙◌, rules}
+use Rattle.std.proofs.Common.{◌≡◌, Bool, true, false, not, cond, List, [], ◌∷◌, Some, refl, sym, ◌∙◌}
 use Rattle.std.specs.Prelude.{find, filter}
 use Rattle.reg_ranges.specs.declared.evidence.Item.{Item}
-use Rattle.reg_ranges.specs.Requirements.{asked_items, first_item, is_met, unmet}
+use Rattle.reg_ranges.specs.Requirements.{asked_items, first_item, is_met}
 use Rattle.reg_ranges.proofs.requirements.missing.Goals as goal
 
 first_item-filter : (p : Item → Bool) (xs : List Item) → first_item (filter p xs) ≡ find p xs

@@ -1,0 +1,23 @@
+-- Laws of the definitions.
+use Rattle.std.specs.Prelude.{◌≡◌, ◌↔◌, ◌≤◌, ◌<◌, ℕ, List, Contains, Some, None, IsNone, IsTrue}
+use Rattle.reg_ranges.specs.declared.range.Range.{Range}
+use Rattle.reg_ranges.specs.Tables.{Table, IsPartition, lies_in, treatment_of}
+use Rattle.reg_ranges.specs.Faults.{first_fault}
+
+-- ranges have no fault exactly where they are a partition
+abbrev pub FaultsTellPartitions : Type 0
+FaultsTellPartitions = (max : ℕ) (ranges : List Range) → (first_fault max ranges ≡ None) ↔ IsPartition (record { max = max; ranges = ranges })
+
+-- each value up to the largest lies in one range, and in no other
+abbrev pub EachValueHasOneRange : Type 0
+EachValueHasOneRange =
+    (table : Table) → IsPartition table → (v : ℕ) → v ≤ table.max
+    → (range : Range) × Contains table.ranges range × IsTrue (lies_in v range)
+    × ((other : Range) → Contains table.ranges other → IsTrue (lies_in v other) → other ≡ range)
+
+-- the treatment of a value is that of the range in which it lies, and there is none above the largest value
+abbrev pub TreatmentIsOfItsRange : Type 0
+TreatmentIsOfItsRange =
+    (table : Table) → IsPartition table
+    → ((range : Range) (v : ℕ) → Contains table.ranges range → IsTrue (lies_in v range) → treatment_of table v ≡ Some range.treatment)
+    × ((v : ℕ) → IsNone (treatment_of table v) ↔ (table.max < v))
