@@ -2,3 +2,5 @@ pub mod ReadWords
 pub mod Increasing
 pub mod Partitions
 pub mod Treatments
+pub mod Gaps
+pub mod LeastFree

@@ -4,4 +4,5 @@ pub mod Requirements
 pub mod Tables
 pub mod Faults
 pub mod Words
+pub mod FreeValues
 pub mod Laws

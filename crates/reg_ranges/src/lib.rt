@@ -2,6 +2,7 @@
 #![tactic(auto)]
 
 pub mod evidence;
+pub mod free;
 pub mod laws;
 pub mod policy;
 pub mod range;
