@@ -4,3 +4,5 @@ pub mod Partitions
 pub mod Treatments
 pub mod Gaps
 pub mod LeastFree
+pub mod Numerals
+pub mod Fields

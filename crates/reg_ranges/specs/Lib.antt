@@ -5,4 +5,6 @@ pub mod Tables
 pub mod Faults
 pub mod Words
 pub mod FreeValues
+pub mod Numbers
+pub mod RangeFiles
 pub mod Laws

@@ -1,5 +1,6 @@
 //! Laws of the definitions. Each function does nothing; what it ensures is the law.
 ghost use Rattle.reg_ranges.specs.Laws.{FaultsTellPartitions, EachValueHasOneRange, TreatmentIsOfItsRange, LeastValueIsLeast};
+ghost use Rattle.reg_ranges.specs.Numbers.{ReadsDecimals};
 ghost use Rattle.reg_ranges.specs.Words.{ReadsWords, policy_word, read_policy, treatment_word, read_treatment, stream_word, read_stream, track_word, read_track};
 
 /// The word of a policy, a treatment, a stream or a track reads to it, and no other text does.
@@ -30,3 +31,9 @@ pub fn treatment_is_of_its_range()
 pub fn least_value_is_least()
     ensures { LeastValueIsLeast }
 {}
+
+/// The decimal text of a number of 32 bits reads to the number, and no other text does.
+pub fn numbers_read_back()
+    ensures { ReadsDecimals }
+{
+}

@@ -2,8 +2,10 @@
 #![tactic(auto)]
 
 pub mod evidence;
+pub mod file;
 pub mod free;
 pub mod laws;
+pub mod number;
 pub mod policy;
 pub mod range;
 pub mod requirements;
