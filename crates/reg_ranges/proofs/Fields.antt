@@ -1,5 +1,5 @@
 -- Records of four fields.
-use Rattle.std.proofs.Common.{◌≡◌, ℕ, zero, suc, ◌<◌, List, [], ◌∷◌, length, Option, Some, None, refl, sym, ap, ◌∙◌, arith}
+use Rattle.std.proofs.Common.{◌≡◌, ℕ, zero, suc, ◌<◌, List, [], ◌∷◌, length, Some, None, sym, arith}
 use Rattle.csv.specs.Records.{field_at}
 
 pub field_there : (fields : List (List ℕ)) (i : ℕ) → i < length fields → ¬ (field_at fields i ≡ None)

@@ -6,3 +6,5 @@ pub mod Gaps
 pub mod LeastFree
 pub mod Numerals
 pub mod Fields
+pub mod FileRecords
+pub mod FileRanges

@@ -1,5 +1,5 @@
 -- Decimal texts read to the numbers that they write.
-use Rattle.std.proofs.Common.{◌≡◌, ℕ, zero, suc, ◌+◌, ◌<◌, ◌≤◌, ◌^◌, Bool, true, false, cond, ◌&&◌, not, eqb, nat_lt, List, [], ◌∷◌, length, get_or, Option, Some, None, Result, Ok, Err, refl, sym, ap, ◌∙◌, inl, inr, arith, rules}
+use Rattle.std.proofs.Common.{◌≡◌, ℕ, ◌<◌, ◌^◌, Bool, true, false, cond, ◌&&◌, not, nat_lt, List, [], ◌∷◌, length, get_or, Some, None, Result, Ok, Err, refl, sym, ap, inl, inr, arith, rules}
 use Rattle.std.specs.Char.{is_ascii_digit}
 use Rattle.std.specs.Fmt.{decimal}
 use Rattle.std.specs.List.{list_all}
@@ -36,9 +36,9 @@ parsed_as : {E : Type 0} (s : List ℕ) (r : Result ℕ E) → 0 < length s → 
     → result_ok r ≡ cond (nat_lt (digits_value 10 s) (2 ^ 32)) (Some (digits_value 10 s)) None
 parsed_as {E} s (Ok n) some h = rw (lt-ltb (digits_value 10 s) (2 ^ 32) h.0.1) (ap Some h.1)
 parsed_as {E} s (Err e) some h = elim (cases_lt (digits_value 10 s) (2 ^ 32)) [
-    | inl below ↦ absurd (h (some, below))
-    | inr above ↦ rw (le-ltb (digits_value 10 s) (2 ^ 32) above) refl
-  ]
+  | inl below ↦ absurd (h (some, below))
+  | inr above ↦ rw (le-ltb (digits_value 10 s) (2 ^ 32) above) refl
+]
 
 pub parse_is : {E : Type 0} (s : List ℕ) (r : Result ℕ E) → is_numeral s ≡ true → ParsesUnsigned 32 10 s r
     → result_ok r ≡ cond (nat_lt (digits_value 10 s) (2 ^ 32)) (Some (digits_value 10 s)) None
@@ -72,9 +72,9 @@ read_as n s h = read_as_if n (digits_value 10 s) s (is_numeral s && nat_lt (digi
 
 plain : (n : ℕ) → n < 2 ^ 64 → has_leading_zero (decimal n) ≡ false
 plain n small = elim (cases_lt n 10) [
-    | inl one ↦ rw (decimal_digit n one) refl
-    | inr more ↦ not_zero (decimal n) (first_decimal n (omega arith) small)
-  ]
+  | inl one ↦ rw (decimal_digit n one) refl
+  | inr more ↦ not_zero (decimal n) (first_decimal n (omega arith) small)
+]
 
 written : (n : ℕ) → n < 2 ^ 32 → read_number (decimal n) ≡ Some n
 written n small =

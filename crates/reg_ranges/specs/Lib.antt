@@ -6,5 +6,6 @@ pub mod Faults
 pub mod Words
 pub mod FreeValues
 pub mod Numbers
+pub mod RowReading
 pub mod RangeFiles
 pub mod Laws

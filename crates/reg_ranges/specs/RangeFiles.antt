@@ -3,7 +3,7 @@ use Rattle.std.specs.Prelude.{◌≡◌, ℕ, ◌+◌, Bool, List, [], ◌∷◌
 use Rattle.std.specs.Option.{ok_or}
 use Rattle.std.specs.Cmp.Lexicographic.{pointwise}
 use Rattle.std.specs.Str.{bytes_eq}
-use Rattle.csv.specs.Reading.{default_config, strip_bom, records}
+use Rattle.reg_ranges.specs.RowReading.{text_rows}
 use Rattle.reg_ranges.specs.Texts.{is_text, read_text}
 use Rattle.reg_ranges.specs.Numbers.{read_number}
 use Rattle.reg_ranges.specs.Words.{read_treatment}
@@ -52,9 +52,9 @@ abbrev pub ranges_of : List (List (List ℕ)) → Result (List Range) RowFault
 ranges_of [] = Err fault.Header
 ranges_of (first ∷ rows) = (if is_header first then ranges_from 0 rows else Err fault.Header)
 
--- the ranges of a file, in the records that CSV's defaults make of it after a byte order mark
+-- the ranges of a file
 unfoldable pub file_ranges : List ℕ → Result (List Range) RowFault
-file_ranges text = ranges_of (records default_config (strip_bom text))
+file_ranges text = ranges_of (text_rows text)
 
 -- the fault is the one that reading finds, unless memory ran out
 abbrev pub IsFaultOf : {A : Type 0} → Result A RowFault → RowFault → Type 0

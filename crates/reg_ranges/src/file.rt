@@ -1,14 +1,16 @@
 //! Range files: CSV with the header `lo,hi,treatment,note` and one row for each range.
-ghost use Rattle.std.specs.Prelude.{◌≡◌, ◌≢◌, ◌∷◌, [], Ok, IfOk, IfErr, MatchOption, length};
+ghost use Rattle.std.specs.Prelude.{◌≡◌, ◌≢◌, ◌<◌, ◌∷◌, ◌++◌, [], List, ℕ, Ok, OnSome, IfOk, IfErr, MatchOption, length};
+ghost use Rattle.csv.specs.Reading.{owned_rows_left};
 ghost use Rattle.csv.specs.Records.{fields_of};
 ghost use Rattle.reg_ranges.specs.declared.file.RowFault.TheVariants as fault;
+ghost use Rattle.reg_ranges.specs.RowReading.{HasRead, text_rows};
 ghost use Rattle.reg_ranges.specs.RangeFiles.{IsFaultOf, file_ranges, is_header, note_of, range_of};
 
 use crate::number::read_number;
 use crate::policy::Treatment;
 use crate::range::Range;
 use crate::text::Text;
-use csv::{ByteRecord, ReaderBuilder};
+use csv::{ByteRecord, ByteRecordsIntoIter, ReaderBuilder};
 use std::alloc::{AllocError, AllocFailed, Global};
 
 /// The part of a row that is at fault.
@@ -108,8 +110,7 @@ fn read_fields(alloc: Global, n: usize, fields: Fields<'_>) -> Result<Range, Row
 {
     let lo = read_number(fields.lo).ok_or(RowFault::Row(n, RowPart::Number))?;
     let hi = read_number(fields.hi).ok_or(RowFault::Row(n, RowPart::Number))?;
-    let treatment =
-        Treatment::read(fields.treatment).ok_or(RowFault::Row(n, RowPart::Treatment))?;
+    let treatment = Treatment::read(fields.treatment).ok_or(RowFault::Row(n, RowPart::Treatment))?;
     let note = read_note(alloc, n, fields.note)?;
     Ok(Range {
         lo,
@@ -130,5 +131,50 @@ fn read_note(alloc: Global, n: usize, field: &[u8]) -> Result<Option<Text>, RowF
     match Text::read(alloc, field)? {
         Some(text) => Ok(Some(text)),
         None => Err(RowFault::Row(n, RowPart::Text)),
+    }
+}
+
+/// The ranges of a file, row by row, or the first fault: the header, then of the first row at fault its columns,
+/// then its first field at fault from the left. A byte order mark, blank lines and quotes are what CSV makes of them
+/// (RFC 4180). Whether the ranges are a partition is not looked at.
+pub fn read_ranges(alloc: Global, file: &[u8]) -> Result<Vec<Range>, RowFault>
+    ensures ranges { IfOk result (λ ranges. file_ranges file.now ≡ Ok ranges.items) }
+    ensures fault { IfErr result (IsFaultOf (file_ranges file.now)) }
+{
+    let mut rows = rows_of(alloc, file);
+    let Some(first) = next_row(&mut rows)? else {
+        return Err(RowFault::Header);
+    };
+    if !is_header(&first) {
+        return Err(RowFault::Header);
+    }
+    let mut ranges = Vec::new(alloc);
+    while let Some(row) = next_row(&mut rows)? {
+        let range = read_row(alloc, ranges.len(), &row)?;
+        ranges.push(range)?;
+    }
+    Ok(ranges)
+}
+
+fn rows_of(alloc: Global, file: &[u8]) -> ByteRecordsIntoIter<&[u8]>
+    ensures { HasRead file.now [] result }
+{
+    ReaderBuilder::new()
+        .has_headers(false)
+        .flexible(true)
+        .from_reader(alloc, file)
+        .into_byte_records()
+}
+
+fn next_row(rows: &mut ByteRecordsIntoIter<&[u8]>) -> Result<Option<ByteRecord>, RowFault>
+    ensures row { (text : List ℕ) (done : List (List (List ℕ))) → HasRead text done rows.old
+        → IfOk result (λ o. MatchOption o (text_rows text ≡ done) (λ row. HasRead text (done ++ fields_of row ∷ []) rows.new)) }
+    ensures fewer { IfOk result (λ o. OnSome o (owned_rows_left rows.new < owned_rows_left rows.old)) }
+    ensures fault { IfErr result (λ f. f ≡ fault.Memory) }
+{
+    match rows.next() {
+        None => Ok(None),
+        Some(Ok(row)) => Ok(Some(row)),
+        Some(Err(_)) => Err(RowFault::Memory),
     }
 }

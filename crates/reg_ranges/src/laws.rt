@@ -35,5 +35,4 @@ pub fn least_value_is_least()
 /// The decimal text of a number of 32 bits reads to the number, and no other text does.
 pub fn numbers_read_back()
     ensures { ReadsDecimals }
-{
-}
+{}

@@ -1,4 +1,4 @@
-use Rattle.std.proofs.Common.{◌≡◌, ◌∙◌, sym, length, arith}
+use Rattle.std.proofs.Common.{◌∙◌, sym, arith}
 use Rattle.csv.specs.Records.{fields_of}
 use Rattle.reg_ranges.proofs.Fields.{four_there, these_four}
 use Rattle.reg_ranges.proofs.file.four_fields.Goals as goal
