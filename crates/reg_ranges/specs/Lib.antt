@@ -8,4 +8,5 @@ pub mod FreeValues
 pub mod Numbers
 pub mod RowReading
 pub mod RangeFiles
+pub mod FaultTexts
 pub mod Laws

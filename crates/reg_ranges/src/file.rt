@@ -1,8 +1,9 @@
 //! Range files: CSV with the header `lo,hi,treatment,note` and one row for each range.
-ghost use Rattle.std.specs.Prelude.{◌≡◌, ◌≢◌, ◌<◌, ◌∷◌, ◌++◌, [], List, ℕ, Ok, OnSome, IfOk, IfErr, MatchOption, length};
+ghost use Rattle.std.specs.Prelude.{◌≡◌, ◌≢◌, ◌<◌, ◌∷◌, ◌++◌, [], List, ℕ, Some, Ok, OnSome, IfOk, IfErr, MatchOption, length};
 ghost use Rattle.csv.specs.Reading.{owned_rows_left};
 ghost use Rattle.csv.specs.Records.{fields_of};
 ghost use Rattle.reg_ranges.specs.declared.file.RowFault.TheVariants as fault;
+ghost use Rattle.reg_ranges.specs.FaultTexts.{part_word, row_fault_text};
 ghost use Rattle.reg_ranges.specs.RowReading.{HasRead, text_rows};
 ghost use Rattle.reg_ranges.specs.RangeFiles.{IsFaultOf, file_ranges, is_header, note_of, range_of};
 
@@ -12,6 +13,8 @@ use crate::range::Range;
 use crate::text::Text;
 use csv::{ByteRecord, ByteRecordsIntoIter, ReaderBuilder};
 use std::alloc::{AllocError, AllocFailed, Global};
+use std::error::Error;
+use std::fmt;
 
 /// The part of a row that is at fault.
 #[derive(Clone, Copy, Debug, PartialEq, Eq)]
@@ -36,6 +39,33 @@ pub enum RowFault {
     /// There was no memory for more.
     Memory,
 }
+
+impl fmt::Display for RowPart {
+    ghost output = { λ p. Some (part_word p) };
+
+    fn fmt<W: fmt::Write>(&self, f: &mut fmt::Formatter<W>) -> fmt::Result {
+        match self {
+            RowPart::Columns => write!(f, "columns"),
+            RowPart::Number => write!(f, "number"),
+            RowPart::Treatment => write!(f, "treatment"),
+            RowPart::Text => write!(f, "text"),
+        }
+    }
+}
+
+impl fmt::Display for RowFault {
+    ghost output = { λ f. Some (row_fault_text f) };
+
+    fn fmt<W: fmt::Write>(&self, f: &mut fmt::Formatter<W>) -> fmt::Result {
+        match self {
+            RowFault::Header => write!(f, "header"),
+            RowFault::Row(n, part) => write!(f, "row {n} {part}"),
+            RowFault::Memory => write!(f, "memory"),
+        }
+    }
+}
+
+impl Error for RowFault {}
 
 impl From<AllocError> for RowFault {
     ghost from_gives = { λ _ f. f ≡ fault.Memory };

@@ -1,12 +1,15 @@
 //! The ranges of a registry: a partition of its values.
-ghost use Rattle.std.specs.Prelude.{◌≡◌, ◌<◌, ◌↔◌, find, option_map, IfOk, IsOk, IsNone};
+ghost use Rattle.std.specs.Prelude.{◌≡◌, ◌<◌, ◌↔◌, find, option_map, Some, IfOk, IsOk, IsNone};
 ghost use Rattle.std.specs.Result.{result_err};
+ghost use Rattle.reg_ranges.specs.FaultTexts.{range_fault_text};
 ghost use Rattle.reg_ranges.specs.Faults.{fault_at, fault_from, first_fault};
 ghost use Rattle.reg_ranges.specs.Tables.{IsPartition, lies_in, treatment_of};
 
 use crate::policy::Treatment;
 use crate::range::Range;
 use std::alloc::AllocError;
+use std::error::Error;
+use std::fmt;
 use std::marker::Model;
 
 /// Why a list of ranges is no partition of 0 to the largest value. Places count from 0.
@@ -25,6 +28,23 @@ pub enum RangeFault {
     /// The last range does not end at the largest value.
     End,
 }
+
+impl fmt::Display for RangeFault {
+    ghost output = { λ f. Some (range_fault_text f) };
+
+    fn fmt<W: fmt::Write>(&self, f: &mut fmt::Formatter<W>) -> fmt::Result {
+        match self {
+            RangeFault::Empty => write!(f, "empty"),
+            RangeFault::TooMany => write!(f, "too-many"),
+            RangeFault::Order(i) => write!(f, "order {i}"),
+            RangeFault::Gap(i) => write!(f, "gap {i}"),
+            RangeFault::Overlap(i) => write!(f, "overlap {i}"),
+            RangeFault::End => write!(f, "end"),
+        }
+    }
+}
+
+impl Error for RangeFault {}
 
 /// 1 to 64 ranges in order, such that each value of 0 to a largest one lies in exactly one of them.
 #[derive(Debug, Drop)]
