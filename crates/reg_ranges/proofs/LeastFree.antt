@@ -1,16 +1,17 @@
 -- The least free value: a walk over the ranges finds it, so does the search, and there is no other.
 use Rattle.std.proofs.Common.{◌≡◌, ℕ, zero, suc, ◌+◌, ◌<◌, ◌≤◌, Bool, true, false, cond, not, nat_eq, List, [], ◌∷◌, length, get_or, drop, Option, Some, None, refl, sym, ap, ◌∙◌, ◌⊎◌, inl, inr, arith, add-one, drop-cons}
 use Rattle.std.specs.Prelude.{Contains, IsTrue, IsNone, find}
+use Rattle.std.specs.Bool.{Decides}
 use Rattle.std.specs.List.{list_any, range_with_len}
-use Rattle.std.proofs.lemmas.Bool.{cases_lt, cases_order, le-leb, eqb-true, eqb-false, eq-eqb, and_parts, and_cases, or_cases, or_parts, not-true, not-false}
+use Rattle.std.proofs.lemmas.Bool.{cases_lt, cases_order, le-leb, eqb-true, eqb-false, and_parts, and_cases, or_cases, or_parts, not-true, not-false}
 use Rattle.std.proofs.lemmas.List.{drop_all}
 use Rattle.reg_ranges.specs.declared.range.Range.{Range}
 use Rattle.reg_ranges.specs.declared.policy.Policy.{Policy}
-use Rattle.reg_ranges.specs.declared.policy.Policy.TheVariants as policy
-use Rattle.reg_ranges.specs.declared.policy.Treatment.{Treatment}
 use Rattle.reg_ranges.specs.declared.policy.Treatment.TheVariants as treatment
 use Rattle.reg_ranges.specs.Tables.{Table, IsPartition, lies_in, treatment_of}
-use Rattle.reg_ranges.specs.FreeValues.{IsUnder, IsLeastFree, IsLeastIn, policy_section, same_policy, is_under, is_free, least_value}
+use Rattle.reg_ranges.specs.FreeValues.{IsUnder, IsLeastFree, IsLeastIn, is_under, is_free, least_value}
+use Rattle.reg_ranges.specs.Sameness.{same_treatment}
+use Rattle.reg_ranges.proofs.Sames.{option_decided, treatment_decided}
 use Rattle.reg_ranges.proofs.Partitions.{Chain, chain_from_partition}
 use Rattle.reg_ranges.proofs.Treatments.{treatment_in, treatment_above}
 use Rattle.reg_ranges.proofs.Gaps.{has_cases}
@@ -121,38 +122,8 @@ one_least table p taken (Some v) (Some w) first second = elim (cases_order v w) 
 
 -- ---- the search finds it
 
-policy_at : ℕ → Policy
-policy_at n =
-    cond (nat_eq n 1) policy.PrivateUse (cond (nat_eq n 2) policy.ExperimentalUse (cond (nat_eq n 3) policy.HierarchicalAllocation (cond (nat_eq n 4) policy.FirstComeFirstServed
-    (cond (nat_eq n 5) policy.ExpertReview (cond (nat_eq n 6) policy.SpecificationRequired (cond (nat_eq n 7) policy.RfcRequired (cond (nat_eq n 8) policy.IetfReview
-    (cond (nat_eq n 9) policy.StandardsAction policy.IesgApproval))))))))
-
-policy_at-section : (p : Policy) → policy_at (policy_section p) ≡ p
-unfolding policy_at
-policy_at-section policy.PrivateUse = refl
-policy_at-section policy.ExperimentalUse = refl
-policy_at-section policy.HierarchicalAllocation = refl
-policy_at-section policy.FirstComeFirstServed = refl
-policy_at-section policy.ExpertReview = refl
-policy_at-section policy.SpecificationRequired = refl
-policy_at-section policy.RfcRequired = refl
-policy_at-section policy.IetfReview = refl
-policy_at-section policy.StandardsAction = refl
-policy_at-section policy.IesgApproval = refl
-
-pub same_policy-true : (p q : Policy) → same_policy p q ≡ true → p ≡ q
-same_policy-true p q h = sym (policy_at-section p) ∙ ap policy_at (eqb-true (policy_section p) (policy_section q) h) ∙ policy_at-section q
-
-pub same_policy_self : (p : Policy) → same_policy p p ≡ true
-same_policy_self p = eq-eqb (policy_section p) (policy_section p) refl
-
-under_true : (p : Policy) (o : Option Treatment) → is_under p o ≡ true → o ≡ Some (treatment.Under p)
-under_true p None h = absurd (cc)
-under_true p (Some treatment.Reserved) h = absurd (cc)
-under_true p (Some (treatment.Under q)) h = rw (same_policy-true p q h) refl
-
-under_from : (p : Policy) (o : Option Treatment) → o ≡ Some (treatment.Under p) → is_under p o ≡ true
-under_from p o h = rw h (same_policy_self p)
+under_decided : (table : Table) (p : Policy) (v : ℕ) → Decides (is_under table p v) (IsUnder table p v)
+under_decided table p v = option_decided same_treatment treatment_decided (treatment_of table v) (Some (treatment.Under p))
 
 any_has : (u : ℕ) (xs : List ℕ) → list_any (nat_eq u) xs ≡ true → Contains xs u
 any_has u [] h = absurd (cc)
@@ -172,12 +143,12 @@ any_not u (x ∷ xs) h has =
 
 free_true : (table : Table) (p : Policy) (taken : List ℕ) (v : ℕ) → is_free table p taken v ≡ true → IsUnder table p v × ¬ (Contains taken v)
 free_true table p taken v h =
-    let parts = and_parts (is_under p (treatment_of table v)) (not (list_any (nat_eq v) taken)) h in
-    (under_true p (treatment_of table v) parts.0, any_not v taken (not-true (list_any (nat_eq v) taken) parts.1))
+    let parts = and_parts (is_under table p v) (not (list_any (nat_eq v) taken)) h in
+    ((under_decided table p v).0 parts.0, any_not v taken (not-true (list_any (nat_eq v) taken) parts.1))
 
 free_false : (table : Table) (p : Policy) (taken : List ℕ) (v : ℕ) → is_free table p taken v ≡ false → IsUnder table p v → Contains taken v
-free_false table p taken v h under = elim (and_cases (is_under p (treatment_of table v)) (not (list_any (nat_eq v) taken)) h) [
-  | inl none ↦ absurd (let some = under_from p (treatment_of table v) under in cc)
+free_false table p taken v h under = elim (and_cases (is_under table p v) (not (list_any (nat_eq v) taken)) h) [
+  | inl none ↦ absurd (let some = (under_decided table p v).1 under in cc)
   | inr taken_there ↦ any_has v taken (not-false (list_any (nat_eq v) taken) taken_there)
 ]
 

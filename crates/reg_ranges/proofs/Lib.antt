@@ -1,4 +1,5 @@
 pub mod ReadWords
+pub mod Sames
 pub mod Increasing
 pub mod Partitions
 pub mod Treatments

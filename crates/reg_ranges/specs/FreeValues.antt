@@ -1,11 +1,10 @@
 -- The values that can be assigned under a policy, and the least of them.
-use Rattle.std.specs.Prelude.{◌≡◌, ℕ, ◌+◌, ◌<◌, ◌≤◌, Bool, false, ◌&&◌, not, nat_eq, List, Contains, Option, Some, None, find}
+use Rattle.std.specs.Prelude.{◌≡◌, ℕ, ◌+◌, ◌<◌, ◌≤◌, Bool, ◌&&◌, not, nat_eq, List, Contains, Option, Some, None, find}
 use Rattle.std.specs.List.{list_any, range_with_len}
 use Rattle.reg_ranges.specs.declared.range.Range.{Range}
 use Rattle.reg_ranges.specs.declared.policy.Policy.{Policy}
-use Rattle.reg_ranges.specs.declared.policy.Policy.TheVariants as policy
-use Rattle.reg_ranges.specs.declared.policy.Treatment.{Treatment}
 use Rattle.reg_ranges.specs.declared.policy.Treatment.TheVariants as treatment
+use Rattle.reg_ranges.specs.Sameness.{same_option, same_treatment}
 use Rattle.reg_ranges.specs.Tables.{Table, treatment_of}
 
 -- the value lies in a range under the policy
@@ -20,29 +19,11 @@ IsLeastFree table p taken None = (u : ℕ) → IsUnder table p u → Contains ta
 
 -- ---- the same by a search
 
--- the section of RFC 8126 section 4 that defines the policy
-abbrev pub policy_section : Policy → ℕ
-policy_section policy.PrivateUse = 1
-policy_section policy.ExperimentalUse = 2
-policy_section policy.HierarchicalAllocation = 3
-policy_section policy.FirstComeFirstServed = 4
-policy_section policy.ExpertReview = 5
-policy_section policy.SpecificationRequired = 6
-policy_section policy.RfcRequired = 7
-policy_section policy.IetfReview = 8
-policy_section policy.StandardsAction = 9
-policy_section policy.IesgApproval = 10
-
-abbrev pub same_policy : Policy → Policy → Bool
-same_policy p q = nat_eq (policy_section p) (policy_section q)
-
-abbrev pub is_under : Policy → Option Treatment → Bool
-is_under p None = false
-is_under p (Some treatment.Reserved) = false
-is_under p (Some (treatment.Under q)) = same_policy p q
+abbrev pub is_under : Table → Policy → ℕ → Bool
+is_under table p v = same_option same_treatment (treatment_of table v) (Some (treatment.Under p))
 
 abbrev pub is_free : Table → Policy → List ℕ → ℕ → Bool
-is_free table p taken v = is_under p (treatment_of table v) && not (list_any (nat_eq v) taken)
+is_free table p taken v = is_under table p v && not (list_any (nat_eq v) taken)
 
 -- the first value from 0 to the largest that is free under the policy
 unfoldable pub least_value : Table → Policy → List ℕ → Option ℕ

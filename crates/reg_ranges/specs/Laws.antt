@@ -1,5 +1,6 @@
 -- Laws of the definitions.
-use Rattle.std.specs.Prelude.{◌≡◌, ◌↔◌, ◌≤◌, ◌<◌, ℕ, List, Contains, Option, Some, None, IsNone, IsTrue}
+use Rattle.std.specs.Bool.{Decides}
+use Rattle.std.specs.Prelude.{Bool, ◌≡◌, ◌↔◌, ◌≤◌, ◌<◌, ℕ, List, Contains, Option, Some, None, IsNone, IsTrue}
 use Rattle.reg_ranges.specs.declared.range.Range.{Range}
 use Rattle.reg_ranges.specs.Tables.{Table, IsPartition, lies_in, treatment_of}
 use Rattle.reg_ranges.specs.FreeValues.{IsLeastFree, least_value}
@@ -31,3 +32,7 @@ LeastValueIsLeast =
     (table : Table) → IsPartition table → (policy : Policy) (taken : List ℕ)
     → IsLeastFree table policy taken (least_value table policy taken)
     × ((other : Option ℕ) → IsLeastFree table policy taken other → other ≡ least_value table policy taken)
+
+-- a test of sameness is true exactly of equal values
+abbrev pub TellsSame : {T : Type 0} → (T → T → Bool) → Type 0
+TellsSame {T} same = (x y : T) → Decides (same x y) (x ≡ y)

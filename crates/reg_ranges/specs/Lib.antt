@@ -2,6 +2,8 @@ pub mod Texts
 pub mod Rfcs
 pub mod Requirements
 pub mod Tables
+pub mod Sameness
+pub mod TableSameness
 pub mod Faults
 pub mod Words
 pub mod FreeValues

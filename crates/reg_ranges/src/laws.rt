@@ -1,5 +1,6 @@
 //! Laws of the definitions. Each function does nothing; what it ensures is the law.
-ghost use Rattle.reg_ranges.specs.Laws.{FaultsTellPartitions, EachValueHasOneRange, TreatmentIsOfItsRange, LeastValueIsLeast};
+ghost use Rattle.reg_ranges.specs.Laws.{FaultsTellPartitions, EachValueHasOneRange, TreatmentIsOfItsRange, LeastValueIsLeast, TellsSame};
+ghost use Rattle.reg_ranges.specs.Sameness.{same_policy, same_treatment, same_stream, same_track, same_rfc, same_evidence, same_range, same_table};
 ghost use Rattle.reg_ranges.specs.Numbers.{ReadsDecimals};
 ghost use Rattle.reg_ranges.specs.Words.{ReadsWords, policy_word, read_policy, treatment_word, read_treatment, stream_word, read_stream, track_word, read_track};
 
@@ -35,4 +36,16 @@ pub fn least_value_is_least()
 /// The decimal text of a number of 32 bits reads to the number, and no other text does.
 pub fn numbers_read_back()
     ensures { ReadsDecimals }
+{}
+
+/// The tests of sameness are true exactly of equal values.
+pub fn sameness_is_equality()
+    ensures policies { TellsSame same_policy }
+    ensures treatments { TellsSame same_treatment }
+    ensures streams { TellsSame same_stream }
+    ensures tracks { TellsSame same_track }
+    ensures rfcs { TellsSame same_rfc }
+    ensures evidence { TellsSame same_evidence }
+    ensures ranges { TellsSame same_range }
+    ensures tables { TellsSame same_table }
 {}

@@ -1,5 +1,5 @@
 //! The ranges of a registry: a partition of its values.
-ghost use Rattle.std.specs.Prelude.{◌≡◌, ◌<◌, ◌↔◌, find, option_map, Some, IfOk, IsOk, IsNone};
+ghost use Rattle.std.specs.Prelude.{◌≡◌, ◌<◌, ◌↔◌, find, option_map, Some, IfOk, IsOk, IsNone, IsTrue};
 ghost use Rattle.std.specs.Result.{result_err};
 ghost use Rattle.reg_ranges.specs.FaultTexts.{range_fault_text};
 ghost use Rattle.reg_ranges.specs.Faults.{fault_at, fault_from, first_fault};
@@ -115,6 +115,46 @@ impl RangeTable {
             ranges,
         })
     }
+}
+
+impl PartialEq for RangeTable {
+    ghost use Rattle.std.specs.Cmp.{partial_equiv_from_equiv};
+    ghost use Rattle.reg_ranges.specs.Sameness.{same_table};
+    ghost use Rattle.reg_ranges.specs.TableSameness.{tables_equiv};
+
+    ghost eq = { same_table };
+
+    ghost laws = { partial_equiv_from_equiv tables_equiv };
+
+    fn eq(&self, other: &Self) -> bool {
+        self.max == other.max && same_ranges(self.ranges.as_slice(), other.ranges.as_slice())
+    }
+}
+
+impl Eq for RangeTable {
+    ghost use Rattle.reg_ranges.specs.TableSameness.{tables_equiv};
+
+    ghost laws = { tables_equiv };
+}
+
+fn same_ranges(ranges: &[Range], others: &[Range]) -> bool
+    ensures { IsTrue result ↔ (ranges.now ≡ others.now) }
+{
+    if ranges.len() != others.len() {
+        return false;
+    }
+    for (i, range) in ranges.iter().enumerate() {
+        if !same_range(range, &others[i]) {
+            return false;
+        }
+    }
+    true
+}
+
+fn same_range(range: &Range, other: &Range) -> bool
+    ensures { IsTrue result ↔ (range.now ≡ other.now) }
+{
+    range == other
 }
 
 fn treatment_in(ranges: &[Range], value: u32) -> Option<Treatment>
