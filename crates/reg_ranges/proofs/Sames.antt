@@ -1,6 +1,7 @@
 -- Tests of sameness are true exactly of equal values.
 use Rattle.std.proofs.Common.{◌≡◌, ℕ, Bool, ◌&&◌, List, Option, Some, None, refl, sym, ap, ◌==◌}
 use Rattle.std.specs.Bool.{Decides}
+use Rattle.std.specs.Option.{option_eq}
 use Rattle.std.specs.Cmp.{IsEquivalence}
 use Rattle.std.specs.Cmp.Lexicographic.{pointwise}
 use Rattle.std.specs.Str.{bytes_eq}
@@ -16,7 +17,7 @@ use Rattle.reg_ranges.specs.declared.range.Range.{Range}
 use Rattle.reg_ranges.specs.Rfcs.{PublishedRfc}
 use Rattle.reg_ranges.specs.Tables.{Table}
 use Rattle.reg_ranges.specs.Words.{ReadsWords, policy_word, read_policy, treatment_word, read_treatment, stream_word, read_stream, track_word, read_track}
-use Rattle.reg_ranges.specs.Sameness.{same_by, same_policy, same_treatment, same_stream, same_track, same_option, same_rfc, same_evidence, same_range, same_table}
+use Rattle.reg_ranges.specs.Sameness.{same_by, same_policy, same_treatment, same_stream, same_track, same_rfc, same_evidence, same_range, same_table}
 use Rattle.reg_ranges.proofs.ReadWords.{policies_read, treatments_read, streams_read, tracks_read}
 
 word_decided : {T : Type 0} (word : T → List ℕ) (read : List ℕ → Option T) → ReadsWords word read → (x y : T) → Decides (same_by word x y) (x ≡ y)
@@ -41,7 +42,7 @@ stream_decided = word_decided stream_word read_stream streams_read
 pub track_decided : (s t : Track) → Decides (same_track s t) (s ≡ t)
 track_decided = word_decided track_word read_track tracks_read
 
-pub option_decided : {T : Type 0} (same : T → T → Bool) → ((x y : T) → Decides (same x y) (x ≡ y)) → (o p : Option T) → Decides (same_option same o p) (o ≡ p)
+pub option_decided : {T : Type 0} (same : T → T → Bool) → ((x y : T) → Decides (same x y) (x ≡ y)) → (o p : Option T) → Decides (option_eq same o p) (o ≡ p)
 option_decided {T} same each None None = (λ h. refl, λ e. refl)
 option_decided {T} same each None (Some y) = (λ h. absurd (cc), λ e. absurd (cc))
 option_decided {T} same each (Some x) None = (λ h. absurd (cc), λ e. absurd (cc))
@@ -62,7 +63,7 @@ rfc_decided a b =
       λ e. parts.1 (ap (λ (x : PublishedRfc). x.number) e, (ap (λ (x : PublishedRfc). x.stream) e, ap (λ (x : PublishedRfc). x.track) e)),
     )
 
-text_decided : (o p : Option (List ℕ)) → Decides (same_option bytes_eq o p) (o ≡ p)
+text_decided : (o p : Option (List ℕ)) → Decides (option_eq bytes_eq o p) (o ≡ p)
 text_decided = option_decided bytes_eq bytes_eq-Decides
 
 pub evidence_decided : (a b : Evidence) → Decides (same_evidence a b) (a ≡ b)
@@ -71,9 +72,9 @@ evidence_decided a b =
     let spec = text_decided a.spec b.spec in
     let rfc = option_decided same_rfc rfc_decided a.rfc b.rfc in
     let minute = text_decided a.minute b.minute in
-    let parts = both_decided (same_option bytes_eq a.contact b.contact) (same_option bytes_eq a.spec b.spec && (same_option same_rfc a.rfc b.rfc && same_option bytes_eq a.minute b.minute)) contact
-    (both_decided (same_option bytes_eq a.spec b.spec) (same_option same_rfc a.rfc b.rfc && same_option bytes_eq a.minute b.minute) spec
-    (both_decided (same_option same_rfc a.rfc b.rfc) (same_option bytes_eq a.minute b.minute) rfc minute)) in (
+    let parts = both_decided (option_eq bytes_eq a.contact b.contact) (option_eq bytes_eq a.spec b.spec && (option_eq same_rfc a.rfc b.rfc && option_eq bytes_eq a.minute b.minute)) contact
+    (both_decided (option_eq bytes_eq a.spec b.spec) (option_eq same_rfc a.rfc b.rfc && option_eq bytes_eq a.minute b.minute) spec
+    (both_decided (option_eq same_rfc a.rfc b.rfc) (option_eq bytes_eq a.minute b.minute) rfc minute)) in (
       λ h. let e = parts.0 h in λ i. record { contact = e.0 i; spec = e.1.0 i; rfc = e.1.1.0 i; minute = e.1.1.1 i },
       λ e. parts.1 (ap (λ (x : Evidence). x.contact) e, (ap (λ (x : Evidence). x.spec) e, (ap (λ (x : Evidence). x.rfc) e, ap (λ (x : Evidence). x.minute) e))),
     )
@@ -81,9 +82,9 @@ evidence_decided a b =
 pub range_decided : (a b : Range) → Decides (same_range a b) (a ≡ b)
 range_decided a b =
     let note = text_decided a.note b.note in
-    let parts = both_decided (a.lo == b.lo) ((a.hi == b.hi) && (same_treatment a.treatment b.treatment && same_option bytes_eq a.note b.note)) (nat_decided a.lo b.lo)
-    (both_decided (a.hi == b.hi) (same_treatment a.treatment b.treatment && same_option bytes_eq a.note b.note) (nat_decided a.hi b.hi)
-    (both_decided (same_treatment a.treatment b.treatment) (same_option bytes_eq a.note b.note) (treatment_decided a.treatment b.treatment) note)) in (
+    let parts = both_decided (a.lo == b.lo) ((a.hi == b.hi) && (same_treatment a.treatment b.treatment && option_eq bytes_eq a.note b.note)) (nat_decided a.lo b.lo)
+    (both_decided (a.hi == b.hi) (same_treatment a.treatment b.treatment && option_eq bytes_eq a.note b.note) (nat_decided a.hi b.hi)
+    (both_decided (same_treatment a.treatment b.treatment) (option_eq bytes_eq a.note b.note) (treatment_decided a.treatment b.treatment) note)) in (
       λ h. let e = parts.0 h in λ i. record { lo = e.0 i; hi = e.1.0 i; treatment = e.1.1.0 i; note = e.1.1.1 i },
       λ e. parts.1 (ap (λ (x : Range). x.lo) e, (ap (λ (x : Range). x.hi) e, (ap (λ (x : Range). x.treatment) e, ap (λ (x : Range). x.note) e))),
     )

@@ -1,10 +1,11 @@
 -- The values that can be assigned under a policy, and the least of them.
 use Rattle.std.specs.Prelude.{◌≡◌, ℕ, ◌+◌, ◌<◌, ◌≤◌, Bool, ◌&&◌, not, nat_eq, List, Contains, Option, Some, None, find}
+use Rattle.std.specs.Option.{option_eq}
 use Rattle.std.specs.List.{list_any, range_with_len}
 use Rattle.reg_ranges.specs.declared.range.Range.{Range}
 use Rattle.reg_ranges.specs.declared.policy.Policy.{Policy}
 use Rattle.reg_ranges.specs.declared.policy.Treatment.TheVariants as treatment
-use Rattle.reg_ranges.specs.Sameness.{same_option, same_treatment}
+use Rattle.reg_ranges.specs.Sameness.{same_treatment}
 use Rattle.reg_ranges.specs.Tables.{Table, treatment_of}
 
 -- the value lies in a range under the policy
@@ -20,7 +21,7 @@ IsLeastFree table p taken None = (u : ℕ) → IsUnder table p u → Contains ta
 -- ---- the same by a search
 
 abbrev pub is_under : Table → Policy → ℕ → Bool
-is_under table p v = same_option same_treatment (treatment_of table v) (Some (treatment.Under p))
+is_under table p v = option_eq same_treatment (treatment_of table v) (Some (treatment.Under p))
 
 abbrev pub is_free : Table → Policy → List ℕ → ℕ → Bool
 is_free table p taken v = is_under table p v && not (list_any (nat_eq v) taken)

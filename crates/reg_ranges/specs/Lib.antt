@@ -3,7 +3,7 @@ pub mod Rfcs
 pub mod Requirements
 pub mod Tables
 pub mod Sameness
-pub mod TableSameness
+pub mod Equivalences
 pub mod Faults
 pub mod Words
 pub mod FreeValues

@@ -1,5 +1,6 @@
 -- Tests of sameness. Each is true exactly of equal values, which is a law.
-use Rattle.std.specs.Prelude.{ℕ, Bool, true, false, ◌&&◌, ◌==◌, List, Option, Some, None}
+use Rattle.std.specs.Prelude.{ℕ, Bool, ◌&&◌, ◌==◌, List}
+use Rattle.std.specs.Option.{option_eq}
 use Rattle.std.specs.Cmp.Lexicographic.{pointwise}
 use Rattle.std.specs.Str.{bytes_eq}
 use Rattle.reg_ranges.specs.declared.policy.Policy.{Policy}
@@ -28,23 +29,17 @@ same_stream s t = same_by stream_word s t
 abbrev pub same_track : Track → Track → Bool
 same_track s t = same_by track_word s t
 
-abbrev pub same_option : {T : Type 0} → (T → T → Bool) → Option T → Option T → Bool
-same_option same None None = true
-same_option same None (Some y) = false
-same_option same (Some x) None = false
-same_option same (Some x) (Some y) = same x y
-
 abbrev pub same_rfc : PublishedRfc → PublishedRfc → Bool
 same_rfc a b = (a.number == b.number) && (same_stream a.stream b.stream && same_track a.track b.track)
 
 abbrev pub same_evidence : Evidence → Evidence → Bool
 same_evidence a b =
-    same_option bytes_eq a.contact b.contact && (same_option bytes_eq a.spec b.spec
-    && (same_option same_rfc a.rfc b.rfc && same_option bytes_eq a.minute b.minute))
+    option_eq bytes_eq a.contact b.contact && (option_eq bytes_eq a.spec b.spec
+    && (option_eq same_rfc a.rfc b.rfc && option_eq bytes_eq a.minute b.minute))
 
 abbrev pub same_range : Range → Range → Bool
 same_range a b =
-    (a.lo == b.lo) && ((a.hi == b.hi) && (same_treatment a.treatment b.treatment && same_option bytes_eq a.note b.note))
+    (a.lo == b.lo) && ((a.hi == b.hi) && (same_treatment a.treatment b.treatment && option_eq bytes_eq a.note b.note))
 
 abbrev pub same_table : Table → Table → Bool
 same_table a b = (a.max == b.max) && pointwise same_range a.ranges b.ranges

@@ -120,7 +120,7 @@ impl RangeTable {
 impl PartialEq for RangeTable {
     ghost use Rattle.std.specs.Cmp.{partial_equiv_from_equiv};
     ghost use Rattle.reg_ranges.specs.Sameness.{same_table};
-    ghost use Rattle.reg_ranges.specs.TableSameness.{tables_equiv};
+    ghost use Rattle.reg_ranges.specs.Equivalences.{tables_equiv};
 
     ghost eq = { same_table };
 
@@ -132,7 +132,7 @@ impl PartialEq for RangeTable {
 }
 
 impl Eq for RangeTable {
-    ghost use Rattle.reg_ranges.specs.TableSameness.{tables_equiv};
+    ghost use Rattle.reg_ranges.specs.Equivalences.{tables_equiv};
 
     ghost laws = { tables_equiv };
 }
