@@ -10,4 +10,6 @@ pub mod policy;
 pub mod range;
 pub mod requirements;
 pub mod table;
+#[cfg(test)]
+mod tests;
 pub mod text;
