@@ -1,3 +1,4 @@
 pub mod Starts
 pub mod Dates
+pub mod JiffDates
 mod KnownDays

@@ -1,0 +1,39 @@
+-- The laws of the calendar.
+use Rattle.std.specs.Prelude.{◌≡◌, ◌≢◌, ℕ, ◌+◌, ◌<◌, ◌≤◌, ◌⊎◌, pos, ◌≤ℤ◌}
+use Rattle.jiff.specs.Types.{Date}
+use Rattle.jiff.specs.Words.{epoch_day}
+use Rattle.reg_early.specs.Calendar.{IsDay, CivilDate, IsDate, day_number, date_of, year_after}
+
+-- each day has one date, and each date is that of one day
+pub record DaysAreDates : Type 0 where
+  pub dates : (day : ℕ) → IsDay day → IsDate (date_of day)
+  pub back_to_days : (day : ℕ) → IsDay day → day_number (date_of day) ≡ day
+  pub days : (date : CivilDate) → IsDate date → IsDay (day_number date)
+  pub back_to_dates : (date : CivilDate) → IsDate date → date_of (day_number date) ≡ date
+
+-- a date of jiff's calendar has this year, month and day
+pub record IsSameDate (theirs : Date) (date : CivilDate) : Type 0 where
+  pub year : theirs.year ≡ pos date.year
+  pub month : theirs.month ≡ date.month
+  pub day : theirs.day ≡ date.day
+
+-- jiff has each day, and gives it the same date and the same number
+pub record IsJiffsDay (day : ℕ) : Type 0 where
+  pub theirs : Date
+  pub number : epoch_day theirs ≡ pos day
+  pub date : IsSameDate theirs (date_of day)
+
+-- the calendar is jiff's on every day, and a date of jiff's from 2000 on is one of these days
+pub record CalendarIsJiffs : Type 0 where
+  pub has : (day : ℕ) → IsDay day → IsJiffsDay day
+  pub only : (theirs : Date) (day : ℕ) → IsDay day → epoch_day theirs ≡ pos day → IsSameDate theirs (date_of day)
+
+-- the same date a year on, but for 29 February and the days of 9999
+pub record YearAfterIsTheSameDate : Type 0 where
+  pub same : (date : CivilDate) → IsDate date → date.year < 9999 → (date.month ≢ 2) ⊎ (date.day ≢ 29)
+      → year_after (day_number date) ≡ day_number (record { year = date.year + 1; month = date.month; day = date.day })
+  pub leap_day : (year : ℕ) → IsDate (record { year = year; month = 2; day = 29 })
+      → year_after (day_number (record { year = year; month = 2; day = 29 })) ≡ day_number (record { year = year + 1; month = 2; day = 28 })
+  pub last_year : (date : CivilDate) → IsDate date → date.year ≡ 9999
+      → year_after (day_number date) ≡ day_number (record { year = 9999; month = 12; day = 31 })
+  pub is_day : (day : ℕ) → IsDay day → IsDay (year_after day)
