@@ -76,13 +76,13 @@ number_agrees number c date h =
     let day = c.same_month (pos date.year) date.month date.day 1 (omega arith) (omega arith) in
     omega (arith, signed_arith)
 
-length_of_month : (y m : ℕ) → 1 ≤ m → m ≤ 12 → days_in_month (pos y) m ≡ get_or (month_lengths y) (m - 1) 0
+pub length_of_month : (y m : ℕ) → 1 ≤ m → m ≤ 12 → days_in_month (pos y) m ≡ get_or (month_lengths y) (m - 1) 0
 length_of_month y m low high =
     let same : suc (m - 1) ≡ m = omega arith in
     rw same at (month_length_agrees y (m - 1) (omega arith))
 
 -- the date of jiff's calendar with the same year, month and day
-pub theirs : (date : CivilDate) → IsDate date → Date
+unfoldable pub theirs : (date : CivilDate) → IsDate date → Date
 theirs date h =
     let length = length_of_month date.year date.month (omega arith) (omega arith) in
     record {

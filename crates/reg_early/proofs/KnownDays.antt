@@ -1,6 +1,6 @@
 -- Days that other calendars give, so that a wrong rule in the specs does not check.
 use Rattle.std.proofs.Common.{◌≡◌, ℕ, true, false, List, [], ◌∷◌, map, refl}
-use Rattle.reg_early.specs.Calendar.{CivilDate, is_leap_year, leap_years_before, start_of_year, start_of_month, day_number, date_of, year_of, month_of, year_after}
+use Rattle.reg_early.specs.Calendar.{CivilDate, is_leap_year, leap_years_before, start_of_year, start_of_month, day_number, date_of, year_of, month_of, date_a_year_after, year_after}
 
 abbrev date : ℕ → ℕ → ℕ → CivilDate
 date y m d = record { year = y; month = m; day = d }
@@ -20,5 +20,5 @@ known_dates = refl
 
 -- a year after 2023-02-28, 2024-02-29 and 9999-03-01
 known_years_after : map year_after (19416 ∷ 19782 ∷ day_number (date 9999 3 1) ∷ []) ≡ 19781 ∷ 20147 ∷ 2932896 ∷ []
-unfolding year_after date_of year_of month_of day_number start_of_month start_of_year leap_years_before is_leap_year
+unfolding year_after date_a_year_after date_of year_of month_of day_number start_of_month start_of_year leap_years_before is_leap_year
 known_years_after = refl

@@ -60,7 +60,7 @@ date_of day =
     record { year = y; month = m; day = day + 1 - start_of_month y m }
 
 -- the same date of the next year, 28 February for 29 February, and 9999-12-31 for a date in 9999
-abbrev pub date_a_year_after : CivilDate → CivilDate
+unfoldable pub date_a_year_after : CivilDate → CivilDate
 date_a_year_after date =
     if nat_le 9999 date.year then record { year = 9999; month = 12; day = 31 }
     else (if (date.month == 2) && (date.day == 29) then record { year = date.year + 1; month = 2; day = 28 }

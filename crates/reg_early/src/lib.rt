@@ -2,5 +2,5 @@
 //! (RFC 7120) asks for.
 #![tactic(auto)]
 
-pub mod day;
 mod civil;
+pub mod day;
