@@ -2,4 +2,6 @@ pub mod Starts
 pub mod Dates
 pub mod JiffDates
 pub mod YearsAfter
+pub mod DayTexts
+pub mod Moments
 mod KnownDays

@@ -3,8 +3,9 @@ use Rattle.std.proofs.Common.{◌≡◌, ◌≢◌, ℕ, zero, suc, ◌+◌, ◌
 use Rattle.std.proofs.lemmas.Bool.{cases_lt, cases_eq}
 use Rattle.std.proofs.lemmas.Bool.Decides.{nat_tests}
 use Rattle.jiff.specs.Types.{Date, Span, Year}
-use Rattle.jiff.specs.Words.{epoch_day, days_in_month, CanAddToDate, date_add, add_months, shifted_year, shifted_month, IsOnly, IsLastDate, IsShiftable, IsEpochDay, span_months}
+use Rattle.jiff.specs.Words.{epoch_day, days_in_month, CanAddToDate, date_add, add_months, shifted_year, shifted_month, IsOnly, IsLastDate, IsEndDate, IsShiftable, IsEpochDay, span_months}
 use Rattle.jiff.proofs.Family.{epoch_day_range, epoch_day_same, epoch_day_injective}
+use Rattle.jiff.proofs.ChainFacts.{IsOnly-forward}
 use Rattle.jiff.proofs.SpanFacts.{signed_arith, date_add-years}
 use Rattle.reg_early.specs.Calendar.{CivilDate, IsDate, IsDay, is_leap_year, month_lengths, day_number, date_of, date_a_year_after, year_after}
 use Rattle.reg_early.specs.Laws.{IsSameDate}
@@ -163,12 +164,13 @@ before_last_year d day s h same only low =
     ((shiftable, subst IsEpochDay (there ∙ sym moved) range), moved ∙ number)
 
 -- what jiff answers when it adds a year to the date of a day, or else the last date
-pub year_later : (d next : Date) (day : ℕ) (s : Span) → IsDay day → epoch_day d ≡ pos day → IsOnly Year (pos 1) s → (CanAddToDate d s → epoch_day next ≡ date_add d s) → ((CanAddToDate d s → ⊥) → IsLastDate next) → epoch_day next ≡ pos (year_after day)
+pub year_later : (d next : Date) (day : ℕ) (s : Span) → IsDay day → epoch_day d ≡ pos day → IsOnly Year (pos 1) s → (CanAddToDate d s → epoch_day next ≡ date_add d s) → ((CanAddToDate d s → ⊥) → IsEndDate s.negative next) → epoch_day next ≡ pos (year_after day)
 year_later d next day s h e only fits beyond =
     let same = same_date d day h e in
     elim (cases_lt (date_of day).year 9999) [
       | inl low ↦ let there = before_last_year d day s h same only low in fits there.0 ∙ there.1
       | inr high ↦
           let cannot : CanAddToDate d s → ⊥ = λ can. let months = only.months in let year = rw months at can.0 in omega (arith, signed_arith, same.year, same.month, d.month_in, year) in
-          last_date_number next (beyond cannot) ∙ ap pos (sym (year_after-last day high))
+          let forward = IsOnly-forward Year 0 s only in
+          last_date_number next (rw forward at (beyond cannot)) ∙ ap pos (sym (year_after-last day high))
     ]

@@ -1,2 +1,4 @@
 pub mod Calendar
+pub mod DayText
 pub mod Laws
+pub mod Moment

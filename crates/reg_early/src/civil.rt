@@ -1,5 +1,6 @@
 //! Days as dates of jiff's calendar, and back.
 ghost use Rattle.std.specs.Prelude.{◌≡◌, pos};
+ghost use Rattle.reg_early.specs.Calendar.{IsDay};
 ghost use Rattle.jiff.specs.Words.{epoch_day, IsBetween};
 
 use crate::day::Day;
@@ -8,7 +9,8 @@ use jiff::civil::{Date, date};
 
 /// The day's date.
 pub(crate) fn date_on(day: Day) -> Date
-    ensures { epoch_day result ≡ pos day }
+    ensures number { epoch_day result ≡ pos day }
+    ensures is_day { IsDay day }
 {
     let since_2000 = i64::from(day.days() - 10957);
     date(2000, 1, 1).checked_add(since_2000.days()).unwrap()

@@ -13,8 +13,8 @@ unwrap-requires c =
     let can = can_add-days c.date.result c.from-since_2000.result c.days-2.result only in
     c.checked_add.ensures.succeeds.1 (can.1 (omega (arith, signed_arith)))
 
-pub returns : goal.returns
-returns c =
+pub returns-clause-number : goal.returns-clause-number
+returns-clause-number c =
     let fits : FitsSigned w64 c.from-since_2000.result = omega (arith, signed_arith) in
     let only = simp to_z-of_z at c.days-2.ensures in
     let first = first_day c.date.result c.date.ensures in
