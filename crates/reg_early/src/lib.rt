@@ -1,6 +1,9 @@
 //! Days of the Gregorian calendar, the terms of entries, and the evidence that an early allocation
-//! (RFC 7120) asks for.
+//! asks for (RFC 7120).
 #![tactic(auto)]
 
 mod civil;
 pub mod day;
+pub mod evidence;
+pub mod requirements;
+pub mod term;
