@@ -7,8 +7,8 @@ use Rattle.jiff.specs.Words.{epoch_day, days_in_month, CanAddToDate, date_add, a
 use Rattle.jiff.proofs.Family.{epoch_day_range, epoch_day_same, epoch_day_injective}
 use Rattle.jiff.proofs.ChainFacts.{IsOnly-forward}
 use Rattle.jiff.proofs.SpanFacts.{signed_arith, date_add-years}
-use Rattle.reg_early.specs.Calendar.{CivilDate, IsDate, IsDay, is_leap_year, month_lengths, day_number, date_of, date_a_year_after, year_after}
-use Rattle.reg_early.specs.Laws.{IsSameDate}
+use Rattle.reg_early.specs.Calendar.{CivilDate, IsDate, IsDay, is_leap_year, leap_years_before, month_lengths, start_of_year, start_of_month, day_number, date_of, date_a_year_after, year_after}
+use Rattle.reg_early.specs.Laws.{IsSameDate, IsJiffsDay}
 use Rattle.reg_early.proofs.Dates.{IsDate-date_of, day_number-date_of, date_of-day_number, placed}
 use Rattle.reg_early.proofs.JiffDates.{theirs, day_number_agrees, length_of_month}
 
@@ -174,3 +174,65 @@ year_later d next day s h e only fits beyond =
           let forward = IsOnly-forward Year 0 s only in
           last_date_number next (rw forward at (beyond cannot)) ∙ ap pos (sym (year_after-last day high))
     ]
+
+-- ---- the laws
+
+pub year_after-day_number : (date : CivilDate) → IsDate date → year_after (day_number date) ≡ day_number (date_a_year_after date)
+unfolding year_after
+year_after-day_number date h = ap (λ d. day_number (date_a_year_after d)) (date_of-day_number date h)
+
+other_from_not : (date : CivilDate) → (((date.month ≡ 2) × (date.day ≡ 29)) → ⊥) → (date.month ≢ 2) ⊎ (date.day ≢ 29)
+other_from_not date h = elim (cases_day date) [ inl leap ↦ absurd (h leap) | inr other ↦ other ]
+
+pub year_after-other_day : (date : CivilDate) → IsDate date → date.year < 9999 → (((date.month ≡ 2) × (date.day ≡ 29)) → ⊥) → year_after (day_number date) ≡ day_number (record { year = date.year + 1; month = date.month; day = date.day })
+year_after-other_day date h low other = year_after-day_number date h ∙ ap day_number (other_day date low (other_from_not date other))
+
+not_leap_9999 : is_leap_year 9999 ≡ false
+unfolding is_leap_year
+not_leap_9999 = refl
+
+before_9999 : (y : ℕ) → IsDate (record { year = y; month = 2; day = 29 }) → y < 9999
+before_9999 y h =
+    elim (cases_lt y 9999) [
+      | inl low ↦ low
+      | inr high ↦
+          let same : y ≡ 9999 = omega arith in
+          let leap = rw same at (is_leap_from (is_leap_year y) h.2.1) in
+          let never = not_leap_9999 in
+          absurd (cc)
+    ]
+
+pub year_after-leap_day : (y : ℕ) → IsDate (record { year = y; month = 2; day = 29 }) → year_after (day_number (record { year = y; month = 2; day = 29 })) ≡ day_number (record { year = y + 1; month = 2; day = 28 })
+year_after-leap_day y h =
+    let low = before_9999 y h in
+    year_after-day_number (record { year = y; month = 2; day = 29 }) h ∙ ap day_number (leap_day (record { year = y; month = 2; day = 29 }) low refl refl)
+
+pub year_after-last_year : (date : CivilDate) → IsDate date → date.year ≡ 9999 → year_after (day_number date) ≡ day_number (record { year = 9999; month = 12; day = 31 })
+year_after-last_year date h e = year_after-day_number date h ∙ ap day_number (last_year date (omega arith))
+
+last_number : day_number last_date ≡ 2932896
+unfolding last_date day_number start_of_month start_of_year leap_years_before is_leap_year
+last_number = refl
+
+year_begins_later : (date : CivilDate) → IsDate date → date.year < 9999 → day_number date < day_number (date_a_year_after date)
+year_begins_later date h low =
+    let here = placed date h in
+    let there = placed (date_a_year_after date) (IsDate-a_year_after date h) in
+    let began : start_of_year (date.year + 1) ≤ day_number (date_a_year_after date) = rw (jiffs_year date low) there.year_began in
+    omega (arith, began, here.year_ends)
+
+pub later : (day : ℕ) → IsDay day → day < 2932896 → day < year_after day
+unfolding year_after
+later day h low =
+    elim (cases_lt (date_of day).year 9999) [
+      | inl before ↦ let begins = year_begins_later (date_of day) (IsDate-date_of day h) before in
+          omega (arith, begins, day_number-date_of day h)
+      | inr high ↦ omega (arith, year_after-last day high, last_number)
+    ]
+
+-- jiff has each day
+pub jiffs_day_of : (day : ℕ) → IsDay day → IsJiffsDay day
+jiffs_day_of day h =
+    let is_date = IsDate-date_of day h in
+    let number = day_number_agrees (date_of day) is_date ∙ ap pos (day_number-date_of day h) in
+    record { theirs = theirs (date_of day) is_date; number = number; date = same_date (theirs (date_of day) is_date) day h number }

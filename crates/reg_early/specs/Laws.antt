@@ -1,5 +1,5 @@
 -- The laws of the calendar.
-use Rattle.std.specs.Prelude.{◌≡◌, ◌≢◌, ℕ, ◌+◌, ◌<◌, ◌≤◌, ◌⊎◌, pos, ◌≤ℤ◌}
+use Rattle.std.specs.Prelude.{◌≡◌, ℕ, ◌+◌, ◌<◌, pos}
 use Rattle.jiff.specs.Types.{Date}
 use Rattle.jiff.specs.Words.{epoch_day}
 use Rattle.reg_early.specs.Calendar.{IsDay, CivilDate, IsDate, day_number, date_of, year_after}
@@ -23,17 +23,18 @@ pub record IsJiffsDay (day : ℕ) : Type 0 where
   pub number : epoch_day theirs ≡ pos day
   pub date : IsSameDate theirs (date_of day)
 
--- the calendar is jiff's on every day, and a date of jiff's from 2000 on is one of these days
+-- the calendar is jiff's on every day, and no other date of jiff's has the number of the day
 pub record CalendarIsJiffs : Type 0 where
   pub has : (day : ℕ) → IsDay day → IsJiffsDay day
   pub only : (theirs : Date) (day : ℕ) → IsDay day → epoch_day theirs ≡ pos day → IsSameDate theirs (date_of day)
 
 -- the same date a year on, but for 29 February and the days of 9999
 pub record YearAfterIsTheSameDate : Type 0 where
-  pub same : (date : CivilDate) → IsDate date → date.year < 9999 → (date.month ≢ 2) ⊎ (date.day ≢ 29)
+  pub same : (date : CivilDate) → IsDate date → date.year < 9999 → ¬ ((date.month ≡ 2) × (date.day ≡ 29))
       → year_after (day_number date) ≡ day_number (record { year = date.year + 1; month = date.month; day = date.day })
   pub leap_day : (year : ℕ) → IsDate (record { year = year; month = 2; day = 29 })
       → year_after (day_number (record { year = year; month = 2; day = 29 })) ≡ day_number (record { year = year + 1; month = 2; day = 28 })
   pub last_year : (date : CivilDate) → IsDate date → date.year ≡ 9999
       → year_after (day_number date) ≡ day_number (record { year = 9999; month = 12; day = 31 })
   pub is_day : (day : ℕ) → IsDay day → IsDay (year_after day)
+  pub later : (day : ℕ) → IsDay day → day < 2932896 → day < year_after day

@@ -5,7 +5,7 @@ use reg_ranges::text::{Text, copy_optional};
 use std::alloc::AllocError;
 
 /// What an applicant shows for an early allocation.
-#[derive(Drop, PartialEq, Eq)]
+#[derive(Debug, Drop, PartialEq, Eq)]
 pub struct EarlyEvidence {
     /// The Internet-Draft that describes the value.
     pub draft: Option<Text>,

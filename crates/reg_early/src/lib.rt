@@ -5,5 +5,6 @@
 mod civil;
 pub mod day;
 pub mod evidence;
+pub mod laws;
 pub mod requirements;
 pub mod term;

@@ -1,0 +1,18 @@
+//! Laws of the calendar. Each function does nothing; what it ensures is the law.
+ghost use Rattle.reg_early.specs.Laws.{DaysAreDates, CalendarIsJiffs, YearAfterIsTheSameDate};
+
+/// Each day from 2000-01-01 to 9999-12-31 has one date, and each date of these years is that of one day.
+pub fn days_and_dates_are_one_to_one()
+    ensures { DaysAreDates }
+{}
+
+/// jiff has the same calendar on each of these days.
+pub fn calendar_is_jiffs()
+    ensures { CalendarIsJiffs }
+{}
+
+/// The year after a day is the same date of the next year. After 29 February comes 28 February, and after
+/// each day of 9999 its last.
+pub fn year_after_is_the_same_date()
+    ensures { YearAfterIsTheSameDate }
+{}
