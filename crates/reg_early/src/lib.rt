@@ -8,3 +8,5 @@ pub mod evidence;
 pub mod laws;
 pub mod requirements;
 pub mod term;
+#[cfg(test)]
+mod tests;
