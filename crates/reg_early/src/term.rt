@@ -62,9 +62,8 @@ impl Term {
         ensures { result ≡ early_term first }
     {
         Term {
-            first,
             expires: Some(year_after(first)),
-            renewed: false,
+            ..Term::permanent(first)
         }
     }
 
