@@ -3,7 +3,7 @@ use Rattle.std.proofs.Common.{◌≡◌, ℕ, zero, suc, ◌+◌, ◌-◌, ◌<�
 use Rattle.std.specs.List.{range_with_len}
 use Rattle.std.proofs.lemmas.Bool.{cases_lt}
 use Rattle.std.proofs.lemmas.Bool.Decides.{nat_tests}
-use Rattle.reg_early.specs.Calendar.{CivilDate, IsDate, IsDay, month_lengths, start_of_year, start_of_month, day_number, year_of, month_of, date_of}
+use Rattle.reg_early.specs.Calendar.{CivilDate, civil_date, IsDate, IsDay, month_lengths, start_of_year, start_of_month, day_number, year_of, month_of, date_of}
 use Rattle.reg_early.proofs.Starts.{start_of_year-next, start_of_year-more, start_of_year_first, start_of_year_end, start_of_month-next, start_of_month-first, start_of_month-end, start_of_month-more}
 
 -- the first number from a on that passes the test
@@ -113,7 +113,7 @@ has_date day h =
     let month = between_starts (start_of_month year.at) 12 1 day (rw start_of_month-first year.began) (rw (start_of_month-end year.at (omega (arith, year.low))) year.ends) in
     let next = start_of_month-next year.at month.at month.low (omega (arith, month.high)) in
     record {
-      date = record { year = year.at; month = month.at; day = day + 1 - start_of_month year.at month.at };
+      date = civil_date year.at month.at (day + 1 - start_of_month year.at month.at);
       is_date = ((year.low, omega (arith, year.high)), (month.low, omega (arith, month.high)), (omega (arith, month.began), omega (arith, month.began, month.ends, next)));
       is_its_day = omega (arith, month.began);
     }

@@ -4,7 +4,9 @@ use Rattle.jiff.specs.Types.{Date}
 use Rattle.jiff.specs.Words.{epoch_day, IsYmd, days_in_month, is_leap_year as is_leap_year_of_jiff}
 use Rattle.jiff.proofs.Family.{days_from_civil-day, days_from_civil-next_month, days_from_civil-next_year, days_from_civil-max, epoch_day_same, epoch_day_injective}
 use Rattle.jiff.proofs.SpanFacts.{signed_arith}
-use Rattle.reg_early.specs.Calendar.{CivilDate, IsDate, is_leap_year, month_lengths, leap_years_before, start_of_year, start_of_month, day_number}
+use Rattle.reg_early.specs.Calendar.{CivilDate, civil_date, IsDate, IsDay, is_leap_year, month_lengths, leap_years_before, start_of_year, start_of_month, day_number, date_of}
+use Rattle.reg_early.specs.Laws.{IsSameDate, IsJiffsDay}
+use Rattle.reg_early.proofs.Dates.{IsDate-date_of, day_number-date_of}
 use Rattle.reg_early.proofs.Starts.{leap_day, start_of_year-next, start_of_month-next, start_of_month-first, start_of_month-end, start_of_year_end}
 
 leap_year_agrees : (y : ℕ) → is_leap_year_of_jiff (pos y) ≡ is_leap_year y
@@ -101,7 +103,7 @@ day_number_agrees date h =
 
 -- 2000-01-01
 abbrev first_date : CivilDate
-first_date = record { year = 2000; month = 1; day = 1 }
+first_date = civil_date 2000 1 1
 
 first_date_is_date : IsDate first_date
 first_date_is_date = (search rules, search rules, search rules)
@@ -115,3 +117,19 @@ unfolding theirs
 first_day d h =
     let same = epoch_day_same d (theirs first_date first_date_is_date) h.0 (omega (arith, signed_arith, h.1)) (omega (arith, signed_arith, h.2)) in
     same ∙ day_number_agrees first_date first_date_is_date ∙ ap pos first_day_number
+
+-- a date of jiff's with the number of a day has the day's date
+pub same_date : (d : Date) (day : ℕ) → IsDay day → epoch_day d ≡ pos day → IsSameDate d (date_of day)
+unfolding theirs
+same_date d day h e =
+    let is_date = IsDate-date_of day h in
+    let number = day_number_agrees (date_of day) is_date ∙ ap pos (day_number-date_of day h) in
+    let same = epoch_day_injective d (theirs (date_of day) is_date) (e ∙ sym number) in
+    record { year = same.0; month = same.1; day = same.2 }
+
+-- jiff has each day
+pub jiffs_day_of : (day : ℕ) → IsDay day → IsJiffsDay day
+jiffs_day_of day h =
+    let is_date = IsDate-date_of day h in
+    let number = day_number_agrees (date_of day) is_date ∙ ap pos (day_number-date_of day h) in
+    record { theirs = theirs (date_of day) is_date; number = number; date = same_date (theirs (date_of day) is_date) day h number }

@@ -2,6 +2,7 @@ pub mod Starts
 pub mod Dates
 pub mod JiffDates
 pub mod YearsAfter
+pub mod JiffYears
 pub mod DayTexts
 pub mod Moments
 mod KnownDays

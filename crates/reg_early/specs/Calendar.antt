@@ -22,6 +22,9 @@ pub record CivilDate : Type 0 where
   pub month : ℕ
   pub day : ℕ
 
+abbrev pub civil_date : ℕ → ℕ → ℕ → CivilDate
+civil_date year month day = record { year = year; month = month; day = day }
+
 -- the calendar has the date
 abbrev pub IsDate : CivilDate → Type 0
 IsDate date =
@@ -55,16 +58,16 @@ month_of y day = unwrap_or (find (λ m. nat_lt day (start_of_month y (m + 1))) (
 -- the date of a day
 unfoldable pub date_of : ℕ → CivilDate
 date_of day =
-    let y = year_of day in
-    let m = month_of y day in
-    record { year = y; month = m; day = day + 1 - start_of_month y m }
+    let year = year_of day in
+    let month = month_of year day in
+    civil_date year month (day + 1 - start_of_month year month)
 
 -- the same date of the next year, 28 February for 29 February, and 9999-12-31 for a date in 9999
 unfoldable pub date_a_year_after : CivilDate → CivilDate
 date_a_year_after date =
-    if nat_le 9999 date.year then record { year = 9999; month = 12; day = 31 }
-    else (if (date.month == 2) && (date.day == 29) then record { year = date.year + 1; month = 2; day = 28 }
-    else record { year = date.year + 1; month = date.month; day = date.day })
+    if nat_le 9999 date.year then civil_date 9999 12 31
+    else (if (date.month == 2) && (date.day == 29) then civil_date (date.year + 1) 2 28
+    else civil_date (date.year + 1) date.month date.day)
 
 -- the day a year after a day
 unfoldable pub year_after : ℕ → ℕ

@@ -2,7 +2,7 @@
 use Rattle.std.specs.Prelude.{◌≡◌, ℕ, ◌+◌, ◌<◌, pos}
 use Rattle.jiff.specs.Types.{Date}
 use Rattle.jiff.specs.Words.{epoch_day}
-use Rattle.reg_early.specs.Calendar.{IsDay, CivilDate, IsDate, day_number, date_of, year_after}
+use Rattle.reg_early.specs.Calendar.{IsDay, CivilDate, civil_date, IsDate, day_number, date_of, year_after}
 
 -- each day has one date, and each date is that of one day
 pub record DaysAreDates : Type 0 where
@@ -30,11 +30,11 @@ pub record CalendarIsJiffs : Type 0 where
 
 -- the same date a year on, but for 29 February and the days of 9999
 pub record YearAfterIsTheSameDate : Type 0 where
-  pub same : (date : CivilDate) → IsDate date → date.year < 9999 → ¬ ((date.month ≡ 2) × (date.day ≡ 29))
-      → year_after (day_number date) ≡ day_number (record { year = date.year + 1; month = date.month; day = date.day })
-  pub leap_day : (year : ℕ) → IsDate (record { year = year; month = 2; day = 29 })
-      → year_after (day_number (record { year = year; month = 2; day = 29 })) ≡ day_number (record { year = year + 1; month = 2; day = 28 })
-  pub last_year : (date : CivilDate) → IsDate date → date.year ≡ 9999
-      → year_after (day_number date) ≡ day_number (record { year = 9999; month = 12; day = 31 })
+  pub same : (year month day : ℕ) → IsDate (civil_date year month day) → year < 9999 → ¬ ((month ≡ 2) × (day ≡ 29))
+      → year_after (day_number (civil_date year month day)) ≡ day_number (civil_date (year + 1) month day)
+  pub leap_day : (year : ℕ) → IsDate (civil_date year 2 29)
+      → year_after (day_number (civil_date year 2 29)) ≡ day_number (civil_date (year + 1) 2 28)
+  pub last_year : (month day : ℕ) → IsDate (civil_date 9999 month day)
+      → year_after (day_number (civil_date 9999 month day)) ≡ day_number (civil_date 9999 12 31)
   pub is_day : (day : ℕ) → IsDay day → IsDay (year_after day)
   pub later : (day : ℕ) → IsDay day → day < 2932896 → day < year_after day

@@ -1,7 +1,8 @@
 use Rattle.std.proofs.Common.{arith, ◌≡◌, pos}
 use Rattle.jiff.specs.Words.{epoch_day}
 use Rattle.jiff.proofs.SpanFacts.{signed_arith}
-use Rattle.reg_early.proofs.YearsAfter.{year_later, IsDay-year_after}
+use Rattle.reg_early.proofs.JiffYears.{year_later}
+use Rattle.reg_early.proofs.YearsAfter.{IsDay-year_after}
 use Rattle.reg_early.proofs.day.year_after.Goals as goal
 
 pub day_on-requires : goal.day_on-requires
