@@ -1,10 +1,10 @@
 -- Days and dates are one to one.
-use Rattle.std.proofs.Common.{◌≡◌, ℕ, zero, suc, ◌+◌, ◌-◌, ◌<◌, ◌≤◌, Bool, true, false, nat_lt, [], ◌∷◌, get_or, find, unwrap_or, Option, Some, None, inl, inr, refl, sym, ap, subst, ◌∙◌, arith}
+use Rattle.std.proofs.Common.{◌≡◌, ℕ, zero, suc, ◌+◌, ◌-◌, ◌<◌, ◌≤◌, Bool, true, false, nat_lt, find, unwrap_or, Some, inl, inr, refl, sym, subst, arith}
 use Rattle.std.specs.List.{range_with_len}
 use Rattle.std.proofs.lemmas.Bool.{cases_lt}
 use Rattle.std.proofs.lemmas.Bool.Decides.{nat_tests}
-use Rattle.reg_early.specs.Calendar.{CivilDate, civil_date, IsDate, IsDay, month_lengths, start_of_year, start_of_month, day_number, year_of, month_of, date_of}
-use Rattle.reg_early.proofs.Starts.{start_of_year-next, start_of_year-more, start_of_year_first, start_of_year_end, start_of_month-next, start_of_month-first, start_of_month-end, start_of_month-more}
+use Rattle.reg_early.specs.Calendar.{CivilDate, civil_date, IsDate, IsDay, start_of_year, start_of_month, day_number, year_of, month_of, date_of}
+use Rattle.reg_early.proofs.Starts.{start_of_year-more, start_of_year_first, start_of_year_end, start_of_month-next, start_of_month-first, start_of_month-end, start_of_month-more}
 
 -- the first number from a on that passes the test
 find_first : (p : ℕ → Bool) (n a k : ℕ) → a ≤ k → k < a + n → p k ≡ true → ((j : ℕ) → a ≤ j → j < k → p j ≡ false) → find p (range_with_len a n) ≡ Some k

@@ -1,5 +1,5 @@
 -- Days that other calendars give, so that a wrong rule in the specs does not check.
-use Rattle.std.proofs.Common.{◌≡◌, ℕ, true, false, List, [], ◌∷◌, map, refl}
+use Rattle.std.proofs.Common.{◌≡◌, true, false, [], ◌∷◌, map, refl}
 use Rattle.reg_early.specs.Calendar.{civil_date, is_leap_year, leap_years_before, start_of_year, start_of_month, day_number, date_of, year_of, month_of, date_a_year_after, year_after}
 
 leap_years : map is_leap_year (2000 ∷ 2023 ∷ 2024 ∷ 2100 ∷ 2400 ∷ 9996 ∷ []) ≡ true ∷ false ∷ true ∷ false ∷ true ∷ true ∷ []

@@ -5,4 +5,5 @@ pub mod YearsAfter
 pub mod JiffYears
 pub mod DayTexts
 pub mod Moments
+pub mod DaysOfTerms
 mod KnownDays

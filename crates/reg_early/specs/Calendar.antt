@@ -1,6 +1,6 @@
 -- The Gregorian calendar of the years 2000 to 9999, and the numbers of its days, counted from
 -- 1970-01-01, which is day 0.
-use Rattle.std.specs.Prelude.{◌≡◌, ℕ, ◌+◌, ◌-◌, ◌*◌, ◌/◌, ◌%◌, Bool, ◌&&◌, ◌||◌, ◌==◌, not, nat_lt, nat_le, if◌then◌else◌, List, [], ◌∷◌, sum, take, slice_index, find, unwrap_or}
+use Rattle.std.specs.Prelude.{ℕ, ◌+◌, ◌-◌, ◌*◌, ◌/◌, ◌%◌, Bool, ◌&&◌, ◌||◌, ◌==◌, not, nat_lt, nat_le, if◌then◌else◌, List, [], ◌∷◌, sum, take, slice_index, find, unwrap_or}
 use Rattle.std.specs.Int.{IsInRange}
 use Rattle.std.specs.List.{range_with_len}
 
@@ -16,12 +16,13 @@ is_leap_year y = (y % 4 == 0) && (not (y % 100 == 0) || (y % 400 == 0))
 abbrev pub month_lengths : ℕ → List ℕ
 month_lengths y = 31 ∷ (if is_leap_year y then 29 else 28) ∷ 31 ∷ 30 ∷ 31 ∷ 30 ∷ 31 ∷ 31 ∷ 30 ∷ 31 ∷ 30 ∷ 31 ∷ []
 
--- months and days of the month count from 1
+-- months and days count from 1
 pub record CivilDate : Type 0 where
   pub year : ℕ
   pub month : ℕ
   pub day : ℕ
 
+-- the date of a year, a month and a day
 abbrev pub civil_date : ℕ → ℕ → ℕ → CivilDate
 civil_date year month day = record { year = year; month = month; day = day }
 

@@ -1,7 +1,10 @@
--- The laws of the calendar.
-use Rattle.std.specs.Prelude.{◌≡◌, ℕ, ◌+◌, ◌<◌, pos}
+-- The laws of the calendar and of terms.
+use Rattle.std.specs.Prelude.{◌≡◌, true, ℕ, ◌+◌, ◌<◌, pos}
 use Rattle.jiff.specs.Types.{Date}
 use Rattle.jiff.specs.Words.{epoch_day}
+use Rattle.reg_early.specs.declared.term.Term.{Term}
+use Rattle.reg_early.specs.Moment.{is_in_clock, utc_day}
+use Rattle.reg_early.specs.Terms.{HasDays, permanent_term, early_term, renewed_term, settled_term}
 use Rattle.reg_early.specs.Calendar.{IsDay, CivilDate, civil_date, IsDate, day_number, date_of, year_after}
 
 -- each day has one date, and each date is that of one day
@@ -38,3 +41,14 @@ pub record YearAfterIsTheSameDate : Type 0 where
       → year_after (day_number (civil_date 9999 month day)) ≡ day_number (civil_date 9999 12 31)
   pub is_day : (day : ℕ) → IsDay day → IsDay (year_after day)
   pub later : (day : ℕ) → IsDay day → day < 2932896 → day < year_after day
+
+-- a moment of the clock's years has a day of the calendar
+abbrev pub MomentsHaveDays : Type 0
+MomentsHaveDays = (moment : ℕ) → is_in_clock moment ≡ true → IsDay (utc_day moment)
+
+-- terms that begin and are renewed on days of the calendar keep to them
+pub record TermsHaveDays : Type 0 where
+  pub permanent : (first : ℕ) → IsDay first → HasDays (permanent_term first)
+  pub early : (first : ℕ) → IsDay first → HasDays (early_term first)
+  pub renewed : (term : Term) (approval : ℕ) → HasDays term → IsDay approval → HasDays (renewed_term term approval)
+  pub settled : (term : Term) → HasDays term → HasDays (settled_term term)

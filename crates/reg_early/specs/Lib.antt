@@ -1,3 +1,4 @@
+pub use Rattle.reg_ranges.specs.Requirements
 pub mod Calendar
 pub mod DayText
 pub mod EarlyRequirements

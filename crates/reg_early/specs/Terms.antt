@@ -1,5 +1,5 @@
 -- The terms of entries: an early allocation lasts a year, and is renewed once (RFC 7120, section 3.3).
-use Rattle.std.specs.Prelude.{ℕ, Bool, true, false, nat_lt, max, if◌then◌else◌, List, Option, Some, None, Result, Ok, Err, is_some, option_map, codes}
+use Rattle.std.specs.Prelude.{ℕ, true, false, nat_lt, max, if◌then◌else◌, List, Option, Some, None, Result, Ok, Err, IfSome, is_some, option_map, codes}
 use Rattle.reg_early.specs.declared.term.Term.{Term}
 use Rattle.reg_early.specs.declared.term.Status.{Status}
 use Rattle.reg_early.specs.declared.term.Status.TheVariants as status
@@ -7,7 +7,7 @@ use Rattle.reg_early.specs.declared.term.RenewFault.{RenewFault}
 use Rattle.reg_early.specs.declared.term.RenewFault.TheVariants as renew_fault
 use Rattle.reg_early.specs.declared.term.SettleFault.{SettleFault}
 use Rattle.reg_early.specs.declared.term.SettleFault.TheVariants as settle_fault
-use Rattle.reg_early.specs.Calendar.{year_after}
+use Rattle.reg_early.specs.Calendar.{IsDay, year_after}
 
 -- with no expiry Assigned, else Temporary before the expiry day and Expired from that day on
 abbrev pub status_until : Option ℕ → ℕ → Status
@@ -50,3 +50,7 @@ settled_term term = record { first = term.first; expires = None; renewed = term.
 -- a term is settled if it has an expiry
 abbrev pub settlement : Term → Result Term SettleFault
 settlement term = if is_some term.expires then Ok (settled_term term) else Err settle_fault.Permanent
+
+-- each day of the term is a day of the calendar
+abbrev pub HasDays : Term → Type 0
+HasDays term = IsDay term.first × IfSome term.expires IsDay

@@ -11,6 +11,16 @@ use jiff::{Timestamp, ToSpan};
 use std::alloc::{AllocError, Global};
 use std::marker::Model;
 
+// 2000-01-01 and 9999-12-31, in days since 1970-01-01.
+const FIRST_DAY: u32 = 10_957;
+
+const LAST_DAY: u32 = 2_932_896;
+
+// The beginnings of the UTC years 2000 and 3000, in seconds since 1970-01-01T00:00:00Z.
+const CLOCK_START: u64 = 946_684_800;
+
+const CLOCK_END: u64 = 32_503_680_000;
+
 /// A day from 2000-01-01 to 9999-12-31. Contracts see it as its number: the days since 1970-01-01.
 #[derive(Clone, Copy, Debug, PartialEq, Eq, PartialOrd, Ord)]
 pub struct Day {
@@ -34,7 +44,7 @@ impl Day {
         ensures accepted { IsSome result ↔ IsDay days }
         ensures value { IfSome result (λ day. day ≡ days) }
     {
-        if (10957..=2932896).contains(&days) {
+        if (FIRST_DAY..=LAST_DAY).contains(&days) {
             Some(Day { number: days })
         } else {
             None
@@ -56,7 +66,7 @@ pub fn day_of(moment: u64) -> Option<Day>
     ensures value { result ≡ day_of_moment moment }
     ensures is_day { IfSome result IsDay }
 {
-    if !(946684800..32503680000).contains(&moment) {
+    if !(CLOCK_START..CLOCK_END).contains(&moment) {
         return None;
     }
     let instant = Timestamp::from_second(moment as i64).unwrap();

@@ -41,6 +41,11 @@ fn is_eligible(policy: Policy, will_be_rfc: bool) -> bool
     match policy {
         Policy::RfcRequired | Policy::IetfReview | Policy::StandardsAction => true,
         Policy::SpecificationRequired => will_be_rfc,
-        _ => false,
+        Policy::PrivateUse
+        | Policy::ExperimentalUse
+        | Policy::HierarchicalAllocation
+        | Policy::FirstComeFirstServed
+        | Policy::ExpertReview
+        | Policy::IesgApproval => false,
     }
 }

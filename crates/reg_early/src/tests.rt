@@ -31,6 +31,8 @@ fn days_end_where_the_calendar_does(rt: HostRuntime) -> Result<(), Fail> {
     laws::days_and_dates_are_one_to_one();
     laws::calendar_is_jiffs();
     laws::year_after_is_the_same_date();
+    laws::moments_have_days();
+    laws::terms_have_days();
     Ok(())
 }
 

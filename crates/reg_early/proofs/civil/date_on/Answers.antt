@@ -1,6 +1,5 @@
-use Rattle.std.proofs.Common.{arith, pos, ◌-◌, ◌≡◌, ◌∙◌, FitsSigned, w64}
+use Rattle.std.proofs.Common.{arith, FitsSigned, w64}
 use Rattle.std.proofs.lemmas.Int.{to_z-of_z}
-use Rattle.jiff.specs.Words.{epoch_day}
 use Rattle.jiff.proofs.SpanFacts.{signed_arith, date_add-days, can_add-days}
 use Rattle.reg_early.proofs.JiffDates.{first_day}
 use Rattle.reg_early.proofs.civil.date_on.Goals as goal

@@ -1,5 +1,4 @@
-use Rattle.std.proofs.Common.{arith, ◌≡◌, pos}
-use Rattle.jiff.specs.Words.{epoch_day}
+use Rattle.std.proofs.Common.{arith}
 use Rattle.jiff.proofs.SpanFacts.{signed_arith}
 use Rattle.reg_early.proofs.JiffYears.{year_later}
 use Rattle.reg_early.proofs.YearsAfter.{IsDay-year_after}
