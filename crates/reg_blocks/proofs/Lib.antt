@@ -1,1 +1,3 @@
 pub mod Inserting
+pub mod Writing
+pub mod ReadsBack

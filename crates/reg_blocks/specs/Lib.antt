@@ -1,2 +1,4 @@
 pub mod Size
 pub mod Pool
+pub mod Block
+pub mod Digits

@@ -2,5 +2,6 @@
 //! of 24-bit prefixes that they are cut from, and the block that is due next.
 #![tactic(auto)]
 
+pub mod block;
 pub mod pool;
 pub mod size;
