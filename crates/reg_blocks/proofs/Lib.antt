@@ -1,3 +1,6 @@
 pub mod Inserting
 pub mod Writing
 pub mod ReadsBack
+pub mod Ends
+pub mod Sweeping
+pub mod Looking

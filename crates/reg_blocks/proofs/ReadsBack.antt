@@ -1,6 +1,6 @@
 -- The text of a block reads as the block.
-use Rattle.std.proofs.Common.{◌≡◌, ℕ, zero, suc, ◌+◌, ◌*◌, ◌/◌, ◌%◌, ◌^◌, ◌<◌, Bool, true, false, cond, ◌&&◌, List, [], ◌∷◌, ◌++◌, length, refl, sym, ap, ◌∙◌, length-append, add-one, arith}
-use Rattle.std.specs.Prelude.{Option, Some, None, option_and_then, if◌then◌else◌, IsTrue}
+use Rattle.std.proofs.Common.{◌≡◌, ℕ, zero, suc, ◌/◌, ◌%◌, ◌^◌, ◌<◌, Bool, true, ◌&&◌, [], ◌∷◌, length, refl, ◌∙◌, length-append, arith}
+use Rattle.std.specs.Prelude.{Some, IsTrue}
 use Rattle.std.specs.List.{list_all}
 use Rattle.std.specs.Char.{digit_value, is_digit}
 use Rattle.std.specs.Fmt.{digit_glyph}
@@ -11,9 +11,9 @@ use Rattle.std.proofs.lemmas.List.Folds.{list_all-append}
 use Rattle.std.proofs.lemmas.Int.Digits.{digits_value_push}
 use Rattle.reg_blocks.specs.declared.size.Size.{Size}
 use Rattle.reg_blocks.specs.declared.size.Size.TheVariants.{MaL, MaM, MaS}
-use Rattle.reg_blocks.specs.Size.{digit_count, size_of_digits, blocks_in_prefix}
+use Rattle.reg_blocks.specs.Size.{digit_count, size_of_digits}
 use Rattle.reg_blocks.specs.Pool.{is_pool_prefix}
-use Rattle.reg_blocks.specs.Block.{SizedPrefix, leading_24, is_block, make_block}
+use Rattle.reg_blocks.specs.Block.{SizedPrefix, is_block, make_block}
 use Rattle.reg_blocks.specs.Digits.{hex_digits, hex_value_of, read_block, block_text}
 
 glyph_value : (n : ℕ) → n < 16 → digit_value (digit_glyph true n) ≡ n

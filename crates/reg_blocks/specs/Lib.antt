@@ -2,3 +2,5 @@ pub mod Size
 pub mod Pool
 pub mod Block
 pub mod Digits
+pub mod Due
+pub mod Sweep

@@ -1,5 +1,5 @@
 -- The sizes of blocks that the IEEE Registration Authority assigns.
-use Rattle.std.specs.Prelude.{ℕ, ◌^◌, Bool, ◌==◌, if◌then◌else◌, List, nat_eq, codes, Option, Some, None}
+use Rattle.std.specs.Prelude.{ℕ, ◌^◌, ◌==◌, if◌then◌else◌, List, codes, Option, Some, None}
 use Rattle.reg_blocks.specs.declared.size.Size.{Size}
 use Rattle.reg_blocks.specs.declared.size.Size.TheVariants.{MaL, MaM, MaS}
 

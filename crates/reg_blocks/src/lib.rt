@@ -3,5 +3,6 @@
 #![tactic(auto)]
 
 pub mod block;
+pub mod due;
 pub mod pool;
 pub mod size;

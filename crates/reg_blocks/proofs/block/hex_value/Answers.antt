@@ -1,4 +1,4 @@
-use Rattle.std.proofs.Common.{rules, ◌≡◌, ℕ, ◌+◌, ◌*◌, ◌<◌, ◌^◌, get_or, arith}
+use Rattle.std.proofs.Common.{rules, ◌≡◌, ◌<◌, get_or, arith}
 use Rattle.std.specs.Char.{digit_value}
 use Rattle.reg_blocks.proofs.Writing.{room, IsRead-more}
 use Rattle.reg_blocks.proofs.block.hex_value.Goals as goal

@@ -1,4 +1,4 @@
-use Rattle.std.proofs.Common.{◌≡◌, ℕ, ◌-◌, ◌*◌, ◌/◌, ◌^◌, ◌≤◌}
+use Rattle.std.proofs.Common.{◌≡◌, ◌-◌, ◌*◌, ◌/◌, ◌^◌, ◌≤◌}
 use Rattle.std.specs.Prelude.{string_bytes}
 use Rattle.reg_blocks.specs.Digits.{hex_digits}
 use Rattle.reg_blocks.proofs.block.Block.text.Given as goal
