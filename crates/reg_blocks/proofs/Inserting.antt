@@ -89,7 +89,7 @@ IsPool-insert xs x at place ok pool =
     }
 
 -- what a list with one number before it contains
-contains_cons : (xs : List ℕ) (x other : ℕ) → Contains (x ∷ xs) other → (other ≡ x) ⊎ Contains xs other
+pub contains_cons : (xs : List ℕ) (x other : ℕ) → Contains (x ∷ xs) other → (other ≡ x) ⊎ Contains xs other
 contains_cons xs x other (zero, lt, e) = inl (sym e)
 contains_cons xs x other (suc k, lt, e) = inr (k, omega arith, e)
 

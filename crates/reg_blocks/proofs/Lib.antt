@@ -4,3 +4,5 @@ pub mod ReadsBack
 pub mod Ends
 pub mod Sweeping
 pub mod Looking
+pub mod Trying
+pub mod Order

@@ -45,7 +45,7 @@ looking-next pool given size passed index end up here looking full =
     }
 
 -- a block lies in the addresses that its leading bits begin
-in_leading : (size : Size) (prefix : ℕ) → ((prefix / blocks_in_prefix size) * 2 ^ 24 ≤ prefix * address_count size) × (prefix * address_count size < (prefix / blocks_in_prefix size + 1) * 2 ^ 24)
+pub in_leading : (size : Size) (prefix : ℕ) → ((prefix / blocks_in_prefix size) * 2 ^ 24 ≤ prefix * address_count size) × (prefix * address_count size < (prefix / blocks_in_prefix size + 1) * 2 ^ 24)
 in_leading MaL prefix = (omega arith, omega arith)
 in_leading MaM prefix = (omega arith, omega arith)
 in_leading MaS prefix = (omega arith, omega arith)

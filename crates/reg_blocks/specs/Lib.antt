@@ -4,3 +4,4 @@ pub mod Block
 pub mod Digits
 pub mod Due
 pub mod Sweep
+pub mod Laws

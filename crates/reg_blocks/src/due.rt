@@ -1,8 +1,8 @@
 //! The block that is given next.
-ghost use Rattle.std.specs.Prelude.{◌*◌, ◌^◌, ◌<◌, ◌≤◌, ◌↔◌, length, IsNone, IfSome};
+ghost use Rattle.std.specs.Prelude.{◌≡◌, ◌*◌, ◌^◌, ◌<◌, ◌≤◌, ◌↔◌, length, IsNone, IfSome};
 ghost use Rattle.std.specs.List.Sorted.{IsNonDecreasingBy};
 ghost use Rattle.reg_blocks.specs.Block.{first_address};
-ghost use Rattle.reg_blocks.specs.Due.{IsDue, NoneIsFree};
+ghost use Rattle.reg_blocks.specs.Due.{IsDue, NoneIsFree, block_due};
 ghost use Rattle.reg_blocks.specs.Sweep.{EndBefore, Swept};
 
 use crate::block::Block;
@@ -25,6 +25,7 @@ pub fn least_free(pool: &Pool, given: &[Block], size: Size) -> Option<Block>
     requires ascending { IsNonDecreasingBy first_address given.now }
     ensures due { IfSome result (IsDue pool.now given.now size) }
     ensures none { IsNone result ↔ NoneIsFree pool.now given.now size }
+    ensures trial { result ≡ block_due pool.now given.now size }
 {
     let mut passed = 0;
     for prefix in pool.prefixes() {

@@ -4,5 +4,6 @@
 
 pub mod block;
 pub mod due;
+pub mod laws;
 pub mod pool;
 pub mod size;

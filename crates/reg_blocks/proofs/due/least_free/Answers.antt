@@ -1,9 +1,10 @@
 use Rattle.std.proofs.Common.{◌≡◌, ◌∙◌, ◌<◌, [], ◌∷◌, length, get_or, refl}
-use Rattle.std.specs.Prelude.{Some}
-use Rattle.reg_blocks.specs.Due.{IsDue}
+use Rattle.std.specs.Prelude.{Some, None}
+use Rattle.reg_blocks.specs.Due.{IsDue, block_due}
 use Rattle.reg_blocks.proofs.Ends.{sized}
 use Rattle.reg_blocks.proofs.Sweeping.{only_prefix}
 use Rattle.reg_blocks.proofs.Looking.{looking-next, looking-none, looking-due, made, due-Some, none-Some}
+use Rattle.reg_blocks.proofs.Trying.{IsAnswer-unique, block_due-IsAnswer}
 use Rattle.reg_blocks.proofs.due.least_free.Goals as goal
 
 -- the candidate that the sweep found is the block due of the whole pool, and a block
@@ -36,3 +37,13 @@ returns-clause-none c =
     let end = rw c.prefixes-prefix-items.ensures.value at c.loop-prefix-test.false in
     let none = looking-none c.args.pool.now c.args.given.now c.args.size c.loop-prefix.passed c.loop-prefix.prefix-index end c.loop-prefix.invariant in
     ((λ _. none), (λ _. refl))
+
+pub returns-in-Free-clause-trial : goal.returns-in-Free-clause-trial
+returns-in-Free-clause-trial c =
+    IsAnswer-unique c.args.pool.now c.args.given.now c.args.size c.make.result (block_due c.args.pool.now c.args.given.now c.args.size) (record { due = returns-in-Free-clause-due c; none = returns-in-Free-clause-none c })
+    (block_due-IsAnswer c.args.pool.now c.args.given.now c.args.size c.prefixes-prefix-items.ensures.ascending)
+
+pub returns-clause-trial : goal.returns-clause-trial
+returns-clause-trial c =
+    IsAnswer-unique c.args.pool.now c.args.given.now c.args.size None (block_due c.args.pool.now c.args.given.now c.args.size) (record { due = tt; none = returns-clause-none c })
+    (block_due-IsAnswer c.args.pool.now c.args.given.now c.args.size c.prefixes-prefix-items.ensures.ascending)
