@@ -1,5 +1,5 @@
 //! The block that is given next.
-ghost use Rattle.std.specs.Prelude.{◌≡◌, ◌*◌, ◌^◌, ◌<◌, ◌≤◌, ◌↔◌, length, IsNone, IfSome};
+ghost use Rattle.std.specs.Prelude.{◌≡◌, ◌*◌, ◌^◌, ◌<◌, ◌≤◌, ◌↔◌, length, IsTrue, IsNone, IfSome};
 ghost use Rattle.std.specs.List.Sorted.{IsNonDecreasingBy};
 ghost use Rattle.reg_blocks.specs.Block.{first_address};
 ghost use Rattle.reg_blocks.specs.Due.{IsDue, NoneIsFree, block_due};
@@ -15,6 +15,13 @@ enum Sweep {
     Free(u64),
     /// None is free; so many of the given blocks end with the prefix or before.
     Full(usize),
+}
+
+/// Whether the blocks ascend by first address, as `least_free` asks of those that were given.
+pub fn ascends(blocks: &[Block]) -> bool
+    ensures { IsTrue result ↔ IsNonDecreasingBy first_address blocks.now }
+{
+    blocks.is_sorted_by_key(|block| block.first())
 }
 
 /// The block due: of the free blocks of this size the one with the least first address, or none where none is free. A

@@ -7,3 +7,6 @@ pub mod due;
 pub mod laws;
 pub mod pool;
 pub mod size;
+
+#[cfg(test)]
+mod tests;
