@@ -1,7 +1,9 @@
 -- Which blocks ascend by first address.
-use Rattle.std.proofs.Common.{◌≡◌, ℕ, ◌+◌, ◌<◌, ◌≤◌, Bool, true, false, List, length, get_or, refl, arith}
+use Rattle.std.proofs.Common.{◌≡◌, ℕ, ◌+◌, ◌<◌, ◌≤◌, Bool, true, false, List, length, get_or, refl, rules, arith}
 use Rattle.std.specs.Prelude.{IsTrue, ◌↔◌}
 use Rattle.std.specs.List.{IsAllAdjacentAnswer}
+use Rattle.std.specs.Cmp.{IsTotalOrder}
+use Rattle.std.specs.Cmp.Rules.{comparing}
 use Rattle.std.specs.Ordering.{is_lt, is_le, nat_cmp}
 use Rattle.std.specs.List.Sorted.{IsSorted, IsNonDecreasingBy}
 use Rattle.std.proofs.lemmas.Bool.Decides.{nat_tests}
@@ -26,12 +28,15 @@ above m n h = grind (arith, nat_tests)
 pub ascends-from_answer : (blocks : List SizedPrefix) (r : Bool) → IsAllAdjacentAnswer (λ a b t. t ≡ is_le (nat_cmp (first_address a) (first_address b))) blocks r → IsTrue r ↔ IsNonDecreasingBy first_address blocks
 ascends-from_answer blocks true answer =
     ((λ _. IsNonDecreasingBy-from_all_adjacent first_address blocks (λ k d h. at_most _ _ (answer k d h))), (λ _. refl))
-ascends-from_answer blocks false (k, h, turned) =
-    (
-      (λ e. absurd (cc)),
-      (λ up.
-        let d : SizedPrefix = get_or blocks k (record { size = MaL; prefix = 0 }) in
-        let down = above (first_address (get_or blocks k d)) (first_address (get_or blocks (k + 1) d)) (turned d) in
-        let le = up k (k + 1) d (omega arith) h in
-        absurd (omega arith))
-    )
+ascends-from_answer blocks false (k, h, turned) = (
+  (λ e. absurd (cc)),
+  (λ up.
+      let d : SizedPrefix = get_or blocks k (record { size = MaL; prefix = 0 }) in
+      let down = above (first_address (get_or blocks k d)) (first_address (get_or blocks (k + 1) d)) (turned d) in
+      let le = up k (k + 1) d (omega arith) h in
+      absurd (omega arith)),
+)
+
+-- the order of blocks is one of maps' keys
+pub block_cmp-total : IsTotalOrder block_cmp
+block_cmp-total = search (comparing, rules)

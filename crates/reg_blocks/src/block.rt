@@ -67,7 +67,8 @@ impl Block {
         ensures value { result ≡ first_address self.now }
         ensures bits { result < 2 ^ 48 }
     {
-        self.prefix * self.size.address_count()
+        let count = self.size.address_count();
+        count * self.prefix
     }
 
     /// The last address of the block, as a number of 48 bits.

@@ -7,6 +7,5 @@ pub mod due;
 pub mod laws;
 pub mod pool;
 pub mod size;
-
 #[cfg(test)]
 mod tests;

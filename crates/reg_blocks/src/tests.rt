@@ -13,7 +13,11 @@ fn block(rt: &impl Abort, digits: &str) -> Block {
 
 #[test]
 fn words_of_sizes(rt: HostRuntime) {
-    for (size, word) in [(Size::MaL, "MA-L"), (Size::MaM, "MA-M"), (Size::MaS, "MA-S")] {
+    for (size, word) in [
+        (Size::MaL, "MA-L"),
+        (Size::MaM, "MA-M"),
+        (Size::MaS, "MA-S"),
+    ] {
         assert_eq!(rt; size.word(), word);
         assert_eq!(rt; Size::read(word.as_bytes()), Some(size));
     }
@@ -31,7 +35,9 @@ fn ends_and_digits_of_a_block(rt: HostRuntime) -> Result<(), Fail> {
     assert_eq!(rt; Block::make(Size::MaM, 0x001_A2B0), Some(medium));
     assert_eq!(rt; Block::read(b"001a2b0"), Some(medium));
     assert_eq!(rt; medium.text(rt.alloc())?.as_str(), "001A2B0");
-    for digits in ["021A2B", "011A2B", "001A2", "001A2B00", "001A2G", "+01A2B", ""] {
+    for digits in [
+        "021A2B", "011A2B", "001A2", "001A2B00", "001A2G", "+01A2B", "",
+    ] {
         assert_eq!(rt; Block::read(digits.as_bytes()), None, "{digits}");
     }
     assert_eq!(rt; Block::make(Size::MaL, 0x100_0000), None);
@@ -47,7 +53,10 @@ fn overlap_and_order(rt: HostRuntime) {
     assert!(rt; !medium.overlaps(&block(&rt, "001A2B100")));
     assert_eq!(rt; large.cmp(&medium), Ordering::Less);
     assert_eq!(rt; medium.cmp(&block(&rt, "001A2B000")), Ordering::Less);
-    assert_eq!(rt; medium.partial_cmp(&block(&rt, "001A2B1")), Some(Ordering::Less));
+    assert_eq!(rt;
+        medium.partial_cmp(&block(&rt, "001A2B1")),
+        Some(Ordering::Less)
+    );
     assert_eq!(rt; block(&rt, "001A2C").cmp(&medium), Ordering::Greater);
     assert_eq!(rt; medium.cmp(&medium), Ordering::Equal);
 }
@@ -68,7 +77,10 @@ fn what_a_pool_takes(rt: HostRuntime) -> Result<(), Fail> {
         assert_eq!(rt; is_pool_prefix(prefix), want != Add::Bits, "{prefix:06X}");
         assert_eq!(rt; pool.add(prefix), want, "{prefix:06X}");
     }
-    assert_eq!(rt; pool.prefixes(), [0x00_1A2B, 0x00_1A2C, 0xFC_0000].as_slice());
+    assert_eq!(rt;
+        pool.prefixes(),
+        [0x00_1A2B, 0x00_1A2C, 0xFC_0000].as_slice()
+    );
     assert_eq!(rt; pool.copy()?.prefixes(), pool.prefixes());
     Ok(())
 }
@@ -102,9 +114,19 @@ fn block_due(rt: HostRuntime) -> Result<(), Fail> {
     for prefix in [0x00_1A2B, 0x00_1A2C] {
         assert_eq!(rt; pool.add(prefix), Add::Added);
     }
-    expect_due(&rt, &pool, &[], [Some("001A2B"), Some("001A2B0"), Some("001A2B000")]);
+    expect_due(
+        &rt,
+        &pool,
+        &[],
+        [Some("001A2B"), Some("001A2B0"), Some("001A2B000")],
+    );
     let two = [block(&rt, "001A2B0"), block(&rt, "001A2B100")];
-    expect_due(&rt, &pool, &two, [Some("001A2C"), Some("001A2B2"), Some("001A2B101")]);
+    expect_due(
+        &rt,
+        &pool,
+        &two,
+        [Some("001A2C"), Some("001A2B2"), Some("001A2B101")],
+    );
 
     let mut full = Vec::with_capacity(rt.alloc(), 17)?;
     for prefix in 0x001_A2B0..=0x001_A2BF {
@@ -114,7 +136,12 @@ fn block_due(rt: HostRuntime) -> Result<(), Fail> {
     expect_due(&rt, &pool, &full, [None; 3]);
     assert_eq!(rt; full.len(), 17);
     assert_eq!(rt; full.remove(7), block(&rt, "001A2B7"));
-    expect_due(&rt, &pool, &full, [None, Some("001A2B7"), Some("001A2B700")]);
+    expect_due(
+        &rt,
+        &pool,
+        &full,
+        [None, Some("001A2B7"), Some("001A2B700")],
+    );
     full.reverse();
     assert!(rt; !ascends(&full));
     Ok(())
@@ -133,7 +160,10 @@ fn block_due_past_a_hundred_full_prefixes(rt: HostRuntime) -> Result<(), Fail> {
     let given = given.as_slice();
     assert_eq!(rt; given.len(), 409_600);
     assert!(rt; ascends(given));
-    assert_eq!(rt; least_free(&pool, given, Size::MaS), Some(block(&rt, "002064000")));
+    assert_eq!(rt;
+        least_free(&pool, given, Size::MaS),
+        Some(block(&rt, "002064000"))
+    );
     Ok(())
 }
 
