@@ -6,3 +6,4 @@ pub mod Sweeping
 pub mod Looking
 pub mod Trying
 pub mod Order
+pub mod Reading

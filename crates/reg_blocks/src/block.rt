@@ -5,7 +5,7 @@ ghost use Rattle.std.specs.Cmp.{partial_order_from_own_ties};
 ghost use Rattle.std.specs.Cmp.Rules.{comparing};
 ghost use Rattle.std.specs.Ordering.{as_partial_cmp};
 ghost use Rattle.std.specs.Fmt.{digit_glyph};
-ghost use Rattle.reg_blocks.specs.Block.{first_address, last_address, leading_24, is_block, make_block, Clash, ends_meet, block_cmp};
+ghost use Rattle.reg_blocks.specs.Block.{first_address, last_address, is_block, make_block, Clash, ends_meet, block_cmp};
 ghost use Rattle.reg_blocks.specs.Digits.{hex_value_of, read_block, block_text};
 
 use crate::pool::is_pool_prefix;
@@ -15,7 +15,7 @@ use std::cmp::Ordering;
 use std::marker::Model;
 
 /// A block of universally administered individual EUI-48 addresses: its size, and the leading bits that its addresses
-/// share. Both least significant bits of the first octet, I/G and U/L, are zero (IEEE Std 802, section 8).
+/// share. Both least significant bits of the first octet, I/G and U/L, are zero (IEEE Std 802-2014, clause 8).
 ///
 /// Blocks are ordered by their first addresses, and of those that begin together the larger comes first.
 #[derive(Clone, Copy, Debug, PartialEq, Eq)]
@@ -48,6 +48,7 @@ impl Block {
         }
     }
 
+    /// Whether the block is an MA-L, an MA-M or an MA-S.
     pub fn size(&self) -> Size
         ensures { result ≡ self.now.size }
     {
@@ -95,7 +96,7 @@ impl Block {
         Block::make(size, hex_value(digits)?)
     }
 
-    /// The prefix in 6, 7 or 9 hexadecimal digits, in upper case.
+    /// The prefix in 6, 7 or 9 hexadecimal digits, in upper case. Only want of memory is an error.
     pub fn text(&self, alloc: Global) -> Result<String, AllocError>
         ensures digits { IfOk result (λ text. string_bytes text ≡ block_text self.now) }
         ensures back { IfOk result (λ text. read_block (string_bytes text) ≡ Some self.now) }

@@ -34,7 +34,7 @@ pub enum Add {
 }
 
 /// Whether the number is 24 bits of which the two least significant bits of the first octet, I/G and U/L, are zero: a
-/// prefix of individual addresses that are universally administered (IEEE Std 802, section 8).
+/// prefix of individual addresses that are universally administered (IEEE Std 802-2014, clause 8).
 pub fn is_pool_prefix(prefix: u32) -> bool
     ensures { result ≡ may_be_in_pool prefix }
 {
@@ -79,7 +79,7 @@ impl Pool {
         Add::Added
     }
 
-    /// A pool with the same prefixes.
+    /// A pool with the same prefixes. Only want of memory is an error.
     pub fn copy(&self) -> Result<Self, AllocError>
         ensures { IfOk result (λ pool. pool ≡ self.now) }
     {

@@ -169,6 +169,8 @@ fn block_due_past_a_hundred_full_prefixes(rt: HostRuntime) -> Result<(), Fail> {
 
 #[test]
 fn laws_return() {
+    laws::prefix_bits_decide();
+    laws::reading_is_exact();
     laws::addresses_run_from_first_to_last();
     laws::addresses_have_48_bits();
     laws::ends_decide_clash();
