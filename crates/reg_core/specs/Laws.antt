@@ -41,7 +41,7 @@ pub record AreAlike (digest_of : List ℕ → List ℕ) (w v : World) (caller : 
 abbrev pub TwoWorlds : (List ℕ → List ℕ) → Type 0
 TwoWorlds digest_of =
     (w v : World) (caller : Option (List ℕ)) (moment : ℕ) (command : Command)
-    → WellKept w → WellKept v → IsNoClerk w caller → IsNoClerk v caller
+    → WellKept w → WellKept v → IsNoClerk w caller
     → view_of w caller ≡ view_of v caller → AreAlike digest_of w v caller moment command
 
 -- ---- Well kept
