@@ -1,0 +1,11 @@
+pub mod Objects
+pub mod Routing
+pub mod Routed
+pub mod Whole
+pub mod ReadBack
+pub mod Formed
+pub mod Moments
+pub mod LineSoFar
+pub mod Sent
+pub mod Runs
+pub mod AskText

@@ -1,0 +1,131 @@
+//! The routes: which command a method and a path name.
+ghost use Rattle.std.specs.Prelude.{◌≡◌, OnOk, map};
+ghost use Rattle.reg_wire.specs.Route.{with_row, with_rows, operation_for, methods_at};
+
+use matchit::{InsertError, Router};
+use std::alloc::{AllocError, Global};
+use std::marker::Model;
+
+/// Which command is meant, without what it is about.
+#[derive(Clone, Copy, Debug, PartialEq, Eq)]
+pub enum Operation {
+    Own,
+    OwnOne,
+    Submit,
+    Grant,
+    Revoke,
+}
+
+/// What GET, PUT and DELETE (RFC 9110 section 9.3) do at a path.
+#[derive(Clone, Copy, Debug, PartialEq, Eq)]
+pub struct Methods {
+    pub get: Option<Operation>,
+    pub put: Option<Operation>,
+    pub delete: Option<Operation>,
+}
+
+impl Methods {
+    /// What this method does here, if it does anything. Methods are compared exactly.
+    pub fn operation(&self, method: &[u8]) -> Option<Operation>
+        ensures { result ≡ operation_for method.now self.now }
+    {
+        if method == b"GET".as_slice() {
+            self.get
+        } else if method == b"PUT".as_slice() {
+            self.put
+        } else if method == b"DELETE".as_slice() {
+            self.delete
+        } else {
+            None
+        }
+    }
+}
+
+/// The routes of all commands.
+#[derive(Drop)]
+pub struct Routes {
+    router: Router<Methods>,
+}
+
+impl Model for Routes {
+    ghost use Rattle.std.specs.Prelude.{◌≡◌, ⊤};
+    ghost use Rattle.reg_wire.specs.Route.{routes};
+
+    ghost Value = { ⊤ };
+
+    ghost view = { λ r. tt };
+
+    ghost invariant = { λ r. r.router ≡ routes };
+}
+
+impl Routes {
+    /// The routes of all commands.
+    pub fn new(alloc: Global) -> Result<Self, AllocError> {
+        let mut router = Router::new(alloc);
+        let none = Methods {
+            get: None,
+            put: None,
+            delete: None,
+        };
+        let rows = [
+            (
+                "/requests",
+                Methods {
+                    get: Some(Operation::Own),
+                    ..none
+                },
+            ),
+            (
+                "/requests/{reference}",
+                Methods {
+                    get: Some(Operation::OwnOne),
+                    put: Some(Operation::Submit),
+                    ..none
+                },
+            ),
+            (
+                "/desk/tokens",
+                Methods {
+                    put: Some(Operation::Grant),
+                    ..none
+                },
+            ),
+            (
+                "/desk/revoke",
+                Methods {
+                    put: Some(Operation::Revoke),
+                    ..none
+                },
+            ),
+        ];
+        match insert_all(&mut router, &rows) {
+            Ok(()) => Ok(Routes { router }),
+            Err(_) => Err(AllocError),
+        }
+    }
+
+    /// What the methods do at a path, if it has a route.
+    pub fn at(&self, path: &str) -> Option<Methods>
+        ensures { result ≡ methods_at path.now }
+    {
+        match self.router.at(path) {
+            Ok(found) => Some(*found.value),
+            Err(_) => None,
+        }
+    }
+}
+
+fn insert_all(router: &mut Router<Methods>, rows: &[(&str, Methods)]) -> Result<(), InsertError>
+    ensures { OnOk result (router.new ≡ with_rows (map (λ r. (r.0.now, r.1)) rows.now) router.old) }
+{
+    for (path, methods) in rows {
+        insert(router, path, *methods)?;
+    }
+    Ok(())
+}
+
+fn insert(router: &mut Router<Methods>, path: &str, methods: Methods) -> Result<(), InsertError>
+    ensures { OnOk result (router.new ≡ with_row (path.now, methods) router.old) }
+{
+    router.insert(path, methods)
+}
