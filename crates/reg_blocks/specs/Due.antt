@@ -14,7 +14,11 @@ pub record IsFree (pool : List ℕ) (given : List SizedPrefix) (block : SizedPre
 pub record IsDue (pool : List ℕ) (given : List SizedPrefix) (size : Size) (block : SizedPrefix) : Type 0 where
   pub free : IsFree pool given block
   pub of_size : block.size ≡ size
-  pub least : (other : SizedPrefix) → other.size ≡ size → IsFree pool given other → first_address block ≤ first_address other
+  pub least :
+      (other : SizedPrefix)
+      → other.size ≡ size
+      → IsFree pool given other
+      → first_address block ≤ first_address other
 
 -- no block of the size is free
 abbrev pub NoneIsFree : List ℕ → List SizedPrefix → Size → Type 0
