@@ -1,6 +1,6 @@
 -- What holds of every answer: it is enough to see it of refusals, of a clerk's answers and of own answers.
-use Rattle.std.proofs.Common.{◌≡◌, ℕ, Bool, true, false, ◌&&◌, List, refl, sym, ◌∙◌, ap}
-use Rattle.std.specs.Prelude.{Option, Some, None, Result, Ok, Err, option_map, nat_lt, nat_le, if◌then◌else◌}
+use Rattle.std.proofs.Common.{◌≡◌, ℕ, true, false, ◌&&◌, List, refl, sym, ◌∙◌, ap}
+use Rattle.std.specs.Prelude.{Option, Some, None, Result, Ok, Err, option_map, nat_lt}
 use Rattle.std.specs.Cmp.{first_so, second_so}
 use Rattle.std.specs.FinMap.{get}
 use Rattle.reg_core.specs.Answer.{Answer, refused, admitted, if_admitted, is_moment, own_answer, answer_me, answer}
@@ -10,7 +10,6 @@ use Rattle.reg_core.specs.Step.{is_clerk, acts_as_clerk, clerk_answer, answer_to
 use Rattle.reg_core.specs.View.{published, personal, view_of, cap_at, with_personal}
 use Rattle.reg_core.specs.World.{World}
 use Rattle.reg_core.specs.declared.capability.Cap.{Cap}
-use Rattle.reg_core.specs.declared.capability.Kind.{Kind}
 use Rattle.reg_core.specs.declared.capability.Kind.TheVariants.{Clerk}
 use Rattle.reg_core.specs.declared.command.Command.{Command}
 use Rattle.reg_core.specs.declared.refusal.Refusal.{Refusal}

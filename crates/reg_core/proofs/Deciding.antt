@@ -1,5 +1,5 @@
 -- What is known of the rows where a rule has decided.
-use Rattle.std.proofs.Common.{◌≡◌, ℕ, Bool, true, false, List, refl, ◌∙◌, ap}
+use Rattle.std.proofs.Common.{◌≡◌, ℕ, false, List, refl, ap}
 use Rattle.std.specs.Prelude.{Option, Some, None, Result, Ok, Err, is_some, if◌then◌else◌}
 use Rattle.reg_core.specs.Ask.{same_ask}
 use Rattle.reg_core.specs.Capability.{same_cap}
@@ -28,7 +28,7 @@ grant_made (Some old) digest cap change h =
     by_test (λ r. r ≡ Ok (Make change) → (Some old ≡ None) × (Grant digest cap ≡ change)) (same_cap old cap) (Ok Same) (Err Exists)
     (λ same h. absurd (cc)) (λ other h. absurd (cc)) h
 
--- and is there already only where this capability is
+-- one is there already only where this capability is
 pub grant_there : (found : Option Cap) (digest : List ℕ) (cap : Cap) → grant_rule found digest cap ≡ Ok Same → found ≡ Some cap
 grant_there None digest cap h = absurd (cc)
 grant_there (Some old) digest cap h =

@@ -1,10 +1,7 @@
 -- Each rule's change fits the world over whose rows it was decided.
-use Rattle.std.proofs.Common.{◌≡◌, ℕ, Bool, true, false, ◌&&◌, List, refl, sym, ap, subst, ◌∙◌}
-use Rattle.std.specs.Prelude.{Option, Some, None, Result, Ok, Err, is_some, if◌then◌else◌}
-use Rattle.std.specs.FinMap.{FinMap, get}
-use Rattle.reg_core.specs.Ask.{same_ask}
-use Rattle.reg_core.specs.Capability.{same_cap}
-use Rattle.reg_core.specs.Maps.{same_text}
+use Rattle.std.proofs.Common.{◌≡◌, ℕ, true, List, subst}
+use Rattle.std.specs.Prelude.{None, Result, Ok}
+use Rattle.std.specs.FinMap.{get}
 use Rattle.reg_core.specs.Rules.{grant_rule, revoke_rule, submit_rule}
 use Rattle.reg_core.specs.WellKept.{WellKept, CanApply, has_grant_form, has_request_form}
 use Rattle.reg_core.specs.World.{World, RequestName, pending}
@@ -12,11 +9,8 @@ use Rattle.reg_core.specs.declared.ask.Ask.{Ask}
 use Rattle.reg_core.specs.declared.capability.Cap.{Cap}
 use Rattle.reg_core.specs.declared.change.Change.{Change}
 use Rattle.reg_core.specs.declared.change.Change.TheVariants.{Grant, Revoke, Submit}
-use Rattle.reg_core.specs.declared.decide.Decision.{Decision}
-use Rattle.reg_core.specs.declared.decide.Decision.TheVariants.{Make, Same}
+use Rattle.reg_core.specs.declared.decide.Decision.TheVariants.{Make}
 use Rattle.reg_core.specs.declared.refusal.Refusal.{Refusal}
-use Rattle.reg_core.specs.declared.refusal.Refusal.TheVariants.{Ref, Own, Exists}
-use Rattle.reg_core.specs.declared.request.Filing.{Filing}
 use Rattle.reg_core.proofs.Deciding.{grant_made, revoke_made, submit_made}
 use Rattle.reg_core.proofs.MapLaws.{text_keys, name_keys, insert_keeps, remove_keeps}
 
@@ -59,13 +53,13 @@ grant_fits w digest cap change kept form made =
     let decided = grant_made (get w.caps digest) digest cap change made in
     subst (CanApply w) decided.1 (can_grant w digest cap kept form decided.0)
 
--- and so does a revocation
+-- a revocation that is to be made fits the world that has this capability, or none, at the digest
 pub revoke_fits : (w : World) (in_use digest : List ℕ) (change : Change) → WellKept w
     → revoke_rule in_use (get w.caps digest) digest ≡ Ok (Make change) → CanApply w change
 revoke_fits w in_use digest change kept made =
     subst (CanApply w) (revoke_made in_use (get w.caps digest) digest change made) (can_revoke w digest kept)
 
--- and a request, whatever made it allowed
+-- a request that is to be made fits the world that has this request, or none, under the name, whatever made it allowed
 pub submit_fits : (w : World) (allowance : Result (Unit {0}) Refusal) (name : RequestName) (ask : Ask) (change : Change) → WellKept w
     → has_request_form name (pending ask) ≡ true
     → submit_rule allowance name ask (get w.requests name) ≡ Ok (Make change) → CanApply w change

@@ -1,15 +1,15 @@
 -- Two worlds that show a caller the same view answer it alike, and show it the same view after its step.
-use Rattle.std.proofs.Common.{◌≡◌, ℕ, Bool, true, false, cond, ◌&&◌, List, refl, sym, ap, subst, ◌∙◌}
+use Rattle.std.proofs.Common.{◌≡◌, ℕ, true, false, ◌&&◌, List, refl, sym, ap, ◌∙◌}
 use Rattle.std.specs.Prelude.{Option, Some, None, Result, Ok, Err, option_map, unwrap_or, nat_lt, IfSome, if◌then◌else◌}
 use Rattle.std.specs.FinMap.{get}
 use Rattle.reg_core.specs.Ask.{same_ask}
-use Rattle.reg_core.specs.Answer.{Answer, replied, refused, answered, row_reply, submit, admitted, if_admitted, is_moment, own_answer, answer_me, answer}
+use Rattle.reg_core.specs.Answer.{Answer, answered, row_reply, submit, is_moment, own_answer, answer}
 use Rattle.reg_core.specs.Capability.{same_kind}
 use Rattle.reg_core.specs.Command.{kind_of}
 use Rattle.reg_core.specs.Laws.{TwoWorlds, IsNoClerk}
 use Rattle.reg_core.specs.Request.{request_row}
 use Rattle.reg_core.specs.Rules.{allowed}
-use Rattle.reg_core.specs.Step.{is_clerk, acts_as_clerk, clerk_answer, answer_to, step}
+use Rattle.reg_core.specs.Step.{is_clerk, clerk_answer, answer_to}
 use Rattle.reg_core.specs.View.{Published, published, Personal, personal, requests_of, View, view_of, cap_at, with_personal}
 use Rattle.reg_core.specs.WellKept.{WellKept}
 use Rattle.reg_core.specs.World.{World, applied, applied_if, pending}
@@ -135,13 +135,13 @@ shown_cap : (w : World) (found : Option Cap) → option_map (λ (me : Cap × Per
 shown_cap w None = refl
 shown_cap w (Some cap) = refl
 
--- so where the views are the same there is no clerk in either world or in both
+-- so two worlds that show the caller the same view have the same capability at its digest
 same_caps : (w v : World) (caller : Option (List ℕ)) → view_of w caller ≡ view_of v caller → cap_at w caller ≡ cap_at v caller
 same_caps w v caller same =
     sym (shown_cap w (cap_at w caller)) ∙ ap (λ (x : View). option_map (λ (me : Cap × Personal). me.0) x.me) same ∙ shown_cap v (cap_at v caller)
 
 module _ (digest_of : List ℕ → List ℕ) where
-  -- gets the answer of its view
+  -- a caller who is no clerk gets the answer of its view
   pub answer_to-view : (w : World) (caller : Option (List ℕ)) (moment : ℕ) (command : Command) → IsNoClerk w caller → answer_to digest_of w caller moment command ≡ answer (view_of w caller) moment command
   answer_to-view w None moment command h = refl
   answer_to-view w (Some digest) moment command h =

@@ -1,22 +1,22 @@
 -- Every step from a well kept world makes a change that fits it, and so every run from one ends in one.
-use Rattle.std.proofs.Common.{◌≡◌, ℕ, Bool, true, false, ◌&&◌, List, [], ◌∷◌, refl, sym, ap, subst, ◌∙◌}
-use Rattle.std.specs.Prelude.{Option, Some, None, Result, Ok, Err, option_map, nat_le, IfSome, if◌then◌else◌}
+use Rattle.std.proofs.Common.{◌≡◌, ℕ, true, List, [], ◌∷◌, refl, subst}
+use Rattle.std.specs.Prelude.{Option, Some, None, Result, Ok, Err, nat_le, IfSome}
 use Rattle.std.specs.Cmp.{first_so, second_so}
 use Rattle.std.specs.Cmp.Derive.{both_true}
 use Rattle.std.specs.FinMap.{get, get-empty}
-use Rattle.reg_core.specs.Answer.{Answer, refused, answered, submit, admitted, if_admitted, is_moment, own_answer, answer_me, answer}
+use Rattle.reg_core.specs.Answer.{answered, submit, own_answer}
 use Rattle.reg_core.specs.Ask.{has_ask_form}
 use Rattle.reg_core.specs.Capability.{last_until, has_cap_form}
-use Rattle.reg_core.specs.Command.{kind_of, has_command_form}
-use Rattle.reg_core.specs.Laws.{GivesDigests, ChangesFit, RunsKeepWell, FirstWorldsAreWellKept, founded_world, clerk_cap}
+use Rattle.reg_core.specs.Command.{has_command_form}
+use Rattle.reg_core.specs.Laws.{GivesDigests, ChangesFit, RunsKeepWell, FirstWorldsAreWellKept, clerk_cap}
 use Rattle.reg_core.specs.Maps.{text_cmp}
 use Rattle.reg_core.specs.Names.{is_name, is_token, is_digest}
 use Rattle.reg_core.specs.Rules.{allowed, grant_rule, revoke_rule, submit_rule}
-use Rattle.reg_core.specs.Run.{Event, have_forms, world_after, step_of}
-use Rattle.reg_core.specs.Step.{acts_as_clerk, clerk_answer, answer_to, step}
-use Rattle.reg_core.specs.View.{Published, Personal, published, personal, requests_of, view_of, with_personal, cap_at}
-use Rattle.reg_core.specs.WellKept.{WellKept, CanApply, has_grant_form, has_request_form}
-use Rattle.reg_core.specs.World.{World, RequestName, name_cmp, empty_world, applied_if, pending}
+use Rattle.reg_core.specs.Run.{Event, have_forms, step_of}
+use Rattle.reg_core.specs.Step.{clerk_answer, answer_to}
+use Rattle.reg_core.specs.View.{published, personal, requests_of, cap_at}
+use Rattle.reg_core.specs.WellKept.{WellKept, CanApply}
+use Rattle.reg_core.specs.World.{World, name_cmp, empty_world, applied_if}
 use Rattle.reg_core.specs.declared.ask.Ask.{Ask}
 use Rattle.reg_core.specs.declared.capability.Cap.{Cap}
 use Rattle.reg_core.specs.declared.change.Change.{Change}
@@ -25,9 +25,7 @@ use Rattle.reg_core.specs.declared.command.Command.TheVariants.{Own, OwnOne, Sub
 use Rattle.reg_core.specs.declared.decide.Decision.{Decision}
 use Rattle.reg_core.specs.declared.decide.Decision.TheVariants.{Make, Same}
 use Rattle.reg_core.specs.declared.refusal.Refusal.{Refusal}
-use Rattle.reg_core.specs.declared.refusal.Refusal.TheVariants as no
 use Rattle.reg_core.specs.declared.reply.Reply.{Reply}
-use Rattle.reg_core.specs.declared.request.Filing.{Filing}
 use Rattle.reg_core.proofs.Answering.{answer_to_by}
 use Rattle.reg_core.proofs.Fitting.{can_grant, grant_fits, revoke_fits, submit_fits}
 use Rattle.reg_core.proofs.Stepping.{own_request}

@@ -1,13 +1,13 @@
 -- An accepted command that is given again is accepted, and changes nothing.
-use Rattle.std.proofs.Common.{◌≡◌, ℕ, ◌<◌, Bool, true, false, List, refl, sym, ap, subst, ◌∙◌, arith}
+use Rattle.std.proofs.Common.{◌≡◌, ℕ, ◌<◌, true, false, List, refl, sym, ap, subst, ◌∙◌, arith}
 use Rattle.std.specs.Prelude.{Option, Some, None, Result, Ok, Err, IsSome, is_some, nat_le, nat_lt, unwrap_or}
 use Rattle.std.specs.FinMap.{get}
 use Rattle.std.proofs.lemmas.Bool.Decides.{nat_tests}
 use Rattle.reg_core.specs.Ask.{same_ask}
-use Rattle.reg_core.specs.Answer.{Answer, replied, refused, answered, row_reply, submit, own_answer, is_moment}
-use Rattle.reg_core.specs.Capability.{same_kind, same_cap}
+use Rattle.reg_core.specs.Answer.{Answer, replied, answered, row_reply, submit, own_answer, is_moment}
+use Rattle.reg_core.specs.Capability.{same_kind}
 use Rattle.reg_core.specs.Command.{kind_of}
-use Rattle.reg_core.specs.Laws.{is_refused, MayRepeat, RepeatsActOnce}
+use Rattle.reg_core.specs.Laws.{is_refused, RepeatsActOnce}
 use Rattle.reg_core.specs.Maps.{same_text}
 use Rattle.reg_core.specs.Request.{request_row, request_rows}
 use Rattle.reg_core.specs.Rules.{allowed, grant_rule, revoke_rule, submit_rule}

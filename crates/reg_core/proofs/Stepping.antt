@@ -1,6 +1,6 @@
 -- What a step looks up: the caller's capability, and its own requests.
 use Rattle.std.proofs.Common.{◌≡◌, ℕ, Bool, true, false, List, refl, ap, ◌∙◌}
-use Rattle.std.specs.Prelude.{Option, Some, None, Result, Ok, Err, option_and_then, nat_le, if◌then◌else◌}
+use Rattle.std.specs.Prelude.{Option, Some, None, Ok, Err, option_and_then, nat_le, if◌then◌else◌}
 use Rattle.std.specs.FinMap.{get}
 use Rattle.reg_core.specs.Answer.{admitted}
 use Rattle.reg_core.specs.Capability.{same_kind}
