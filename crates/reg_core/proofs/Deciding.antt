@@ -28,7 +28,7 @@ grant_made (Some old) digest cap change h =
     by_test (λ r. r ≡ Ok (Make change) → (Some old ≡ None) × (Grant digest cap ≡ change)) (same_cap old cap) (Ok Same) (Err Exists)
     (λ same h. absurd (cc)) (λ other h. absurd (cc)) h
 
--- and is there already only where this capability is
+-- one is there already only where this capability is
 pub grant_there : (found : Option Cap) (digest : List ℕ) (cap : Cap) → grant_rule found digest cap ≡ Ok Same → found ≡ Some cap
 grant_there None digest cap h = absurd (cc)
 grant_there (Some old) digest cap h =

@@ -1,18 +1,17 @@
 -- The world after a command has what its reply says.
-use Rattle.std.proofs.Common.{◌≡◌, ℕ, Bool, true, false, List, refl, sym, ap, subst, ◌∙◌}
-use Rattle.std.specs.Prelude.{Option, Some, None, Result, Ok, Err, option_and_then, All}
+use Rattle.std.proofs.Common.{◌≡◌, ℕ, Bool, true, false, List, refl, sym, subst, ◌∙◌}
+use Rattle.std.specs.Prelude.{Option, Some, None, Result, Ok, Err, option_and_then}
 use Rattle.std.specs.FinMap.{get, entries}
 use Rattle.std.proofs.lemmas.List.Elements.{All-map}
-use Rattle.reg_core.specs.Answer.{Answer, refused, answered, row_reply, submit, own_answer}
+use Rattle.reg_core.specs.Answer.{Answer, answered, row_reply, submit, own_answer}
 use Rattle.reg_core.specs.Laws.{HasRow, WasDone, AnswersAreDone}
 use Rattle.reg_core.specs.Maps.{same_text, only_if}
-use Rattle.reg_core.specs.Request.{request_row, request_rows}
+use Rattle.reg_core.specs.Request.{request_row}
 use Rattle.reg_core.specs.Rules.{allowed, grant_rule, revoke_rule, submit_rule}
-use Rattle.reg_core.specs.Step.{clerk_answer, answer_to}
-use Rattle.reg_core.specs.View.{Published, published, personal, requests_of}
+use Rattle.reg_core.specs.Step.{clerk_answer}
+use Rattle.reg_core.specs.View.{published, personal, requests_of}
 use Rattle.reg_core.specs.World.{World, RequestName, applied, applied_if, pending}
 use Rattle.reg_core.specs.declared.ask.Ask.{Ask}
-use Rattle.reg_core.specs.declared.capability.Cap.{Cap}
 use Rattle.reg_core.specs.declared.change.Change.{Change}
 use Rattle.reg_core.specs.declared.command.Command.{Command}
 use Rattle.reg_core.specs.declared.command.Command.TheVariants.{Own, OwnOne, Submit, Grant, Revoke}
@@ -24,8 +23,7 @@ use Rattle.reg_core.specs.declared.reply.Reply.TheVariants as reply
 use Rattle.reg_core.specs.declared.request.Filing.{Filing}
 use Rattle.reg_core.proofs.MapLaws.{text_keys, name_keys, get-select, get-inserted, get-removed, All-entries}
 use Rattle.reg_core.proofs.Deciding.{grant_made, grant_there, revoke_made, revoke_there, submit_made, submit_there}
-use Rattle.reg_core.proofs.Answering.{Serves, answer_to_by}
-use Rattle.reg_core.proofs.Stepping.{own_request}
+use Rattle.reg_core.proofs.Answering.{answer_to_by}
 
 -- an account's own row is a row of the world
 pub own_row : (account : List ℕ) (w : World) (name : RequestName) (filing : Filing) → get (requests_of account w) name ≡ Some filing → get w.requests name ≡ Some filing

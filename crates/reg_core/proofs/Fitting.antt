@@ -53,13 +53,13 @@ grant_fits w digest cap change kept form made =
     let decided = grant_made (get w.caps digest) digest cap change made in
     subst (CanApply w) decided.1 (can_grant w digest cap kept form decided.0)
 
--- and so does a revocation
+-- a revocation that is to be made fits the world that has this capability, or none, at the digest
 pub revoke_fits : (w : World) (in_use digest : List ℕ) (change : Change) → WellKept w
     → revoke_rule in_use (get w.caps digest) digest ≡ Ok (Make change) → CanApply w change
 revoke_fits w in_use digest change kept made =
     subst (CanApply w) (revoke_made in_use (get w.caps digest) digest change made) (can_revoke w digest kept)
 
--- and a request, whatever made it allowed
+-- a request that is to be made fits the world that has this request, or none, under the name, whatever made it allowed
 pub submit_fits : (w : World) (allowance : Result (Unit {0}) Refusal) (name : RequestName) (ask : Ask) (change : Change) → WellKept w
     → has_request_form name (pending ask) ≡ true
     → submit_rule allowance name ask (get w.requests name) ≡ Ok (Make change) → CanApply w change

@@ -135,13 +135,13 @@ shown_cap : (w : World) (found : Option Cap) → option_map (λ (me : Cap × Per
 shown_cap w None = refl
 shown_cap w (Some cap) = refl
 
--- so where the views are the same there is no clerk in either world or in both
+-- so two worlds that show the caller the same view have the same capability at its digest
 same_caps : (w v : World) (caller : Option (List ℕ)) → view_of w caller ≡ view_of v caller → cap_at w caller ≡ cap_at v caller
 same_caps w v caller same =
     sym (shown_cap w (cap_at w caller)) ∙ ap (λ (x : View). option_map (λ (me : Cap × Personal). me.0) x.me) same ∙ shown_cap v (cap_at v caller)
 
 module _ (digest_of : List ℕ → List ℕ) where
-  -- gets the answer of its view
+  -- a caller who is no clerk gets the answer of its view
   pub answer_to-view : (w : World) (caller : Option (List ℕ)) (moment : ℕ) (command : Command) → IsNoClerk w caller → answer_to digest_of w caller moment command ≡ answer (view_of w caller) moment command
   answer_to-view w None moment command h = refl
   answer_to-view w (Some digest) moment command h =

@@ -2,11 +2,11 @@
 use Rattle.std.proofs.Common.{◌≡◌, ℕ, true, false, List, [], ◌∷◌, refl, sym, ap, ◌∙◌, length, arith}
 use Rattle.std.specs.Prelude.{Option, Some, None, codes, filter_map}
 use Rattle.std.specs.FinMap as map
-use Rattle.std.specs.FinMap.{FinMap, get, insert, entries, get-insert, get-empty, len-entries, len-empty}
+use Rattle.std.specs.FinMap.{get, entries, get-insert, get-empty, len-entries, len-empty}
 use Rattle.reg_core.specs.Answer.{is_moment}
 use Rattle.reg_core.specs.Laws.{clerk_cap, founded_world}
 use Rattle.reg_core.specs.Maps.{text_cmp, keyed, same_text, only_if}
-use Rattle.reg_core.specs.Run.{Event, run, step_of}
+use Rattle.reg_core.specs.Run.{Event, run}
 use Rattle.reg_core.specs.Step.{Stepped, step}
 use Rattle.reg_core.specs.View.{requests_of}
 use Rattle.reg_core.specs.World.{World, name_cmp, applied}
@@ -16,8 +16,7 @@ use Rattle.reg_core.specs.declared.change.Change.TheVariants as change
 use Rattle.reg_core.specs.declared.command.Command.{Command}
 use Rattle.reg_core.specs.declared.command.Command.TheVariants.{Own, Grant, Revoke}
 use Rattle.reg_core.specs.declared.refusal.Refusal.TheVariants as no
-use Rattle.reg_core.specs.declared.reply.Reply.{Reply}
-use Rattle.reg_core.specs.declared.reply.Reply.TheVariants.{Rows, Granted, Revoked, Refused}
+use Rattle.reg_core.specs.declared.reply.Reply.TheVariants.{Rows, Granted, Refused}
 use Rattle.reg_core.specs.declared.request.Filing.{Filing}
 use Rattle.reg_core.proofs.MapLaws.{name_keys, text_keys, get-inserted, entries-select}
 
@@ -102,9 +101,10 @@ token_in_use = rw granted-clerk refl
 clock : (is_moment 946684799 ≡ false) × (is_moment 946684800 ≡ true) × (is_moment 32503679999 ≡ true) × (is_moment 32503680000 ≡ false)
 clock = (refl, refl, refl, refl)
 
--- at a moment outside those years every command of every caller is refused, whatever the world
-closed : (w : World) (caller : List ℕ) → taken w (Some caller) 946684799 Own ≡ record { reply = Refused no.Clock; world = w }
-closed w caller = refl
+-- outside those years every command of every caller is refused, whatever the world
+closed : (w : World) (caller : Option (List ℕ)) (command : Command) → taken w caller 946684799 command ≡ record { reply = Refused no.Clock; world = w }
+closed w None command = refl
+closed w (Some digest) command = refl
 
 -- ---- The three lines of a new office in turn
 
