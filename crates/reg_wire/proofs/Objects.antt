@@ -1,5 +1,5 @@
 -- Which bytes are an object, and which names an object has.
-use Rattle.std.proofs.Common.{◌≡◌, ℕ, List, [], ◌∷◌, Bool, true, false, ◌&&◌, map, refl, ap, Option, Some, None, Ok, Err, string_bytes, is_some, option_and_then, cond}
+use Rattle.std.proofs.Common.{◌≡◌, ℕ, List, [], ◌∷◌, Bool, true, false, ◌&&◌, map, refl, ap, Some, None, Ok, Err, string_bytes, is_some, option_and_then, cond}
 use Rattle.std.specs.Prelude.{String}
 use Rattle.std.specs.declared.alloc.Global.{Global}
 use Rattle.std.specs.Str.{IsUtf8, is_utf8}

@@ -1,5 +1,5 @@
 -- An ask is read back from what is printed of it.
-use Rattle.std.proofs.Common.{◌≡◌, ℕ, ◌^◌, List, Bool, true, ◌&&◌, Option, Some, None, Ok, refl, nat_lt}
+use Rattle.std.proofs.Common.{◌≡◌, ℕ, ◌^◌, List, true, ◌&&◌, Option, Some, None, Ok, refl, nat_lt}
 use Rattle.std.specs.Cmp.{first_so, second_so}
 use Rattle.reg_ranges.specs.Texts.{is_text}
 use Rattle.reg_core.specs.Names.{is_name}

@@ -1,8 +1,7 @@
 -- Which paths can have a route.
-use Rattle.std.proofs.Common.{◌≡◌, ℕ, List, Bool, true, false, refl, Option, None, ◌&&◌, not, cond}
+use Rattle.std.proofs.Common.{◌≡◌, ℕ, List, Bool, true, false, refl, None}
 use Rattle.std.specs.Str.{IsUtf8, is_utf8}
 use Rattle.std.proofs.lemmas.Str.{IsUtf8-from_is_utf8, is_utf8-from_IsUtf8}
-use Rattle.reg_wire.specs.declared.route.Methods.{Methods}
 use Rattle.reg_wire.specs.Route.{methods_at}
 use Rattle.reg_wire.specs.Path.{has_empty_segment}
 use Rattle.reg_wire.specs.Asked.{routed}

@@ -1,5 +1,5 @@
 -- The command that a method, a path and a body spell, or the first refusal.
-use Rattle.std.specs.Prelude.{ℕ, ◌==◌, ◌&&◌, List, [], ◌∷◌, length, Bool, not, Option, Some, None, Result, Ok, Err, codes, slice_get, if◌then◌else◌, option_and_then, ⊤}
+use Rattle.std.specs.Prelude.{ℕ, ◌==◌, ◌&&◌, List, [], ◌∷◌, length, Bool, not, Option, Some, None, Ok, Err, codes, slice_get, if◌then◌else◌, option_and_then, ⊤}
 use Rattle.std.specs.Str.{is_utf8, bytes_eq}
 use Rattle.serde_json.specs.Data.{Data}
 use Rattle.serde_json.specs.Find.{as_str}
@@ -13,7 +13,6 @@ use Rattle.reg_core.specs.declared.command.Command.{Command}
 use Rattle.reg_core.specs.declared.command.Command.TheVariants as command
 use Rattle.reg_wire.specs.declared.item.Item.{Item}
 use Rattle.reg_wire.specs.declared.item.Item.TheVariants as item
-use Rattle.reg_wire.specs.declared.refusal.WireRefusal.{WireRefusal}
 use Rattle.reg_wire.specs.declared.refusal.WireRefusal.TheVariants.{Route, Method, Body, Field}
 use Rattle.reg_wire.specs.declared.route.Operation.{Operation}
 use Rattle.reg_wire.specs.declared.route.Operation.TheVariants as operation

@@ -1,5 +1,5 @@
 -- How the members of a body are read.
-use Rattle.std.specs.Prelude.{◌≡◌, ℕ, ◌^◌, ◌&&◌, List, [], ◌∷◌, Bool, true, nat_lt, Option, Some, None, Result, Ok, Err, codes, if◌then◌else◌, option_and_then, option_map, ⊤}
+use Rattle.std.specs.Prelude.{◌≡◌, ℕ, ◌^◌, ◌&&◌, List, Bool, true, nat_lt, Option, Some, None, Result, Ok, Err, codes, if◌then◌else◌, option_and_then, option_map, ⊤}
 use Rattle.std.specs.Str.{is_utf8, bytes_eq}
 use Rattle.std.specs.List.{list_any}
 use Rattle.serde_json.specs.Data.{Data, Members, member, no_members}

@@ -3,12 +3,12 @@
 #![tactic(auto)]
 
 pub mod answer;
-pub mod bodies;
+mod bodies;
 pub mod command;
 pub mod item;
-pub mod json_read;
-pub mod json_write;
+mod json_read;
+mod json_write;
 pub mod laws;
-pub mod path;
+mod path;
 pub mod refusal;
 pub mod route;

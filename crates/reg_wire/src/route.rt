@@ -58,47 +58,50 @@ impl Model for Routes {
     ghost invariant = { λ r. r.router ≡ routes };
 }
 
+const NONE: Methods = Methods {
+    get: None,
+    put: None,
+    delete: None,
+};
+
+// Each path, and what the methods do there.
+const ROWS: [(&str, Methods); 4] = [
+    (
+        "/requests",
+        Methods {
+            get: Some(Operation::Own),
+            ..NONE
+        },
+    ),
+    (
+        "/requests/{reference}",
+        Methods {
+            get: Some(Operation::OwnOne),
+            put: Some(Operation::Submit),
+            ..NONE
+        },
+    ),
+    (
+        "/desk/tokens",
+        Methods {
+            put: Some(Operation::Grant),
+            ..NONE
+        },
+    ),
+    (
+        "/desk/revoke",
+        Methods {
+            put: Some(Operation::Revoke),
+            ..NONE
+        },
+    ),
+];
+
 impl Routes {
     /// The routes of all commands.
     pub fn new(alloc: Global) -> Result<Self, AllocError> {
         let mut router = Router::new(alloc);
-        let none = Methods {
-            get: None,
-            put: None,
-            delete: None,
-        };
-        let rows = [
-            (
-                "/requests",
-                Methods {
-                    get: Some(Operation::Own),
-                    ..none
-                },
-            ),
-            (
-                "/requests/{reference}",
-                Methods {
-                    get: Some(Operation::OwnOne),
-                    put: Some(Operation::Submit),
-                    ..none
-                },
-            ),
-            (
-                "/desk/tokens",
-                Methods {
-                    put: Some(Operation::Grant),
-                    ..none
-                },
-            ),
-            (
-                "/desk/revoke",
-                Methods {
-                    put: Some(Operation::Revoke),
-                    ..none
-                },
-            ),
-        ];
-        match insert_all(&mut router, &rows) {
+        match insert_all(&mut router, &ROWS) {
             Ok(()) => Ok(Routes { router }),
             Err(_) => Err(AllocError),
         }

@@ -1,4 +1,4 @@
-use Rattle.std.proofs.Common.{lit<, rules, sym, ◌∙◌}
+use Rattle.std.proofs.Common.{lit<, rules}
 use Rattle.std.proofs.lemmas.Iterator.Search.{any_from_yields_List}
 use Rattle.std.proofs.lemmas.Iterator.Adapters.{YieldsList-from_skip}
 use Rattle.std.proofs.lemmas.Iterator.Splits.{YieldsList-from_str_split}
