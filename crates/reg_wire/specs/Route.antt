@@ -1,10 +1,10 @@
 -- The routes, as `matchit` finds them.
-use Rattle.std.specs.Prelude.{ℕ, List, [], ◌∷◌, Option, Some, None, Result, Ok, Err, codes, option_map, if◌then◌else◌}
+use Rattle.std.specs.Prelude.{ℕ, List, [], ◌∷◌, Option, Some, None, Result, Ok, Err, codes, option_map, if◌then◌else◌, Bool, true, false, ◌&&◌, is_none}
 use Rattle.std.specs.Str.{bytes_eq}
 use Rattle.matchit.specs.Rows.{RowsOf}
 use Rattle.matchit.specs.Order.{placed}
 use Rattle.matchit.specs.Route.{Scan, parse_route}
-use Rattle.matchit.specs.Router.{RouteOf, route_from}
+use Rattle.matchit.specs.Router.{RouteOf, route_from, nearest}
 use Rattle.matchit.specs.Seek.{first}
 use Rattle.matchit.specs.declared.error.InsertError.{InsertError}
 use Rattle.reg_wire.specs.declared.route.Operation.{Operation}
@@ -46,6 +46,18 @@ with_row r table = with_scan (parse_route r.0) r.1 table
 abbrev pub with_rows : List Row → Table → Table
 with_rows [] table = table
 with_rows (r ∷ more) table = with_rows more (with_row r table)
+
+-- a path conflicts with none of the table
+abbrev pub scan_fits : Result Scan InsertError → Table → Bool
+scan_fits (Ok scan) table = is_none (nearest scan.pattern table)
+scan_fits (Err error) table = false
+
+unfoldable pub fits : Row → Table → Bool
+fits r table = scan_fits (parse_route r.0) table
+
+abbrev pub all_fit : List Row → Table → Bool
+all_fit [] table = true
+all_fit (r ∷ more) table = fits r table && all_fit more (with_row r table)
 
 unfoldable pub routes : Table
 routes = with_rows rows []

@@ -5,7 +5,7 @@ ghost use Rattle.reg_wire.specs.Refusal.{refusal_name, refusal_status};
 ghost use Rattle.reg_wire.specs.Answer.{status_of, reply_status, body_text, body_tree, reply_tree};
 
 use crate::json_write;
-use crate::refusal::WireRefusal;
+use crate::refusal::{ReadFault, WireRefusal};
 use reg_core::refusal::Refusal;
 use reg_core::reply::Reply;
 use serde_json::Value;
@@ -20,6 +20,19 @@ pub enum Answer {
     Wire(WireRefusal),
     /// The office or the reading met a fault: of memory or of what the rows are kept in.
     Storage,
+}
+
+impl From<ReadFault> for Answer {
+    ghost use Rattle.reg_wire.specs.Answer.{answer_to_fault};
+
+    ghost from_gives = { λ fault answer. answer ≡ answer_to_fault fault };
+
+    fn from(fault: ReadFault) -> Answer {
+        match fault {
+            ReadFault::Refused(refusal) => Answer::Wire(refusal),
+            ReadFault::Memory => Answer::Storage,
+        }
+    }
 }
 
 /// The status (RFC 9110 section 15) and the body of an answer: JSON (RFC 8259) without white space, its

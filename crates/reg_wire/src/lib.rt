@@ -3,15 +3,15 @@
 #![tactic(auto)]
 
 pub mod answer;
-pub mod bodies;
+mod bodies;
 pub mod command;
 mod held;
 pub mod item;
-pub mod json_read;
-pub mod json_write;
+mod json_read;
+mod json_write;
 pub mod laws;
 mod line;
-pub mod path;
+mod path;
 pub mod refusal;
 pub mod route;
 pub mod script;

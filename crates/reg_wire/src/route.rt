@@ -1,6 +1,6 @@
 //! The routes: which command a method and a path name.
-ghost use Rattle.std.specs.Prelude.{◌≡◌, OnOk, map};
-ghost use Rattle.reg_wire.specs.Route.{with_row, with_rows, operation_for, methods_at};
+ghost use Rattle.std.specs.Prelude.{◌≡◌, true, OnOk, map};
+ghost use Rattle.reg_wire.specs.Route.{with_row, with_rows, fits, all_fit, operation_for, methods_at};
 
 use matchit::{InsertError, Router};
 use std::alloc::{AllocError, Global};
@@ -58,50 +58,51 @@ impl Model for Routes {
     ghost invariant = { λ r. r.router ≡ routes };
 }
 
+const NONE: Methods = Methods {
+    get: None,
+    put: None,
+    delete: None,
+};
+
+// Each path, and what the methods do there.
+const ROWS: [(&str, Methods); 4] = [
+    (
+        "/requests",
+        Methods {
+            get: Some(Operation::Own),
+            ..NONE
+        },
+    ),
+    (
+        "/requests/{reference}",
+        Methods {
+            get: Some(Operation::OwnOne),
+            put: Some(Operation::Submit),
+            ..NONE
+        },
+    ),
+    (
+        "/desk/tokens",
+        Methods {
+            put: Some(Operation::Grant),
+            ..NONE
+        },
+    ),
+    (
+        "/desk/revoke",
+        Methods {
+            put: Some(Operation::Revoke),
+            ..NONE
+        },
+    ),
+];
+
 impl Routes {
-    /// The routes of all commands.
+    /// The routes of all commands. Only memory can be wanting, since no two of them conflict.
     pub fn new(alloc: Global) -> Result<Self, AllocError> {
         let mut router = Router::new(alloc);
-        let none = Methods {
-            get: None,
-            put: None,
-            delete: None,
-        };
-        let rows = [
-            (
-                "/requests",
-                Methods {
-                    get: Some(Operation::Own),
-                    ..none
-                },
-            ),
-            (
-                "/requests/{reference}",
-                Methods {
-                    get: Some(Operation::OwnOne),
-                    put: Some(Operation::Submit),
-                    ..none
-                },
-            ),
-            (
-                "/desk/tokens",
-                Methods {
-                    put: Some(Operation::Grant),
-                    ..none
-                },
-            ),
-            (
-                "/desk/revoke",
-                Methods {
-                    put: Some(Operation::Revoke),
-                    ..none
-                },
-            ),
-        ];
-        match insert_all(&mut router, &rows) {
-            Ok(()) => Ok(Routes { router }),
-            Err(_) => Err(AllocError),
-        }
+        insert_all(&mut router, &ROWS)?;
+        Ok(Routes { router })
     }
 
     /// What the methods do at a path, if it has a route.
@@ -115,7 +116,8 @@ impl Routes {
     }
 }
 
-fn insert_all(router: &mut Router<Methods>, rows: &[(&str, Methods)]) -> Result<(), InsertError>
+fn insert_all(router: &mut Router<Methods>, rows: &[(&str, Methods)]) -> Result<(), AllocError>
+    requires { all_fit (map (λ r. (r.0.now, r.1)) rows.now) router.old ≡ true }
     ensures { OnOk result (router.new ≡ with_rows (map (λ r. (r.0.now, r.1)) rows.now) router.old) }
 {
     for (path, methods) in rows {
@@ -124,8 +126,13 @@ fn insert_all(router: &mut Router<Methods>, rows: &[(&str, Methods)]) -> Result<
     Ok(())
 }
 
-fn insert(router: &mut Router<Methods>, path: &str, methods: Methods) -> Result<(), InsertError>
+fn insert(router: &mut Router<Methods>, path: &str, methods: Methods) -> Result<(), AllocError>
+    requires { fits (path.now, methods) router.old ≡ true }
     ensures { OnOk result (router.new ≡ with_row (path.now, methods) router.old) }
 {
-    router.insert(path, methods)
+    if let Err(error) = router.insert(path, methods) {
+        prove!(matches!(error, InsertError::OutOfMemory));
+        return Err(AllocError);
+    }
+    Ok(())
 }

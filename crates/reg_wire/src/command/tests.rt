@@ -17,8 +17,7 @@ fn answered(
 ) -> Result<(u16, Vec<u8>), Fail> {
     let answer = match read_command(alloc, routes, method, path, body) {
         Ok(command) => Answer::Reply(reply(alloc, command)?),
-        Err(ReadFault::Refused(refusal)) => Answer::Wire(refusal),
-        Err(ReadFault::Memory) => Answer::Storage,
+        Err(fault) => Answer::from(fault),
     };
     Ok(body_of(alloc, &answer)?)
 }
