@@ -12,3 +12,4 @@ pub mod AskText
 pub mod AnswerLines
 pub mod OneCut
 pub mod ModelRun
+pub mod WrittenLines

@@ -1,5 +1,11 @@
 //! Laws of scripts, over their definitions.
-ghost use Rattle.reg_wire.specs.ScriptLaws.{IsCutOneWay, AnswersAreLines, AreAnswers, RunsAsTheModel};
+ghost use Rattle.reg_wire.specs.ScriptLaws.{LinesAreRead, IsCutOneWay, AnswersAreLines, AreAnswers, RunsAsTheModel};
+
+/// A line is read as it is written: `moment token METHOD path body`, with one space between. Other bytes are
+/// no line.
+pub fn lines_are_read()
+    ensures { LinesAreRead }
+{}
 
 /// Each script is cut into lines in one way.
 pub fn lines_are_cut_one_way()
