@@ -1,17 +1,18 @@
 -- The world after a command has what its reply says.
-use Rattle.std.proofs.Common.{◌≡◌, ℕ, Bool, true, false, List, refl, sym, subst, ◌∙◌}
-use Rattle.std.specs.Prelude.{Option, Some, None, Result, Ok, Err, option_and_then}
+use Rattle.std.proofs.Common.{◌≡◌, ℕ, Bool, true, false, List, refl, sym, ap, subst, ◌∙◌}
+use Rattle.std.specs.Prelude.{Option, Some, None, Result, Ok, Err, option_and_then, All}
 use Rattle.std.specs.FinMap.{get, entries}
 use Rattle.std.proofs.lemmas.List.Elements.{All-map}
-use Rattle.reg_core.specs.Answer.{Answer, answered, row_reply, submit, own_answer}
+use Rattle.reg_core.specs.Answer.{Answer, refused, answered, row_reply, submit, own_answer}
 use Rattle.reg_core.specs.Laws.{HasRow, WasDone, AnswersAreDone}
 use Rattle.reg_core.specs.Maps.{same_text, only_if}
-use Rattle.reg_core.specs.Request.{request_row}
+use Rattle.reg_core.specs.Request.{request_row, request_rows}
 use Rattle.reg_core.specs.Rules.{allowed, grant_rule, revoke_rule, submit_rule}
-use Rattle.reg_core.specs.Step.{clerk_answer}
-use Rattle.reg_core.specs.View.{published, personal, requests_of}
+use Rattle.reg_core.specs.Step.{clerk_answer, answer_to}
+use Rattle.reg_core.specs.View.{Published, published, personal, requests_of}
 use Rattle.reg_core.specs.World.{World, RequestName, applied, applied_if, pending}
 use Rattle.reg_core.specs.declared.ask.Ask.{Ask}
+use Rattle.reg_core.specs.declared.capability.Cap.{Cap}
 use Rattle.reg_core.specs.declared.change.Change.{Change}
 use Rattle.reg_core.specs.declared.command.Command.{Command}
 use Rattle.reg_core.specs.declared.command.Command.TheVariants.{Own, OwnOne, Submit, Grant, Revoke}
@@ -22,8 +23,9 @@ use Rattle.reg_core.specs.declared.reply.Reply.{Reply}
 use Rattle.reg_core.specs.declared.reply.Reply.TheVariants as reply
 use Rattle.reg_core.specs.declared.request.Filing.{Filing}
 use Rattle.reg_core.proofs.MapLaws.{text_keys, name_keys, get-select, get-inserted, get-removed, All-entries}
-use Rattle.reg_core.proofs.Deciding.{grant_made, grant_there, revoke_made, revoke_there, submit_made}
-use Rattle.reg_core.proofs.Answering.{answer_to_by}
+use Rattle.reg_core.proofs.Deciding.{grant_made, grant_there, revoke_made, revoke_there, submit_made, submit_there}
+use Rattle.reg_core.proofs.Answering.{Serves, answer_to_by}
+use Rattle.reg_core.proofs.Stepping.{own_request}
 
 -- an account's own row is a row of the world
 pub own_row : (account : List ℕ) (w : World) (name : RequestName) (filing : Filing) → get (requests_of account w) name ≡ Some filing → get w.requests name ≡ Some filing
@@ -71,21 +73,26 @@ module _ (digest_of : List ℕ → List ℕ) (w : World) where
   clerk_answer_done in_use (OwnOne reference) = tt
   clerk_answer_done in_use (Submit reference ask) = tt
 
-  row_done : (command : Command) (account reference : List ℕ) (found : Option Filing) → get (requests_of account w) (account, reference) ≡ found
-      → WasDone digest_of w command (row_reply (account, reference) found)
-  row_done command account reference None is = tt
-  row_done command account reference (Some filing) is = own_row account w (account, reference) filing is
-
-  submit_done : (command : Command) (account reference : List ℕ) (ask : Ask)
-      → IsDone command (submit (allowed (published w) account ask) (account, reference) ask (get (requests_of account w) (account, reference)))
-  submit_done command account reference ask =
+  submit_done : (account reference : List ℕ) (ask : Ask)
+      → IsDone (Submit reference ask) (submit (allowed (published w) account ask) (account, reference) ask (get (requests_of account w) (account, reference)))
+  submit_done account reference ask =
       let found = get (requests_of account w) (account, reference) in
-      answered_done command (submit_rule (allowed (published w) account ask) (account, reference) ask found) (row_reply (account, reference) found)
+      let allowance = allowed (published w) account ask in
+      answered_done (Submit reference ask) (submit_rule allowance (account, reference) ask found) (row_reply (account, reference) found)
       (reply.Made (request_row (account, reference) (pending ask)))
-      (λ there. row_done command account reference found refl)
+      (λ there.
+      let old = submit_there allowance (account, reference) ask found there in
+      subst (λ o. WasDone digest_of w (Submit reference ask) (row_reply (account, reference) o)) (sym old.1)
+      (refl, old.2, own_row account w (account, reference) old.0 old.1))
       (λ change made.
-      subst (λ change. HasRow (applied w change) (request_row (account, reference) (pending ask))) (submit_made (allowed (published w) account ask) (account, reference) ask found change made).1
-      (get-inserted name_keys w.requests (account, reference) (pending ask)))
+      subst (λ change. WasDone digest_of (applied w change) (Submit reference ask) (reply.Made (request_row (account, reference) (pending ask))))
+      (submit_made allowance (account, reference) ask found change made).1
+      (refl, refl, get-inserted name_keys w.requests (account, reference) (pending ask)))
+
+  own_one_done : (account reference : List ℕ) (found : Option Filing) → get (requests_of account w) (account, reference) ≡ found
+      → WasDone digest_of w (OwnOne reference) (row_reply (account, reference) found)
+  own_one_done account reference None is = tt
+  own_one_done account reference (Some filing) is = (refl, own_row account w (account, reference) filing is)
 
   -- a line for each command of a caller with this account
   own_answer_done : (account : List ℕ) (command : Command) → IsDone command (own_answer (published w) account (personal account w) command)
@@ -93,8 +100,8 @@ module _ (digest_of : List ℕ → List ℕ) (w : World) where
       let row = λ (e : RequestName × Filing). request_row e.0 e.1 in
       All-map (HasRow w) row (entries (requests_of account w))
       (All-entries name_keys.total (λ e. HasRow w (row e)) (requests_of account w) (λ name filing found. own_row account w name filing found))
-  own_answer_done account (OwnOne reference) = row_done (OwnOne reference) account reference (get (requests_of account w) (account, reference)) refl
-  own_answer_done account (Submit reference ask) = submit_done (Submit reference ask) account reference ask
+  own_answer_done account (OwnOne reference) = own_one_done account reference (get (requests_of account w) (account, reference)) refl
+  own_answer_done account (Submit reference ask) = submit_done account reference ask
   own_answer_done account (Grant token cap) = tt
   own_answer_done account (Revoke token) = tt
 

@@ -130,6 +130,16 @@ no_clerk : (found : Option Cap) (moment : ℕ) → ((cap : Cap) → found ≡ So
 no_clerk None moment h = refl
 no_clerk (Some cap) moment h = ap (λ b. b && nat_lt moment cap.until) (not_clerk cap.kind (h cap refl))
 
+-- the view shows the capability
+shown_cap : (w : World) (found : Option Cap) → option_map (λ (me : Cap × Personal). me.0) (option_map (with_personal w) found) ≡ found
+shown_cap w None = refl
+shown_cap w (Some cap) = refl
+
+-- so where the views are the same there is no clerk in either world or in both
+same_caps : (w v : World) (caller : Option (List ℕ)) → view_of w caller ≡ view_of v caller → cap_at w caller ≡ cap_at v caller
+same_caps w v caller same =
+    sym (shown_cap w (cap_at w caller)) ∙ ap (λ (x : View). option_map (λ (me : Cap × Personal). me.0) x.me) same ∙ shown_cap v (cap_at v caller)
+
 module _ (digest_of : List ℕ → List ℕ) where
   -- gets the answer of its view
   pub answer_to-view : (w : World) (caller : Option (List ℕ)) (moment : ℕ) (command : Command) → IsNoClerk w caller → answer_to digest_of w caller moment command ≡ answer (view_of w caller) moment command
@@ -143,7 +153,8 @@ module _ (digest_of : List ℕ → List ℕ) where
       ]
 
   pub worlds_alike : TwoWorlds digest_of
-  worlds_alike w v caller moment command kept_w kept_v not_w not_v same =
+  worlds_alike w v caller moment command kept_w kept_v not_w same =
+      let not_v : IsNoClerk v caller = λ cap found. not_w cap (same_caps w v caller same ∙ found) in
       let in_w = answer_to-view w caller moment command not_w in
       let in_v = answer_to-view v caller moment command not_v in
       record {

@@ -9,3 +9,4 @@ pub mod Isolation
 pub mod Keeping
 pub mod Doing
 pub mod Repeating
+mod WorkedRows

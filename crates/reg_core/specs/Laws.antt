@@ -16,7 +16,7 @@ use Rattle.reg_core.specs.declared.capability.Kind.TheVariants.{Clerk}
 use Rattle.reg_core.specs.declared.change.Change.{Change}
 use Rattle.reg_core.specs.declared.change.Change.TheVariants.{Grant as GrantIt}
 use Rattle.reg_core.specs.declared.command.Command.{Command}
-use Rattle.reg_core.specs.declared.command.Command.TheVariants.{Grant, Revoke}
+use Rattle.reg_core.specs.declared.command.Command.TheVariants.{Own, OwnOne, Submit, Grant, Revoke}
 use Rattle.reg_core.specs.declared.refusal.Refusal.{Refusal}
 use Rattle.reg_core.specs.declared.reply.Reply.{Reply}
 use Rattle.reg_core.specs.declared.reply.Reply.TheVariants.{Made, Row, Rows, Granted, Revoked, Refused}
@@ -41,7 +41,7 @@ pub record AreAlike (digest_of : List ℕ → List ℕ) (w v : World) (caller : 
 abbrev pub TwoWorlds : (List ℕ → List ℕ) → Type 0
 TwoWorlds digest_of =
     (w v : World) (caller : Option (List ℕ)) (moment : ℕ) (command : Command)
-    → WellKept w → WellKept v → IsNoClerk w caller → IsNoClerk v caller
+    → WellKept w → WellKept v → IsNoClerk w caller
     → view_of w caller ≡ view_of v caller → AreAlike digest_of w v caller moment command
 
 -- ---- Well kept
@@ -62,16 +62,16 @@ RunsKeepWell digest_of = (w : World) (events : List Event) → WellKept w → ha
 abbrev pub HasRow : World → Request → Type 0
 HasRow w row = get w.requests (row.account, row.reference) ≡ Some (filing_of row)
 
--- the world after a command has what the reply says
+-- the world after a command has what the reply says, and the reply is about what was asked
 abbrev pub WasDone : (List ℕ → List ℕ) → World → Command → Reply → Type 0
-WasDone digest_of w command (Made row) = HasRow w row
-WasDone digest_of w command (Row row) = HasRow w row
-WasDone digest_of w command (Rows rows) = All (HasRow w) rows
+WasDone digest_of w command (Refused refusal) = Unit {0}
+WasDone digest_of w Own (Rows rows) = All (HasRow w) rows
+WasDone digest_of w (OwnOne reference) (Row row) = (row.reference ≡ reference) × HasRow w row
+WasDone digest_of w (Submit reference ask) (Made row) = (row.reference ≡ reference) × (row.ask ≡ ask) × HasRow w row
+WasDone digest_of w (Submit reference ask) (Row row) = (row.reference ≡ reference) × (row.ask ≡ ask) × HasRow w row
 WasDone digest_of w (Grant token cap) (Granted given) = (given ≡ cap) × (get w.caps (digest_of token) ≡ Some cap)
 WasDone digest_of w (Revoke token) Revoked = get w.caps (digest_of token) ≡ None
-WasDone digest_of w command (Granted given) = ⊥
-WasDone digest_of w command Revoked = ⊥
-WasDone digest_of w command (Refused refusal) = Unit {0}
+WasDone digest_of w command reply = ⊥
 
 abbrev pub AnswersAreDone : (List ℕ → List ℕ) → Type 0
 AnswersAreDone digest_of =

@@ -26,7 +26,7 @@ pub trait Form: Copy {
 }
 
 /// A text of the form `F`.
-#[derive(Drop)]
+#[derive(Debug, Drop)]
 pub struct Word<F: Form> {
     text: String,
     form: PhantomData<F>,
@@ -78,6 +78,16 @@ impl<F: Form> Word<F> {
             text: self.text.clone()?,
             form: PhantomData,
         })
+    }
+}
+
+/// The text again, where there is one.
+pub fn copy_optional<F: Form>(text: &Option<Word<F>>) -> Result<Option<Word<F>>, AllocError>
+    ensures { IfOk result (λ o. o ≡ text.now) }
+{
+    match text {
+        Some(text) => Ok(Some(text.copy()?)),
+        None => Ok(None),
     }
 }
 

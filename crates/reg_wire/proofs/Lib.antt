@@ -9,3 +9,6 @@ pub mod LineSoFar
 pub mod Sent
 pub mod Runs
 pub mod AskText
+pub mod AnswerLines
+pub mod OneCut
+pub mod ModelRun

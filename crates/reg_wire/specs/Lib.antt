@@ -11,3 +11,5 @@ pub mod Line
 pub mod Script
 pub mod Held
 pub mod Served
+pub mod Event
+pub mod ScriptLaws

@@ -144,3 +144,6 @@ fn segment<F: Form>(
         None => Err(ReadFault::field(item)),
     }
 }
+
+#[cfg(test)]
+mod tests;

@@ -3,6 +3,7 @@ ghost use Rattle.std.specs.Prelude.{◌≡◌, OnOk, IfErr};
 ghost use Rattle.reg_wire.specs.Script.{AnswersAll, StopsAt};
 ghost use Rattle.reg_wire.specs.Served.{Serves};
 
+pub mod laws;
 mod lines;
 mod office;
 mod responder;
