@@ -4,6 +4,7 @@ pub mod Sameness
 pub mod Deciding
 pub mod Stepping
 pub mod Answering
+pub mod Refusing
 pub mod Fitting
 pub mod Isolation
 pub mod Keeping

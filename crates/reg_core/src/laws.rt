@@ -21,7 +21,8 @@ pub fn runs_keep_well()
     ensures { (digest_of : List ℕ → List ℕ) → GivesDigests digest_of → RunsKeepWell digest_of }
 {}
 
-/// What is answered was done: the world after a command has what the reply says.
+/// What is answered was done: the world after a command has what the reply says, and the reply is about
+/// what was asked.
 pub fn answers_are_done()
     ensures { (digest_of : List ℕ → List ℕ) → AnswersAreDone digest_of }
 {}
