@@ -5,3 +5,4 @@ pub mod Whole
 pub mod ReadBack
 pub mod Formed
 pub mod AskText
+pub mod Shallow
