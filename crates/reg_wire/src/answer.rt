@@ -1,5 +1,6 @@
 //! Answers, and their status and body.
-ghost use Rattle.std.specs.Prelude.{◌≡◌, IfOk};
+ghost use Rattle.std.specs.Prelude.{◌≡◌, IfOk, Some};
+ghost use Rattle.serde_json.specs.Read.{read};
 ghost use Rattle.serde_json.specs.View.{view};
 ghost use Rattle.reg_wire.specs.Refusal.{refusal_name, refusal_status};
 ghost use Rattle.reg_wire.specs.Answer.{status_of, reply_status, body_text, body_tree, reply_tree};
@@ -40,6 +41,7 @@ impl From<ReadFault> for Answer {
 pub fn body_of(alloc: Global, answer: &Answer) -> Result<(u16, Vec<u8>), AllocError>
     ensures status { IfOk result (λ r. r.0 ≡ status_of answer.now) }
     ensures body { IfOk result (λ r. r.1.items ≡ body_text answer.now) }
+    ensures reads_back { IfOk result (λ r. read r.1.items ≡ Some (body_tree answer.now)) }
 {
     let text = body_value(alloc, answer)?.to_string(alloc)?;
     Ok((status_of(answer), text.into_bytes()))
