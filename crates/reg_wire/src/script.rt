@@ -44,3 +44,6 @@ pub fn run<K: Keeper, R: Read, W: Write>(
     let routes = Routes::new(alloc)?;
     respond_all(alloc, office, &routes, reader, writer)
 }
+
+#[cfg(test)]
+mod tests;
