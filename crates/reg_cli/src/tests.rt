@@ -3,6 +3,7 @@ use crate::jobs::Job;
 use crate::performing::perform;
 use std::test::Fail;
 
+mod command_lines;
 mod devices;
 mod rows;
 mod stored;
@@ -13,13 +14,14 @@ const CLERK: &str = "clerk-token-00001";
 type Row = (&'static str, &'static str);
 
 /// What a script gave: the exit status, standard output and standard error.
+#[derive(Drop)]
 struct Given {
     status: u8,
     output: Vec<u8>,
     errors: Vec<u8>,
 }
 
-fn script(rt: &HostRuntime, clerk: &str, input: &str) -> Result<Given, Fail> {
+fn script<R: AllocGlobal>(rt: &R, clerk: &str, input: &str) -> Result<Given, Fail> {
     let alloc = rt.alloc();
     let clerk = String::from_str(alloc, clerk)?;
     let mut output = Vec::new(alloc);
@@ -35,7 +37,7 @@ fn script(rt: &HostRuntime, clerk: &str, input: &str) -> Result<Given, Fail> {
 }
 
 /// The lines of the rows, and their answers, each with its line feed.
-fn lines_of(rt: &HostRuntime, rows: &[Row]) -> Result<(String, String), Fail> {
+fn lines_of(rt: &impl AllocGlobal, rows: &[Row]) -> Result<(String, String), Fail> {
     let mut lines = String::new(rt.alloc());
     let mut answers = String::new(rt.alloc());
     for (line, answer) in rows {

@@ -2,6 +2,7 @@
 use super::CLERK;
 use crate::jobs::Job;
 use crate::performing::perform;
+use std::alloc::{AllocError, Global};
 use std::io;
 use std::io::{Read, Write};
 use std::test::Fail;
@@ -54,21 +55,20 @@ fn founding(rt: &HostRuntime) -> Result<Job, Fail> {
     })
 }
 
-// The answers to the lines whose line feed is among the first bytes.
-fn answered(read: &[u8]) -> usize {
-    let lines = read.iter().filter(|byte| **byte == b'\n').count();
-    let mut left = lines;
-    let mut length = 0;
+// The answers to the lines whose line feed is among these bytes.
+fn answers_to(alloc: Global, read: &[u8]) -> Result<Vec<u8>, AllocError> {
+    let mut left = read.iter().filter(|byte| **byte == b'\n').count();
+    let mut answers = Vec::new(alloc);
     for byte in ANSWERS.as_bytes() {
         if left == 0 {
             break;
         }
-        length += 1;
         if *byte == b'\n' {
             left -= 1;
         }
+        answers.push(*byte)?;
     }
-    length
+    Ok(answers)
 }
 
 #[test]
@@ -80,7 +80,7 @@ fn a_read_that_fails_before_each_byte(rt: HostRuntime) -> Result<(), Fail> {
         let mut errors = Vec::new(rt.alloc());
         let status = perform(&rt, founding(&rt)?, &mut input, &mut output, &mut errors);
         assert_eq!(rt; status, 1);
-        assert_eq!(rt; output.as_slice(), &ANSWERS.as_bytes()[..answered(read).min(ANSWERS.len())]);
+        assert_eq!(rt; output.as_slice(), answers_to(rt.alloc(), read)?.as_slice());
         assert_eq!(rt; errors.as_slice(), b"fault: read\n".as_slice());
     }
     Ok(())

@@ -1,5 +1,6 @@
 //! Lines of scripts with their answers.
 use super::{CLERK, Row, lines_of, script};
+use std::process::Abort;
 use std::test::Fail;
 
 /// The first lines of an office, and grants to two more applicants and two experts.
@@ -134,13 +135,13 @@ const REVOCATIONS: [Row; 4] = [
     ),
 ];
 
-#[test]
-fn grants_and_refusals(rt: HostRuntime) -> Result<(), Fail> {
-    let (mut lines, mut answers) = lines_of(&rt, &GRANTS)?;
-    let (refused, refusals) = lines_of(&rt, &REFUSALS)?;
-    lines.push_str(refused.as_str())?;
-    answers.push_str(refusals.as_str())?;
-    let given = script(&rt, CLERK, lines.as_str())?;
+// The grants, and then the rows, are answered to the byte.
+fn are_answered<R: Abort + AllocGlobal>(rt: &R, rows: &[Row]) -> Result<(), Fail> {
+    let (mut lines, mut answers) = lines_of(rt, &GRANTS)?;
+    let (more, replies) = lines_of(rt, rows)?;
+    lines.push_str(more.as_str())?;
+    answers.push_str(replies.as_str())?;
+    let given = script(rt, CLERK, lines.as_str())?;
     assert_eq!(rt; given.status, 0);
     assert_eq!(rt; given.output.as_slice(), answers.as_str().as_bytes());
     assert!(rt; given.errors.is_empty());
@@ -148,15 +149,13 @@ fn grants_and_refusals(rt: HostRuntime) -> Result<(), Fail> {
 }
 
 #[test]
+fn grants_and_refusals(rt: HostRuntime) -> Result<(), Fail> {
+    are_answered(&rt, &REFUSALS)
+}
+
+#[test]
 fn revocations(rt: HostRuntime) -> Result<(), Fail> {
-    let (mut lines, mut answers) = lines_of(&rt, &GRANTS)?;
-    let (revoked, revocations) = lines_of(&rt, &REVOCATIONS)?;
-    lines.push_str(revoked.as_str())?;
-    answers.push_str(revocations.as_str())?;
-    let given = script(&rt, CLERK, lines.as_str())?;
-    assert_eq!(rt; given.status, 0);
-    assert_eq!(rt; given.output.as_slice(), answers.as_str().as_bytes());
-    Ok(())
+    are_answered(&rt, &REVOCATIONS)
 }
 
 #[test]

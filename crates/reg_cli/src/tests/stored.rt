@@ -58,7 +58,8 @@ fn store(
     ask: &Ask,
 ) -> Result<bool, Fault> {
     let change = Change::Submit(account.copy()?, reference.copy()?, ask.copy()?);
-    if keeper.own_one(account, reference)?.is_some() {
+    let found = keeper.own_one(account, reference)?;
+    if found.is_some() {
         return Ok(false);
     }
     keeper.well_kept();
