@@ -173,6 +173,12 @@ written_reads bytes asked w =
     rw (not_long (length bytes) most_bytes w.fits)
     (ap fields_of w.whole ∙ written_fields asked.moment w.token asked.method asked.path w.body w.moment_fits w.token_is w.method_is w.path_is ∙ by_token ∙ by_body)
 
+whole_is : (bytes first after_moment after_token after_method : List ℕ) (seconds : ℕ) (token method path : List ℕ) (body : Option (List ℕ))
+    → bytes ≡ first ++ 32 ∷ after_moment → first ≡ decimal seconds → after_moment ≡ token ++ 32 ∷ after_token → after_token ≡ method ++ 32 ∷ after_method
+    → after_method ≡ path ++ after_path body → bytes ≡ written seconds token method path body
+whole_is bytes first after_moment after_token after_method seconds token method path body b s t m p =
+    b ∙ ap (λ x. x ++ 32 ∷ after_moment) s ∙ ap (λ x. decimal seconds ++ 32 ∷ x) (t ∙ ap (λ x. token ++ 32 ∷ x) (m ∙ ap (λ x. method ++ 32 ∷ x) p))
+
 fields_are : (bytes : List ℕ) (asked : Line) → fields_of bytes ≡ Some asked → length bytes ≤ most_bytes → IsWritten bytes asked
 fields_are bytes asked e fits =
     let a = bind_is (first_field bytes) from_moment asked e in
@@ -188,8 +194,7 @@ fields_are bytes asked e fits =
     let reading : IsWritten bytes (asks s.0 t.0.0 m.0.0 p.0) = record {
       token = t.0.0;
       body = path_last.0;
-      whole = moment_first.0 ∙ ap (λ x. x ++ 32 ∷ a.0.1) seconds.0
-          ∙ ap (λ x. decimal s.0 ++ 32 ∷ x) (token_first.0 ∙ ap (λ x. t.0.0 ++ 32 ∷ x) (method_first.0 ∙ ap (λ x. m.0.0 ++ 32 ∷ x) path_last.1));
+      whole = whole_is bytes a.0.0 a.0.1 t.0.1 m.0.1 s.0 t.0.0 m.0.0 p.0.0 path_last.0 moment_first.0 seconds.0 token_first.0 method_first.0 path_last.1;
       fits = fits;
       moment_fits = seconds.1;
       token_is = token_first.1;

@@ -31,25 +31,14 @@ pub(crate) fn respond_all<A: Responder, R: Read, W: Write>(
     let mut buf = [0u8; 4096];
     let mut sent = 0;
     for _ in 0..MOST_READS {
-        let count = match reader.read(&mut buf) {
-            Ok(count) => count,
-            Err(_) => return Err(WireFault::Read),
+        let Ok(count) = reader.read(&mut buf) else {
+            return Err(WireFault::Read);
         };
         if count == 0 {
             return finish(alloc, responder, routes, writer, &held, sent);
         }
-        match take_piece(
-            alloc,
-            responder,
-            routes,
-            writer,
-            &mut held,
-            sent,
-            &buf[..count],
-        ) {
-            Ok(total) => sent = total,
-            Err(fault) => return Err(fault),
-        }
+        let piece = &buf[..count];
+        sent = take_piece(alloc, responder, routes, writer, &mut held, sent, piece)?;
     }
     Err(WireFault::Read)
 }
@@ -100,18 +89,12 @@ fn take_byte<A: Responder, W: Write>(
         → Halted A.Serves fault first had (bytes ++ byte ∷ []) responder.new (W.contents writer.new)) }
 {
     if byte != b'\n' {
-        return match held.push(byte) {
-            Ok(()) => Ok(sent),
-            Err(_) => Err(WireFault::Memory),
-        };
+        held.push(byte)?;
+        return Ok(sent);
     }
-    match answer_line(alloc, responder, routes, writer, held, sent) {
-        Ok(sent) => {
-            held.clear();
-            Ok(sent)
-        }
-        Err(fault) => Err(fault),
-    }
+    let sent = answer_line(alloc, responder, routes, writer, held, sent)?;
+    held.clear();
+    Ok(sent)
 }
 
 // Takes some bytes of the script.
@@ -134,10 +117,7 @@ fn take_piece<A: Responder, W: Write>(
 {
     let mut total = sent;
     for byte in piece {
-        match take_byte(alloc, responder, routes, writer, held, total, *byte) {
-            Ok(more) => total = more,
-            Err(fault) => return Err(fault),
-        }
+        total = take_byte(alloc, responder, routes, writer, held, total, *byte)?;
     }
     Ok(total)
 }
@@ -162,8 +142,6 @@ fn finish<A: Responder, W: Write>(
     if held.is_empty() {
         return Ok(());
     }
-    match answer_line(alloc, responder, routes, writer, held, sent) {
-        Ok(_) => Ok(()),
-        Err(fault) => Err(fault),
-    }
+    answer_line(alloc, responder, routes, writer, held, sent)?;
+    Ok(())
 }
