@@ -28,3 +28,8 @@ Rises_from_increasing x [] h = (omega arith, tt)
 Rises_from_increasing x (y ∷ ys) h =
     let first : x < y = h 0 (omega arith) in
     (omega arith, Rises-lower (x + 1) y (y ∷ ys) (omega arith) (Rises_from_increasing y ys (increasing-tail x (y ∷ ys) h)))
+
+-- increasing numbers rise from 0
+pub rises_any : (xs : List ℕ) → IsStrictlyIncreasing xs → Rises 0 xs
+rises_any [] h = tt
+rises_any (x ∷ xs) h = Rises-lower 0 x (x ∷ xs) (omega arith) (Rises_from_increasing x xs h)

@@ -1,4 +1,11 @@
 pub mod ReadWords
+pub mod Sames
 pub mod Increasing
 pub mod Partitions
 pub mod Treatments
+pub mod Gaps
+pub mod LeastFree
+pub mod Numerals
+pub mod Fields
+pub mod FileRecords
+pub mod FileRanges

@@ -7,9 +7,9 @@ use Rattle.std.proofs.lemmas.List.Elements.{All-nil, All-cons, All-head, All-tai
 use Rattle.reg_ranges.specs.declared.range.Range.{Range}
 use Rattle.reg_ranges.specs.declared.table.RangeFault.{RangeFault}
 use Rattle.reg_ranges.specs.declared.table.RangeFault.TheVariants as fault
-use Rattle.reg_ranges.specs.Tables.{IsPartition, lies_in}
+use Rattle.reg_ranges.specs.Tables.{Table, IsPartition, lies_in}
 use Rattle.reg_ranges.specs.Faults.{fault_at, fault_from, first_fault, or_else}
-use Rattle.reg_ranges.proofs.Increasing.{Rises, Rises-lower, increasing_from_Rises, Rises_from_increasing}
+use Rattle.reg_ranges.proofs.Increasing.{Rises, Rises-lower, increasing_from_Rises, rises_any}
 
 -- each range begins where the one before it ended, and the last ends at max
 abbrev pub Chain : ℕ → ℕ → List Range → Type 0
@@ -173,9 +173,12 @@ chain_from_covers next max (r ∷ rs) c each bound rise =
     let first = first_begins next max r rs c order rise.1 in
     (first, order, chain_from_covers (r.hi + 1) max rs (covers_rest next max r rs c first order) (All-tail (λ r. r.lo ≤ r.hi) r rs each) (r.lo + 1) rise.1)
 
+pub chain_from_partition : (table : Table) → IsPartition table → Chain 0 table.max table.ranges
+chain_from_partition table p =
+    let c : Covers 0 table.max table.ranges = record { small = omega arith; below = λ v lt. absurd (omega arith); within = λ v low high. p.covered v high; above = p.no_other } in
+    chain_from_covers 0 table.max table.ranges c p.none_empty 0 (rises_any (map (λ r. r.lo) table.ranges) p.ascending)
+
 pub none_from_partition : (max : ℕ) (rs : List Range) → IsPartition (record { max = max; ranges = rs }) → first_fault max rs ≡ None
 none_from_partition max [] p = absurd (let some = p.some in omega arith)
 none_from_partition max (r ∷ rs) p =
-    let c : Covers 0 max (r ∷ rs) = record { small = omega arith; below = λ v lt. absurd (omega arith); within = λ v low high. p.covered v high; above = p.no_other } in
-    let chain = chain_from_covers 0 max (r ∷ rs) c p.none_empty r.lo (Rises_from_increasing r.lo (map (λ r. r.lo) rs) p.ascending) in
-    rw (le-ltb 64 (length (r ∷ rs)) p.few) (none_from_chain 0 0 max (r ∷ rs) chain)
+    rw (le-ltb 64 (length (r ∷ rs)) p.few) (none_from_chain 0 0 max (r ∷ rs) (chain_from_partition (record { max = max; ranges = r ∷ rs }) p))

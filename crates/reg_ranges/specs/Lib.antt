@@ -2,6 +2,13 @@ pub mod Texts
 pub mod Rfcs
 pub mod Requirements
 pub mod Tables
+pub mod Sameness
+pub mod Equivalences
 pub mod Faults
 pub mod Words
+pub mod FreeValues
+pub mod Numbers
+pub mod RowReading
+pub mod RangeFiles
+pub mod FaultTexts
 pub mod Laws

@@ -1,5 +1,5 @@
 //! What an applicant shows for an assignment.
-ghost use Rattle.std.specs.Prelude.{◌≡◌, IfOk};
+ghost use Rattle.std.specs.Prelude.{◌≡◌, ◌↔◌, IfOk, IsTrue};
 ghost use Rattle.reg_ranges.specs.Words.{item_word, stream_word, read_stream, track_word, read_track};
 
 use crate::text::{Text, copy_optional};
@@ -210,7 +210,7 @@ impl Rfc {
 }
 
 /// What an applicant shows for an assignment; each part may be missing.
-#[derive(Drop, PartialEq, Eq)]
+#[derive(Debug, Drop)]
 pub struct Evidence {
     /// Who can be asked about the value.
     pub contact: Option<Text>,
@@ -233,4 +233,33 @@ impl Evidence {
             minute: copy_optional(&self.minute)?,
         })
     }
+}
+
+impl PartialEq for Evidence {
+    ghost use Rattle.std.specs.Cmp.{partial_equiv_from_equiv};
+    ghost use Rattle.reg_ranges.specs.Equivalences.{evidence_equiv};
+    ghost use Rattle.reg_ranges.specs.Sameness.{same_evidence};
+
+    ghost eq = { same_evidence };
+
+    ghost laws = { partial_equiv_from_equiv evidence_equiv };
+
+    fn eq(&self, other: &Self) -> bool {
+        self.contact == other.contact
+            && self.spec == other.spec
+            && same_rfcs(&self.rfc, &other.rfc)
+            && self.minute == other.minute
+    }
+}
+
+impl Eq for Evidence {
+    ghost use Rattle.reg_ranges.specs.Equivalences.{evidence_equiv};
+
+    ghost laws = { evidence_equiv };
+}
+
+fn same_rfcs(rfc: &Option<Rfc>, other: &Option<Rfc>) -> bool
+    ensures { IsTrue result ↔ (rfc.now ≡ other.now) }
+{
+    rfc == other
 }

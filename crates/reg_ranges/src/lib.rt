@@ -2,9 +2,14 @@
 #![tactic(auto)]
 
 pub mod evidence;
+pub mod file;
+pub mod free;
 pub mod laws;
+pub mod number;
 pub mod policy;
 pub mod range;
 pub mod requirements;
 pub mod table;
+#[cfg(test)]
+mod tests;
 pub mod text;

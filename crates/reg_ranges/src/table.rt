@@ -1,12 +1,15 @@
 //! The ranges of a registry: a partition of its values.
-ghost use Rattle.std.specs.Prelude.{◌≡◌, ◌<◌, ◌↔◌, find, option_map, IfOk, IsOk, IsNone};
+ghost use Rattle.std.specs.Prelude.{◌≡◌, ◌<◌, ◌↔◌, find, option_map, Some, IfOk, IsOk, IsNone, IsTrue};
 ghost use Rattle.std.specs.Result.{result_err};
+ghost use Rattle.reg_ranges.specs.FaultTexts.{range_fault_text};
 ghost use Rattle.reg_ranges.specs.Faults.{fault_at, fault_from, first_fault};
 ghost use Rattle.reg_ranges.specs.Tables.{IsPartition, lies_in, treatment_of};
 
 use crate::policy::Treatment;
 use crate::range::Range;
 use std::alloc::AllocError;
+use std::error::Error;
+use std::fmt;
 use std::marker::Model;
 
 /// Why a list of ranges is no partition of 0 to the largest value. Places count from 0.
@@ -25,6 +28,23 @@ pub enum RangeFault {
     /// The last range does not end at the largest value.
     End,
 }
+
+impl fmt::Display for RangeFault {
+    ghost output = { λ f. Some (range_fault_text f) };
+
+    fn fmt<W: fmt::Write>(&self, f: &mut fmt::Formatter<W>) -> fmt::Result {
+        match self {
+            RangeFault::Empty => write!(f, "empty"),
+            RangeFault::TooMany => write!(f, "too-many"),
+            RangeFault::Order(i) => write!(f, "order {i}"),
+            RangeFault::Gap(i) => write!(f, "gap {i}"),
+            RangeFault::Overlap(i) => write!(f, "overlap {i}"),
+            RangeFault::End => write!(f, "end"),
+        }
+    }
+}
+
+impl Error for RangeFault {}
 
 /// 1 to 64 ranges in order, such that each value of 0 to a largest one lies in exactly one of them.
 #[derive(Debug, Drop)]
@@ -95,6 +115,46 @@ impl RangeTable {
             ranges,
         })
     }
+}
+
+impl PartialEq for RangeTable {
+    ghost use Rattle.std.specs.Cmp.{partial_equiv_from_equiv};
+    ghost use Rattle.reg_ranges.specs.Sameness.{same_table};
+    ghost use Rattle.reg_ranges.specs.Equivalences.{tables_equiv};
+
+    ghost eq = { same_table };
+
+    ghost laws = { partial_equiv_from_equiv tables_equiv };
+
+    fn eq(&self, other: &Self) -> bool {
+        self.max == other.max && same_ranges(self.ranges.as_slice(), other.ranges.as_slice())
+    }
+}
+
+impl Eq for RangeTable {
+    ghost use Rattle.reg_ranges.specs.Equivalences.{tables_equiv};
+
+    ghost laws = { tables_equiv };
+}
+
+fn same_ranges(ranges: &[Range], others: &[Range]) -> bool
+    ensures { IsTrue result ↔ (ranges.now ≡ others.now) }
+{
+    if ranges.len() != others.len() {
+        return false;
+    }
+    for (i, range) in ranges.iter().enumerate() {
+        if !same_range(range, &others[i]) {
+            return false;
+        }
+    }
+    true
+}
+
+fn same_range(range: &Range, other: &Range) -> bool
+    ensures { IsTrue result ↔ (range.now ≡ other.now) }
+{
+    range == other
 }
 
 fn treatment_in(ranges: &[Range], value: u32) -> Option<Treatment>

@@ -17,6 +17,7 @@ pub trait Form: Copy {
     /// The texts of this form.
     ghost fits: { List ℕ → Bool };
 
+    /// Whether the bytes are a text of this form.
     fn accepts(bytes: &[u8]) -> bool
         ensures { result ≡ fits bytes.now };
 
@@ -46,7 +47,7 @@ impl<F: Form> Model for Word<F> {
 }
 
 impl<F: Form> Word<F> {
-    /// The text of these bytes, or none where they have not the form.
+    /// The text of these bytes; none where they have not the form, for which no memory is taken.
     pub fn read(alloc: Global, bytes: &[u8]) -> Result<Option<Self>, AllocError>
         ensures value { IfOk result (λ o. o ≡ read_text F.fits bytes.now) }
         ensures refused { F.fits bytes.now ≡ false → result ≡ Ok None }
@@ -60,6 +61,7 @@ impl<F: Form> Word<F> {
         }))
     }
 
+    /// The text, in its form.
     pub fn as_str(&self) -> &str
         ensures text { result.now ≡ self.now }
         ensures form { F.fits self.now ≡ true }
@@ -67,8 +69,10 @@ impl<F: Form> Word<F> {
         self.text.as_str()
     }
 
+    /// An equal text.
     pub fn copy(&self) -> Result<Self, AllocError>
-        ensures { IfOk result (λ w. w ≡ self.now) }
+        ensures equal { IfOk result (λ w. w ≡ self.now) }
+        ensures form { F.fits self.now ≡ true }
     {
         Ok(Word {
             text: self.text.clone()?,

@@ -1,0 +1,5 @@
+use Rattle.reg_blocks.proofs.Looking.{IsLooking}
+use Rattle.reg_blocks.proofs.due.least_free.Given as goal
+
+abbrev pub invariant-loop-prefix : goal.invariant-loop-prefix
+invariant-loop-prefix l = IsLooking l.pool l.given l.size l.passed l.prefix-index

@@ -1,0 +1,5 @@
+use Rattle.reg_blocks.proofs.Trying.{ends_meet-Decides}
+use Rattle.reg_blocks.proofs.laws.ends_decide_clash.Goals as goal
+
+pub returns : goal.returns
+returns c = ends_meet-Decides

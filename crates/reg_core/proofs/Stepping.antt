@@ -1,0 +1,36 @@
+-- What a step looks up: the caller's capability, and its own requests.
+use Rattle.std.proofs.Common.{◌≡◌, ℕ, Bool, true, false, List, refl, ap, ◌∙◌}
+use Rattle.std.specs.Prelude.{Option, Some, None, Ok, Err, option_and_then, nat_le, if◌then◌else◌}
+use Rattle.std.specs.FinMap.{get}
+use Rattle.reg_core.specs.Answer.{admitted}
+use Rattle.reg_core.specs.Capability.{same_kind}
+use Rattle.reg_core.specs.Maps.{same_text, only_if}
+use Rattle.reg_core.specs.View.{requests_of}
+use Rattle.reg_core.specs.World.{World}
+use Rattle.reg_core.specs.declared.capability.Cap.{Cap}
+use Rattle.reg_core.specs.declared.capability.Kind.{Kind}
+use Rattle.reg_core.specs.declared.refusal.Refusal.TheVariants as no
+use Rattle.reg_core.proofs.MapLaws.{name_keys, get-select}
+use Rattle.reg_core.proofs.Sameness.{same_text-itself}
+
+-- among an account's own requests each of the account's is found under its name
+pub own_request : (account : List ℕ) (reference : List ℕ) (w : World) → get (requests_of account w) (account, reference) ≡ get w.requests (account, reference)
+own_request account reference w =
+    get-select name_keys _ w.requests (account, reference)
+    ∙ elim (get w.requests (account, reference)) as (λ o. option_and_then (λ filing. only_if (same_text account account) filing) o ≡ o) [
+      | None ↦ refl
+      | Some filing ↦ ap (λ b. only_if b filing) (same_text-itself account)
+    ]
+
+-- the capability by which a command is admitted is the one that was found, still valid and of the kind
+pub admitted-ok : (found : Option Cap) (moment : ℕ) (kind : Kind) (cap : Cap) → admitted found moment kind ≡ Ok cap
+    → (found ≡ Some cap) × (nat_le cap.until moment ≡ false) × (same_kind cap.kind kind ≡ true)
+admitted-ok None moment kind cap h = absurd (cc)
+admitted-ok (Some old) moment kind cap h = from (nat_le old.until moment) (same_kind old.kind kind) refl refl h
+  where
+    from : (late same : Bool) → nat_le old.until moment ≡ late → same_kind old.kind kind ≡ same
+        → (if late then Err no.Token else if same then Ok old else Err no.Kind) ≡ Ok cap
+        → (Some old ≡ Some cap) × (nat_le cap.until moment ≡ false) × (same_kind cap.kind kind ≡ true)
+    from true same l s e = absurd (cc)
+    from false false l s e = absurd (cc)
+    from false true l s e = let is : old ≡ cap = cc in rw (← is) (refl, l, s)

@@ -1,0 +1,118 @@
+-- The first lines of an office, worked out. A token stands for its own digest here.
+use Rattle.std.proofs.Common.{◌≡◌, ℕ, true, false, List, [], ◌∷◌, refl, sym, ap, ◌∙◌, length, arith}
+use Rattle.std.specs.Prelude.{Option, Some, None, codes, filter_map}
+use Rattle.std.specs.FinMap as map
+use Rattle.std.specs.FinMap.{get, entries, get-insert, get-empty, len-entries, len-empty}
+use Rattle.reg_core.specs.Answer.{is_moment}
+use Rattle.reg_core.specs.Laws.{clerk_cap, founded_world}
+use Rattle.reg_core.specs.Maps.{text_cmp, keyed, same_text, only_if}
+use Rattle.reg_core.specs.Run.{Event, run}
+use Rattle.reg_core.specs.Step.{Stepped, step}
+use Rattle.reg_core.specs.View.{requests_of}
+use Rattle.reg_core.specs.World.{World, name_cmp, applied}
+use Rattle.reg_core.specs.declared.capability.Cap.{Cap}
+use Rattle.reg_core.specs.declared.capability.Kind.TheVariants.{Applicant}
+use Rattle.reg_core.specs.declared.change.Change.TheVariants as change
+use Rattle.reg_core.specs.declared.command.Command.{Command}
+use Rattle.reg_core.specs.declared.command.Command.TheVariants.{Own, Grant, Revoke}
+use Rattle.reg_core.specs.declared.refusal.Refusal.TheVariants as no
+use Rattle.reg_core.specs.declared.reply.Reply.TheVariants.{Rows, Granted, Refused}
+use Rattle.reg_core.specs.declared.request.Filing.{Filing}
+use Rattle.reg_core.proofs.MapLaws.{name_keys, text_keys, get-inserted, entries-select}
+
+abbrev clerk : List ℕ
+clerk = codes "clerk-token-00001"
+
+abbrev alice : List ℕ
+alice = codes "alice-token-00001"
+
+abbrev alice_cap : Cap
+alice_cap = record { account = codes "alice"; kind = Applicant; until = 1800000000 }
+
+abbrev bob_cap : Cap
+bob_cap = record alice_cap { account = codes "bob" }
+
+abbrev office : World
+office = founded_world clerk
+
+-- the office after the first grant
+abbrev granted : World
+granted = applied office (change.Grant alice alice_cap)
+
+abbrev taken : World → Option (List ℕ) → ℕ → Command → Stepped
+taken = step (λ token. token)
+
+-- ---- What the maps have
+
+office-clerk : get office.caps clerk ≡ Some clerk_cap
+office-clerk = get-inserted text_keys map.empty clerk clerk_cap
+
+office-alice : get office.caps alice ≡ None
+office-alice = get-insert text_keys.total map.empty clerk clerk_cap alice ∙ get-empty text_cmp alice
+
+granted-clerk : get granted.caps clerk ≡ Some clerk_cap
+granted-clerk = get-insert text_keys.total office.caps alice alice_cap clerk ∙ office-clerk
+
+granted-alice : get granted.caps alice ≡ Some alice_cap
+granted-alice = get-inserted text_keys office.caps alice alice_cap
+
+none_long : {A : Type 0} (xs : List A) → length xs ≡ 0 → xs ≡ []
+none_long [] h = refl
+none_long (x ∷ xs) h = absurd (omega arith)
+
+no_requests : entries (requests_of (codes "alice") granted) ≡ []
+no_requests =
+    let none = none_long (entries granted.requests) (sym (len-entries granted.requests) ∙ len-empty name_cmp Filing) in
+    entries-select name_keys (λ name filing. only_if (same_text name.0 (codes "alice")) filing) granted.requests
+    ∙ ap (filter_map (λ e. keyed e.0 (only_if (same_text e.0.0 (codes "alice")) e.1))) none
+
+-- ---- The lines
+
+without_a_token : taken office None 1700000000 Own ≡ record { reply = Refused no.Token; world = office }
+without_a_token = refl
+
+first_grant : taken office (Some clerk) 1700000000 (Grant alice alice_cap) ≡ record { reply = Granted alice_cap; world = granted }
+first_grant = rw (office-clerk, office-alice) refl
+
+empty_list : taken granted (Some alice) 1700000000 Own ≡ record { reply = Rows []; world = granted }
+empty_list = rw (granted-alice, no_requests) refl
+
+same_grant : taken granted (Some clerk) 1700000000 (Grant alice alice_cap) ≡ record { reply = Granted alice_cap; world = granted }
+same_grant = rw (granted-clerk, granted-alice) refl
+
+other_grant : taken granted (Some clerk) 1700000000 (Grant alice bob_cap) ≡ record { reply = Refused no.Exists; world = granted }
+other_grant = rw (granted-clerk, granted-alice) refl
+
+last_second : taken granted (Some alice) 1799999999 Own ≡ record { reply = Rows []; world = granted }
+last_second = rw (granted-alice, no_requests) refl
+
+too_late : taken granted (Some alice) 1800000000 Own ≡ record { reply = Refused no.Token; world = granted }
+too_late = rw granted-alice refl
+
+clerks_own_list : taken granted (Some clerk) 1700000000 Own ≡ record { reply = Refused no.Kind; world = granted }
+clerks_own_list = rw granted-clerk refl
+
+grant_by_an_applicant : taken granted (Some alice) 1700000000 (Grant (codes "other-token-00001") bob_cap) ≡ record { reply = Refused no.Kind; world = granted }
+grant_by_an_applicant = rw granted-alice refl
+
+token_in_use : taken granted (Some clerk) 1700000000 (Revoke clerk) ≡ record { reply = Refused no.Own; world = granted }
+token_in_use = rw granted-clerk refl
+
+clock : (is_moment 946684799 ≡ false) × (is_moment 946684800 ≡ true) × (is_moment 32503679999 ≡ true) × (is_moment 32503680000 ≡ false)
+clock = (refl, refl, refl, refl)
+
+-- outside those years every command of every caller is refused, whatever the world
+closed : (w : World) (caller : Option (List ℕ)) (command : Command) → taken w caller 946684799 command ≡ record { reply = Refused no.Clock; world = w }
+closed w None command = refl
+closed w (Some digest) command = refl
+
+-- ---- The three lines of a new office in turn
+
+abbrev at : Option (List ℕ) → Command → Event
+at caller command = record { caller = caller; moment = 1700000000; command = command }
+
+first_lines : run (λ token. token) office (at None Own ∷ at (Some clerk) (Grant alice alice_cap) ∷ at (Some alice) Own ∷ [])
+    ≡ Refused no.Token ∷ Granted alice_cap ∷ Rows [] ∷ []
+first_lines =
+    ap (λ (s : Stepped). Refused no.Token ∷ s.reply ∷ run (λ token. token) s.world (at (Some alice) Own ∷ [])) first_grant
+    ∙ ap (λ (s : Stepped). Refused no.Token ∷ Granted alice_cap ∷ s.reply ∷ []) empty_list

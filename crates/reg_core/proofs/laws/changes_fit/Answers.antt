@@ -1,0 +1,5 @@
+use Rattle.reg_core.proofs.Keeping.{steps_fit}
+use Rattle.reg_core.proofs.laws.changes_fit.Goals as goal
+
+pub returns : goal.returns
+returns c = steps_fit

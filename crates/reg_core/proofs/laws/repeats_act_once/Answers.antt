@@ -1,0 +1,5 @@
+use Rattle.reg_core.proofs.Repeating.{once}
+use Rattle.reg_core.proofs.laws.repeats_act_once.Goals as goal
+
+pub returns : goal.returns
+returns c = once

@@ -1,0 +1,5 @@
+use Rattle.reg_core.proofs.Keeping.{runs_keep}
+use Rattle.reg_core.proofs.laws.runs_keep_well.Goals as goal
+
+pub returns : goal.returns
+returns c = runs_keep

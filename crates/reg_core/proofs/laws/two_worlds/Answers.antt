@@ -1,0 +1,5 @@
+use Rattle.reg_core.proofs.Isolation.{worlds_alike}
+use Rattle.reg_core.proofs.laws.two_worlds.Goals as goal
+
+pub returns : goal.returns
+returns c = worlds_alike

@@ -1,0 +1,25 @@
+-- What a capability is.
+use Rattle.std.specs.Prelude.{ℕ, Bool, true, false, ◌&&◌, nat_le, ◌==◌, bytes_eq, Option, Some, None, if◌then◌else◌}
+use Rattle.reg_core.specs.Names.{is_name}
+use Rattle.reg_core.specs.declared.capability.Kind.{Kind}
+use Rattle.reg_core.specs.declared.capability.Kind.TheVariants.{Applicant, Expert, Clerk}
+use Rattle.reg_core.specs.declared.capability.Cap.{Cap}
+
+-- the first moment of the year 3000
+abbrev pub last_until : ℕ
+last_until = 32503680000
+
+abbrev pub read_until : ℕ → Option ℕ
+read_until n = (if nat_le n last_until then Some n else None)
+
+abbrev pub has_cap_form : Cap → Bool
+has_cap_form cap = is_name cap.account && nat_le cap.until last_until
+
+abbrev pub same_kind : Kind → Kind → Bool
+same_kind Applicant Applicant = true
+same_kind Expert Expert = true
+same_kind Clerk Clerk = true
+same_kind a b = false
+
+abbrev pub same_cap : Cap → Cap → Bool
+same_cap a b = bytes_eq a.account b.account && same_kind a.kind b.kind && a.until == b.until

@@ -1,0 +1,14 @@
+pub mod Names
+pub mod Capability
+pub mod Ask
+pub mod Command
+pub mod Maps
+pub mod World
+pub mod Request
+pub mod View
+pub mod Rules
+pub mod Answer
+pub mod Step
+pub mod WellKept
+pub mod Run
+pub mod Laws

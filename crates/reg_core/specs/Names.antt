@@ -1,0 +1,47 @@
+-- The forms of names: which lists of bytes are an account, a reference, a registry's name, a token, a digest.
+use Rattle.std.specs.Prelude.{◌≡◌, ℕ, Bool, true, ◌||◌, ◌==◌, List}
+use Rattle.std.specs.Str.{IsAscii}
+use Rattle.std.proofs.Common.{arith}
+use Rattle.std.proofs.lemmas.Bool.Decides.{nat_tests}
+use Rattle.reg_ranges.specs.Texts.{is_within, is_run, ascii_run}
+
+abbrev pub is_lower : ℕ → Bool
+is_lower b = is_within 97 122 b
+
+abbrev pub is_upper : ℕ → Bool
+is_upper b = is_within 65 90 b
+
+abbrev pub is_digit : ℕ → Bool
+is_digit b = is_within 48 57 b
+
+-- a to z, 0 to 9 and the dash
+abbrev pub is_name_byte : ℕ → Bool
+is_name_byte b = is_lower b || is_digit b || b == 45
+
+-- letters, digits, dash, dot, underscore and tilde
+abbrev pub is_token_byte : ℕ → Bool
+is_token_byte b = is_lower b || is_upper b || is_digit b || b == 45 || b == 46 || b == 95 || b == 126
+
+-- 0 to 9 and a to f
+abbrev pub is_digest_byte : ℕ → Bool
+is_digest_byte b = is_digit b || is_within 97 102 b
+
+-- an account, a reference, a registry's name
+abbrev pub is_name : List ℕ → Bool
+is_name s = is_run is_name_byte 1 32 s
+
+abbrev pub is_token : List ℕ → Bool
+is_token s = is_run is_token_byte 16 64 s
+
+abbrev pub is_digest : List ℕ → Bool
+is_digest s = is_run is_digest_byte 64 64 s
+
+-- each form is of ASCII texts
+pub ascii_name : (s : List ℕ) → is_name s ≡ true → IsAscii s
+ascii_name s h = ascii_run is_name_byte 1 32 (λ b h. grind (arith, nat_tests)) s h
+
+pub ascii_token : (s : List ℕ) → is_token s ≡ true → IsAscii s
+ascii_token s h = ascii_run is_token_byte 16 64 (λ b h. grind (arith, nat_tests)) s h
+
+pub ascii_digest : (s : List ℕ) → is_digest s ≡ true → IsAscii s
+ascii_digest s h = ascii_run is_digest_byte 64 64 (λ b h. grind (arith, nat_tests)) s h

@@ -1,0 +1,82 @@
+//! Capabilities: what the holder of a token may do, and until when.
+ghost use Rattle.std.specs.Prelude.{◌≡◌, ◌≤◌, true, IfOk, IfSome, IfNone, IsTrue, ◌↔◌, ◌<◌, nat_le};
+ghost use Rattle.reg_core.specs.Capability.{last_until, has_cap_form, read_until};
+
+use crate::text::Account;
+use std::alloc::AllocError;
+use std::marker::Model;
+
+/// Whom a capability is for.
+#[derive(Clone, Copy, Debug, PartialEq, Eq)]
+pub enum Kind {
+    Applicant,
+    Expert,
+    Clerk,
+}
+
+/// The moment at which a capability ends: 0 to 32,503,680,000 seconds since 1970-01-01T00:00:00Z,
+/// the last of them the first moment of the year 3000.
+#[derive(Clone, Copy, Debug, PartialEq, Eq)]
+pub struct Until {
+    seconds: u64,
+}
+
+impl Model for Until {
+    ghost use Rattle.std.specs.Prelude.{ℕ, ◌≤◌};
+
+    ghost Value = { ℕ };
+
+    ghost view = { λ u. u.seconds };
+
+    ghost invariant = { λ u. u.seconds ≤ 32503680000 };
+
+    ghost inverse = { λ n. record { seconds = n } };
+}
+
+impl Until {
+    /// The last moment at which a capability can end.
+    pub const LAST: u64 = 32_503_680_000;
+
+    /// The end at this many seconds since 1970-01-01T00:00:00Z; none above the last.
+    pub fn from_seconds(seconds: u64) -> Option<Self>
+        ensures { result ≡ read_until seconds }
+    {
+        if seconds <= Self::LAST {
+            Some(Until { seconds })
+        } else {
+            None
+        }
+    }
+
+    /// The seconds since 1970-01-01T00:00:00Z.
+    pub fn seconds(self) -> u64
+        ensures value { result ≡ self }
+        ensures bound { self ≤ last_until }
+    {
+        self.seconds
+    }
+}
+
+/// What the holder of a token may do, valid while the moment is before `until`.
+#[derive(Drop, PartialEq, Eq)]
+pub struct Cap {
+    pub account: Account,
+    pub kind: Kind,
+    pub until: Until,
+}
+
+impl Cap {
+    /// An equal capability.
+    pub fn copy(&self) -> Result<Self, AllocError>
+        ensures equal { IfOk result (λ c. c ≡ self.now) }
+        ensures form { has_cap_form self.now ≡ true }
+    {
+        let _seconds = self.until.seconds();
+        let _account = self.account.as_str();
+        Ok(Cap {
+            account: self.account.copy()?,
+            kind: self.kind,
+            until: self.until,
+        })
+    }
+}

@@ -1,0 +1,21 @@
+//! A clerk gives a token a capability.
+ghost use Rattle.std.specs.Option.{option_copied};
+ghost use Rattle.reg_core.specs.Rules.{Follows, grant_rule};
+
+use crate::capability::Cap;
+use crate::change::Change;
+use crate::decide::{Decision, Deny};
+use crate::refusal::Refusal;
+use crate::text::Digest;
+
+/// Decides a grant over the capability that is at the digest already: the same one again changes
+/// nothing, and another one is refused as `Exists`.
+pub fn decide_grant(found: Option<&Cap>, digest: &Digest, cap: &Cap) -> Result<Decision, Deny>
+    ensures { Follows (grant_rule (option_copied found.entry) digest.now cap.now) result }
+{
+    match found {
+        Some(old) if old == cap => Ok(Decision::Same),
+        Some(_) => Err(Deny::Refused(Refusal::Exists)),
+        None => Ok(Decision::Make(Change::Grant(digest.copy()?, cap.copy()?))),
+    }
+}

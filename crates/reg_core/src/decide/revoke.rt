@@ -1,0 +1,27 @@
+//! A clerk takes a token's capability away.
+ghost use Rattle.std.specs.Option.{option_copied};
+ghost use Rattle.reg_core.specs.Rules.{Follows, revoke_rule};
+
+use crate::capability::Cap;
+use crate::change::Change;
+use crate::decide::{Decision, Deny};
+use crate::refusal::Refusal;
+use crate::text::Digest;
+
+/// Decides a revocation over the capability that is at the digest: the digest in use is refused as
+/// `Own`, and one without a capability changes nothing.
+pub fn decide_revoke(
+    in_use: &Digest,
+    found: Option<&Cap>,
+    digest: &Digest,
+) -> Result<Decision, Deny>
+    ensures { Follows (revoke_rule in_use.now (option_copied found.entry) digest.now) result }
+{
+    if in_use == digest {
+        return Err(Deny::Refused(Refusal::Own));
+    }
+    match found {
+        Some(_) => Ok(Decision::Make(Change::Revoke(digest.copy()?))),
+        None => Ok(Decision::Same),
+    }
+}

@@ -1,0 +1,15 @@
+//! The rows, commands, changes and replies of the office, the rule by which each command is decided,
+//! and the laws of the whole.
+#![tactic(auto)]
+
+pub mod ask;
+pub mod capability;
+pub mod change;
+pub mod command;
+pub mod decide;
+pub mod laws;
+pub mod refusal;
+pub mod reply;
+pub mod request;
+pub mod rows;
+pub mod text;

@@ -1,0 +1,3 @@
+pub mod Admitted
+pub mod Decided
+pub mod Digests

@@ -1,0 +1,13 @@
+//! The office: tokens and their digests, and one command at a time over whatever keeps its content.
+#![tactic(auto)]
+
+mod applicant;
+mod carrying;
+mod clerk;
+mod digest;
+mod found;
+pub mod laws;
+mod office;
+
+pub use found::FoundFault;
+pub use office::Office;

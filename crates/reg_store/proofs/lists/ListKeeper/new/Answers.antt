@@ -1,0 +1,5 @@
+use Rattle.reg_store.proofs.Tables.{empty-kept}
+use Rattle.reg_store.proofs.lists.ListKeeper.new.Goals as goal
+
+pub invariant_of-result : goal.invariant_of-result
+invariant_of-result c = record { well = empty-kept c.new.result c.new-2.result c.new-2.ensures.ordered c.new.ensures.empty c.new-2.ensures.empty }

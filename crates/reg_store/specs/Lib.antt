@@ -1,0 +1,4 @@
+pub mod Groups
+pub mod Kept
+pub mod Keeper
+pub mod Lists

@@ -1,0 +1,84 @@
+//! What keeps the content of an office.
+ghost use Rattle.std.specs.Prelude.{◌≡◌, Bool, IfOk, IfErr, OnOk, OnErr, option_map};
+ghost use Rattle.std.specs.FinMap.{get};
+ghost use Rattle.reg_core.specs.Request.{request_row, request_rows};
+ghost use Rattle.reg_core.specs.View.{requests_of};
+ghost use Rattle.reg_core.specs.WellKept.{WellKept, CanApply};
+ghost use Rattle.reg_core.specs.World.{World, applied};
+ghost use Rattle.reg_store.specs.Keeper.{MayFault};
+
+use reg_core::capability::Cap;
+use reg_core::change::Change;
+use reg_core::request::Request;
+use reg_core::rows::Rows;
+use reg_core::text::{Account, Digest, Ref};
+use std::alloc::AllocError;
+
+/// Why a keeper gave no answer. Nothing has changed then.
+#[derive(Clone, Copy, Debug, PartialEq, Eq)]
+pub enum Fault {
+    /// There was no memory.
+    Memory,
+    /// The store could not be read or written, or gave back what was never written.
+    Store,
+}
+
+impl From<AllocError> for Fault {
+    ghost use Rattle.std.specs.Prelude.{◌≡◌};
+    ghost use Rattle.reg_store.specs.declared.keeper.Fault.TheVariants.{Memory};
+
+    ghost from_gives = { λ _ fault. fault ≡ Memory };
+
+    fn from(_error: AllocError) -> Fault {
+        Fault::Memory
+    }
+}
+
+/// Keeps the content of an office. Each promise about the content stands under the keeper's premise
+/// after the call, as that a disk gave back what was written to it.
+pub trait Keeper {
+    /// The content.
+    ghost world: { Self → World };
+
+    /// The premise under which the content is what was kept.
+    ghost Holds: { Self → Type 0 };
+
+    /// Whether a call may answer `Store`.
+    ghost FAILS: { Bool };
+
+    /// Whether a call may answer `Store`.
+    const FAILS: bool;
+
+    /// The content is well kept.
+    fn well_kept(&self)
+        ensures { Holds self.now → WellKept (world self.now) };
+
+    /// The capability at a digest.
+    fn cap(&mut self, digest: &Digest) -> Result<Option<Cap>, Fault>
+        ensures row { Holds self.new → IfOk result (λ cap. cap ≡ get (world self.old).caps digest.now) }
+        ensures same { Holds self.new → world self.new ≡ world self.old }
+        ensures held { Holds self.new → Holds self.old }
+        ensures fault { IfErr result (MayFault FAILS) };
+
+    /// All requests of an account, by reference.
+    fn own(&mut self, account: &Account) -> Result<Rows<Request>, Fault>
+        ensures rows { Holds self.new → IfOk result (λ rows. rows ≡ request_rows (requests_of account.now (world self.old))) }
+        ensures same { Holds self.new → world self.new ≡ world self.old }
+        ensures held { Holds self.new → Holds self.old }
+        ensures fault { IfErr result (MayFault FAILS) };
+
+    /// The request of an account under a reference.
+    fn own_one(&mut self, account: &Account, reference: &Ref) -> Result<Option<Request>, Fault>
+        ensures row { Holds self.new → IfOk result (λ row. row ≡ option_map (request_row (account.now, reference.now)) (get (world self.old).requests (account.now, reference.now))) }
+        ensures same { Holds self.new → world self.new ≡ world self.old }
+        ensures held { Holds self.new → Holds self.old }
+        ensures fault { IfErr result (MayFault FAILS) };
+
+    /// Makes a change whole, or not at all.
+    fn apply(&mut self, change: Change) -> Result<(), Fault>
+        requires { Holds self.old → CanApply (world self.old) change }
+        ensures made { Holds self.new → OnOk result (world self.new ≡ applied (world self.old) change) }
+        ensures kept { Holds self.new → OnErr result (world self.new ≡ world self.old) }
+        ensures held { Holds self.new → Holds self.old }
+        ensures fault { IfErr result (MayFault FAILS) };
+}

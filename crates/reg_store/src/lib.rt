@@ -1,0 +1,6 @@
+//! What keeps the content of an office, and the keeper in memory.
+#![tactic(auto)]
+
+mod groups;
+pub mod keeper;
+pub mod lists;

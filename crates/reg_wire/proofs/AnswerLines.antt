@@ -1,0 +1,87 @@
+-- The answers to lines, as bytes.
+use Rattle.std.proofs.Common.{◌≡◌, ◌≢◌, ℕ, ◌/◌, ◌%◌, ◌<◌, zero, suc, List, [], ◌∷◌, ◌++◌, map, true, false, refl, arith, lit<}
+use Rattle.std.proofs.lemmas.Bool.Decides.{nat_tests}
+use Rattle.std.specs.Prelude.{◌==◌, cond}
+use Rattle.std.specs.Fmt.{decimal, digits, digits_onto, digit_glyph}
+use Rattle.std.specs.Str.{bytes_eq}
+use Rattle.serde_json.proofs.OnLiterals.{serde_json_on_literals}
+use Rattle.reg_core.specs.declared.refusal.Refusal.{Refusal}
+use Rattle.reg_core.specs.declared.refusal.Refusal.TheVariants as no
+use Rattle.reg_core.specs.declared.reply.Reply.{Reply}
+use Rattle.reg_core.specs.declared.reply.Reply.TheVariants.{Made, Row, Rows, Granted, Revoked, Refused}
+use Rattle.reg_wire.specs.Answer.{body_text, status_of}
+use Rattle.reg_wire.specs.Script.{IsOneLine, refusal, storage}
+use Rattle.reg_wire.specs.Served.{answer_line, tab_of}
+use Rattle.reg_wire.specs.declared.answer.Answer.{Answer}
+use Rattle.reg_wire.specs.declared.answer.Answer.TheVariants as answer
+use Rattle.reg_wire.specs.declared.refusal.WireRefusal.{WireRefusal}
+use Rattle.reg_wire.specs.declared.refusal.WireRefusal.TheVariants as wire
+
+pub refusal_is : refusal ≡ answer_line (answer.Wire wire.Line)
+unfolding body_text digits serde_json_on_literals
+refusal_is = refl
+
+pub storage_is : storage ≡ answer_line answer.Storage
+unfolding body_text digits serde_json_on_literals
+storage_is = refl
+
+refused_is_another : (why : Refusal) → bytes_eq (answer_line (answer.Reply (Refused why))) storage ≡ false
+unfolding body_text digits serde_json_on_literals
+refused_is_another no.Clock = refl
+refused_is_another no.Token = refl
+refused_is_another no.Kind = refl
+refused_is_another no.Ref = refl
+refused_is_another no.Request = refl
+refused_is_another no.Registry = refl
+refused_is_another no.Own = refl
+refused_is_another no.Exists = refl
+
+pub reply_is_another : (r : Reply) → bytes_eq (answer_line (answer.Reply r)) storage ≡ false
+unfolding digits
+reply_is_another (Made request) = refl
+reply_is_another (Row request) = refl
+reply_is_another (Rows requests) = refl
+reply_is_another (Granted cap) = refl
+reply_is_another Revoked = refl
+reply_is_another (Refused why) = refused_is_another why
+
+pub wire_is_another : (why : WireRefusal) → bytes_eq (answer_line (answer.Wire why)) storage ≡ false
+unfolding digits
+wire_is_another wire.Line = refl
+wire_is_another wire.Route = refl
+wire_is_another wire.Method = refl
+wire_is_another wire.Body = refl
+wire_is_another (wire.Field item) = refl
+
+-- ---- An answer has no line feed
+
+both_lines : (xs ys : List ℕ) → IsOneLine xs → IsOneLine ys → IsOneLine (xs ++ ys)
+both_lines [] ys h k = k
+both_lines (x ∷ xs) ys h k = (h.0, both_lines xs ys h.1 k)
+
+glyph_is_no_feed : (d : ℕ) → digit_glyph false d ≢ 10
+glyph_is_no_feed d = grind (arith, nat_tests)
+
+digits_line : (k n : ℕ) (more : List ℕ) → IsOneLine more → IsOneLine (digits_onto k 10 false n more)
+digits_line zero n more h = h
+digits_line (suc k) n more h = elim (n / 10 == 0) as (λ b. IsOneLine (cond b (digit_glyph false (n % 10) ∷ more) (digits_onto k 10 false (n / 10) (digit_glyph false (n % 10) ∷ more)))) [
+  | true ↦ (glyph_is_no_feed (n % 10), h)
+  | false ↦ digits_line k (n / 10) (digit_glyph false (n % 10) ∷ more) (glyph_is_no_feed (n % 10), h)
+]
+
+decimal_line : (n : ℕ) → IsOneLine (decimal n)
+unfolding digits
+decimal_line n = digits_line 64 n [] tt
+
+tab_is_no_feed : (b : ℕ) → tab_of b ≢ 10
+tab_is_no_feed b = grind (arith, nat_tests)
+
+tabs_line : (bytes : List ℕ) → IsOneLine (map tab_of bytes)
+tabs_line [] = tt
+tabs_line (b ∷ bs) = (tab_is_no_feed b, tabs_line bs)
+
+above_a_feed : (b : ℕ) → 10 < b → b ≢ 10
+above_a_feed b h e = omega arith
+
+pub answer_is_line : (a : Answer) → IsOneLine (answer_line a)
+answer_is_line a = both_lines (decimal (status_of a)) (32 ∷ map tab_of (body_text a)) (decimal_line (status_of a)) (above_a_feed 32 (lit< tt), tabs_line (body_text a))

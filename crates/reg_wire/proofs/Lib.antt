@@ -1,0 +1,16 @@
+pub mod AnswerLines
+pub mod AskText
+pub mod Formed
+pub mod LineSoFar
+pub mod ModelRun
+pub mod Moments
+pub mod Objects
+pub mod OneCut
+pub mod ReadBack
+pub mod Routed
+pub mod Routing
+pub mod Runs
+pub mod Sent
+pub mod Shallow
+pub mod Whole
+pub mod WrittenLines

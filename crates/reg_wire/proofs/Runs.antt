@@ -1,0 +1,337 @@
+-- One line more, and one byte more.
+use Rattle.std.proofs.Common.{◌≡◌, ◌≢◌, ℕ, ◌+◌, ◌<◌, List, [], ◌∷◌, ◌++◌, Option, None, Some, length, take, drop, arith, refl, sym, ap, ◌∙◌, append_assoc, append-nil, inl, inr, length-append, subst, get_or, add-one, drop-cons, take-append-drop}
+use Rattle.std.proofs.KnownBytes.{Appends-trans, Appends-nil, Consumes-nil}
+use Rattle.std.proofs.lemmas.List.{length-take}
+use Rattle.std.proofs.Math.Seq.{take-append-add}
+use Rattle.std.specs.Prelude.{MatchOption}
+use Rattle.std.specs.List.{flat_map, AllByRecursion}
+use Rattle.std.specs.Io.KnownBytes.{Appends, Consumes, IsAtEnd}
+use Rattle.reg_wire.specs.declared.wire_fault.WireFault.{WireFault}
+use Rattle.reg_wire.specs.declared.wire_fault.WireFault.TheVariants as fault
+use Rattle.reg_wire.specs.Line.{Line, line_of, most_bytes}
+use Rattle.reg_wire.specs.Script.{refusal, Answered, Ran, IsOneLine, ended, Cut, rest_line, AreLines, BeginWith, AnswersAll, StopsAt}
+use Rattle.reg_wire.specs.Held.{IsHeld, CutShort, Progress, WroteSome, Whole, Halted, HaltedLast}
+
+-- ---- A line
+
+module _ {S : Type 0} (Serves : S → Line → List ℕ → S → Type 0) where
+  pub refused : (w : S) (line : List ℕ) → line_of line ≡ None → Answered Serves w line refusal w
+  refused w line none = rw none (refl, refl)
+
+  pub served : (w v : S) (line answer : List ℕ) (asked : Line) → Some asked ≡ line_of line → Serves w asked answer v → Answered Serves w line answer v
+  served w v line answer asked some h = rw (← some) h
+
+  ran_more : (lines : List (List ℕ)) (line : List ℕ) (w : S) (answers : List (List ℕ)) (answer : List ℕ) (v u : S)
+      → Ran Serves w lines answers v → Answered Serves v line answer u → Ran Serves w (lines ++ line ∷ []) (answers ++ answer ∷ []) u
+  ran_more [] line w [] answer v u e h = let P = λ (x : S). Answered Serves x line answer u in (u, subst P e h, refl)
+  ran_more [] line w (b ∷ answers) answer v u e h = absurd e
+  ran_more (l ∷ lines) line w [] answer v u e h = absurd e
+  ran_more (l ∷ lines) line w (b ∷ answers) answer v u e h = (e.0, e.1, ran_more lines line e.0 answers answer v u e.2 h)
+
+-- ---- Cuts
+
+ended_more : (lines : List (List ℕ)) (line : List ℕ) → flat_map ended (lines ++ line ∷ []) ≡ flat_map ended lines ++ ended line
+ended_more [] line = append-nil (ended line)
+ended_more (l ∷ lines) line = ap (λ t. ended l ++ t) (ended_more lines line) ∙ sym (append_assoc (ended l) (flat_map ended lines) (ended line))
+
+lines_more : (lines : List (List ℕ)) (line : List ℕ) → AllByRecursion IsOneLine lines → IsOneLine line → AllByRecursion IsOneLine (lines ++ line ∷ [])
+lines_more [] line h k = (k, tt)
+lines_more (l ∷ lines) line h k = (h.0, lines_more lines line h.1 k)
+
+line_more : (rest : List ℕ) (b : ℕ) → b ≢ 10 → IsOneLine rest → IsOneLine (rest ++ b ∷ [])
+line_more [] b n h = (n, tt)
+line_more (x ∷ rest) b n h = (h.0, line_more rest b n h.1)
+
+cut_byte : (bytes : List ℕ) (lines : List (List ℕ)) (rest : List ℕ) (b : ℕ) → b ≢ 10 → Cut bytes lines rest → Cut (bytes ++ b ∷ []) lines (rest ++ b ∷ [])
+cut_byte bytes lines rest b n h = record {
+  whole = ap (λ t. t ++ b ∷ []) h.whole ∙ append_assoc (flat_map ended lines) rest (b ∷ []);
+  each = h.each;
+  last = line_more rest b n h.last;
+}
+
+cut_line : (bytes : List ℕ) (lines : List (List ℕ)) (rest : List ℕ) → Cut bytes lines rest → Cut (bytes ++ 10 ∷ []) (lines ++ rest ∷ []) []
+cut_line bytes lines rest h = record {
+  whole = ap (λ t. t ++ 10 ∷ []) h.whole ∙ append_assoc (flat_map ended lines) rest (10 ∷ []) ∙ sym (ended_more lines rest) ∙ sym (append-nil _);
+  each = lines_more lines rest h.each h.last;
+  last = tt;
+}
+
+begins : (bytes : List ℕ) (lines : List (List ℕ)) (rest more : List ℕ) → Cut bytes lines rest → BeginWith (bytes ++ more) lines
+begins bytes lines rest more h = (rest ++ more, ap (λ t. t ++ more) h.whole ∙ append_assoc (flat_map ended lines) rest more, h.each)
+
+begins_more : (bytes more : List ℕ) (lines : List (List ℕ)) → BeginWith bytes lines → BeginWith (bytes ++ more) lines
+begins_more bytes more lines h = (h.0 ++ more, ap (λ t. t ++ more) h.1 ∙ append_assoc (flat_map ended lines) h.0 more, h.2)
+
+-- ---- What went out
+
+wrote_short : (why : WireFault) (answers : List (List ℕ)) (answer : List ℕ) (sent : ℕ) (had has now : Option (List ℕ))
+    → Appends had has (flat_map ended answers) → sent ≡ length (flat_map ended answers)
+    → CutShort why sent answer has now → WroteSome why (answers ++ answer ∷ []) had now
+wrote_short fault.Read answers answer sent had has now p count h = h
+wrote_short fault.Memory answers answer sent had has now p count h =
+    let same = append-nil (flat_map ended answers) in
+    inr (answers, (answer, refl), rw same at (Appends-trans had has now _ _ p h))
+wrote_short (fault.Write n) answers answer sent had has now p count h =
+    let size = length-append answer (10 ∷ []) in
+    let all = ap length (ended_more answers answer) in
+    let n_is : n ≡ length (flat_map ended answers) + h.0 = omega (arith, h.2, count) in
+    let cut : take n (flat_map ended (answers ++ answer ∷ [])) ≡ flat_map ended answers ++ take h.0 (ended answer) =
+    rw (n_is, ended_more answers answer) (take-append-add (flat_map ended answers) (ended answer) h.0) in
+    (answers, (answer, refl), omega arith, omega (arith, h.1, size, all, length-append (flat_map ended answers) (ended answer)), rw cut (Appends-trans had has now _ _ p h.3))
+
+-- ---- Progress
+
+module _ {S : Type 0} (Serves : S → Line → List ℕ → S → Type 0) (first : S) (had : Option (List ℕ)) where
+  -- before any byte
+  pub progress_start : Progress Serves first had [] [] 0 first had
+  progress_start = record {
+    lines = [];
+    rest = [];
+    answers = [];
+    cut = record { whole = refl; each = tt; last = tt };
+    is_held = refl;
+    ran = refl;
+    wrote = Appends-nil had;
+    count = refl;
+  }
+
+  -- a line feed comes: the line is answered
+  pub progress_line : (bytes held none : List ℕ) (sent n : ℕ) (w v : S) (has now : Option (List ℕ))
+      → Progress Serves first had bytes held sent w has
+      → ((line : List ℕ) → IsHeld line held → (answer : List ℕ) × Answered Serves w line answer v × Appends has now (ended answer) × (n ≡ sent + length (ended answer)))
+      → none ≡ []
+      → Progress Serves first had (bytes ++ 10 ∷ []) none n v now
+  progress_line bytes held none sent n w v has now p h empty =
+      let got = h p.rest p.is_held in
+      record {
+        lines = p.lines ++ p.rest ∷ [];
+        rest = [];
+        answers = p.answers ++ got.0 ∷ [];
+        cut = cut_line bytes p.lines p.rest p.cut;
+        is_held = empty;
+        ran = ran_more Serves p.lines p.rest first p.answers got.0 w v p.ran got.1;
+        wrote = rw (ended_more p.answers got.0) (Appends-trans had has now _ _ p.wrote got.2);
+        count = rw (ended_more p.answers got.0) (omega (arith, got.3, p.count, length-append (flat_map ended p.answers) (ended got.0)));
+      }
+
+  -- another byte comes
+  pub progress_byte : (bytes held longer : List ℕ) (sent : ℕ) (w : S) (has : Option (List ℕ)) (b : ℕ)
+      → b ≢ 10
+      → Progress Serves first had bytes held sent w has
+      → ((line : List ℕ) → IsHeld line held → IsHeld (line ++ b ∷ []) longer)
+      → Progress Serves first had (bytes ++ b ∷ []) longer sent w has
+  progress_byte bytes held longer sent w has b other p h = record {
+    lines = p.lines;
+    rest = p.rest ++ b ∷ [];
+    answers = p.answers;
+    cut = cut_byte bytes p.lines p.rest b other p.cut;
+    is_held = h p.rest p.is_held;
+    ran = p.ran;
+    wrote = p.wrote;
+    count = p.count;
+  }
+
+  -- ---- Faults
+
+  -- an answer was cut short
+  pub halted_line : (why : WireFault) (bytes held : List ℕ) (sent : ℕ) (w v : S) (has now : Option (List ℕ))
+      → Progress Serves first had bytes held sent w has
+      → ((line : List ℕ) → IsHeld line held → (answer : List ℕ) × Answered Serves w line answer v × CutShort why sent answer has now)
+      → Halted Serves why first had (bytes ++ 10 ∷ []) v now
+  halted_line why bytes held sent w v has now p h =
+      let got = h p.rest p.is_held in
+      let cut = cut_line bytes p.lines p.rest p.cut in
+      record {
+        lines = p.lines ++ p.rest ∷ [];
+        answers = p.answers ++ got.0 ∷ [];
+        begins = ([], cut.whole, cut.each);
+        ran = ran_more Serves p.lines p.rest first p.answers got.0 w v p.ran got.1;
+        wrote = wrote_short why p.answers got.0 sent had has now p.wrote p.count got.2;
+      }
+
+  -- memory for the line ran out
+  pub halted_memory : (bytes held more : List ℕ) (sent : ℕ) (w : S) (has : Option (List ℕ))
+      → Progress Serves first had bytes held sent w has → Halted Serves fault.Memory first had (bytes ++ more) w has
+  halted_memory bytes held more sent w has p = record {
+    lines = p.lines;
+    answers = p.answers;
+    begins = begins bytes p.lines p.rest more p.cut;
+    ran = p.ran;
+    wrote = inl p.wrote;
+  }
+
+  -- more bytes change nothing
+  pub halted_more : (why : WireFault) (bytes more : List ℕ) (w : S) (has : Option (List ℕ))
+      → Halted Serves why first had bytes w has → Halted Serves why first had (bytes ++ more) w has
+  halted_more why bytes more w has h = record {
+    lines = h.lines;
+    answers = h.answers;
+    begins = begins_more bytes more h.lines h.begins;
+    ran = h.ran;
+    wrote = h.wrote;
+  }
+
+  -- ---- The end of the script
+
+  nil_of : (xs : List ℕ) → length xs ≡ 0 → xs ≡ []
+  nil_of [] h = refl
+  nil_of (x ∷ xs) h = absurd (omega arith)
+
+  none_held : (n : ℕ) (rest held : List ℕ) → held ≡ take (n + 1) rest → length held ≡ 0 → rest ≡ []
+  none_held n [] held h none = refl
+  none_held n (x ∷ rest) held h none = let size = ap length h in absurd (omega (arith, length-take (n + 1) (x ∷ rest)))
+
+  pub whole_empty : (bytes held : List ℕ) (sent : ℕ) (w : S) (has : Option (List ℕ))
+      → length held ≡ 0 → Progress Serves first had bytes held sent w has → Whole Serves first had bytes w has
+  whole_empty bytes held sent w has none p =
+      let empty : p.rest ≡ [] = none_held most_bytes p.rest held p.is_held none in
+      record {
+        lines = p.lines;
+        answers = p.answers;
+        cut = (p.lines, p.rest, p.cut, rw empty (sym (append-nil p.lines)));
+        ran = p.ran;
+        wrote = p.wrote;
+      }
+
+  some_rest : (rest : List ℕ) → 0 < length rest → rest_line rest ≡ rest ∷ []
+  some_rest [] h = absurd (omega arith)
+  some_rest (b ∷ bs) h = refl
+
+  some_held : (n : ℕ) (rest held : List ℕ) → held ≡ take n rest → length held ≢ 0 → 0 < length rest
+  some_held n rest held h some = omega (arith, ap length h, length-take n rest)
+
+  last_line : (bytes held : List ℕ) (sent : ℕ) (w : S) (has : Option (List ℕ)) → length held ≢ 0 → (p : Progress Serves first had bytes held sent w has)
+      → AreLines bytes (p.lines ++ p.rest ∷ [])
+  last_line bytes held sent w has some p =
+      (p.lines, p.rest, p.cut, ap (λ t. p.lines ++ t) (sym (some_rest p.rest (some_held (most_bytes + 1) p.rest held p.is_held some))))
+
+  pub whole_line : (bytes held : List ℕ) (sent n : ℕ) (w v : S) (has now : Option (List ℕ))
+      → length held ≢ 0
+      → Progress Serves first had bytes held sent w has
+      → ((line : List ℕ) → IsHeld line held → (answer : List ℕ) × Answered Serves w line answer v × Appends has now (ended answer) × (n ≡ sent + length (ended answer)))
+      → Whole Serves first had bytes v now
+  whole_line bytes held sent n w v has now some p h =
+      let got = h p.rest p.is_held in
+      record {
+        lines = p.lines ++ p.rest ∷ [];
+        answers = p.answers ++ got.0 ∷ [];
+        cut = last_line bytes held sent w has some p;
+        ran = ran_more Serves p.lines p.rest first p.answers got.0 w v p.ran got.1;
+        wrote = rw (ended_more p.answers got.0) (Appends-trans had has now _ _ p.wrote got.2);
+      }
+
+  pub halted_last : (why : WireFault) (bytes held : List ℕ) (sent : ℕ) (w v : S) (has now : Option (List ℕ))
+      → length held ≢ 0
+      → Progress Serves first had bytes held sent w has
+      → ((line : List ℕ) → IsHeld line held → (answer : List ℕ) × Answered Serves w line answer v × CutShort why sent answer has now)
+      → HaltedLast Serves why first had bytes v now
+  halted_last why bytes held sent w v has now some p h =
+      let got = h p.rest p.is_held in
+      record {
+        lines = p.lines ++ p.rest ∷ [];
+        answers = p.answers ++ got.0 ∷ [];
+        cut = last_line bytes held sent w has some p;
+        ran = ran_more Serves p.lines p.rest first p.answers got.0 w v p.ran got.1;
+        wrote = wrote_short why p.answers got.0 sent had has now p.wrote p.count got.2;
+      }
+
+  -- ---- Whole runs
+
+  pub answers_all : (bytes : List ℕ) (w : S) (unread left has : Option (List ℕ))
+      → Consumes unread left bytes → IsAtEnd left → Whole Serves first had bytes w has → AnswersAll Serves first w unread left had has
+  answers_all bytes w unread left has got end h = record {
+    script = bytes;
+    lines = h.lines;
+    answers = h.answers;
+    is_read = got;
+    at_end = end;
+    cut = h.cut;
+    ran = h.ran;
+    wrote = h.wrote;
+  }
+
+  pub stops_reading : (bytes held : List ℕ) (sent : ℕ) (w : S) (unread left has : Option (List ℕ))
+      → Consumes unread left bytes → Progress Serves first had bytes held sent w has → StopsAt Serves fault.Read first w unread left had has
+  stops_reading bytes held sent w unread left has got p = record {
+    bytes = bytes;
+    lines = p.lines;
+    answers = p.answers;
+    is_read = got;
+    before = (p.rest, p.cut);
+    ran = p.ran;
+    wrote = p.wrote;
+  }
+
+  pub stops_at : (why : WireFault) (bytes : List ℕ) (w : S) (unread left has : Option (List ℕ))
+      → Consumes unread left bytes → Halted Serves why first had bytes w has → StopsAt Serves why first w unread left had has
+  stops_at fault.Read bytes w unread left has got h = absurd h.wrote
+  stops_at fault.Memory bytes w unread left has got h =
+      record { bytes = bytes; lines = h.lines; answers = h.answers; is_read = got; before = inl h.begins; ran = h.ran; wrote = h.wrote }
+  stops_at (fault.Write n) bytes w unread left has got h =
+      record { bytes = bytes; lines = h.lines; answers = h.answers; is_read = got; before = inl h.begins; ran = h.ran; wrote = h.wrote }
+
+  pub stops_last : (why : WireFault) (bytes : List ℕ) (w : S) (unread left has : Option (List ℕ))
+      → Consumes unread left bytes → IsAtEnd left → HaltedLast Serves why first had bytes w has → StopsAt Serves why first w unread left had has
+  stops_last fault.Read bytes w unread left has got end h = absurd h.wrote
+  stops_last fault.Memory bytes w unread left has got end h =
+      record { bytes = bytes; lines = h.lines; answers = h.answers; is_read = got; before = inr (end, h.cut); ran = h.ran; wrote = h.wrote }
+  stops_last (fault.Write n) bytes w unread left has got end h =
+      record { bytes = bytes; lines = h.lines; answers = h.answers; is_read = got; before = inr (end, h.cut); ran = h.ran; wrote = h.wrote }
+
+-- before any byte
+pub stops_before : {S : Type 0} (Serves : S → Line → List ℕ → S → Type 0) (first : S) (unread had : Option (List ℕ)) → StopsAt Serves fault.Memory first first unread unread had had
+stops_before Serves first unread had = record {
+  bytes = [];
+  lines = [];
+  answers = [];
+  is_read = Consumes-nil unread;
+  before = inl ([], refl, tt);
+  ran = refl;
+  wrote = inl (Appends-nil had);
+}
+
+-- ---- The same run, seen by a part of the states
+
+module _ {S T : Type 0} (P : S → Line → List ℕ → S → Type 0) (Q : T → Line → List ℕ → T → Type 0) (view : S → T)
+    (same : (s : S) (asked : Line) (answer : List ℕ) (t : S) → P s asked answer t → Q (view s) asked answer (view t)) where
+  answered_seen : (o : Option Line) (s : S) (answer : List ℕ) (t : S)
+      → MatchOption o ((answer ≡ refusal) × (t ≡ s)) (λ asked. P s asked answer t)
+      → MatchOption o ((answer ≡ refusal) × (view t ≡ view s)) (λ asked. Q (view s) asked answer (view t))
+  answered_seen None s answer t h = (h.0, ap view h.1)
+  answered_seen (Some asked) s answer t h = same s asked answer t h
+
+  ran_seen : (lines answers : List (List ℕ)) (s t : S) → Ran P s lines answers t → Ran Q (view s) lines answers (view t)
+  ran_seen [] [] s t h = ap view h
+  ran_seen [] (answer ∷ answers) s t h = absurd h
+  ran_seen (line ∷ lines) [] s t h = absurd h
+  ran_seen (line ∷ lines) (answer ∷ answers) s t h = (view h.0, answered_seen (line_of line) s answer h.0 h.1, ran_seen lines answers h.0 t h.2)
+
+  pub all_seen : (s t : S) (unread left had has : Option (List ℕ)) → AnswersAll P s t unread left had has → AnswersAll Q (view s) (view t) unread left had has
+  all_seen s t unread left had has h = record {
+    script = h.script;
+    lines = h.lines;
+    answers = h.answers;
+    is_read = h.is_read;
+    at_end = h.at_end;
+    cut = h.cut;
+    ran = ran_seen h.lines h.answers s t h.ran;
+    wrote = h.wrote;
+  }
+
+  pub stop_seen : (why : WireFault) (s t : S) (unread left had has : Option (List ℕ)) → StopsAt P why s t unread left had has → StopsAt Q why (view s) (view t) unread left had has
+  stop_seen why s t unread left had has h = record {
+    bytes = h.bytes;
+    lines = h.lines;
+    answers = h.answers;
+    is_read = h.is_read;
+    before = h.before;
+    ran = ran_seen h.lines h.answers s t h.ran;
+    wrote = h.wrote;
+  }
+
+-- a byte of a piece, and the bytes after it
+pub piece_all : (bytes piece : List ℕ) (i : ℕ) → i < length piece → ((bytes ++ take i piece) ++ get_or piece i 0 ∷ []) ++ drop (i + 1) piece ≡ bytes ++ piece
+piece_all bytes piece i h =
+    let e : get_or piece i 0 ∷ drop (i + 1) piece ≡ drop i piece = rw (add-one, drop-cons piece i 0) refl in
+    append_assoc (bytes ++ take i piece) (get_or piece i 0 ∷ []) (drop (i + 1) piece) ∙ ap (λ t. (bytes ++ take i piece) ++ t) e
+    ∙ append_assoc bytes (take i piece) (drop i piece) ∙ ap (λ t. bytes ++ t) (take-append-drop i piece)

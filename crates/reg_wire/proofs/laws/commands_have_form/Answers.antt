@@ -1,0 +1,5 @@
+use Rattle.reg_wire.proofs.Formed.{asked-formed}
+use Rattle.reg_wire.proofs.laws.commands_have_form.Goals as goal
+
+pub returns : goal.returns
+returns c = asked-formed

@@ -1,0 +1,37 @@
+use Rattle.std.proofs.Common.{[], ◌++◌, take, arith}
+use Rattle.std.proofs.KnownBytes.{Consumes-nil, Consumes-trans, Consumes-kept}
+use Rattle.std.proofs.lemmas.Result.{IfOk-weaker, IfErr-weaker}
+use Rattle.reg_wire.proofs.Sent.{read_none}
+use Rattle.reg_wire.proofs.Runs.{progress_start, stops_reading, stops_at, stops_last, answers_all}
+use Rattle.reg_wire.proofs.script.lines.respond_all.Goals as goal
+
+pub loop-init : goal.loop-init
+loop-init g c = record {
+  held = λ h. h;
+  far = λ h. ([], Consumes-nil _, rw c.new-held.ensures (progress_start g.A.Responder.Serves _ _));
+}
+
+pub returns-in-Err-clause-err : goal.returns-in-Err-clause-err
+returns-in-Err-clause-err g c holds = let i = c.loop.invariant.far holds in
+    stops_reading g.A.Responder.Serves _ _ i.0 _ c.loop.sent _ _ _ _ (Consumes-kept _ _ _ _ i.1 c.in-Err.ensures.bytes) i.2
+
+pub returns-then-count-eq0-clause-ok : goal.returns-then-count-eq0-clause-ok
+returns-then-count-eq0-clause-ok g c holds = let i = c.loop.invariant.far (c.finish.ensures.held holds) in
+    let got = read_none _ _ _ _ _ _ c.if-count-eq0.true i.1 c.in-Ok.ensures.bytes.0 in
+    IfOk-weaker c.finish.result _ _ (λ _ h. answers_all g.A.Responder.Serves _ _ i.0 _ _ _ _ got (c.in-Ok.ensures.bytes.1 c.if-count-eq0.true (omega arith)) (h _ _ _ i.2)) (c.finish.ensures.ok holds)
+
+pub returns-then-count-eq0-clause-err : goal.returns-then-count-eq0-clause-err
+returns-then-count-eq0-clause-err g c holds = let i = c.loop.invariant.far (c.finish.ensures.held holds) in
+    let got = read_none _ _ _ _ _ _ c.if-count-eq0.true i.1 c.in-Ok.ensures.bytes.0 in
+    IfErr-weaker c.finish.result _ _ (λ e h. stops_last g.A.Responder.Serves _ _ e i.0 _ _ _ _ got (c.in-Ok.ensures.bytes.1 c.if-count-eq0.true (omega arith)) (h _ _ _ i.2)) (c.finish.ensures.err holds)
+
+pub returns-in-Err-take_piece-clause-err : goal.returns-in-Err-take_piece-clause-err
+returns-in-Err-take_piece-clause-err g c holds = let i = c.loop.invariant.far (c.in-Err-take_piece.ensures.held holds) in
+    stops_at g.A.Responder.Serves _ _ _ (i.0 ++ take c.in-Ok.count c.read.new.buf) _ _ _ _ (Consumes-trans _ _ _ _ _ i.1 c.in-Ok.ensures.bytes.0) (c.in-Err-take_piece.ensures.err holds _ _ i.0 i.2)
+
+pub loop-preserved : goal.loop-preserved
+loop-preserved g c = record {
+  held = λ h. c.loop.invariant.held (c.in-Ok-take_piece.ensures.held h);
+  far = λ h. let i = c.loop.invariant.far (c.in-Ok-take_piece.ensures.held h) in
+      (i.0 ++ take c.in-Ok.count c.read.new.buf, Consumes-trans _ _ _ _ _ i.1 c.in-Ok.ensures.bytes.0, c.in-Ok-take_piece.ensures.ok h _ _ i.0 i.2);
+}

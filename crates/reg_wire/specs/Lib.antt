@@ -1,0 +1,15 @@
+pub mod Item
+pub mod Members
+pub mod Path
+pub mod Route
+pub mod Asked
+pub mod Tree
+pub mod Refusal
+pub mod Answer
+pub mod Laws
+pub mod Line
+pub mod Script
+pub mod Held
+pub mod Served
+pub mod Event
+pub mod ScriptLaws

@@ -1,0 +1,149 @@
+//! Reads the command that a method, a path and a body spell.
+ghost use Rattle.std.specs.Prelude.{◌≡◌, true, IfOk, IfSome, option_map};
+ghost use Rattle.reg_core.specs.Command.{has_command_form};
+ghost use Rattle.reg_wire.specs.Route.{operation_for};
+ghost use Rattle.reg_wire.specs.Members.{Gives};
+ghost use Rattle.reg_wire.specs.Asked.{asked, command_of, empty, grant_of, own_one_of, revoke_of, routed, segment, submit_of};
+
+use crate::item::Item;
+use crate::refusal::{ReadFault, WireRefusal};
+use crate::route::{Methods, Operation, Routes};
+use crate::{bodies, json_read, path};
+use reg_core::command::Command;
+use reg_core::text::{Form, Word};
+use std::alloc::Global;
+
+/// The command that these bytes spell. What is wrong with them is looked for in this order: `Route`,
+/// `Method`, `Body`, then `Field` of the segments of the path from left to right, of the members of the
+/// body, and of a member too many. `Memory` comes only where there was none for the reading.
+#[tactic(auto, unfolding(crate::specs::Asked::asked))]
+pub fn read_command(
+    alloc: Global,
+    routes: &Routes,
+    method: &[u8],
+    path: &[u8],
+    body: &[u8],
+) -> Result<Command, ReadFault>
+    ensures spelled { Gives result (asked method.now path.now body.now) }
+    ensures form { IfOk result (λ command. has_command_form command ≡ true) }
+
+    // A path or a method that is refused takes no memory.
+    ensures no_route { routed path.now ≡ None → result ≡ Err (ReadFault.Refused WireRefusal.Route) }
+    ensures no_method { IfSome (routed path.now) (λ methods. operation_for method.now methods ≡ None → result ≡ Err (ReadFault.Refused WireRefusal.Method)) }
+{
+    let Some((path, methods)) = routed(routes, path) else {
+        return Err(ReadFault::Refused(WireRefusal::Route));
+    };
+    match methods.operation(method) {
+        Some(operation) => command_of(alloc, operation, path, body),
+        None => Err(ReadFault::Refused(WireRefusal::Method)),
+    }
+}
+
+// The path as a text, and what the methods do there.
+fn routed<'p>(routes: &Routes, path: &'p [u8]) -> Option<(&'p str, Methods)>
+    ensures methods { option_map (λ r. r.1) result ≡ routed path.now }
+    ensures same_path { IfSome result (λ r. r.0.now ≡ path.now) }
+{
+    let Ok(path) = str::from_utf8(path) else {
+        return None;
+    };
+    if path::has_empty_segment(path) {
+        return None;
+    }
+    Some((path, routes.at(path)?))
+}
+
+fn command_of(
+    alloc: Global,
+    operation: Operation,
+    path: &str,
+    body: &[u8],
+) -> Result<Command, ReadFault>
+    ensures { Gives result (command_of operation path.now body.now) }
+{
+    match operation {
+        Operation::Own => {
+            empty(body)?;
+            Ok(Command::Own)
+        },
+        Operation::OwnOne => read_own_one(alloc, path, body),
+        Operation::Submit => read_submit(alloc, path, body),
+        Operation::Grant => read_grant(alloc, body),
+        Operation::Revoke => read_revoke(alloc, body),
+    }
+}
+
+#[tactic(auto, unfolding(crate::specs::Asked::own_one_of))]
+fn read_own_one(alloc: Global, path: &str, body: &[u8]) -> Result<Command, ReadFault>
+    ensures { Gives result (own_one_of path.now body.now) }
+{
+    empty(body)?;
+    let reference = segment(alloc, path, 2, Item::Reference)?;
+    Ok(Command::OwnOne(reference))
+}
+
+#[tactic(auto, unfolding(crate::specs::Asked::submit_of))]
+fn read_submit(alloc: Global, path: &str, body: &[u8]) -> Result<Command, ReadFault>
+    ensures { Gives result (submit_of path.now body.now) }
+{
+    let json = json_read::object_of(alloc, body)?;
+    let reference = segment(alloc, path, 2, Item::Reference)?;
+    let ask = bodies::read_ask(alloc, &json)?;
+    Ok(Command::Submit(reference, ask))
+}
+
+#[tactic(auto, unfolding(crate::specs::Asked::grant_of))]
+fn read_grant(alloc: Global, body: &[u8]) -> Result<Command, ReadFault>
+    ensures { Gives result (grant_of body.now) }
+{
+    let json = json_read::object_of(alloc, body)?;
+    let token = json_read::word(alloc, &json, Item::Token)?;
+    let cap = bodies::read_cap(alloc, &json)?;
+    json_read::only(
+        &[Item::Token, Item::Account, Item::Kind, Item::Until],
+        &json,
+    )?;
+    Ok(Command::Grant(token, cap))
+}
+
+#[tactic(auto, unfolding(crate::specs::Asked::revoke_of))]
+fn read_revoke(alloc: Global, body: &[u8]) -> Result<Command, ReadFault>
+    ensures { Gives result (revoke_of body.now) }
+{
+    let json = json_read::object_of(alloc, body)?;
+    let token = json_read::word(alloc, &json, Item::Token)?;
+    json_read::only(&[Item::Token], &json)?;
+    Ok(Command::Revoke(token))
+}
+
+fn empty(body: &[u8]) -> Result<(), ReadFault>
+    ensures { Gives result (empty body.now) }
+{
+    if body.is_empty() {
+        Ok(())
+    } else {
+        Err(ReadFault::Refused(WireRefusal::Body))
+    }
+}
+
+// The segment that follows this many slashes, in its form.
+fn segment<F: Form>(
+    alloc: Global,
+    path: &str,
+    slashes: usize,
+    item: Item,
+) -> Result<Word<F>, ReadFault>
+    ensures { Gives result (segment item F.fits slashes path.now) }
+{
+    match path::segment(path, slashes) {
+        Some(text) => match Word::read(alloc, text.as_bytes())? {
+            Some(word) => Ok(word),
+            None => Err(ReadFault::field(item)),
+        },
+        None => Err(ReadFault::field(item)),
+    }
+}
+
+#[cfg(test)]
+mod tests;

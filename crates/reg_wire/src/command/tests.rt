@@ -1,0 +1,194 @@
+use super::*;
+use crate::answer::{Answer, body_of};
+use reg_core::refusal::Refusal;
+use reg_core::reply::Reply;
+use reg_core::request::{Request, State};
+use reg_core::rows::Rows;
+use reg_core::text::Account;
+use std::test::Fail;
+
+// The status and body that the bytes are answered with, as if each command was new and alice's own.
+fn answered(
+    alloc: Global,
+    routes: &Routes,
+    method: &[u8],
+    path: &[u8],
+    body: &[u8],
+) -> Result<(u16, Vec<u8>), Fail> {
+    let answer = match read_command(alloc, routes, method, path, body) {
+        Ok(command) => Answer::Reply(reply(alloc, command)?),
+        Err(fault) => Answer::from(fault),
+    };
+    Ok(body_of(alloc, &answer)?)
+}
+
+fn reply(alloc: Global, command: Command) -> Result<Reply, Fail> {
+    let Some(account) = Account::read(alloc, b"alice")? else {
+        return Err(Fail::from("account"));
+    };
+    match command {
+        Command::Own => Ok(Reply::Rows(Rows::from_vec(Vec::new(alloc)))),
+        Command::OwnOne(_) => Ok(Reply::Refused(Refusal::Request)),
+        Command::Submit(reference, ask) => Ok(Reply::Made(Request {
+            account,
+            reference,
+            ask,
+            state: State::Pending,
+        })),
+        Command::Grant(_, cap) => Ok(Reply::Granted(cap)),
+        Command::Revoke(_) => Ok(Reply::Revoked),
+    }
+}
+
+// The first line that is answered otherwise than it says: each has a method, a path, a body, and the status
+// and the body of the answer.
+fn first_wrong(alloc: Global, lines: &str) -> Result<Option<&str>, Fail> {
+    let routes = Routes::new(alloc)?;
+    for line in lines.lines() {
+        let mut parts = line.split('|');
+        let method = parts.next().unwrap_or("").as_bytes();
+        let path = parts.next().unwrap_or("").as_bytes();
+        let body = parts.next().unwrap_or("").as_bytes();
+        let status = parts.next().unwrap_or("");
+        let want = parts.next().unwrap_or("").as_bytes();
+        let (got, text) = answered(alloc, &routes, method, path, body)?;
+        if status.parse::<u16>() != Ok(got) || text.as_slice() != want {
+            return Ok(Some(line));
+        }
+    }
+    Ok(None)
+}
+
+fn paths() -> &'static str {
+    r#"GET|/requests||200|[]
+GET|/requests/a-1||404|{"error":"request"}
+GET|/requests/UP||422|{"error":"field","item":"reference"}
+GET|/requests/a%2d1||422|{"error":"field","item":"reference"}
+GET|/requests/||404|{"error":"route"}
+GET|//requests||404|{"error":"route"}
+GET|/requests/a/b||404|{"error":"route"}
+GET|/nothing||404|{"error":"route"}
+GET|/||404|{"error":"route"}
+GET|||404|{"error":"route"}
+GET|requests||404|{"error":"route"}
+POST|/nothing||404|{"error":"route"}
+POST|/requests||405|{"error":"method"}
+get|/requests||405|{"error":"method"}
+PUT|/requests||405|{"error":"method"}
+GET|/desk/tokens||405|{"error":"method"}
+GET|/requests|{}|400|{"error":"body"}
+GET|/requests/UP|{}|400|{"error":"body"}"#
+}
+
+#[test]
+fn paths_and_methods(rt: HostRuntime) -> Result<(), Fail> {
+    assert_eq!(rt; first_wrong(rt.alloc(), paths())?, None);
+    Ok(())
+}
+
+fn asks() -> &'static str {
+    r#"PUT|/requests/a|{"label":"L","registry":"flags","value":64,"contact":"c","kind":"code"}|201|{"ask":{"contact":"c","kind":"code","label":"L","registry":"flags","value":64},"reference":"a","state":"pending"}
+PUT|/requests/a| {"v\u0061lue":0,"label":"\"","kind":"code","registry":"f"} |201|{"ask":{"kind":"code","label":"\"","registry":"f","value":0},"reference":"a","state":"pending"}
+PUT|/requests/a|{"value":"x","kind":"code","label":"L","registry":"f","value":4294967295}|201|{"ask":{"kind":"code","label":"L","registry":"f","value":4294967295},"reference":"a","state":"pending"}
+PUT|/requests/a|{"value":5,"kind":"code","label":"L","registry":"f","value":"x"}|422|{"error":"field","item":"value"}
+PUT|/requests/a|{"kind":"code","label":"L","registry":"f","value":4294967296}|422|{"error":"field","item":"value"}
+PUT|/requests/a|{"kind":"code","label":"L","registry":"f","value":5.0}|422|{"error":"field","item":"value"}
+PUT|/requests/a|{"kind":"code","label":"L","registry":"f","value":5e0}|422|{"error":"field","item":"value"}
+PUT|/requests/a|{"kind":"code","label":"L","registry":"f","value":-0}|422|{"error":"field","item":"value"}
+PUT|/requests/a|{"kind":"code","label":"L","registry":"f","value":-5}|422|{"error":"field","item":"value"}
+PUT|/requests/a|{"kind":"code","label":"L","registry":"f","value":1e-999}|422|{"error":"field","item":"value"}
+PUT|/requests/a|{"kind":"code","label":"L","registry":"f","value":1e999}|400|{"error":"body"}
+PUT|/requests/a|{"kind":"code","label":"L","registry":"f","value":05}|400|{"error":"body"}
+PUT|/requests/a|{"kind":"code","label":"L","registry":"f","least":"x"}|422|{"error":"field","item":"value"}
+PUT|/requests/a|{"contact":null,"kind":"code","label":"L","registry":"f","value":5}|422|{"error":"field","item":"contact"}
+PUT|/requests/a|{"kind":"code","label":"","registry":"f","value":5}|422|{"error":"field","item":"label"}
+PUT|/requests/a|{"kind":"code","label":"L","registry":"f","value":5,"x":1}|422|{"error":"field","item":"extra"}
+PUT|/requests/a|{"kind":"code","label":7,"registry":"f","value":5,"x":1}|422|{"error":"field","item":"label"}
+PUT|/requests/a|{"kind":"code"}|422|{"error":"field","item":"registry"}
+PUT|/requests/a|{"kind":"early","registry":"f"}|422|{"error":"field","item":"kind"}
+PUT|/requests/a|{}|422|{"error":"field","item":"kind"}
+PUT|/requests/a|{} {}|400|{"error":"body"}
+PUT|/requests/a|[]|400|{"error":"body"}
+PUT|/requests/a||400|{"error":"body"}
+PUT|/requests/a|{"kind":"\ud800"}|400|{"error":"body"}
+PUT|/requests/UP|[]|400|{"error":"body"}
+PUT|/requests/UP|{}|422|{"error":"field","item":"reference"}"#
+}
+
+#[test]
+fn bodies_of_asks(rt: HostRuntime) -> Result<(), Fail> {
+    assert_eq!(rt; first_wrong(rt.alloc(), asks())?, None);
+    Ok(())
+}
+
+fn capabilities() -> &'static str {
+    r#"PUT|/desk/tokens|{"account":"a","kind":"expert","token":"0123456789abcdef","until":32503680000}|200|{"account":"a","kind":"expert","until":32503680000}
+PUT|/desk/tokens|{"account":"a","kind":"expert","token":"0123456789abcdef","until":32503680001}|422|{"error":"field","item":"until"}
+PUT|/desk/tokens|{"account":"a","kind":"Expert","token":"0123456789abcdef","until":0}|422|{"error":"field","item":"kind"}
+PUT|/desk/tokens|{"account":"A","kind":"Expert","token":"0123456789abcdef","until":0}|422|{"error":"field","item":"account"}
+PUT|/desk/tokens|{"account":"a","kind":"clerk","token":"0123456789abcde","until":0}|422|{"error":"field","item":"token"}
+PUT|/desk/tokens|{"account":"a","kind":"clerk","token":"0123456789abcdef","until":0,"x":0}|422|{"error":"field","item":"extra"}
+PUT|/desk/revoke|{"token":"0123456789abcdef"}|200|{"revoked":true}
+PUT|/desk/revoke|{"token":"0123456789abcdef","until":0}|422|{"error":"field","item":"extra"}"#
+}
+
+#[test]
+fn bodies_of_capabilities(rt: HostRuntime) -> Result<(), Fail> {
+    assert_eq!(rt; first_wrong(rt.alloc(), capabilities())?, None);
+    Ok(())
+}
+
+// An object with one member that has this many of one piece and then of another.
+fn nested(alloc: Global, before: &str, count: usize, after: &str) -> Result<String, Fail> {
+    let mut text = String::from_str(alloc, "{\"x\":")?;
+    for _ in 0..count {
+        text.push_str(before)?;
+    }
+    for _ in 0..count {
+        text.push_str(after)?;
+    }
+    text.push_str("}")?;
+    Ok(text)
+}
+
+#[test]
+fn deep_bodies_and_long_numbers(rt: HostRuntime) -> Result<(), Fail> {
+    let alloc = rt.alloc();
+    let routes = Routes::new(alloc)?;
+    for (before, count, after, want) in [
+        ("[", 126, "]", 422),
+        ("[", 127, "]", 400),
+        ("9", 10, "9", 422),
+        ("9", 200, "9", 400),
+    ] {
+        let body = nested(alloc, before, count, after)?;
+        let got = answered(alloc, &routes, b"PUT", b"/requests/a", body.as_bytes())?;
+        assert_eq!(rt; got.0, want, "{count} of {before}");
+    }
+    Ok(())
+}
+
+#[test]
+fn bytes_that_are_no_text(rt: HostRuntime) -> Result<(), Fail> {
+    let alloc = rt.alloc();
+    let routes = Routes::new(alloc)?;
+    assert_eq!(rt;
+        answered(alloc, &routes, b"GET", b"/requests/\xff", b"")?.0,
+        404
+    );
+    assert_eq!(rt;
+        answered(
+            alloc,
+            &routes,
+            b"PUT",
+            b"/requests/a",
+            b"{\"kind\":\"\xff\"}"
+        )?
+        .0,
+        400
+    );
+    let storage = body_of(alloc, &Answer::Storage)?;
+    assert_eq!(rt; storage.0, 503);
+    assert_eq!(rt; storage.1.as_slice(), b"{\"error\":\"storage\"}".as_slice());
+    Ok(())
+}

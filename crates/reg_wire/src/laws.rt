@@ -1,0 +1,12 @@
+//! Laws of requests and answers, over their definitions.
+ghost use Rattle.reg_wire.specs.Laws.{AsksReadBack, CommandsHaveForm};
+
+/// What is printed of an ask reads back as the same ask.
+pub fn asks_read_back()
+    ensures { AsksReadBack }
+{}
+
+/// The texts and numbers of a command that bytes spell have their forms.
+pub fn commands_have_form()
+    ensures { CommandsHaveForm }
+{}

@@ -1,0 +1,30 @@
+//! Laws of scripts, over their definitions.
+ghost use Rattle.reg_wire.specs.ScriptLaws.{LinesAreRead, IsCutOneWay, AnswersAreLines, AreAnswers, RunsAsTheModel};
+
+/// A line is read as it is written: `moment token METHOD path body`, with one space between. Other bytes are
+/// no line.
+pub fn lines_are_read()
+    ensures { LinesAreRead }
+{}
+
+/// Each script is cut into lines in one way.
+pub fn lines_are_cut_one_way()
+    ensures { IsCutOneWay }
+{}
+
+/// The answer to a line is one line.
+pub fn answers_are_lines()
+    ensures { AnswersAreLines }
+{}
+
+/// The answers to a line that is none, and to one at which the store or memory failed, are printed as all
+/// others are.
+pub fn refusals_are_answers()
+    ensures { AreAnswers }
+{}
+
+/// Without the lines that were answered 503 `storage`, the answers to a script are those of the model's
+/// run of its events, with the refusals of the other lines between them, and so is the last world.
+pub fn runs_as_the_model()
+    ensures { RunsAsTheModel }
+{}

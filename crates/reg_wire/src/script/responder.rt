@@ -1,0 +1,39 @@
+//! What answers the lines of a script.
+ghost use Rattle.std.specs.Prelude.{◌≡◌, List, ℕ, IfOk, IfErr};
+ghost use Rattle.reg_wire.specs.Line.{Line as Asked, asked_by};
+ghost use Rattle.reg_wire.specs.Held.{Unserved};
+
+use crate::line::Line;
+use std::alloc::Global;
+
+/// Why a line has no answer.
+#[derive(Clone, Copy, Debug, PartialEq, Eq)]
+pub(crate) enum Unanswered {
+    /// The store or memory failed, and nothing has changed.
+    Storage,
+    /// What the line asks was done, and there is no memory for the answer.
+    Memory,
+}
+
+/// What answers the lines of a script. Each promise stands under its premise after the call.
+pub(crate) trait Responder {
+    /// Where it looks up what a line asks.
+    type Routes;
+
+    /// The premise under which what is kept is what was written.
+    ghost Holds: { Self → Type 0 };
+
+    /// What may be answered to a line, and what is there then.
+    ghost Serves: { Self → Asked → List ℕ → Self → Type 0 };
+
+    /// The answer to a line.
+    fn respond(
+        &mut self,
+        alloc: Global,
+        routes: &Self::Routes,
+        line: &Line<'_>,
+    ) -> Result<Vec<u8>, Unanswered>
+        ensures held { Holds self.new → Holds self.old }
+        ensures ok { Holds self.new → IfOk result (λ answer. Serves self.old (asked_by line.now) answer.items self.new) }
+        ensures err { Holds self.new → IfErr result (λ why. Unserved Serves self.old (asked_by line.now) why self.new) };
+}

@@ -1,0 +1,193 @@
+use crate::line::Line;
+use crate::script::lines::respond_all;
+use crate::script::responder::{Responder, Unanswered};
+use crate::script::run;
+use crate::wire_fault::WireFault;
+use reg_office::Office;
+use reg_store::lists::ListKeeper;
+use std::alloc::Global;
+use std::io;
+use std::io::{Read, Write};
+use std::test::Fail;
+
+// Answers a line with its path and its body, and fails at the method FAIL.
+#[derive(Drop)]
+struct Echo;
+
+impl Responder for Echo {
+    type Routes = ();
+
+    ghost Holds = { λ _. Unit {0} };
+
+    ghost Serves = { λ before line answer after. Unit {0} };
+
+    fn respond(
+        &mut self,
+        alloc: Global,
+        _routes: &(),
+        line: &Line<'_>,
+    ) -> Result<Vec<u8>, Unanswered> {
+        if line.method == b"FAIL".as_slice() {
+            return Err(Unanswered::Storage);
+        }
+        match echoed(alloc, line) {
+            Ok(answer) => Ok(answer),
+            Err(_) => Err(Unanswered::Memory),
+        }
+    }
+}
+
+fn echoed(alloc: Global, line: &Line<'_>) -> io::Result<Vec<u8>> {
+    let mut answer = Vec::from_slice(alloc, line.path)?;
+    answer.extend_from_slice(b"=")?;
+    answer.extend_from_slice(line.body)?;
+    Ok(answer)
+}
+
+// Gives one byte a read, and fails once it has given them all, or ends.
+#[derive(Drop)]
+struct Drops<'a> {
+    bytes: &'a [u8],
+    fails: bool,
+    reads: u32,
+}
+
+impl Read for Drops<'_> {
+    fn read(&mut self, buf: &mut [u8]) -> io::Result<usize> {
+        self.reads = self.reads.wrapping_add(1);
+        let Some((first, rest)) = self.bytes.split_first() else {
+            return if self.fails {
+                Err(io::Error::from(io::ErrorKind::Other))
+            } else {
+                Ok(0)
+            };
+        };
+        if buf.is_empty() {
+            return Ok(0);
+        }
+        buf[0] = *first;
+        self.bytes = rest;
+        Ok(1)
+    }
+}
+
+// Gives the same byte forever.
+#[derive(Drop)]
+struct Forever {
+    reads: u32,
+}
+
+impl Read for Forever {
+    fn read(&mut self, buf: &mut [u8]) -> io::Result<usize> {
+        self.reads = self.reads.wrapping_add(1);
+        if buf.is_empty() {
+            return Ok(0);
+        }
+        buf[0] = b'x';
+        Ok(1)
+    }
+}
+
+// Takes one byte a write, and so many in all.
+#[derive(Drop)]
+struct Narrow {
+    taken: Vec<u8>,
+    most: usize,
+}
+
+impl Write for Narrow {
+    fn write(&mut self, buf: &[u8]) -> io::Result<usize> {
+        if buf.is_empty() || self.taken.len() >= self.most {
+            return Ok(0);
+        }
+        self.taken.push(buf[0])?;
+        Ok(1)
+    }
+
+    fn flush(&mut self) -> io::Result<()> {
+        Ok(())
+    }
+}
+
+const SCRIPT: &[u8] =
+    b"1700000000 - GET /a\n\n0 t GET /b x\ty  z\n00 - GET /c\nhello\n1 - FAIL /d\n\
+    18446744073709551615 - GET /e\n18446744073709551616 - GET /f\n5 -  /g\n5 - GET /h \n+5 - GET /i\n7 k PUT /j k\r";
+
+const ANSWERS: &[u8] =
+    b"/a=\n400 {\"error\":\"line\"}\n/b=x\ty  z\n400 {\"error\":\"line\"}\n400 {\"error\":\"line\"}\n\
+    503 {\"error\":\"storage\"}\n/e=\n400 {\"error\":\"line\"}\n400 {\"error\":\"line\"}\n/h=\n400 {\"error\":\"line\"}\n/j=k\r\n";
+
+#[test]
+fn a_byte_at_a_time(rt: HostRuntime) -> Result<(), Fail> {
+    let mut reader = Drops {
+        bytes: SCRIPT,
+        fails: false,
+        reads: 0,
+    };
+    let mut out: Vec<u8> = Vec::new(rt.alloc());
+    let done = respond_all(rt.alloc(), &mut Echo, &(), &mut reader, &mut out);
+    assert!(rt; done.is_ok());
+    assert_eq!(rt; out.as_slice(), ANSWERS);
+    Ok(())
+}
+
+// A write that fails after n bytes leaves exactly the first n bytes of the answers.
+#[test]
+fn writes_that_fail(rt: HostRuntime) -> Result<(), Fail> {
+    for most in 0..ANSWERS.len() {
+        let mut script: &[u8] = SCRIPT;
+        let mut writer = Narrow {
+            taken: Vec::new(rt.alloc()),
+            most,
+        };
+        let done = respond_all(rt.alloc(), &mut Echo, &(), &mut script, &mut writer);
+        assert!(rt; done == Err(WireFault::Write(most)));
+        assert!(rt; writer.taken.as_slice() == &ANSWERS[..most]);
+    }
+    Ok(())
+}
+
+// A read that fails leaves the lines answered whose line feed was read.
+#[test]
+fn a_read_that_fails(rt: HostRuntime) -> Result<(), Fail> {
+    let mut reader = Drops {
+        bytes: &SCRIPT[..23],
+        fails: true,
+        reads: 0,
+    };
+    let mut out: Vec<u8> = Vec::new(rt.alloc());
+    let done = respond_all(rt.alloc(), &mut Echo, &(), &mut reader, &mut out);
+    assert!(rt; done == Err(WireFault::Read));
+    assert_eq!(rt;
+        out.as_slice(),
+        b"/a=\n400 {\"error\":\"line\"}\n".as_slice()
+    );
+    Ok(())
+}
+
+// A reader without an end is read 16,777,216 times.
+#[test]
+fn a_reader_without_an_end(rt: HostRuntime) -> Result<(), Fail> {
+    let mut reader = Forever { reads: 0 };
+    let mut out: Vec<u8> = Vec::new(rt.alloc());
+    let done = respond_all(rt.alloc(), &mut Echo, &(), &mut reader, &mut out);
+    assert!(rt; done == Err(WireFault::Read));
+    assert_eq!(rt; reader.reads, 16_777_216);
+    assert!(rt; out.is_empty());
+    Ok(())
+}
+
+#[test]
+fn an_office_with_its_first_applicant(rt: HostRuntime) -> Result<(), Fail> {
+    let mut office = Office::new(rt.alloc(), ListKeeper::new(rt.alloc()));
+    assert!(rt; office.found(b"clerk-token-00001").is_ok());
+    let mut script: &[u8] = b"1700000000 - GET /requests\n\
+        1700000000 clerk-token-00001 PUT /desk/tokens {\"account\":\"alice\",\"kind\":\"applicant\",\"token\":\"alice-token-00001\",\"until\":1800000000}\n\
+        1700000000 alice-token-00001 GET /requests\n";
+    let mut out: Vec<u8> = Vec::new(rt.alloc());
+    assert!(rt; run(rt.alloc(), &mut office, &mut script, &mut out).is_ok());
+    let want: &[u8] =
+        b"401 {\"error\":\"token\"}\n200 {\"account\":\"alice\",\"kind\":\"applicant\",\"until\":1800000000}\n200 []\n";
+    assert_eq!(rt; out.as_slice(), want);
+    Ok(())
+}
