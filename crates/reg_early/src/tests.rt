@@ -3,7 +3,7 @@ use crate::day::{Day, day_of, day_text, year_after};
 use crate::evidence::EarlyEvidence;
 use crate::laws;
 use crate::requirements::early_missing;
-use crate::term::{RenewFault, SettleFault, Status, Term};
+use crate::term::{RenewFault, SettleFault, Term};
 use reg_ranges::evidence::Item;
 use reg_ranges::policy::Policy;
 use reg_ranges::text::Text;
@@ -109,74 +109,113 @@ fn centuries_are_those_of_another_calendar(rt: HostRuntime) -> Result<(), Fail> 
     Ok(())
 }
 
-#[test]
-fn terms_run_a_year_and_once_more(rt: HostRuntime) -> Result<(), Fail> {
-    let early = Term::early(day(19782)?);
-    assert_eq!(rt; early.expires, Some(day(20147)?));
-    assert_eq!(rt; early.status(day(20146)?).word(), "Temporary");
-    assert_eq!(rt; early.status(day(20147)?).word(), "Expired");
-    let renewed = Term {
+// A term that began on 2024-02-29.
+fn term(expires: Option<u32>, renewed: bool) -> Result<Term, Fail> {
+    let expires = match expires {
+        Some(number) => Some(day(number)?),
+        None => None,
+    };
+    Ok(Term {
         first: day(19782)?,
-        expires: Some(day(20512)?),
-        renewed: true,
-    };
-    assert_eq!(rt; early.renew(day(20146)?), Ok(renewed));
-    let late = early.renew(day(20240)?).map(|term| term.expires);
-    assert_eq!(rt; late, Ok(Some(day(20605)?)));
-    assert_eq!(rt; renewed.renew(day(20146)?), Err(RenewFault::Renewed));
+        expires,
+        renewed,
+    })
+}
 
-    let permanent = Term::permanent(day(19782)?);
-    assert_eq!(rt; permanent.status(day(20512)?), Status::Assigned);
-    assert_eq!(rt; permanent.status(day(20512)?).word(), "Assigned");
-    assert_eq!(rt; permanent.renew(day(20512)?), Err(RenewFault::Permanent));
-    assert_eq!(rt; permanent.settle(), Err(SettleFault::Permanent));
-    assert_eq!(rt; early.settle(), Ok(permanent));
-    let settled = Term {
-        expires: None,
-        ..renewed
-    };
-    assert_eq!(rt; renewed.settle(), Ok(settled));
+#[test]
+fn statuses_change_on_the_expiry_day(rt: HostRuntime) -> Result<(), Fail> {
+    for (number, word) in [(20146, "Temporary"), (20147, "Expired")] {
+        let on = day(number)?;
+        assert_eq!(rt; Term::early(day(19782)?).status(on).word(), word);
+        assert_eq!(rt; Term::permanent(on).status(on).word(), "Assigned");
+    }
     Ok(())
 }
 
-fn text(alloc: Global, bytes: &[u8]) -> Result<Option<Text>, Fail> {
-    Ok(Text::read(alloc, bytes)?)
+#[test]
+fn terms_are_renewed_once(rt: HostRuntime) -> Result<(), Fail> {
+    for (expires, renewed, approval, expiry) in [
+        (Some(20147), false, 20146, Ok(20512)),
+        (Some(20147), false, 20240, Ok(20605)),
+        (Some(20512), true, 20240, Err(RenewFault::Renewed)),
+        (None, false, 20240, Err(RenewFault::Permanent)),
+        (None, true, 20240, Err(RenewFault::Permanent)),
+    ] {
+        let outcome = term(expires, renewed)?.renew(day(approval)?);
+        match expiry {
+            Ok(number) => assert_eq!(rt; outcome, Ok(term(Some(number), true)?)),
+            Err(fault) => assert_eq!(rt; outcome, Err(fault)),
+        }
+    }
+    Ok(())
+}
+
+#[test]
+fn settled_terms_lose_their_expiry(rt: HostRuntime) -> Result<(), Fail> {
+    for renewed in [false, true] {
+        let settled = term(Some(20147), renewed)?.settle();
+        assert_eq!(rt; settled, Ok(term(None, renewed)?));
+        assert_eq!(rt; term(None, renewed)?.settle(), Err(SettleFault::Permanent));
+    }
+    Ok(())
+}
+
+fn text_if(alloc: Global, there: bool, bytes: &[u8]) -> Result<Option<Text>, Fail> {
+    if there {
+        Ok(Text::read(alloc, bytes)?)
+    } else {
+        Ok(None)
+    }
+}
+
+// Evidence with so many of the items draft, stable, interest, chair and director.
+fn evidence(alloc: Global, items: u8, will_be_rfc: bool) -> Result<EarlyEvidence, Fail> {
+    Ok(EarlyEvidence {
+        draft: text_if(alloc, items > 0, b"draft-x-00")?,
+        stable: items > 1,
+        interest: items > 2,
+        chair: text_if(alloc, items > 3, b"wg")?,
+        director: text_if(alloc, items > 4, b"ad")?,
+        will_be_rfc,
+    })
 }
 
 #[test]
 fn early_items_are_asked_in_order(rt: HostRuntime) -> Result<(), Fail> {
-    let mut evidence = EarlyEvidence {
-        draft: None,
-        stable: false,
-        interest: false,
-        chair: None,
-        director: None,
-        will_be_rfc: false,
-    };
-    let policy = Policy::StandardsAction;
-    assert_eq!(rt; early_missing(policy, &evidence), Some(Item::Draft));
-    evidence.draft = text(rt.alloc(), b"draft-x-00")?;
-    assert_eq!(rt; early_missing(policy, &evidence), Some(Item::Stable));
-    evidence.stable = true;
-    assert_eq!(rt; early_missing(policy, &evidence), Some(Item::Interest));
-    evidence.interest = true;
-    assert_eq!(rt; early_missing(policy, &evidence), Some(Item::Chair));
-    evidence.chair = text(rt.alloc(), b"wg")?;
-    assert_eq!(rt; early_missing(policy, &evidence), Some(Item::Director));
-    evidence.director = text(rt.alloc(), b"ad")?;
-    for policy in Policy::ALL {
-        let eligible = matches!(
-            policy,
-            Policy::RfcRequired | Policy::IetfReview | Policy::StandardsAction
-        );
-        let missing = if eligible { None } else { Some(Item::Policy) };
-        assert_eq!(rt; early_missing(policy, &evidence), missing);
+    for (items, missing) in [
+        (0, Some(Item::Draft)),
+        (1, Some(Item::Stable)),
+        (2, Some(Item::Interest)),
+        (3, Some(Item::Chair)),
+        (4, Some(Item::Director)),
+        (5, None),
+    ] {
+        let shown = evidence(rt.alloc(), items, false)?;
+        assert_eq!(rt; early_missing(Policy::StandardsAction, &shown), missing);
+        assert!(rt; shown.copy()? == shown);
     }
-    assert!(rt; evidence.copy()? == evidence);
-    evidence.will_be_rfc = true;
-    assert_eq!(rt;
-        early_missing(Policy::SpecificationRequired, &evidence),
-        None
-    );
+    Ok(())
+}
+
+#[test]
+fn four_policies_allow_early_allocation(rt: HostRuntime) -> Result<(), Fail> {
+    let never = Some(Item::Policy);
+    for (policy, otherwise, with_rfc) in [
+        (Policy::PrivateUse, never, never),
+        (Policy::ExperimentalUse, never, never),
+        (Policy::HierarchicalAllocation, never, never),
+        (Policy::FirstComeFirstServed, never, never),
+        (Policy::ExpertReview, never, never),
+        (Policy::SpecificationRequired, never, None),
+        (Policy::RfcRequired, None, None),
+        (Policy::IetfReview, None, None),
+        (Policy::StandardsAction, None, None),
+        (Policy::IesgApproval, never, never),
+    ] {
+        for (will_be_rfc, missing) in [(false, otherwise), (true, with_rfc)] {
+            let shown = evidence(rt.alloc(), 5, will_be_rfc)?;
+            assert_eq!(rt; early_missing(policy, &shown), missing, "{policy:?}");
+        }
+    }
     Ok(())
 }
