@@ -5,7 +5,6 @@ mod command_line;
 mod faults;
 mod jobs;
 mod performing;
-
 #[cfg(test)]
 mod tests;
 

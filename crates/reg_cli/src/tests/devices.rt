@@ -7,9 +7,11 @@ use std::io;
 use std::io::{Read, Write};
 use std::test::Fail;
 
-const LINES: &str = "1700000000 - GET /requests\n1700000000 clerk-token-00001 PUT /desk/tokens {\"account\":\"alice\",\"kind\":\"applicant\",\"token\":\"alice-token-00001\",\"until\":1800000000}\n1700000000 alice-token-00001 GET /requests\n";
+const LINES: &str =
+    "1700000000 - GET /requests\n1700000000 clerk-token-00001 PUT /desk/tokens {\"account\":\"alice\",\"kind\":\"applicant\",\"token\":\"alice-token-00001\",\"until\":1800000000}\n1700000000 alice-token-00001 GET /requests\n";
 
-const ANSWERS: &str = "401 {\"error\":\"token\"}\n200 {\"account\":\"alice\",\"kind\":\"applicant\",\"until\":1800000000}\n200 []\n";
+const ANSWERS: &str =
+    "401 {\"error\":\"token\"}\n200 {\"account\":\"alice\",\"kind\":\"applicant\",\"until\":1800000000}\n200 []\n";
 
 /// Gives one byte a call, and fails when these are given.
 #[derive(Drop)]

@@ -5,18 +5,12 @@ use std::test::Fail;
 
 /// The first lines of an office, and grants to two more applicants and two experts.
 pub const GRANTS: [Row; 9] = [
-    (
-        "1700000000 - GET /requests",
-        "401 {\"error\":\"token\"}",
-    ),
+    ("1700000000 - GET /requests", "401 {\"error\":\"token\"}"),
     (
         "1700000000 clerk-token-00001 PUT /desk/tokens {\"account\":\"alice\",\"kind\":\"applicant\",\"token\":\"alice-token-00001\",\"until\":1800000000}",
         "200 {\"account\":\"alice\",\"kind\":\"applicant\",\"until\":1800000000}",
     ),
-    (
-        "1700000000 alice-token-00001 GET /requests",
-        "200 []",
-    ),
+    ("1700000000 alice-token-00001 GET /requests", "200 []"),
     (
         "1700000000 clerk-token-00001 PUT /desk/tokens {\"account\":\"bob\",\"kind\":\"applicant\",\"token\":\"bobby-token-00001\",\"until\":1800000000}",
         "200 {\"account\":\"bob\",\"kind\":\"applicant\",\"until\":1800000000}",
@@ -53,10 +47,7 @@ const REFUSALS: [Row; 17] = [
         "32503680000 clerk-token-00001 GET /requests",
         "503 {\"error\":\"clock\"}",
     ),
-    (
-        "946684800 alice-token-00001 GET /requests",
-        "200 []",
-    ),
+    ("946684800 alice-token-00001 GET /requests", "200 []"),
     (
         "32503679999 clerk-token-00001 GET /requests",
         "403 {\"error\":\"kind\"}",
@@ -69,14 +60,8 @@ const REFUSALS: [Row; 17] = [
         "1700000000 clerk-token-00001 PUT /desk/tokens {\"account\":\"Alice\",\"kind\":\"applicant\",\"token\":\"alice-token-00001\",\"until\":1800000000}",
         "422 {\"error\":\"field\",\"item\":\"account\"}",
     ),
-    (
-        "hello",
-        "400 {\"error\":\"line\"}",
-    ),
-    (
-        "1799999999 alice-token-00001 GET /requests",
-        "200 []",
-    ),
+    ("hello", "400 {\"error\":\"line\"}"),
+    ("1799999999 alice-token-00001 GET /requests", "200 []"),
     (
         "1800000000 alice-token-00001 GET /requests",
         "401 {\"error\":\"token\"}",
@@ -85,10 +70,7 @@ const REFUSALS: [Row; 17] = [
         "1700000000 nobody-token-0001 GET /requests",
         "401 {\"error\":\"token\"}",
     ),
-    (
-        "1700000000 - GET /nothing",
-        "404 {\"error\":\"route\"}",
-    ),
+    ("1700000000 - GET /nothing", "404 {\"error\":\"route\"}"),
     (
         "1700000000 alice-token-00001 PUT /requests/a-9 []",
         "400 {\"error\":\"body\"}",
@@ -109,10 +91,7 @@ const REFUSALS: [Row; 17] = [
         "1700000000 alice-token-00001 GET /requests/UP",
         "422 {\"error\":\"field\",\"item\":\"reference\"}",
     ),
-    (
-        "hello",
-        "400 {\"error\":\"line\"}",
-    ),
+    ("hello", "400 {\"error\":\"line\"}"),
 ];
 
 /// A capability is taken away, twice; the token in use stays.

@@ -81,8 +81,14 @@ fn own_requests_alone_are_shown(rt: HostRuntime) -> Result<(), Fail> {
     for (account, reference) in [("alice", "a-1"), ("bob", "r-9")] {
         let account = Account::read(alloc, account.as_bytes())?.ok_or("an account")?;
         let reference = Ref::read(alloc, reference.as_bytes())?.ok_or("a reference")?;
-        assert_eq!(rt; store(&mut keeper, &account, &reference, &ask).ok(), Some(true));
-        assert_eq!(rt; store(&mut keeper, &account, &reference, &ask).ok(), Some(false));
+        assert_eq!(rt;
+            store(&mut keeper, &account, &reference, &ask).ok(),
+            Some(true)
+        );
+        assert_eq!(rt;
+            store(&mut keeper, &account, &reference, &ask).ok(),
+            Some(false)
+        );
     }
     let mut office = Office::new(alloc, keeper);
     let (lines, answers) = lines_of(&rt, &OWN)?;
