@@ -6,12 +6,8 @@ use std::test::Fail;
 mod command_lines;
 mod devices;
 mod rows;
-mod stored;
 
 const CLERK: &str = "clerk-token-00001";
-
-/// A line of a script, and its answer.
-type Row = (&'static str, &'static str);
 
 /// What a script gave: the exit status, standard output and standard error.
 #[derive(Drop)]
@@ -34,17 +30,4 @@ fn script<R: AllocGlobal>(rt: &R, clerk: &str, input: &str) -> Result<Given, Fai
         output,
         errors,
     })
-}
-
-/// The lines of the rows, and their answers, each with its line feed.
-fn lines_of(rt: &impl AllocGlobal, rows: &[Row]) -> Result<(String, String), Fail> {
-    let mut lines = String::new(rt.alloc());
-    let mut answers = String::new(rt.alloc());
-    for (line, answer) in rows {
-        lines.push_str(line)?;
-        lines.push('\n')?;
-        answers.push_str(answer)?;
-        answers.push('\n')?;
-    }
-    Ok((lines, answers))
 }

@@ -1,62 +1,79 @@
--- What holds of every answer: it is enough to see it of refusals, of a clerk's answers and of own answers.
+-- What holds of every answer: it is enough to see it of refusals, of a clerk's answers, of own answers and of what anybody is answered.
 use Rattle.std.proofs.Common.{◌≡◌, ℕ, true, false, ◌&&◌, List, refl, sym, ◌∙◌, ap}
 use Rattle.std.specs.Prelude.{Option, Some, None, Result, Ok, Err, option_map, nat_lt}
 use Rattle.std.specs.Cmp.{first_so, second_so}
 use Rattle.std.specs.FinMap.{get}
-use Rattle.reg_core.specs.Answer.{Answer, refused, admitted, if_admitted, is_moment, own_answer, answer_me, answer}
+use Rattle.reg_core.specs.Answer.{Answer, refused, admitted, if_admitted, is_moment, public_answer, own_answer, as_kind, answer_at, answer}
 use Rattle.reg_core.specs.Capability.{same_kind}
-use Rattle.reg_core.specs.Command.{kind_of}
 use Rattle.reg_core.specs.Step.{is_clerk, acts_as_clerk, clerk_answer, answer_to}
-use Rattle.reg_core.specs.View.{published, personal, view_of, cap_at, with_personal}
+use Rattle.reg_core.specs.View.{Personal, published, personal, view_of, cap_at, with_personal}
 use Rattle.reg_core.specs.World.{World}
 use Rattle.reg_core.specs.declared.capability.Cap.{Cap}
-use Rattle.reg_core.specs.declared.capability.Kind.TheVariants.{Clerk}
+use Rattle.reg_core.specs.declared.capability.Kind.{Kind}
+use Rattle.reg_core.specs.declared.capability.Kind.TheVariants as kind
 use Rattle.reg_core.specs.declared.command.Command.{Command}
+use Rattle.reg_core.specs.declared.command.Command.TheVariants.{Public, Applicant, Clerk}
+use Rattle.reg_core.specs.declared.command.ApplicantCommand.{ApplicantCommand}
+use Rattle.reg_core.specs.declared.command.ClerkCommand.{ClerkCommand}
+use Rattle.reg_core.specs.declared.command.PublicCommand.{PublicCommand}
 use Rattle.reg_core.specs.declared.refusal.Refusal.{Refusal}
 use Rattle.reg_core.specs.declared.refusal.Refusal.TheVariants as no
 use Rattle.reg_core.proofs.Cases.{by_test}
-use Rattle.reg_core.proofs.Sameness.{same_kind-is}
 use Rattle.reg_core.proofs.Stepping.{admitted-ok}
 
--- the capability by which a command is answered is the caller's, and of the command's kind
-pub record Serves (found : Option Cap) (command : Command) (cap : Cap) : Type 0 where
+-- the capability that was found is of this kind
+pub record Serves (found : Option Cap) (kind : Kind) (cap : Cap) : Type 0 where
   pub found_it : found ≡ Some cap
-  pub has_kind : same_kind cap.kind (kind_of command) ≡ true
+  pub has_kind : same_kind cap.kind kind ≡ true
 
-clerk_serves : (found : Option Cap) (moment : ℕ) (command : Command) → acts_as_clerk found moment command ≡ true → (cap : Cap) × Serves found command cap
-clerk_serves None moment command acts = absurd (cc (second_so (is_moment moment && same_kind (kind_of command) Clerk) false acts))
-clerk_serves (Some cap) moment command acts =
-    let of_clerks = second_so (is_moment moment) (same_kind (kind_of command) Clerk) (first_so (is_moment moment && same_kind (kind_of command) Clerk) (is_clerk (Some cap) moment) acts) in
-    let clerk = first_so (same_kind cap.kind Clerk) (nat_lt moment cap.until) (second_so (is_moment moment && same_kind (kind_of command) Clerk) (is_clerk (Some cap) moment) acts) in
-    (cap, record { found_it = refl; has_kind = ap (same_kind cap.kind) (same_kind-is (kind_of command) Clerk of_clerks) ∙ clerk })
+clerk_serves : (found : Option Cap) (moment : ℕ) → acts_as_clerk found moment ≡ true → (cap : Cap) × Serves found kind.Clerk cap
+clerk_serves None moment acts = absurd (cc (second_so (is_moment moment) false acts))
+clerk_serves (Some cap) moment acts =
+    let clerk = first_so (same_kind cap.kind kind.Clerk) (nat_lt moment cap.until) (second_so (is_moment moment) (is_clerk (Some cap) moment) acts) in
+    (cap, record { found_it = refl; has_kind = clerk })
 
-module _ (P : Answer → Type 0) (refusals : (refusal : Refusal) → P (refused refusal)) (w : World) (moment : ℕ) (command : Command) where
-  answer_me_by : (found : Option Cap) → ((cap : Cap) → Serves found command cap → P (own_answer (published w) cap.account (personal cap.account w) command))
-      → P (answer_me (published w) (option_map (with_personal w) found) moment command)
-  answer_me_by None own = refusals no.Token
-  answer_me_by (Some cap) own = by_outcome (admitted (Some cap) moment (kind_of command)) refl
-    where
-      by_outcome : (outcome : Result Cap Refusal) → admitted (Some cap) moment (kind_of command) ≡ outcome
-          → P (if_admitted outcome (own_answer (published w) cap.account (personal cap.account w) command))
-      by_outcome (Err refusal) is = refusals refusal
-      by_outcome (Ok by) is =
-          let ok = admitted-ok (Some cap) moment (kind_of command) by is in
-          let itself : by ≡ cap = cc in
-          own cap (record { found_it = refl; has_kind = ap (λ (c : Cap). same_kind c.kind (kind_of command)) (sym itself) ∙ ok.2 })
+-- what holds of refusals and of what an admitted caller is answered holds of what any is
+as_kind_by : (P : Answer → Type 0) → ((refusal : Refusal) → P (refused refusal)) → (w : World) (kind : Kind) (found : Option Cap) (moment : ℕ) (f : List ℕ → Personal → Answer)
+    → ((cap : Cap) → Serves found kind cap → P (f cap.account (personal cap.account w))) → P (as_kind kind (option_map (with_personal w) found) moment f)
+as_kind_by P refusals w kind None moment f own = refusals no.Token
+as_kind_by P refusals w kind (Some cap) moment f own = by_outcome (admitted (Some cap) moment kind) refl
+  where
+    by_outcome : (outcome : Result Cap Refusal) → admitted (Some cap) moment kind ≡ outcome → P (if_admitted outcome (f cap.account (personal cap.account w)))
+    by_outcome (Err refusal) is = refusals refusal
+    by_outcome (Ok by) is =
+        let ok = admitted-ok (Some cap) moment kind by is in
+        let itself : by ≡ cap = cc in
+        own cap (record { found_it = refl; has_kind = ap (λ (c : Cap). same_kind c.kind kind) (sym itself) ∙ ok.2 })
 
-  pub answer_by : (caller : Option (List ℕ)) → ((cap : Cap) → Serves (cap_at w caller) command cap → P (own_answer (published w) cap.account (personal cap.account w) command))
-      → P (answer (view_of w caller) moment command)
-  answer_by caller own =
-      by_test P (is_moment moment) (answer_me (published w) (view_of w caller).me moment command) (refused no.Clock)
-      (λ now. answer_me_by (cap_at w caller) own) (λ past. refusals no.Clock)
+module _ (P : Command → Answer → Type 0) (refusals : (command : Command) (refusal : Refusal) → P command (refused refusal)) (w : World) (moment : ℕ) where
+  module _ (public : (command : PublicCommand) → P (Public command) (public_answer (published w) command)) where
+    answer_at_by : (caller : Option (List ℕ))
+        → ((cap : Cap) → Serves (cap_at w caller) kind.Applicant cap → (command : ApplicantCommand) → P (Applicant command) (own_answer (published w) cap.account (personal cap.account w) command))
+        → (command : Command) → P command (answer_at (view_of w caller) moment command)
+    answer_at_by caller own (Public command) = public command
+    answer_at_by caller own (Applicant command) =
+        as_kind_by (P (Applicant command)) (refusals (Applicant command)) w kind.Applicant (cap_at w caller) moment
+        (λ account my. own_answer (published w) account my command) (λ cap serves. own cap serves command)
+    answer_at_by caller own (Clerk command) =
+        as_kind_by (P (Clerk command)) (refusals (Clerk command)) w kind.Clerk (cap_at w caller) moment
+        (λ account my. refused no.Kind) (λ cap serves. refusals (Clerk command) no.Kind)
 
-  module _ (digest_of : List ℕ → List ℕ) where
-    pub answer_to_by : (caller : Option (List ℕ))
-        → ((digest : List ℕ) (cap : Cap) → caller ≡ Some digest → Serves (get w.caps digest) command cap → P (clerk_answer digest_of w digest command))
-        → ((cap : Cap) → Serves (cap_at w caller) command cap → P (own_answer (published w) cap.account (personal cap.account w) command))
-        → P (answer_to digest_of w caller moment command)
-    answer_to_by None clerk own = answer_by None own
-    answer_to_by (Some digest) clerk own =
-        by_test P (acts_as_clerk (get w.caps digest) moment command) (clerk_answer digest_of w digest command) (answer (view_of w (Some digest)) moment command)
-        (λ acts. let by = clerk_serves (get w.caps digest) moment command acts in clerk digest by.0 refl by.1)
-        (λ other. answer_by (Some digest) own)
+    pub answer_by : (caller : Option (List ℕ))
+        → ((cap : Cap) → Serves (cap_at w caller) kind.Applicant cap → (command : ApplicantCommand) → P (Applicant command) (own_answer (published w) cap.account (personal cap.account w) command))
+        → (command : Command) → P command (answer (view_of w caller) moment command)
+    answer_by caller own command =
+        by_test (P command) (is_moment moment) (answer_at (view_of w caller) moment command) (refused no.Clock)
+        (λ now. answer_at_by caller own command) (λ past. refusals command no.Clock)
+
+    module _ (digest_of : List ℕ → List ℕ) where
+      pub answer_to_by : (caller : Option (List ℕ))
+          → ((digest : List ℕ) (cap : Cap) → caller ≡ Some digest → Serves (get w.caps digest) kind.Clerk cap → (command : ClerkCommand) → P (Clerk command) (clerk_answer digest_of w digest command))
+          → ((cap : Cap) → Serves (cap_at w caller) kind.Applicant cap → (command : ApplicantCommand) → P (Applicant command) (own_answer (published w) cap.account (personal cap.account w) command))
+          → (command : Command) → P command (answer_to digest_of w caller moment command)
+      answer_to_by caller clerk own (Public command) = answer_by caller own (Public command)
+      answer_to_by caller clerk own (Applicant command) = answer_by caller own (Applicant command)
+      answer_to_by None clerk own (Clerk command) = answer_by None own (Clerk command)
+      answer_to_by (Some digest) clerk own (Clerk command) =
+          by_test (P (Clerk command)) (acts_as_clerk (get w.caps digest) moment) (clerk_answer digest_of w digest command) (answer (view_of w (Some digest)) moment (Clerk command))
+          (λ acts. let by = clerk_serves (get w.caps digest) moment acts in clerk digest by.0 refl by.1 command)
+          (λ other. answer_by (Some digest) own (Clerk command))

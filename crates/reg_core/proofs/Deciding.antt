@@ -1,22 +1,41 @@
 -- What is known of the rows where a rule has decided.
 use Rattle.std.proofs.Common.{◌≡◌, ℕ, false, List, refl, ap}
 use Rattle.std.specs.Prelude.{Option, Some, None, Result, Ok, Err, is_some, if◌then◌else◌}
+use Rattle.reg_ranges.specs.Sameness.{same_table}
+use Rattle.reg_ranges.specs.Tables.{Table}
 use Rattle.reg_core.specs.Ask.{same_ask}
 use Rattle.reg_core.specs.Capability.{same_cap}
 use Rattle.reg_core.specs.Maps.{same_text}
-use Rattle.reg_core.specs.Rules.{grant_rule, revoke_rule, submit_rule}
+use Rattle.reg_core.specs.Rules.{define_rule, grant_rule, revoke_rule, submit_rule}
 use Rattle.reg_core.specs.World.{RequestName}
 use Rattle.reg_core.specs.declared.ask.Ask.{Ask}
 use Rattle.reg_core.specs.declared.capability.Cap.{Cap}
 use Rattle.reg_core.specs.declared.change.Change.{Change}
-use Rattle.reg_core.specs.declared.change.Change.TheVariants.{Grant, Revoke, Submit}
+use Rattle.reg_core.specs.declared.change.Change.TheVariants.{Grant, Revoke, Define, Submit}
 use Rattle.reg_core.specs.declared.decide.Decision.{Decision}
 use Rattle.reg_core.specs.declared.decide.Decision.TheVariants.{Make, Same}
 use Rattle.reg_core.specs.declared.refusal.Refusal.{Refusal}
 use Rattle.reg_core.specs.declared.refusal.Refusal.TheVariants.{Ref, Own, Exists}
 use Rattle.reg_core.specs.declared.request.Filing.{Filing}
 use Rattle.reg_core.proofs.Cases.{by_test}
-use Rattle.reg_core.proofs.Sameness.{same_cap-is, same_ask-is}
+use Rattle.reg_core.proofs.Sameness.{same_cap-is, same_ask-is, same_table-is}
+
+-- ---- Definitions
+
+-- a registry is opened only where there is none of its name
+pub define_made : (found : Option Table) (name : List ℕ) (table : Table) (change : Change) → define_rule found name table ≡ Ok (Make change)
+    → (found ≡ None) × (Define name table ≡ change)
+define_made None name table change h = (refl, cc)
+define_made (Some old) name table change h =
+    by_test (λ r. r ≡ Ok (Make change) → (Some old ≡ None) × (Define name table ≡ change)) (same_table old table) (Ok Same) (Err Exists)
+    (λ same h. absurd (cc)) (λ other h. absurd (cc)) h
+
+-- it is there already only with these ranges
+pub define_there : (found : Option Table) (name : List ℕ) (table : Table) → define_rule found name table ≡ Ok Same → found ≡ Some table
+define_there None name table h = absurd (cc)
+define_there (Some old) name table h =
+    by_test (λ r. r ≡ Ok Same → Some old ≡ Some table) (same_table old table) (Ok Same) (Err Exists)
+    (λ same h. ap Some (same_table-is old table same)) (λ other h. absurd (cc)) h
 
 -- ---- Grants
 

@@ -2,16 +2,17 @@
 use Rattle.std.proofs.Common.{◌≡◌, ℕ, true, List, subst}
 use Rattle.std.specs.Prelude.{None, Result, Ok}
 use Rattle.std.specs.FinMap.{get}
-use Rattle.reg_core.specs.Rules.{grant_rule, revoke_rule, submit_rule}
-use Rattle.reg_core.specs.WellKept.{WellKept, CanApply, has_grant_form, has_request_form}
+use Rattle.reg_ranges.specs.Tables.{Table}
+use Rattle.reg_core.specs.Rules.{define_rule, grant_rule, revoke_rule, submit_rule}
+use Rattle.reg_core.specs.WellKept.{WellKept, CanApply, has_grant_form, has_registry_form, has_request_form}
 use Rattle.reg_core.specs.World.{World, RequestName, pending}
 use Rattle.reg_core.specs.declared.ask.Ask.{Ask}
 use Rattle.reg_core.specs.declared.capability.Cap.{Cap}
 use Rattle.reg_core.specs.declared.change.Change.{Change}
-use Rattle.reg_core.specs.declared.change.Change.TheVariants.{Grant, Revoke, Submit}
+use Rattle.reg_core.specs.declared.change.Change.TheVariants.{Grant, Revoke, Define, Submit}
 use Rattle.reg_core.specs.declared.decide.Decision.TheVariants.{Make}
 use Rattle.reg_core.specs.declared.refusal.Refusal.{Refusal}
-use Rattle.reg_core.proofs.Deciding.{grant_made, revoke_made, submit_made}
+use Rattle.reg_core.proofs.Deciding.{define_made, grant_made, revoke_made, submit_made}
 use Rattle.reg_core.proofs.MapLaws.{text_keys, name_keys, insert_keeps, remove_keeps}
 
 -- ---- The changes
@@ -21,6 +22,7 @@ can_grant w digest cap kept form free = (
   free,
   record {
     caps = insert_keeps text_keys (λ digest cap. has_grant_form digest cap ≡ true) w.caps digest cap kept.caps form;
+    registries = kept.registries;
     requests = kept.requests;
   },
 )
@@ -30,6 +32,18 @@ can_revoke w digest kept = (
   tt,
   record {
     caps = remove_keeps text_keys (λ digest cap. has_grant_form digest cap ≡ true) w.caps digest kept.caps;
+    registries = kept.registries;
+    requests = kept.requests;
+  },
+)
+
+can_define : (w : World) (name : List ℕ) (table : Table) → WellKept w → has_registry_form name table ≡ true → get w.registries name ≡ None
+    → CanApply w (Define name table)
+can_define w name table kept form free = (
+  free,
+  record {
+    caps = kept.caps;
+    registries = insert_keeps text_keys (λ name table. has_registry_form name table ≡ true) w.registries name table kept.registries form;
     requests = kept.requests;
   },
 )
@@ -40,11 +54,19 @@ can_submit w name ask kept form free = (
   free,
   record {
     caps = kept.caps;
+    registries = kept.registries;
     requests = insert_keeps name_keys (λ name filing. has_request_form name filing ≡ true) w.requests name (pending ask) kept.requests form;
   },
 )
 
 -- ---- The rules
+
+-- a definition that is to be made fits the world that has this registry, or none, under the name
+pub define_fits : (w : World) (name : List ℕ) (table : Table) (change : Change) → WellKept w → has_registry_form name table ≡ true
+    → define_rule (get w.registries name) name table ≡ Ok (Make change) → CanApply w change
+define_fits w name table change kept form made =
+    let decided = define_made (get w.registries name) name table change made in
+    subst (CanApply w) decided.1 (can_define w name table kept form decided.0)
 
 -- a grant that is to be made fits the world that has this capability, or none, at the digest
 pub grant_fits : (w : World) (digest : List ℕ) (cap : Cap) (change : Change) → WellKept w → has_grant_form digest cap ≡ true

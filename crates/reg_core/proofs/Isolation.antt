@@ -3,12 +3,11 @@ use Rattle.std.proofs.Common.{◌≡◌, ℕ, true, false, ◌&&◌, List, refl,
 use Rattle.std.specs.Prelude.{Option, Some, None, Result, Ok, Err, option_map, unwrap_or, nat_lt, IfSome, if◌then◌else◌}
 use Rattle.std.specs.FinMap.{get}
 use Rattle.reg_core.specs.Ask.{same_ask}
-use Rattle.reg_core.specs.Answer.{Answer, answered, row_reply, submit, is_moment, own_answer, answer}
+use Rattle.reg_core.specs.Allowance.{allowed}
+use Rattle.reg_core.specs.Answer.{Answer, answered, row_reply, submit, is_moment, public_answer, own_answer, answer}
 use Rattle.reg_core.specs.Capability.{same_kind}
-use Rattle.reg_core.specs.Command.{kind_of}
 use Rattle.reg_core.specs.Laws.{TwoWorlds, IsNoClerk}
 use Rattle.reg_core.specs.Request.{request_row}
-use Rattle.reg_core.specs.Rules.{allowed}
 use Rattle.reg_core.specs.Step.{is_clerk, clerk_answer, answer_to}
 use Rattle.reg_core.specs.View.{Published, published, Personal, personal, requests_of, View, view_of, cap_at, with_personal}
 use Rattle.reg_core.specs.WellKept.{WellKept}
@@ -18,9 +17,13 @@ use Rattle.reg_core.specs.declared.capability.Cap.{Cap}
 use Rattle.reg_core.specs.declared.capability.Kind.{Kind}
 use Rattle.reg_core.specs.declared.capability.Kind.TheVariants.{Applicant, Expert, Clerk}
 use Rattle.reg_core.specs.declared.change.Change.{Change}
-use Rattle.reg_core.specs.declared.change.Change.TheVariants.{Grant, Revoke, Submit}
+use Rattle.reg_core.specs.declared.change.Change.TheVariants.{Grant, Revoke, Define, Submit}
 use Rattle.reg_core.specs.declared.command.Command.{Command}
-use Rattle.reg_core.specs.declared.command.Command.TheVariants.{Own, OwnOne, Submit as SubmitIt, Grant as GrantIt, Revoke as RevokeIt}
+use Rattle.reg_core.specs.declared.command.Command.TheVariants as command
+use Rattle.reg_core.specs.declared.command.ApplicantCommand.{ApplicantCommand}
+use Rattle.reg_core.specs.declared.command.ApplicantCommand.TheVariants.{Own, OwnOne, Submit as SubmitIt}
+use Rattle.reg_core.specs.declared.command.PublicCommand.{PublicCommand}
+use Rattle.reg_core.specs.declared.command.PublicCommand.TheVariants.{Registries, Registry, RegistryCsv}
 use Rattle.reg_core.specs.declared.decide.Decision.TheVariants.{Same}
 use Rattle.reg_core.specs.declared.refusal.Refusal.{Refusal}
 use Rattle.reg_core.specs.declared.refusal.Refusal.TheVariants as no
@@ -36,6 +39,7 @@ abbrev IsOwn : List ℕ → Personal → Change → Type 0
 IsOwn account my (Submit of reference ask) = of ≡ account
 IsOwn account my (Grant digest cap) = ⊥
 IsOwn account my (Revoke digest) = ⊥
+IsOwn account my (Define name table) = ⊥
 
 abbrev IsOwnIn : Option (Cap × Personal) → Change → Type 0
 IsOwnIn found change = (me : Cap × Personal) × (found ≡ Some me) × IsOwn me.0.account me.1 change
@@ -51,12 +55,10 @@ submit-own allowance account reference ask (Some old) my =
     ]
 
 -- a line for each command: what its answer changes is its account's own
-own_answer-own : (p : Published) (account : List ℕ) (my : Personal) (command : Command) → IfSome (own_answer p account my command).change (IsOwn account my)
+own_answer-own : (p : Published) (account : List ℕ) (my : Personal) (command : ApplicantCommand) → IfSome (own_answer p account my command).change (IsOwn account my)
 own_answer-own p account my Own = tt
 own_answer-own p account my (OwnOne reference) = tt
 own_answer-own p account my (SubmitIt reference ask) = submit-own (allowed p account ask) account reference ask (get my.requests (account, reference)) my
-own_answer-own p account my (GrantIt token cap) = tt
-own_answer-own p account my (RevokeIt token) = tt
 
 mine : (found : Option (Cap × Personal)) (me : Cap × Personal) → found ≡ Some me → (change : Option Change) → IfSome change (IsOwn me.0.account me.1) → IfSome change (IsOwnIn found)
 mine found me is None h = tt
@@ -64,10 +66,17 @@ mine found me is (Some change) h = (me, is, h)
 
 answer-own : (w : World) (caller : Option (List ℕ)) (moment : ℕ) (command : Command) → IfSome (answer (view_of w caller) moment command).change (IsOwnIn (view_of w caller).me)
 answer-own w caller moment command =
-    answer_by (λ a. IfSome a.change (IsOwnIn (view_of w caller).me)) (λ refusal. tt) w moment command caller (λ cap serves.
-    let own = own_answer (published w) cap.account (personal cap.account w) command in
+    answer_by (λ command a. IfSome a.change (IsOwnIn (view_of w caller).me)) (λ command refusal. tt) w moment public_leaves caller (λ cap serves given.
+    let own = own_answer (published w) cap.account (personal cap.account w) given in
     mine (view_of w caller).me (with_personal w cap) (ap (option_map (with_personal w)) serves.found_it) own.change
-    (own_answer-own (published w) cap.account (personal cap.account w) command))
+    (own_answer-own (published w) cap.account (personal cap.account w) given))
+    command
+  where
+    -- a line for each command of anybody: none changes anything
+    public_leaves : (given : PublicCommand) → IfSome (public_answer (published w) given).change (IsOwnIn (view_of w caller).me)
+    public_leaves Registries = tt
+    public_leaves (Registry name) = tt
+    public_leaves (RegistryCsv name) = tt
 
 -- ---- What two worlds share after such a change
 
@@ -87,12 +96,14 @@ module _ (account : List ℕ) (w v : World) (alike : ShowAlike account w v) wher
       record { published = alike.published; personal = λ i. record { requests = requests i } }
   own_shows_alike my (Grant digest cap) kept_w kept_v own = absurd own
   own_shows_alike my (Revoke digest) kept_w kept_v own = absurd own
+  own_shows_alike my (Define name table) kept_w kept_v own = absurd own
 
 -- such a change leaves all capabilities
 own_leaves_caps : (w : World) (account : List ℕ) (my : Personal) (change : Change) → IsOwn account my change → (caller : Option (List ℕ)) → cap_at (applied w change) caller ≡ cap_at w caller
 own_leaves_caps w account my (Submit of reference ask) own caller = refl
 own_leaves_caps w account my (Grant digest cap) own caller = absurd own
 own_leaves_caps w account my (Revoke digest) own caller = absurd own
+own_leaves_caps w account my (Define name table) own caller = absurd own
 
 -- ---- The views after the step
 
@@ -143,11 +154,13 @@ same_caps w v caller same =
 module _ (digest_of : List ℕ → List ℕ) where
   -- a caller who is no clerk gets the answer of its view
   pub answer_to-view : (w : World) (caller : Option (List ℕ)) (moment : ℕ) (command : Command) → IsNoClerk w caller → answer_to digest_of w caller moment command ≡ answer (view_of w caller) moment command
-  answer_to-view w None moment command h = refl
-  answer_to-view w (Some digest) moment command h =
-      ap (λ b. if is_moment moment && same_kind (kind_of command) Clerk && b then clerk_answer digest_of w digest command else answer (view_of w (Some digest)) moment command)
-      (no_clerk (get w.caps digest) moment h)
-      ∙ elim (is_moment moment && same_kind (kind_of command) Clerk) as (λ b. (if b && false then clerk_answer digest_of w digest command else answer (view_of w (Some digest)) moment command) ≡ answer (view_of w (Some digest)) moment command) [
+  answer_to-view w caller moment (command.Public given) h = refl
+  answer_to-view w caller moment (command.Applicant given) h = refl
+  answer_to-view w None moment (command.Clerk given) h = refl
+  answer_to-view w (Some digest) moment (command.Clerk given) h =
+      let told = answer (view_of w (Some digest)) moment (command.Clerk given) in
+      ap (λ b. if is_moment moment && b then clerk_answer digest_of w digest given else told) (no_clerk (get w.caps digest) moment h)
+      ∙ elim (is_moment moment) as (λ b. (if b && false then clerk_answer digest_of w digest given else told) ≡ told) [
         | true ↦ refl
         | false ↦ refl
       ]

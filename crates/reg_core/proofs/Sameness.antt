@@ -1,11 +1,19 @@
 -- The tests of sameness decide equality.
-use Rattle.std.proofs.Common.{◌≡◌, ℕ, Bool, true, List, refl, subst, rules}
+use Rattle.std.proofs.Common.{◌≡◌, ℕ, Bool, true, ◌&&◌, List, refl, subst, ap, rules}
+use Rattle.std.specs.Bool.{Decides}
+use Rattle.std.specs.Str.{bytes_eq}
 use Rattle.std.proofs.lemmas.Slice.Eq.{bytes_eq-Decides}
-use Rattle.reg_core.specs.Ask.{same_ask}
+use Rattle.reg_core.specs.Ask.{same_want, same_code, same_ask}
+use Rattle.reg_core.specs.Equivalences.{want_decided}
 use Rattle.reg_core.specs.Capability.{same_cap, same_kind}
 use Rattle.reg_core.specs.Laws.{DecidesSame}
 use Rattle.reg_core.specs.Maps.{same_text}
+use Rattle.reg_ranges.specs.Sameness.{same_evidence, same_table}
+use Rattle.reg_ranges.specs.Tables.{Table}
+use Rattle.reg_ranges.proofs.Sames.{both_decided, evidence_decided, table_decided}
 use Rattle.reg_core.specs.declared.ask.Ask.{Ask}
+use Rattle.reg_core.specs.declared.ask.Ask.TheVariants.{Code}
+use Rattle.reg_core.specs.declared.ask.CodeAsk.{CodeAsk}
 use Rattle.reg_core.specs.declared.capability.Cap.{Cap}
 use Rattle.reg_core.specs.declared.capability.Kind.{Kind}
 
@@ -40,11 +48,35 @@ same_cap-decides = from_both same_cap same_cap-is same_cap-itself
 
 -- ---- Asks
 
+code_decided : (a b : CodeAsk) → Decides (same_code a b) (a ≡ b)
+code_decided a b =
+    let registry = bytes_eq-Decides a.registry b.registry in
+    let want = want_decided a.want b.want in
+    let label = bytes_eq-Decides a.label b.label in
+    let evidence = evidence_decided a.evidence b.evidence in
+    let parts = both_decided (bytes_eq a.registry b.registry) (same_want a.want b.want && (bytes_eq a.label b.label && same_evidence a.evidence b.evidence)) registry
+    (both_decided (same_want a.want b.want) (bytes_eq a.label b.label && same_evidence a.evidence b.evidence) want
+    (both_decided (bytes_eq a.label b.label) (same_evidence a.evidence b.evidence) label evidence)) in (
+      λ h. let e = parts.0 h in λ i. record { registry = e.0 i; want = e.1.0 i; label = e.1.1.0 i; evidence = e.1.1.1 i },
+      λ e. parts.1 (ap (λ (x : CodeAsk). x.registry) e, (ap (λ (x : CodeAsk). x.want) e, (ap (λ (x : CodeAsk). x.label) e, ap (λ (x : CodeAsk). x.evidence) e))),
+    )
+
+ask_decided : (a b : Ask) → Decides (same_ask a b) (a ≡ b)
+ask_decided (Code a) (Code b) = (λ h. ap Code ((code_decided a b).0 h), λ e. (code_decided a b).1 (cc))
+
 pub same_ask-is : (a b : Ask) → same_ask a b ≡ true → a ≡ b
-same_ask-is a b = search rules
+same_ask-is a b h = (ask_decided a b).0 h
 
 pub same_ask-itself : (ask : Ask) → same_ask ask ask ≡ true
-same_ask-itself ask = search rules
+same_ask-itself ask = (ask_decided ask ask).1 refl
 
 pub same_ask-decides : DecidesSame same_ask
 same_ask-decides = from_both same_ask same_ask-is same_ask-itself
+
+-- ---- Tables
+
+pub same_table-is : (a b : Table) → same_table a b ≡ true → a ≡ b
+same_table-is a b h = (table_decided a b).0 h
+
+pub same_table-itself : (table : Table) → same_table table table ≡ true
+same_table-itself table = (table_decided table table).1 refl

@@ -14,7 +14,9 @@ use Rattle.reg_core.specs.declared.capability.Cap.{Cap}
 use Rattle.reg_core.specs.declared.capability.Kind.TheVariants.{Applicant}
 use Rattle.reg_core.specs.declared.change.Change.TheVariants as change
 use Rattle.reg_core.specs.declared.command.Command.{Command}
-use Rattle.reg_core.specs.declared.command.Command.TheVariants.{Own, Grant, Revoke}
+use Rattle.reg_core.specs.declared.command.Command.TheVariants.{Public, Applicant, Clerk}
+use Rattle.reg_core.specs.declared.command.ApplicantCommand.TheVariants.{Own}
+use Rattle.reg_core.specs.declared.command.ClerkCommand.TheVariants.{Grant, Revoke}
 use Rattle.reg_core.specs.declared.refusal.Refusal.TheVariants as no
 use Rattle.reg_core.specs.declared.reply.Reply.TheVariants.{Rows, Granted, Refused}
 use Rattle.reg_core.specs.declared.request.Filing.{Filing}
@@ -68,34 +70,34 @@ no_requests =
 
 -- ---- The lines
 
-without_a_token : taken office None 1700000000 Own ≡ record { reply = Refused no.Token; world = office }
+without_a_token : taken office None 1700000000 (Applicant Own) ≡ record { reply = Refused no.Token; world = office }
 without_a_token = refl
 
-first_grant : taken office (Some clerk) 1700000000 (Grant alice alice_cap) ≡ record { reply = Granted alice_cap; world = granted }
+first_grant : taken office (Some clerk) 1700000000 (Clerk (Grant alice alice_cap)) ≡ record { reply = Granted alice_cap; world = granted }
 first_grant = rw (office-clerk, office-alice) refl
 
-empty_list : taken granted (Some alice) 1700000000 Own ≡ record { reply = Rows []; world = granted }
+empty_list : taken granted (Some alice) 1700000000 (Applicant Own) ≡ record { reply = Rows []; world = granted }
 empty_list = rw (granted-alice, no_requests) refl
 
-same_grant : taken granted (Some clerk) 1700000000 (Grant alice alice_cap) ≡ record { reply = Granted alice_cap; world = granted }
+same_grant : taken granted (Some clerk) 1700000000 (Clerk (Grant alice alice_cap)) ≡ record { reply = Granted alice_cap; world = granted }
 same_grant = rw (granted-clerk, granted-alice) refl
 
-other_grant : taken granted (Some clerk) 1700000000 (Grant alice bob_cap) ≡ record { reply = Refused no.Exists; world = granted }
+other_grant : taken granted (Some clerk) 1700000000 (Clerk (Grant alice bob_cap)) ≡ record { reply = Refused no.Exists; world = granted }
 other_grant = rw (granted-clerk, granted-alice) refl
 
-last_second : taken granted (Some alice) 1799999999 Own ≡ record { reply = Rows []; world = granted }
+last_second : taken granted (Some alice) 1799999999 (Applicant Own) ≡ record { reply = Rows []; world = granted }
 last_second = rw (granted-alice, no_requests) refl
 
-too_late : taken granted (Some alice) 1800000000 Own ≡ record { reply = Refused no.Token; world = granted }
+too_late : taken granted (Some alice) 1800000000 (Applicant Own) ≡ record { reply = Refused no.Token; world = granted }
 too_late = rw granted-alice refl
 
-clerks_own_list : taken granted (Some clerk) 1700000000 Own ≡ record { reply = Refused no.Kind; world = granted }
+clerks_own_list : taken granted (Some clerk) 1700000000 (Applicant Own) ≡ record { reply = Refused no.Kind; world = granted }
 clerks_own_list = rw granted-clerk refl
 
-grant_by_an_applicant : taken granted (Some alice) 1700000000 (Grant (codes "other-token-00001") bob_cap) ≡ record { reply = Refused no.Kind; world = granted }
+grant_by_an_applicant : taken granted (Some alice) 1700000000 (Clerk (Grant (codes "other-token-00001") bob_cap)) ≡ record { reply = Refused no.Kind; world = granted }
 grant_by_an_applicant = rw granted-alice refl
 
-token_in_use : taken granted (Some clerk) 1700000000 (Revoke clerk) ≡ record { reply = Refused no.Own; world = granted }
+token_in_use : taken granted (Some clerk) 1700000000 (Clerk (Revoke clerk)) ≡ record { reply = Refused no.Own; world = granted }
 token_in_use = rw granted-clerk refl
 
 clock : (is_moment 946684799 ≡ false) × (is_moment 946684800 ≡ true) × (is_moment 32503679999 ≡ true) × (is_moment 32503680000 ≡ false)
@@ -103,16 +105,18 @@ clock = (refl, refl, refl, refl)
 
 -- outside those years every command of every caller is refused, whatever the world
 closed : (w : World) (caller : Option (List ℕ)) (command : Command) → taken w caller 946684799 command ≡ record { reply = Refused no.Clock; world = w }
-closed w None command = refl
-closed w (Some digest) command = refl
+closed w caller (Public command) = refl
+closed w caller (Applicant command) = refl
+closed w None (Clerk command) = refl
+closed w (Some digest) (Clerk command) = refl
 
 -- ---- The three lines of a new office in turn
 
 abbrev at : Option (List ℕ) → Command → Event
 at caller command = record { caller = caller; moment = 1700000000; command = command }
 
-first_lines : run (λ token. token) office (at None Own ∷ at (Some clerk) (Grant alice alice_cap) ∷ at (Some alice) Own ∷ [])
+first_lines : run (λ token. token) office (at None (Applicant Own) ∷ at (Some clerk) (Clerk (Grant alice alice_cap)) ∷ at (Some alice) (Applicant Own) ∷ [])
     ≡ Refused no.Token ∷ Granted alice_cap ∷ Rows [] ∷ []
 first_lines =
-    ap (λ (s : Stepped). Refused no.Token ∷ s.reply ∷ run (λ token. token) s.world (at (Some alice) Own ∷ [])) first_grant
+    ap (λ (s : Stepped). Refused no.Token ∷ s.reply ∷ run (λ token. token) s.world (at (Some alice) (Applicant Own) ∷ [])) first_grant
     ∙ ap (λ (s : Stepped). Refused no.Token ∷ Granted alice_cap ∷ s.reply ∷ []) empty_list

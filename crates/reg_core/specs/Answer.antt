@@ -1,18 +1,25 @@
 -- What a caller is answered, as a function of what it sees.
 use Rattle.std.specs.Prelude.{ℕ, Bool, ◌&&◌, nat_le, nat_lt, List, Option, Some, None, Result, Ok, Err, if◌then◌else◌}
-use Rattle.std.specs.FinMap.{get}
+use Rattle.std.specs.FinMap.{get, keys}
+use Rattle.reg_ranges.specs.Tables.{Table}
+use Rattle.reg_core.specs.Allowance.{allowed}
 use Rattle.reg_core.specs.Capability.{same_kind}
-use Rattle.reg_core.specs.Command.{kind_of}
+use Rattle.reg_core.specs.Registry.{page}
 use Rattle.reg_core.specs.Request.{request_row, request_rows}
-use Rattle.reg_core.specs.Rules.{allowed, submit_rule}
+use Rattle.reg_core.specs.Rules.{submit_rule}
 use Rattle.reg_core.specs.View.{Published, Personal, View}
 use Rattle.reg_core.specs.World.{RequestName, pending}
 use Rattle.reg_core.specs.declared.ask.Ask.{Ask}
 use Rattle.reg_core.specs.declared.capability.Cap.{Cap}
 use Rattle.reg_core.specs.declared.capability.Kind.{Kind}
+use Rattle.reg_core.specs.declared.capability.Kind.TheVariants as kind
 use Rattle.reg_core.specs.declared.change.Change.{Change}
 use Rattle.reg_core.specs.declared.command.Command.{Command}
-use Rattle.reg_core.specs.declared.command.Command.TheVariants.{Own, OwnOne, Submit, Grant, Revoke}
+use Rattle.reg_core.specs.declared.command.Command.TheVariants.{Public, Applicant, Clerk}
+use Rattle.reg_core.specs.declared.command.ApplicantCommand.{ApplicantCommand}
+use Rattle.reg_core.specs.declared.command.ApplicantCommand.TheVariants.{Own, OwnOne, Submit}
+use Rattle.reg_core.specs.declared.command.PublicCommand.{PublicCommand}
+use Rattle.reg_core.specs.declared.command.PublicCommand.TheVariants.{Registries, Registry, RegistryCsv}
 use Rattle.reg_core.specs.declared.decide.Decision.{Decision}
 use Rattle.reg_core.specs.declared.decide.Decision.TheVariants.{Make, Same}
 use Rattle.reg_core.specs.declared.refusal.Refusal.{Refusal}
@@ -47,6 +54,22 @@ abbrev pub submit : Result (Unit {0}) Refusal → RequestName → Ask → Option
 submit allowance name ask found =
     answered (submit_rule allowance name ask found) (row_reply name found) (reply.Made (request_row name (pending ask)))
 
+-- ---- Anybody
+
+-- a registry, if there is one of this name
+abbrev pub page_reply : List ℕ → Option Table → Reply
+page_reply name None = reply.Refused no.Registry
+page_reply name (Some table) = reply.Page (page name table)
+
+abbrev pub sheet_reply : List ℕ → Option Table → Reply
+sheet_reply name None = reply.Refused no.Registry
+sheet_reply name (Some table) = reply.Sheet (page name table)
+
+abbrev pub public_answer : Published → PublicCommand → Answer
+public_answer p Registries = replied (reply.Names (keys p.registries))
+public_answer p (Registry name) = replied (page_reply name (get p.registries name))
+public_answer p (RegistryCsv name) = replied (sheet_reply name (get p.registries name))
+
 -- ---- Admission
 
 -- the years 2000 to 2999
@@ -65,22 +88,27 @@ abbrev pub if_admitted : Result Cap Refusal → Answer → Answer
 if_admitted (Err refusal) a = refused refusal
 if_admitted (Ok cap) a = a
 
--- ---- A caller who acts as no clerk
+-- a caller with a capability of this kind is answered by its account and its own rows
+abbrev pub as_kind : Kind → Option (Cap × Personal) → ℕ → (List ℕ → Personal → Answer) → Answer
+as_kind kind None moment f = refused no.Token
+as_kind kind (Some me) moment f = if_admitted (admitted (Some me.0) moment kind) (f me.0.account me.1)
 
--- an admitted caller is answered over its account's own rows; no clerk's command is one of these
-abbrev pub own_answer : Published → List ℕ → Personal → Command → Answer
+-- ---- An applicant
+
+abbrev pub own_answer : Published → List ℕ → Personal → ApplicantCommand → Answer
 own_answer p account my Own = replied (reply.Rows (request_rows my.requests))
 own_answer p account my (OwnOne reference) = replied (row_reply (account, reference) (get my.requests (account, reference)))
 own_answer p account my (Submit reference ask) = submit (allowed p account ask) (account, reference) ask (get my.requests (account, reference))
-own_answer p account my (Grant token cap) = refused no.Kind
-own_answer p account my (Revoke token) = refused no.Kind
 
-abbrev pub answer_me : Published → Option (Cap × Personal) → ℕ → Command → Answer
-answer_me p None moment command = refused no.Token
-answer_me p (Some me) moment command = if_admitted (admitted (Some me.0) moment (kind_of command)) (own_answer p me.0.account me.1 command)
+-- ---- A caller who acts as no clerk
+
+abbrev pub answer_at : View → ℕ → Command → Answer
+answer_at v moment (Public command) = public_answer v.published command
+answer_at v moment (Applicant command) = as_kind kind.Applicant v.me moment (λ account my. own_answer v.published account my command)
+answer_at v moment (Clerk command) = as_kind kind.Clerk v.me moment (λ account my. refused no.Kind)
 
 abbrev pub answer : View → ℕ → Command → Answer
-answer v moment command = if is_moment moment then answer_me v.published v.me moment command else refused no.Clock
+answer v moment command = if is_moment moment then answer_at v moment command else refused no.Clock
 
 -- the reply, and the change, to a caller who sees this view
 abbrev pub told : View → ℕ → Command → Reply

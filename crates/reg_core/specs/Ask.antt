@@ -1,25 +1,51 @@
 -- What an ask is.
-use Rattle.std.specs.Prelude.{ℕ, Bool, true, ◌&&◌, ◌==◌, ◌^◌, nat_lt, bytes_eq, List, Option, Some, None}
-use Rattle.std.specs.Option.{option_eq}
-use Rattle.reg_ranges.specs.Texts.{is_text}
+use Rattle.std.specs.Prelude.{ℕ, Bool, true, false, ◌&&◌, ◌==◌, ◌^◌, nat_lt, bytes_eq, List, Option, Some, None}
+use Rattle.reg_ranges.specs.Rfcs.{PublishedRfc}
+use Rattle.reg_ranges.specs.Sameness.{same_policy, same_evidence}
+use Rattle.reg_ranges.specs.Texts.{is_within, is_text}
+use Rattle.reg_ranges.specs.declared.evidence.Evidence.{Evidence}
 use Rattle.reg_core.specs.Names.{is_name}
 use Rattle.reg_core.specs.declared.ask.CodeAsk.{CodeAsk}
 use Rattle.reg_core.specs.declared.ask.Ask.{Ask}
 use Rattle.reg_core.specs.declared.ask.Ask.TheVariants.{Code}
+use Rattle.reg_core.specs.declared.ask.Want.{Want}
+use Rattle.reg_core.specs.declared.ask.Want.TheVariants.{Value, Least}
+
+-- ---- Forms
 
 -- a text that may be missing
 abbrev pub has_note_form : Option (List ℕ) → Bool
 has_note_form None = true
 has_note_form (Some note) = is_text note
 
+-- an RFC that may be missing
+abbrev pub has_rfc_form : Option PublishedRfc → Bool
+has_rfc_form None = true
+has_rfc_form (Some rfc) = is_within 1 99999 rfc.number
+
+abbrev pub has_evidence_form : Evidence → Bool
+has_evidence_form e = has_note_form e.contact && has_note_form e.spec && has_rfc_form e.rfc && has_note_form e.minute
+
+abbrev pub has_want_form : Want → Bool
+has_want_form (Value v) = nat_lt v (2 ^ 32)
+has_want_form (Least policy) = true
+
 abbrev pub has_code_form : CodeAsk → Bool
-has_code_form ask = is_name ask.registry && nat_lt ask.value (2 ^ 32) && is_text ask.label && has_note_form ask.contact
+has_code_form ask = is_name ask.registry && has_want_form ask.want && is_text ask.label && has_evidence_form ask.evidence
 
 abbrev pub has_ask_form : Ask → Bool
 has_ask_form (Code ask) = has_code_form ask
 
+-- ---- Sameness
+
+abbrev pub same_want : Want → Want → Bool
+same_want (Value v) (Value u) = v == u
+same_want (Least p) (Least q) = same_policy p q
+same_want (Value v) (Least q) = false
+same_want (Least p) (Value u) = false
+
 abbrev pub same_code : CodeAsk → CodeAsk → Bool
-same_code a b = bytes_eq a.registry b.registry && a.value == b.value && bytes_eq a.label b.label && option_eq bytes_eq a.contact b.contact
+same_code a b = bytes_eq a.registry b.registry && (same_want a.want b.want && (bytes_eq a.label b.label && same_evidence a.evidence b.evidence))
 
 abbrev pub same_ask : Ask → Ask → Bool
 same_ask (Code a) (Code b) = same_code a b

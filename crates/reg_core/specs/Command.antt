@@ -1,25 +1,44 @@
 -- Whose commands they are.
-use Rattle.std.specs.Prelude.{Bool, true, ◌&&◌}
+use Rattle.std.specs.Prelude.{Bool, true, ◌&&◌, Option, Some, None}
 use Rattle.reg_core.specs.Names.{is_name, is_token}
 use Rattle.reg_core.specs.Ask.{has_ask_form}
 use Rattle.reg_core.specs.Capability.{has_cap_form}
+use Rattle.reg_core.specs.Registry.{has_table_form}
 use Rattle.reg_core.specs.declared.capability.Kind.{Kind}
-use Rattle.reg_core.specs.declared.capability.Kind.TheVariants.{Applicant, Clerk}
+use Rattle.reg_core.specs.declared.capability.Kind.TheVariants as kind
 use Rattle.reg_core.specs.declared.command.Command.{Command}
-use Rattle.reg_core.specs.declared.command.Command.TheVariants.{Own, OwnOne, Submit, Grant, Revoke}
+use Rattle.reg_core.specs.declared.command.Command.TheVariants.{Public, Applicant, Clerk}
+use Rattle.reg_core.specs.declared.command.PublicCommand.{PublicCommand}
+use Rattle.reg_core.specs.declared.command.PublicCommand.TheVariants.{Registries, Registry, RegistryCsv}
+use Rattle.reg_core.specs.declared.command.ApplicantCommand.{ApplicantCommand}
+use Rattle.reg_core.specs.declared.command.ApplicantCommand.TheVariants.{Own, OwnOne, Submit}
+use Rattle.reg_core.specs.declared.command.ClerkCommand.{ClerkCommand}
+use Rattle.reg_core.specs.declared.command.ClerkCommand.TheVariants.{Define, Grant, Revoke}
 
--- the kind of capability that a command needs
-abbrev pub kind_of : Command → Kind
-kind_of Own = Applicant
-kind_of (OwnOne reference) = Applicant
-kind_of (Submit reference ask) = Applicant
-kind_of (Grant token cap) = Clerk
-kind_of (Revoke token) = Clerk
+-- the kind of capability that a command needs; none where it is anybody's
+abbrev pub kind_of : Command → Option Kind
+kind_of (Public command) = None
+kind_of (Applicant command) = Some kind.Applicant
+kind_of (Clerk command) = Some kind.Clerk
 
--- its texts and numbers have their forms
+-- ---- Its texts and numbers have their forms
+
+abbrev pub has_public_form : PublicCommand → Bool
+has_public_form Registries = true
+has_public_form (Registry name) = is_name name
+has_public_form (RegistryCsv name) = is_name name
+
+abbrev pub has_applicant_form : ApplicantCommand → Bool
+has_applicant_form Own = true
+has_applicant_form (OwnOne reference) = is_name reference
+has_applicant_form (Submit reference ask) = is_name reference && has_ask_form ask
+
+abbrev pub has_clerk_form : ClerkCommand → Bool
+has_clerk_form (Define name table) = is_name name && has_table_form table
+has_clerk_form (Grant token cap) = is_token token && has_cap_form cap
+has_clerk_form (Revoke token) = is_token token
+
 abbrev pub has_command_form : Command → Bool
-has_command_form Own = true
-has_command_form (OwnOne reference) = is_name reference
-has_command_form (Submit reference ask) = is_name reference && has_ask_form ask
-has_command_form (Grant token cap) = is_token token && has_cap_form cap
-has_command_form (Revoke token) = is_token token
+has_command_form (Public command) = has_public_form command
+has_command_form (Applicant command) = has_applicant_form command
+has_command_form (Clerk command) = has_clerk_form command

@@ -1,11 +1,14 @@
 pub mod Names
 pub mod Capability
 pub mod Ask
+pub mod Equivalences
+pub mod Registry
 pub mod Command
 pub mod Maps
 pub mod World
 pub mod Request
 pub mod View
+pub mod Allowance
 pub mod Rules
 pub mod Answer
 pub mod Step

@@ -1,30 +1,32 @@
 -- The rule by which each command is decided, over just the rows that it needs.
 use Rattle.std.specs.Prelude.{◌≡◌, ℕ, List, Option, Some, None, Result, Ok, Err, is_some, if◌then◌else◌, MatchResult}
+use Rattle.reg_ranges.specs.Sameness.{same_table}
+use Rattle.reg_ranges.specs.Tables.{Table}
 use Rattle.reg_core.specs.Maps.{same_text}
 use Rattle.reg_core.specs.Ask.{same_ask}
 use Rattle.reg_core.specs.Capability.{same_cap}
-use Rattle.reg_core.specs.View.{Published}
 use Rattle.reg_core.specs.World.{RequestName}
 use Rattle.reg_core.specs.declared.ask.Ask.{Ask}
 use Rattle.reg_core.specs.declared.capability.Cap.{Cap}
-use Rattle.reg_core.specs.declared.change.Change.TheVariants.{Grant, Revoke, Submit}
+use Rattle.reg_core.specs.declared.change.Change.TheVariants.{Grant, Revoke, Define, Submit}
 use Rattle.reg_core.specs.declared.decide.Decision.{Decision}
 use Rattle.reg_core.specs.declared.decide.Decision.TheVariants.{Make, Same}
 use Rattle.reg_core.specs.declared.decide.Deny.{Deny}
 use Rattle.reg_core.specs.declared.decide.Deny.TheVariants.{Refused, Memory}
 use Rattle.reg_core.specs.declared.refusal.Refusal.{Refusal}
-use Rattle.reg_core.specs.declared.refusal.Refusal.TheVariants.{Ref, Registry, Own, Exists}
+use Rattle.reg_core.specs.declared.refusal.Refusal.TheVariants.{Ref, Own, Exists}
 use Rattle.reg_core.specs.declared.request.Filing.{Filing}
-
--- the first refusal that an ask meets in the published registers: there is no registry yet
-abbrev pub allowed : Published → List ℕ → Ask → Result (Unit {0}) Refusal
-allowed p account ask = Err Registry
 
 -- another request is made where the ask is allowed; the same ask again is the request that is there
 abbrev pub submit_rule : Result (Unit {0}) Refusal → RequestName → Ask → Option Filing → Result Decision Refusal
 submit_rule allowance name ask (Some old) = if same_ask old.ask ask then Ok Same else Err Ref
 submit_rule (Ok _) name ask None = Ok (Make (Submit name.0 name.1 ask))
 submit_rule (Err refusal) name ask None = Err refusal
+
+-- a registry keeps the ranges with which it was defined
+abbrev pub define_rule : Option Table → List ℕ → Table → Result Decision Refusal
+define_rule None name table = Ok (Make (Define name table))
+define_rule (Some old) name table = if same_table old table then Ok Same else Err Exists
 
 abbrev pub grant_rule : Option Cap → List ℕ → Cap → Result Decision Refusal
 grant_rule None digest cap = Ok (Make (Grant digest cap))

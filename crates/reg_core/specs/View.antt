@@ -1,19 +1,18 @@
 -- What is published, and what one caller sees.
 use Rattle.std.specs.Prelude.{ℕ, List, Option, option_map, option_and_then}
 use Rattle.std.specs.FinMap.{FinMap, get}
-use Rattle.reg_core.specs.Maps.{same_text, only_if, select}
+use Rattle.reg_ranges.specs.Tables.{Table}
+use Rattle.reg_core.specs.Maps.{text_cmp, same_text, only_if, select}
 use Rattle.reg_core.specs.World.{World, name_cmp}
 use Rattle.reg_core.specs.declared.capability.Cap.{Cap}
 use Rattle.reg_core.specs.declared.request.Filing.{Filing}
 
--- the published registers, of which there are none yet
+-- the published registers: the ranges of each registry
 pub record Published : Type 0 where
-
-abbrev pub nothing_published : Published
-nothing_published = record {}
+  pub registries : FinMap text_cmp Table
 
 abbrev pub published : World → Published
-published w = nothing_published
+published w = record { registries = w.registries }
 
 -- an account's own rows
 pub record Personal : Type 0 where

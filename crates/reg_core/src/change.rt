@@ -1,7 +1,8 @@
 //! What a command changes.
 use crate::ask::Ask;
 use crate::capability::Cap;
-use crate::text::{Account, Digest, Ref};
+use crate::text::{Account, Digest, Name, Ref};
+use reg_ranges::table::RangeTable;
 
 /// What a command changes in the office: the whole of one change, or nothing, is kept.
 #[derive(Drop)]
@@ -10,6 +11,8 @@ pub enum Change {
     Grant(Digest, Cap),
     /// Takes the capability at a digest away.
     Revoke(Digest),
+    /// Adds a registry.
+    Define(Name, RangeTable),
     /// Adds a pending request.
     Submit(Account, Ref, Ask),
 }

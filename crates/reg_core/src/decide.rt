@@ -1,14 +1,18 @@
 //! What each command that may change something is decided to be, over just the rows that it needs.
+mod allowance;
+mod define;
 mod grant;
 mod revoke;
 mod submit;
 
 use crate::change::Change;
 use crate::refusal::Refusal;
+pub use allowance::{Ground, check_ask};
+pub use define::decide_define;
 pub use grant::decide_grant;
 pub use revoke::decide_revoke;
 use std::alloc::AllocError;
-pub use submit::{check_ask, decide_submit};
+pub use submit::decide_submit;
 
 /// What an accepted command comes to.
 #[derive(Drop)]

@@ -8,6 +8,7 @@ pub mod change;
 pub mod command;
 pub mod decide;
 pub mod laws;
+pub mod page;
 pub mod refusal;
 pub mod reply;
 pub mod request;

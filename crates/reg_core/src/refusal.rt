@@ -1,5 +1,7 @@
 //! Why the office refuses a command.
 
+use reg_ranges::evidence::Item;
+
 /// Why the office refuses a command. A refusal changes nothing, and each command meets its refusals in
 /// the order in which they stand here.
 #[derive(Clone, Copy, Debug, PartialEq, Eq)]
@@ -16,6 +18,13 @@ pub enum Refusal {
     Request,
     /// There is no such registry.
     Registry,
+    /// The value is above the registry's largest.
+    Range,
+    /// The value's range is reserved, or its policy assigns no single values (RFC 8126 sections 4.1 to
+    /// 4.3 and 6); or the least value is wanted under such a policy or under one that no range has.
+    Policy,
+    /// The policy asks for this item of evidence, and it is not met (RFC 8126 section 4).
+    Evidence(Item),
     /// A clerk revokes the token in use.
     Own,
     /// Something else is there already.

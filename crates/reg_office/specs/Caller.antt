@@ -1,11 +1,18 @@
--- Who calls: the digest of a token, and the step of the office by it.
-use Rattle.std.specs.Prelude.{ℕ, List, Option, Some, None, if◌then◌else◌}
+-- Who calls: the digest of a token, the capability at it, and the step of the office by it.
+use Rattle.std.specs.Prelude.{ℕ, List, Option, Some, None, Result, Ok, Err, if◌then◌else◌}
+use Rattle.std.specs.FinMap.{get}
 use Rattle.hex.specs.Hex.{encode_lower}
 use Rattle.sha2.specs.Sha256.{sha256}
+use Rattle.reg_core.specs.Answer.{admitted}
 use Rattle.reg_core.specs.Names.{is_token}
 use Rattle.reg_core.specs.Step.{Stepped, step}
 use Rattle.reg_core.specs.World.{World}
+use Rattle.reg_core.specs.declared.capability.Cap.{Cap}
+use Rattle.reg_core.specs.declared.capability.Kind.{Kind}
 use Rattle.reg_core.specs.declared.command.Command.{Command}
+use Rattle.reg_core.specs.declared.refusal.Refusal.{Refusal}
+use Rattle.reg_core.specs.declared.refusal.Refusal.TheVariants as no
+use Rattle.reg_office.specs.declared.admission.Caller.{Caller}
 
 -- the SHA-256 of a token, in lower-case hexadecimal
 unfoldable pub token_digest : List ℕ → List ℕ
@@ -15,6 +22,15 @@ token_digest token = encode_lower (sha256 token)
 abbrev pub caller_of : Option (List ℕ) → Option (List ℕ)
 caller_of None = None
 caller_of (Some token) = if is_token token then Some (token_digest token) else None
+
+abbrev pub with_cap : List ℕ → Result Cap Refusal → Result Caller Refusal
+with_cap digest (Ok cap) = Ok (record { digest = digest; cap = cap })
+with_cap digest (Err refusal) = Err refusal
+
+-- the caller with the capability by which it gives a command of a kind at a moment, or the first refusal
+abbrev pub admission : World → Option (List ℕ) → ℕ → Kind → Result Caller Refusal
+admission w None moment kind = Err no.Token
+admission w (Some digest) moment kind = with_cap digest (admitted (get w.caps digest) moment kind)
 
 -- the step of the office at a command that comes with this token, or with none
 abbrev pub step_by : World → Option (List ℕ) → ℕ → Command → Stepped

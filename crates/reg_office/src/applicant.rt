@@ -1,24 +1,48 @@
 //! What an applicant may do, once admitted.
-ghost use Rattle.std.specs.Prelude.{◌≡◌, true, IfOk, IfErr, OnOk, OnErr};
+ghost use Rattle.std.specs.Prelude.{◌≡◌, true, None, IfOk, IfErr, OnOk, OnErr};
+ghost use Rattle.std.specs.Option.{option_copied};
+ghost use Rattle.reg_core.specs.Allowance.{ground_of};
 ghost use Rattle.reg_core.specs.Request.{request_row};
+ghost use Rattle.reg_core.specs.View.{published};
 ghost use Rattle.reg_core.specs.WellKept.{has_request_form};
 ghost use Rattle.reg_core.specs.World.{applied_if, pending as pending_filing};
 ghost use Rattle.reg_store.specs.Keeper.{MayFault};
-ghost use Rattle.reg_office.specs.Acts.{own_list, own_row, submission};
+ghost use Rattle.reg_office.specs.Acts.{applicant_act, own_list, own_row, submission};
 ghost use Rattle.reg_office.specs.Rows.{row_or_refused as row_told};
 
 use crate::carrying::make;
 use reg_core::ask::Ask;
-use reg_core::decide::{Decision, Deny, decide_submit};
+use reg_core::command::ApplicantCommand;
+use reg_core::decide::{Decision, Deny, Ground, decide_submit};
 use reg_core::refusal::Refusal;
 use reg_core::reply::Reply;
 use reg_core::request::{Request, State};
 use reg_core::text::{Account, Ref};
+use reg_ranges::table::RangeTable;
 use reg_store::keeper::{Fault, Keeper};
 use std::alloc::AllocError;
 
-/// The applicant's own requests.
-pub fn list_own<K: Keeper>(keeper: &mut K, account: &Account) -> Result<Reply, Fault>
+/// What a command of this account's is answered.
+pub fn perform<K: Keeper>(
+    keeper: &mut K,
+    account: &Account,
+    command: &ApplicantCommand,
+) -> Result<Reply, Fault>
+    ensures reply { K.Holds keeper.new → IfOk result (λ r. r ≡ (applicant_act (K.world keeper.old) account.now command.now).reply) }
+    ensures made { K.Holds keeper.new → OnOk result (K.world keeper.new ≡ applied_if (K.world keeper.old) (applicant_act (K.world keeper.old) account.now command.now).change) }
+    ensures kept { K.Holds keeper.new → OnErr result (K.world keeper.new ≡ K.world keeper.old) }
+    ensures held { K.Holds keeper.new → K.Holds keeper.old }
+    ensures fault { IfErr result (MayFault K.FAILS) }
+{
+    match command {
+        ApplicantCommand::Own => list_own(keeper, account),
+        ApplicantCommand::OwnOne(reference) => show_own(keeper, account, reference),
+        ApplicantCommand::Submit(reference, ask) => submit(keeper, account, reference, ask),
+    }
+}
+
+// The applicant's own requests.
+fn list_own<K: Keeper>(keeper: &mut K, account: &Account) -> Result<Reply, Fault>
     ensures reply { K.Holds keeper.new → IfOk result (λ r. r ≡ (own_list (K.world keeper.old) account.now).reply) }
     ensures same { K.Holds keeper.new → K.world keeper.new ≡ K.world keeper.old }
     ensures held { K.Holds keeper.new → K.Holds keeper.old }
@@ -27,12 +51,8 @@ pub fn list_own<K: Keeper>(keeper: &mut K, account: &Account) -> Result<Reply, F
     Ok(Reply::Rows(keeper.own(account)?))
 }
 
-/// One of the applicant's own requests.
-pub fn show_own<K: Keeper>(
-    keeper: &mut K,
-    account: &Account,
-    reference: &Ref,
-) -> Result<Reply, Fault>
+// One of the applicant's own requests.
+fn show_own<K: Keeper>(keeper: &mut K, account: &Account, reference: &Ref) -> Result<Reply, Fault>
     ensures reply { K.Holds keeper.new → IfOk result (λ r. r ≡ (own_row (K.world keeper.old) account.now reference.now).reply) }
     ensures same { K.Holds keeper.new → K.world keeper.new ≡ K.world keeper.old }
     ensures held { K.Holds keeper.new → K.Holds keeper.old }
@@ -42,8 +62,8 @@ pub fn show_own<K: Keeper>(
     Ok(row_or_refused(found))
 }
 
-/// A request of the applicant's.
-pub fn submit<K: Keeper>(
+// A request of the applicant's. No registry is looked at for one that is there already.
+fn submit<K: Keeper>(
     keeper: &mut K,
     account: &Account,
     reference: &Ref,
@@ -56,7 +76,11 @@ pub fn submit<K: Keeper>(
     ensures fault { IfErr result (MayFault K.FAILS) }
 {
     let found = keeper.own_one(account, reference)?;
-    match decide_submit(found.as_ref(), account, reference, ask) {
+    let table = table_for(keeper, found.as_ref(), ask)?;
+    let rows = Ground {
+        table: table.as_ref(),
+    };
+    match decide_submit(found.as_ref(), account, reference, ask, rows) {
         Ok(Decision::Make(change)) => {
             let row = pending(account, reference, ask)?;
             make(keeper, change)?;
@@ -65,6 +89,23 @@ pub fn submit<K: Keeper>(
         Ok(Decision::Same) => Ok(row_or_refused(found)),
         Err(Deny::Refused(refusal)) => Ok(Reply::Refused(refusal)),
         Err(Deny::Memory) => Err(Fault::Memory),
+    }
+}
+
+// The ranges that an ask needs, where no request is there yet.
+fn table_for<K: Keeper>(
+    keeper: &mut K,
+    found: Option<&Request>,
+    ask: &Ask,
+) -> Result<Option<RangeTable>, Fault>
+    ensures row { K.Holds keeper.new → option_copied found.entry ≡ None → IfOk result (λ table. record { table = table } ≡ ground_of (published (K.world keeper.old)) ask.now) }
+    ensures same { K.Holds keeper.new → K.world keeper.new ≡ K.world keeper.old }
+    ensures held { K.Holds keeper.new → K.Holds keeper.old }
+    ensures fault { IfErr result (MayFault K.FAILS) }
+{
+    match (found, ask) {
+        (Some(_), _) => Ok(None),
+        (None, Ask::Code(code)) => keeper.ranges(&code.registry),
     }
 }
 

@@ -1,6 +1,7 @@
 //! The office: tokens and their digests, and one command at a time over whatever keeps its content.
 #![tactic(auto)]
 
+mod admission;
 mod applicant;
 mod carrying;
 mod clerk;
@@ -8,6 +9,7 @@ mod digest;
 mod found;
 pub mod laws;
 mod office;
+mod public;
 
 pub use found::FoundFault;
 pub use office::Office;

@@ -1,23 +1,20 @@
 //! The office over whatever keeps its content.
-ghost use Rattle.std.specs.Prelude.{◌≡◌, None, Err, IfOk, IfErr, OnOk, OnErr, IsOk, false};
+ghost use Rattle.std.specs.Prelude.{◌≡◌, None, Err, IfOk, IfErr, OnOk, OnErr, IsOk, IsSome, false};
 ghost use Rattle.std.specs.Option.{option_copied};
-ghost use Rattle.reg_core.specs.Answer.{is_moment, admitted};
+ghost use Rattle.reg_core.specs.Answer.{is_moment};
+ghost use Rattle.reg_core.specs.Command.{kind_of};
 ghost use Rattle.reg_core.specs.Names.{is_token};
-ghost use Rattle.reg_core.specs.World.{applied_if};
 ghost use Rattle.reg_store.specs.Keeper.{MayFault};
-ghost use Rattle.reg_office.specs.Acts.{act};
 ghost use Rattle.reg_office.specs.Caller.{caller_of as caller, step_by};
 ghost use Rattle.reg_office.specs.Found.{WasFounded, IsCause, MayFound};
 
-use crate::applicant::{list_own, show_own, submit};
-use crate::clerk::{grant, revoke};
-use crate::digest::caller_of;
+use crate::admission::{admit, is_open};
 use crate::found::{FoundFault, found};
-use reg_core::capability::{Cap, Kind};
+use crate::{applicant, clerk, public};
+use reg_core::capability::Kind;
 use reg_core::command::Command;
 use reg_core::refusal::Refusal;
 use reg_core::reply::Reply;
-use reg_core::text::Digest;
 use reg_store::keeper::{Fault, Keeper};
 use std::alloc::Global;
 use std::marker::Model;
@@ -65,8 +62,9 @@ impl<K: Keeper> Office<K> {
     }
 
     /// Answers one command at a moment, in seconds since 1970-01-01T00:00:00Z, of the caller with this
-    /// token: exactly one step of the office. After a fault nothing has changed. A moment outside the
-    /// years 2000 to 2999 and a command without a token are answered without memory.
+    /// token: exactly one step of the office. After a fault nothing has changed. At a command that is
+    /// anybody's the token is not looked at. A moment outside the years 2000 to 2999 is answered without
+    /// memory, and so is a command without a token that is not anybody's.
     pub fn handle(
         &mut self,
         moment: u64,
@@ -79,7 +77,7 @@ impl<K: Keeper> Office<K> {
         ensures held { K.Holds self.new → K.Holds self.old }
         ensures fault { IfErr result (MayFault K.FAILS) }
         ensures clock { is_moment moment ≡ false → IsOk result }
-        ensures nobody { caller (option_copied token.entry) ≡ None → IsOk result }
+        ensures nobody { IsSome (kind_of command.now) → caller (option_copied token.entry) ≡ None → IsOk result }
     {
         handle(self.alloc, &mut self.keeper, moment, token, command)
     }
@@ -98,64 +96,22 @@ fn handle<K: Keeper>(
     ensures held { K.Holds keeper.new → K.Holds keeper.old }
     ensures fault { IfErr result (MayFault K.FAILS) }
     ensures clock { is_moment moment ≡ false → IsOk result }
-    ensures nobody { caller (option_copied token.entry) ≡ None → IsOk result }
+    ensures nobody { IsSome (kind_of command.now) → caller (option_copied token.entry) ≡ None → IsOk result }
 {
     if !is_open(moment) {
         return Ok(Reply::Refused(Refusal::Clock));
     }
-    let Some(digest) = caller_of(alloc, token)? else {
-        return Ok(Reply::Refused(Refusal::Token));
-    };
-    let found = keeper.cap(&digest)?;
-    match admit(found, moment, command.kind()) {
-        Ok(cap) => perform(alloc, keeper, &digest, &cap, command),
-        Err(refusal) => Ok(Reply::Refused(refusal)),
-    }
-}
-
-// Whether the moment lies in the years 2000 to 2999.
-fn is_open(moment: u64) -> bool
-    ensures { result ≡ is_moment moment }
-{
-    (946_684_800..32_503_680_000).contains(&moment)
-}
-
-// The capability by which a command of this kind may be given.
-fn admit(found: Option<Cap>, moment: u64, kind: Kind) -> Result<Cap, Refusal>
-    ensures { result ≡ admitted found moment kind }
-{
-    let Some(cap) = found else {
-        return Err(Refusal::Token);
-    };
-    if cap.until.seconds() <= moment {
-        return Err(Refusal::Token);
-    }
-    if cap.kind == kind {
-        Ok(cap)
-    } else {
-        Err(Refusal::Kind)
-    }
-}
-
-// What the holder of this capability is answered.
-fn perform<K: Keeper>(
-    alloc: Global,
-    keeper: &mut K,
-    in_use: &Digest,
-    cap: &Cap,
-    command: &Command,
-) -> Result<Reply, Fault>
-    ensures reply { K.Holds keeper.new → IfOk result (λ r. r ≡ (act (K.world keeper.old) in_use.now cap.now command.now).reply) }
-    ensures made { K.Holds keeper.new → OnOk result (K.world keeper.new ≡ applied_if (K.world keeper.old) (act (K.world keeper.old) in_use.now cap.now command.now).change) }
-    ensures kept { K.Holds keeper.new → OnErr result (K.world keeper.new ≡ K.world keeper.old) }
-    ensures held { K.Holds keeper.new → K.Holds keeper.old }
-    ensures fault { IfErr result (MayFault K.FAILS) }
-{
     match command {
-        Command::Own => list_own(keeper, &cap.account),
-        Command::OwnOne(reference) => show_own(keeper, &cap.account, reference),
-        Command::Submit(reference, ask) => submit(keeper, &cap.account, reference, ask),
-        Command::Grant(token, granted) => grant(alloc, keeper, token, granted),
-        Command::Revoke(token) => revoke(alloc, keeper, in_use, token),
+        Command::Public(command) => public::perform(keeper, command),
+        Command::Applicant(command) => {
+            match admit(alloc, keeper, token, moment, Kind::Applicant)? {
+                Ok(caller) => applicant::perform(keeper, &caller.cap.account, command),
+                Err(refusal) => Ok(Reply::Refused(refusal)),
+            }
+        }
+        Command::Clerk(command) => match admit(alloc, keeper, token, moment, Kind::Clerk)? {
+            Ok(caller) => clerk::perform(alloc, keeper, &caller.digest, command),
+            Err(refusal) => Ok(Reply::Refused(refusal)),
+        },
     }
 }

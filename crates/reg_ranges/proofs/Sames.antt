@@ -48,7 +48,7 @@ option_decided {T} same each None (Some y) = (λ h. absurd (cc), λ e. absurd (c
 option_decided {T} same each (Some x) None = (λ h. absurd (cc), λ e. absurd (cc))
 option_decided {T} same each (Some x) (Some y) = (λ h. ap Some ((each x y).0 h), λ e. (each x y).1 (cc))
 
-both_decided : {A B : Type 0} (a b : Bool) → Decides a A → Decides b B → Decides (a && b) (A × B)
+pub both_decided : {A B : Type 0} (a b : Bool) → Decides a A → Decides b B → Decides (a && b) (A × B)
 both_decided {A} {B} a b first second =
     (λ h. let parts = and_parts a b h in (first.0 parts.0, second.0 parts.1), λ e. and_from a b (first.1 e.0) (second.1 e.1))
 

@@ -7,6 +7,7 @@ use Rattle.std.specs.Ordering.{eq_by_cmp, is_eq, is_lt, ordering_then, ordering_
 use Rattle.std.specs.Cmp.{IsTotalOrder, eq_by_cmp_equiv}
 use Rattle.std.specs.Cmp.Lexicographic.{nat_list_cmp_total}
 use Rattle.std.proofs.lemmas.Map.Text.{is_eq-slice_cmp}
+use Rattle.reg_ranges.specs.Tables.{Table}
 use Rattle.reg_core.specs.declared.capability.Cap.{Cap}
 use Rattle.reg_core.specs.declared.request.Filing.{Filing}
 use Rattle.reg_core.specs.WellKept.{WellKept}
@@ -16,15 +17,11 @@ use Rattle.std.specs.List.{AllByRecursion}
 use Rattle.std.specs.List.Sorted.{IsStrictlySortedBy}
 use Rattle.std.specs.BTreeMap as tree
 use Rattle.std.specs.BTreeMap.{BTreeMap, is_at, IsOrdered}
-use Rattle.std.specs.FinMap.{FinMap, get, insert, remove, entries, entries_sorted, find, is_sorted, get-from_entries, get-remove, get-entries}
+use Rattle.std.specs.FinMap.{FinMap, get, insert, remove, keys, entries, entries_sorted, find, is_sorted, get-from_entries, get-remove, get-entries}
 use Rattle.std.specs.FinMap.Entries.{below_all, same_entries}
 use Rattle.reg_core.specs.Maps.{text_cmp, pair_cmp, same_text, only_if, select, update}
-use Rattle.reg_core.proofs.MapLaws.{IsKeyOrder, text_keys, pair_keys, same_at, get-select, get-update, get-at_insert, tied}
-use Rattle.reg_core.specs.World.{name_cmp}
+use Rattle.reg_core.proofs.MapLaws.{IsKeyOrder, text_keys, pair_keys, name_keys, same_at, get-select, get-update, get-at_insert, tied}
 use Rattle.reg_store.specs.Groups.{table, row_at, group_rows, rows_in, grouped, rows_of}
-
-pub name_keys : IsKeyOrder name_cmp
-name_keys = pair_keys text_keys text_keys
 
 -- ---- Lists in order
 
@@ -198,6 +195,10 @@ self_tie Greater e = absurd (subst (λ r. T (is_lt r)) (sym e) tt)
 pub entries_are : {K X : Type 0} {R : K → K → Ordering} → IsKeyOrder R → (m : FinMap R X) (es : List (K × X)) → T (is_sorted R es) → ((q : K) → get m q ≡ find R q es) → entries m ≡ es
 entries_are {R = R} o m es h is = same_entries R o.total o.exact (entries m) es (entries_sorted m) h (λ q. sym (get-entries m q) ∙ is q)
 
+-- an ordered map has the keys of the finite map that it is seen as, in the same order
+pub keys-table : {K X : Type 0} {R : K → K → Ordering} → IsKeyOrder R → (m : BTreeMap K X) → IsOrdered R m → keys (table R m) ≡ keys_of m.entries
+keys-table {R = R} o m h = ap keys_of (entries_are o (table R m) m.entries (sorted R m.entries h) (get-from_entries o.total m.entries))
+
 module _ {A B V : Type 0} {P : A → A → Ordering} (Q : B → B → Ordering) (o : IsTotalOrder P) where
   below-group : (a : A) (b : B) (rs : List (B × V)) → T (below_all Q b rs) → T (below_all (pair_cmp P Q) (a, b) (group_rows a rs))
   below-group a b [] h = tt
@@ -254,10 +255,16 @@ no_row R m e q = ap (lookup (is_at (R q))) e
 none_is : {X : Type 0} {A : Type 0} (o : Option X) (x : X) → o ≡ None → o ≡ Some x → A
 none_is o x n s = absurd (cc)
 
+-- an ordered map without entries has no row
+get-no_rows : {X : Type 0} (m : BTreeMap (List ℕ) X) → m.entries ≡ [] → (q : List ℕ) → get (table text_cmp m) q ≡ None
+get-no_rows m none q = get-table text_keys m q ∙ no_row text_cmp m none q
+
 -- maps without entries hold a well kept world
-pub empty-kept : (caps : BTreeMap (List ℕ) Cap) (requests : BTreeMap (List ℕ) (BTreeMap (List ℕ) Filing)) → IsOrdered text_cmp requests → caps.entries ≡ [] → requests.entries ≡ [] → WellKept (kept caps requests)
-empty-kept caps requests h none_of_caps none_of_requests = record {
-  caps = λ digest cap is. none_is (get (table text_cmp caps) digest) cap (get-table text_keys caps digest ∙ no_row text_cmp caps none_of_caps digest) is;
+pub empty-kept : (caps : BTreeMap (List ℕ) Cap) (registries : BTreeMap (List ℕ) Table) (requests : BTreeMap (List ℕ) (BTreeMap (List ℕ) Filing)) → IsOrdered text_cmp requests
+    → caps.entries ≡ [] → registries.entries ≡ [] → requests.entries ≡ [] → WellKept (kept caps registries requests)
+empty-kept caps registries requests h no_caps no_registries no_requests = record {
+  caps = λ digest cap is. none_is (get (table text_cmp caps) digest) cap (get-no_rows caps no_caps digest) is;
+  registries = λ name ranges is. none_is (get (table text_cmp registries) name) ranges (get-no_rows registries no_registries name) is;
   requests = λ name filing is. none_is (get (grouped text_cmp text_cmp requests) name) filing
-      (get-grouped text_keys text_keys requests h name ∙ ap (option_and_then (λ group. tree.get text_cmp group name.1)) (no_row text_cmp requests none_of_requests name.0)) is;
+      (get-grouped text_keys text_keys requests h name ∙ ap (option_and_then (λ group. tree.get text_cmp group name.1)) (no_row text_cmp requests no_requests name.0)) is;
 }

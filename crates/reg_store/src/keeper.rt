@@ -1,6 +1,6 @@
 //! What keeps the content of an office.
 ghost use Rattle.std.specs.Prelude.{◌≡◌, Bool, IfOk, IfErr, OnOk, OnErr, option_map};
-ghost use Rattle.std.specs.FinMap.{get};
+ghost use Rattle.std.specs.FinMap.{get, keys};
 ghost use Rattle.reg_core.specs.Request.{request_row, request_rows};
 ghost use Rattle.reg_core.specs.View.{requests_of};
 ghost use Rattle.reg_core.specs.WellKept.{WellKept, CanApply};
@@ -11,7 +11,8 @@ use reg_core::capability::Cap;
 use reg_core::change::Change;
 use reg_core::request::Request;
 use reg_core::rows::Rows;
-use reg_core::text::{Account, Digest, Ref};
+use reg_core::text::{Account, Digest, Name, Ref};
+use reg_ranges::table::RangeTable;
 use std::alloc::AllocError;
 
 /// Why a keeper gave no answer. Nothing has changed then.
@@ -56,6 +57,20 @@ pub trait Keeper {
     /// The capability at a digest.
     fn cap(&mut self, digest: &Digest) -> Result<Option<Cap>, Fault>
         ensures row { Holds self.new → IfOk result (λ cap. cap ≡ get (world self.old).caps digest.now) }
+        ensures same { Holds self.new → world self.new ≡ world self.old }
+        ensures held { Holds self.new → Holds self.old }
+        ensures fault { IfErr result (MayFault FAILS) };
+
+    /// The names of all registries, in order.
+    fn names(&mut self) -> Result<Rows<Name>, Fault>
+        ensures rows { Holds self.new → IfOk result (λ names. names ≡ keys (world self.old).registries) }
+        ensures same { Holds self.new → world self.new ≡ world self.old }
+        ensures held { Holds self.new → Holds self.old }
+        ensures fault { IfErr result (MayFault FAILS) };
+
+    /// The ranges of a registry, with its largest value.
+    fn ranges(&mut self, name: &Name) -> Result<Option<RangeTable>, Fault>
+        ensures row { Holds self.new → IfOk result (λ table. table ≡ get (world self.old).registries name.now) }
         ensures same { Holds self.new → world self.new ≡ world self.old }
         ensures held { Holds self.new → Holds self.old }
         ensures fault { IfErr result (MayFault FAILS) };

@@ -1,35 +1,36 @@
 //! The keeper in memory.
-ghost use Rattle.std.specs.Prelude.{◌≡◌, map, IfOk, OnOk, OnErr, option_map};
-ghost use Rattle.std.specs.FinMap as fin;
-ghost use Rattle.reg_core.specs.Maps.{text_cmp, same_text, only_if, select};
-ghost use Rattle.reg_core.specs.Request.{request_row as request_at, request_rows as rows_shown};
+ghost use Rattle.std.specs.Prelude.{◌≡◌};
 ghost use Rattle.reg_core.specs.WellKept.{WellKept};
 ghost use Rattle.reg_core.specs.World.{empty_world};
-ghost use Rattle.reg_store.specs.Groups.{table, grouped, group_rows};
 ghost use Rattle.reg_store.specs.Kept.{kept};
 
-use crate::groups::{group_in, put_row, row_in, set_row, take_row};
+mod caps;
+mod registries;
+mod requests;
+
 use crate::keeper::{Fault, Keeper};
+use caps::{Caps, cap_in, put_cap, take_cap};
 use reg_core::capability::Cap;
 use reg_core::change::Change;
 use reg_core::request::{Filing, Request, State};
 use reg_core::rows::Rows;
-use reg_core::text::{Account, Digest, Ref};
-use std::alloc::{AllocError, Global};
+use reg_core::text::{Account, Digest, Name, Ref};
+use reg_ranges::table::RangeTable;
+use registries::{Registries, names_in, put_table, table_in};
+use requests::{Requests, own_rows, put_filing, request_in};
+use std::alloc::Global;
 use std::collections::BTreeMap;
 
-type Caps = BTreeMap<Digest, Cap>;
-
-type Requests = BTreeMap<Account, BTreeMap<Ref, Filing>>;
-
-/// The content of an office in memory: capabilities by digest, and requests by account and reference.
-/// A row by its key takes O(log n), and an account's own rows O(log n + rows).
+/// The content of an office in memory: capabilities by digest, registries by name, and requests by account
+/// and reference. A row by its key takes O(log n), a registry's ranges and an account's own rows O(log n + rows),
+/// and the names of all registries O(names).
 #[derive(Drop)]
 pub struct ListKeeper {
     alloc: Global,
     caps: Caps,
+    registries: Registries,
     requests: Requests,
-    ghost well: { WellKept (kept caps requests) },
+    ghost well: { WellKept (kept caps registries requests) },
 }
 
 impl ListKeeper {
@@ -42,6 +43,7 @@ impl ListKeeper {
         ListKeeper {
             alloc,
             caps: BTreeMap::new(alloc),
+            registries: BTreeMap::new(alloc),
             requests: BTreeMap::new(alloc),
         }
     }
@@ -67,6 +69,14 @@ impl Keeper for ListKeeper {
         Ok(cap_in(&self.caps, digest)?)
     }
 
+    fn names(&mut self) -> Result<Rows<Name>, Fault> {
+        Ok(names_in(self.alloc, &self.registries)?)
+    }
+
+    fn ranges(&mut self, name: &Name) -> Result<Option<RangeTable>, Fault> {
+        Ok(table_in(&self.registries, name)?)
+    }
+
     fn own(&mut self, account: &Account) -> Result<Rows<Request>, Fault> {
         Ok(own_rows(self.alloc, &self.requests, account)?)
     }
@@ -79,6 +89,7 @@ impl Keeper for ListKeeper {
         match change {
             Change::Grant(digest, cap) => put_cap(&mut self.caps, digest, cap)?,
             Change::Revoke(digest) => take_cap(&mut self.caps, &digest),
+            Change::Define(name, table) => put_table(&mut self.registries, name, table)?,
             Change::Submit(account, reference, ask) => {
                 let filing = Filing {
                     ask,
@@ -89,91 +100,4 @@ impl Keeper for ListKeeper {
         }
         Ok(())
     }
-}
-
-fn cap_in(caps: &Caps, digest: &Digest) -> Result<Option<Cap>, AllocError>
-    ensures { IfOk result (λ found. found ≡ fin.get (table text_cmp caps.now) digest.now) }
-{
-    match caps.get(digest) {
-        Some(cap) => Ok(Some(cap.copy()?)),
-        None => Ok(None),
-    }
-}
-
-fn put_cap(caps: &mut Caps, digest: Digest, cap: Cap) -> Result<(), AllocError>
-    ensures ok { OnOk result (table text_cmp caps.new ≡ fin.insert (table text_cmp caps.old) digest cap) }
-    ensures err { OnErr result (table text_cmp caps.new ≡ table text_cmp caps.old) }
-{
-    set_row(caps, digest, cap)
-}
-
-fn take_cap(caps: &mut Caps, digest: &Digest)
-    ensures { table text_cmp caps.new ≡ fin.remove (table text_cmp caps.old) digest.now }
-{
-    take_row(caps, digest);
-}
-
-fn request_in(
-    requests: &Requests,
-    account: &Account,
-    reference: &Ref,
-) -> Result<Option<Request>, AllocError>
-    ensures { IfOk result (λ row. row ≡ option_map (request_at (account.now, reference.now)) (fin.get (grouped text_cmp text_cmp requests.now) (account.now, reference.now))) }
-{
-    match row_in(requests, account, reference) {
-        Some(filing) => Ok(Some(request_row(account, reference, filing)?)),
-        None => Ok(None),
-    }
-}
-
-fn own_rows(
-    alloc: Global,
-    requests: &Requests,
-    account: &Account,
-) -> Result<Rows<Request>, AllocError>
-    ensures { IfOk result (λ rows. rows ≡ rows_shown (select (λ name filing. only_if (same_text name.0 account.now) filing) (grouped text_cmp text_cmp requests.now))) }
-{
-    let rows = match group_in(requests, account) {
-        Some(group) => request_rows(alloc, account, group)?,
-        None => Vec::new(alloc),
-    };
-    Ok(Rows::from_vec(rows))
-}
-
-fn request_rows(
-    alloc: Global,
-    account: &Account,
-    group: &BTreeMap<Ref, Filing>,
-) -> Result<Vec<Request>, AllocError>
-    ensures { IfOk result (λ rows. rows.items ≡ map (λ e. request_at e.0 e.1) (group_rows account.now group.now.entries)) }
-{
-    let mut rows = Vec::new(alloc);
-    for (reference, filing) in group {
-        rows.push(request_row(account, reference, filing)?)?;
-    }
-    Ok(rows)
-}
-
-fn request_row(account: &Account, reference: &Ref, filing: &Filing) -> Result<Request, AllocError>
-    ensures { IfOk result (λ row. row ≡ request_at (account.now, reference.now) filing.now) }
-{
-    Ok(Request {
-        account: account.copy()?,
-        reference: reference.copy()?,
-        ask: filing.ask.copy()?,
-        state: filing.state,
-    })
-}
-
-fn put_filing(
-    alloc: Global,
-    requests: &mut Requests,
-    account: Account,
-    reference: Ref,
-    filing: Filing,
-) -> Result<(), AllocError>
-    ensures ok { OnOk result (grouped text_cmp text_cmp requests.new ≡ fin.insert (grouped text_cmp text_cmp requests.old) (account, reference) filing) }
-    ensures err { OnErr result (grouped text_cmp text_cmp requests.new ≡ grouped text_cmp text_cmp requests.old) }
-{
-    put_row(alloc, requests, account, reference, filing)
 }

@@ -8,7 +8,7 @@ use Rattle.serde_json.proofs.OnLiterals.{serde_json_on_literals}
 use Rattle.reg_core.specs.declared.refusal.Refusal.{Refusal}
 use Rattle.reg_core.specs.declared.refusal.Refusal.TheVariants as no
 use Rattle.reg_core.specs.declared.reply.Reply.{Reply}
-use Rattle.reg_core.specs.declared.reply.Reply.TheVariants.{Made, Row, Rows, Granted, Revoked, Refused}
+use Rattle.reg_core.specs.declared.reply.Reply.TheVariants.{Names, Page, Sheet, Made, Row, Rows, Defined, Granted, Revoked, Refused}
 use Rattle.reg_wire.specs.Answer.{body_text, status_of}
 use Rattle.reg_wire.specs.Script.{IsOneLine, refusal, storage}
 use Rattle.reg_wire.specs.Served.{answer_line, tab_of}
@@ -33,15 +33,22 @@ refused_is_another no.Kind = refl
 refused_is_another no.Ref = refl
 refused_is_another no.Request = refl
 refused_is_another no.Registry = refl
+refused_is_another no.Range = refl
+refused_is_another no.Policy = refl
+refused_is_another (no.Evidence item) = refl
 refused_is_another no.Own = refl
 refused_is_another no.Exists = refl
 
 pub reply_is_another : (r : Reply) → bytes_eq (answer_line (answer.Reply r)) storage ≡ false
 unfolding digits
+reply_is_another (Names names) = refl
+reply_is_another (Page page) = refl
+reply_is_another (Sheet page) = refl
 reply_is_another (Made request) = refl
 reply_is_another (Row request) = refl
 reply_is_another (Rows requests) = refl
-reply_is_another (Granted cap) = refl
+reply_is_another (Defined name) = refl
+reply_is_another (Granted granted) = refl
 reply_is_another Revoked = refl
 reply_is_another (Refused why) = refused_is_another why
 
@@ -52,6 +59,7 @@ wire_is_another wire.Route = refl
 wire_is_another wire.Method = refl
 wire_is_another wire.Body = refl
 wire_is_another (wire.Field item) = refl
+wire_is_another (wire.Ranges fault) = refl
 
 -- ---- An answer has no line feed
 

@@ -1,7 +1,14 @@
 pub mod AnswerLines
+pub mod AskShape
 pub mod AskText
+pub mod FileFaults
 pub mod Formed
+pub mod FormedAsks
+pub mod FormedTables
+pub mod FormedCommands
 pub mod LineSoFar
+pub mod ListedMembers
+pub mod ListedShape
 pub mod ModelRun
 pub mod Moments
 pub mod Objects
@@ -12,5 +19,7 @@ pub mod Routing
 pub mod Runs
 pub mod Sent
 pub mod Shallow
+pub mod SheetText
+pub mod TreeText
 pub mod Whole
 pub mod WrittenLines

@@ -1,15 +1,15 @@
 -- The status and the body of an answer.
 use Rattle.std.specs.Prelude.{ℕ, List, None, codes}
-use Rattle.serde_json.specs.Data.{Data}
-use Rattle.serde_json.specs.Written.{compact_text}
 use Rattle.reg_core.specs.declared.reply.Reply.{Reply}
-use Rattle.reg_core.specs.declared.reply.Reply.TheVariants.{Made, Row, Rows, Granted, Revoked}
+use Rattle.reg_core.specs.declared.reply.Reply.TheVariants.{Names, Page, Sheet, Made, Row, Rows, Defined, Granted, Revoked}
 use Rattle.reg_core.specs.declared.reply.Reply.TheVariants as reply
 use Rattle.reg_wire.specs.declared.answer.Answer.{Answer}
 use Rattle.reg_wire.specs.declared.answer.Answer.TheVariants as answer
 use Rattle.reg_wire.specs.declared.refusal.ReadFault.{ReadFault}
 use Rattle.reg_wire.specs.declared.refusal.ReadFault.TheVariants.{Refused, Memory}
-use Rattle.reg_wire.specs.Refusal.{wire_name, wire_status, wire_item, refusal_name, refusal_status}
+use Rattle.reg_wire.specs.Body.{Body, json, sheet, text_of}
+use Rattle.reg_wire.specs.PageTree.{names_tree, page_tree, defined_tree}
+use Rattle.reg_wire.specs.Refusal.{wire_name, wire_status, wire_detail, refusal_name, refusal_status, refusal_detail}
 use Rattle.reg_wire.specs.Tree.{request_tree, requests_tree, cap_tree, revoked_tree, error_tree}
 
 -- what is answered where no command was read
@@ -17,10 +17,16 @@ abbrev pub answer_to_fault : ReadFault → Answer
 answer_to_fault (Refused refusal) = answer.Wire refusal
 answer_to_fault Memory = answer.Storage
 
+-- ---- Status
+
 abbrev pub reply_status : Reply → ℕ
+reply_status (Names names) = 200
+reply_status (Page page) = 200
+reply_status (Sheet page) = 200
 reply_status (Made request) = 201
 reply_status (Row request) = 200
 reply_status (Rows requests) = 200
+reply_status (Defined name) = 200
 reply_status (Granted cap) = 200
 reply_status Revoked = 200
 reply_status (reply.Refused refusal) = refusal_status refusal
@@ -30,19 +36,24 @@ status_of (answer.Reply told) = reply_status told
 status_of (answer.Wire refusal) = wire_status refusal
 status_of answer.Storage = 503
 
-abbrev pub reply_tree : Reply → Data
-reply_tree (Made request) = request_tree request
-reply_tree (Row request) = request_tree request
-reply_tree (Rows requests) = requests_tree requests
-reply_tree (Granted cap) = cap_tree cap
-reply_tree Revoked = revoked_tree
-reply_tree (reply.Refused refusal) = error_tree (refusal_name refusal) None
+-- ---- Body
 
-abbrev pub body_tree : Answer → Data
-body_tree (answer.Reply told) = reply_tree told
-body_tree (answer.Wire refusal) = error_tree (wire_name refusal) (wire_item refusal)
-body_tree answer.Storage = error_tree (codes "storage") None
+abbrev pub reply_body : Reply → Body
+reply_body (Names names) = json (names_tree names)
+reply_body (Page page) = json (page_tree page)
+reply_body (Sheet page) = sheet page
+reply_body (Made request) = json (request_tree request)
+reply_body (Row request) = json (request_tree request)
+reply_body (Rows requests) = json (requests_tree requests)
+reply_body (Defined name) = json (defined_tree name)
+reply_body (Granted cap) = json (cap_tree cap)
+reply_body Revoked = json revoked_tree
+reply_body (reply.Refused refusal) = json (error_tree (refusal_name refusal) (refusal_detail refusal))
 
--- JSON without white space
+abbrev pub answer_body : Answer → Body
+answer_body (answer.Reply told) = reply_body told
+answer_body (answer.Wire refusal) = json (error_tree (wire_name refusal) (wire_detail refusal))
+answer_body answer.Storage = json (error_tree (codes "storage") None)
+
 unfoldable pub body_text : Answer → List ℕ
-body_text answer = compact_text (body_tree answer)
+body_text answer = text_of (answer_body answer)

@@ -1,55 +1,29 @@
 -- The command that a method, a path and a body spell, or the first refusal.
-use Rattle.std.specs.Prelude.{ℕ, ◌==◌, ◌&&◌, List, [], ◌∷◌, length, Bool, not, Option, Some, None, Ok, Err, codes, slice_get, if◌then◌else◌, option_and_then, ⊤}
-use Rattle.std.specs.Str.{is_utf8, bytes_eq}
+use Rattle.std.specs.Prelude.{ℕ, ◌==◌, ◌&&◌, List, [], ◌∷◌, length, not, Option, None, Ok, Err, slice_get, if◌then◌else◌, option_and_then, ⊤}
+use Rattle.std.specs.Str.{is_utf8}
 use Rattle.serde_json.specs.Data.{Data}
-use Rattle.serde_json.specs.Find.{as_str}
-use Rattle.reg_ranges.specs.Texts.{is_text, read_text}
+use Rattle.reg_ranges.specs.Numbers.{read_number}
+use Rattle.reg_ranges.specs.Texts.{read_text}
 use Rattle.reg_core.specs.Names.{is_name, is_token}
-use Rattle.reg_core.specs.declared.ask.Ask.{Ask}
-use Rattle.reg_core.specs.declared.ask.Ask.TheVariants as ask
-use Rattle.reg_core.specs.declared.ask.CodeAsk.{CodeAsk}
 use Rattle.reg_core.specs.declared.capability.Cap.{Cap}
 use Rattle.reg_core.specs.declared.command.Command.{Command}
 use Rattle.reg_core.specs.declared.command.Command.TheVariants as command
+use Rattle.reg_core.specs.declared.command.PublicCommand.TheVariants as public
+use Rattle.reg_core.specs.declared.command.ApplicantCommand.TheVariants as applicant
+use Rattle.reg_core.specs.declared.command.ClerkCommand.TheVariants as clerk
 use Rattle.reg_wire.specs.declared.item.Item.{Item}
 use Rattle.reg_wire.specs.declared.item.Item.TheVariants as item
 use Rattle.reg_wire.specs.declared.refusal.WireRefusal.TheVariants.{Route, Method, Body, Field}
 use Rattle.reg_wire.specs.declared.route.Operation.{Operation}
 use Rattle.reg_wire.specs.declared.route.Operation.TheVariants as operation
 use Rattle.reg_wire.specs.declared.route.Methods.{Methods}
-use Rattle.reg_wire.specs.declared.bodies.AskKind.{AskKind}
-use Rattle.reg_wire.specs.declared.bodies.AskKind.TheVariants as kind
-use Rattle.reg_wire.specs.Members.{Reading, ◌>>=◌, or_refusal, object_of, needed, optional, only, text_form, value_form, until_form, kind_form}
+use Rattle.reg_wire.specs.Members.{Reading, ◌>>=◌, or_refusal, object_of, needed, only, text_form, until_form, kind_form}
+use Rattle.reg_wire.specs.Asks.{ask_of}
+use Rattle.reg_wire.specs.TableFile.{table_of}
 use Rattle.reg_wire.specs.Route.{methods_at, operation_for}
 use Rattle.reg_wire.specs.Path.{segments, has_empty_segment}
 
 -- ---- bodies
-
--- which kind of ask its word names
-abbrev pub ask_kind_named : List ℕ → Option AskKind
-ask_kind_named word = if bytes_eq word (codes "code") then Some kind.Code else None
-
-abbrev pub ask_kind_form : Data → Option AskKind
-ask_kind_form json = option_and_then ask_kind_named (as_str json)
-
-unfoldable pub code_of : Data → Reading CodeAsk
-code_of json = do
-  registry ← needed item.Registry (text_form is_name) json
-  value ← needed item.Value value_form json
-  label ← needed item.Label (text_form is_text) json
-  contact ← optional item.Contact (text_form is_text) json
-  others ← only (item.Kind ∷ item.Registry ∷ item.Value ∷ item.Label ∷ item.Contact ∷ []) json
-  Ok (record { registry = registry; value = value; label = label; contact = contact })
-
-abbrev pub ask_of_kind : AskKind → Data → Reading Ask
-ask_of_kind kind.Code json = do
-  code ← code_of json
-  Ok (ask.Code code)
-
-unfoldable pub ask_of : Data → Reading Ask
-ask_of json = do
-  asked ← needed item.Kind ask_kind_form json
-  ask_of_kind asked json
 
 unfoldable pub cap_of : Data → Reading Cap
 cap_of json = do
@@ -64,21 +38,43 @@ abbrev pub empty : List ℕ → Reading ⊤
 empty body = if length body == 0 then Ok tt else Err Body
 
 -- the segment that follows this many slashes, in its form
-abbrev pub segment : Item → (List ℕ → Bool) → ℕ → List ℕ → Reading (List ℕ)
-segment part form slashes path = or_refusal (Field part) (option_and_then (read_text form) (slice_get (segments path) slashes))
+abbrev pub segment : {A : Type 0} → Item → (List ℕ → Option A) → ℕ → List ℕ → Reading A
+segment part form slashes path = or_refusal (Field part) (option_and_then form (slice_get (segments path) slashes))
+
+abbrev pub name_at : Item → ℕ → List ℕ → Reading (List ℕ)
+name_at part slashes path = segment part (read_text is_name) slashes path
+
+unfoldable pub registry_of : List ℕ → List ℕ → Reading Command
+registry_of path body = do
+  nothing ← empty body
+  name ← name_at item.Name 2 path
+  Ok (command.Public (public.Registry name))
+
+unfoldable pub registry_csv_of : List ℕ → List ℕ → Reading Command
+registry_csv_of path body = do
+  nothing ← empty body
+  name ← name_at item.Name 3 path
+  Ok (command.Public (public.RegistryCsv name))
 
 unfoldable pub own_one_of : List ℕ → List ℕ → Reading Command
 own_one_of path body = do
   nothing ← empty body
-  reference ← segment item.Reference is_name 2 path
-  Ok (command.OwnOne reference)
+  reference ← name_at item.Reference 2 path
+  Ok (command.Applicant (applicant.OwnOne reference))
 
 unfoldable pub submit_of : List ℕ → List ℕ → Reading Command
 submit_of path body = do
   json ← object_of body
-  reference ← segment item.Reference is_name 2 path
+  reference ← name_at item.Reference 2 path
   asked ← ask_of json
-  Ok (command.Submit reference asked)
+  Ok (command.Applicant (applicant.Submit reference asked))
+
+unfoldable pub define_of : List ℕ → List ℕ → Reading Command
+define_of path body = do
+  name ← name_at item.Name 3 path
+  max ← segment item.Max read_number 4 path
+  table ← table_of max body
+  Ok (command.Clerk (clerk.Define name table))
 
 unfoldable pub grant_of : List ℕ → Reading Command
 grant_of body = do
@@ -86,21 +82,27 @@ grant_of body = do
   token ← needed item.Token (text_form is_token) json
   cap ← cap_of json
   others ← only (item.Token ∷ item.Account ∷ item.Kind ∷ item.Until ∷ []) json
-  Ok (command.Grant token cap)
+  Ok (command.Clerk (clerk.Grant token cap))
 
 unfoldable pub revoke_of : List ℕ → Reading Command
 revoke_of body = do
   json ← object_of body
   token ← needed item.Token (text_form is_token) json
   others ← only (item.Token ∷ []) json
-  Ok (command.Revoke token)
+  Ok (command.Clerk (clerk.Revoke token))
 
 abbrev pub command_of : Operation → List ℕ → List ℕ → Reading Command
+command_of operation.Registries path body = do
+  nothing ← empty body
+  Ok (command.Public public.Registries)
+command_of operation.Registry path body = registry_of path body
+command_of operation.RegistryCsv path body = registry_csv_of path body
 command_of operation.Own path body = do
   nothing ← empty body
-  Ok command.Own
+  Ok (command.Applicant applicant.Own)
 command_of operation.OwnOne path body = own_one_of path body
 command_of operation.Submit path body = submit_of path body
+command_of operation.Define path body = define_of path body
 command_of operation.Grant path body = grant_of body
 command_of operation.Revoke path body = revoke_of body
 

@@ -46,9 +46,13 @@ if_object json = option_map (λ members. json) (as_object json)
 unfoldable pub object_of : List ℕ → Reading Data
 object_of body = or_refusal Body (if is_utf8 body then option_and_then if_object (read body) else None)
 
+-- a member that is there, in its form
+abbrev pub member_in : {A : Type 0} → Item → (Data → Option A) → Data → Option A
+member_in item form json = option_and_then form (get (item_name item) json)
+
 -- a member that must be there, in its form
 abbrev pub needed : {A : Type 0} → Item → (Data → Option A) → Data → Reading A
-needed item form json = or_refusal (Field item) (option_and_then form (get (item_name item) json))
+needed item form json = or_refusal (Field item) (member_in item form json)
 
 -- a member that may be missing, in its form where it is there
 abbrev pub formed : {A : Type 0} → Item → (Data → Option A) → Option Data → Reading (Option A)
@@ -85,8 +89,8 @@ whole json = option_and_then as_u64 (as_number json)
 abbrev pub below : ℕ → ℕ → Option ℕ
 below limit n = if nat_lt n limit then Some n else None
 
-abbrev pub value_form : Data → Option ℕ
-value_form json = option_and_then (below (2 ^ 32)) (whole json)
+abbrev pub number_form : Data → Option ℕ
+number_form json = option_and_then (below (2 ^ 32)) (whole json)
 
 abbrev pub until_form : Data → Option ℕ
 until_form json = option_and_then read_until (whole json)

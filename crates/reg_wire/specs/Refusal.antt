@@ -1,10 +1,11 @@
--- The names and statuses of refusals.
+-- The names and statuses of refusals, and what they are about.
 use Rattle.std.specs.Prelude.{ℕ, List, Option, Some, None, codes}
 use Rattle.reg_core.specs.declared.refusal.Refusal.{Refusal}
-use Rattle.reg_core.specs.declared.refusal.Refusal.TheVariants.{Clock, Token, Kind, Ref, Request, Registry, Own, Exists}
-use Rattle.reg_wire.specs.declared.item.Item.{Item}
+use Rattle.reg_core.specs.declared.refusal.Refusal.TheVariants.{Clock, Token, Kind, Ref, Request, Registry, Range, Policy, Evidence, Own, Exists}
+use Rattle.reg_wire.specs.declared.detail.Detail.{Detail}
+use Rattle.reg_wire.specs.declared.detail.Detail.TheVariants as detail
 use Rattle.reg_wire.specs.declared.refusal.WireRefusal.{WireRefusal}
-use Rattle.reg_wire.specs.declared.refusal.WireRefusal.TheVariants.{Line, Route, Method, Body, Field}
+use Rattle.reg_wire.specs.declared.refusal.WireRefusal.TheVariants.{Line, Route, Method, Body, Field, Ranges}
 
 -- ---- of bytes
 
@@ -14,6 +15,7 @@ wire_name Route = codes "route"
 wire_name Method = codes "method"
 wire_name Body = codes "body"
 wire_name (Field item) = codes "field"
+wire_name (Ranges fault) = codes "ranges"
 
 abbrev pub wire_status : WireRefusal → ℕ
 wire_status Line = 400
@@ -21,13 +23,15 @@ wire_status Route = 404
 wire_status Method = 405
 wire_status Body = 400
 wire_status (Field item) = 422
+wire_status (Ranges fault) = 422
 
-abbrev pub wire_item : WireRefusal → Option Item
-wire_item Line = None
-wire_item Route = None
-wire_item Method = None
-wire_item Body = None
-wire_item (Field item) = Some item
+abbrev pub wire_detail : WireRefusal → Option Detail
+wire_detail Line = None
+wire_detail Route = None
+wire_detail Method = None
+wire_detail Body = None
+wire_detail (Field item) = Some (detail.Part item)
+wire_detail (Ranges fault) = Some (detail.Ranges fault)
 
 -- ---- of the office
 
@@ -38,6 +42,9 @@ refusal_name Kind = codes "kind"
 refusal_name Ref = codes "ref"
 refusal_name Request = codes "request"
 refusal_name Registry = codes "registry"
+refusal_name Range = codes "range"
+refusal_name Policy = codes "policy"
+refusal_name (Evidence item) = codes "evidence"
 refusal_name Own = codes "own"
 refusal_name Exists = codes "exists"
 
@@ -48,5 +55,21 @@ refusal_status Kind = 403
 refusal_status Ref = 409
 refusal_status Request = 404
 refusal_status Registry = 404
+refusal_status Range = 422
+refusal_status Policy = 409
+refusal_status (Evidence item) = 422
 refusal_status Own = 409
 refusal_status Exists = 409
+
+abbrev pub refusal_detail : Refusal → Option Detail
+refusal_detail Clock = None
+refusal_detail Token = None
+refusal_detail Kind = None
+refusal_detail Ref = None
+refusal_detail Request = None
+refusal_detail Registry = None
+refusal_detail Range = None
+refusal_detail Policy = None
+refusal_detail (Evidence item) = Some (detail.Evidence item)
+refusal_detail Own = None
+refusal_detail Exists = None

@@ -8,7 +8,7 @@ use Rattle.matchit.specs.Router.{RouteOf, route_from, nearest}
 use Rattle.matchit.specs.Seek.{first}
 use Rattle.matchit.specs.declared.error.InsertError.{InsertError}
 use Rattle.reg_wire.specs.declared.route.Operation.{Operation}
-use Rattle.reg_wire.specs.declared.route.Operation.TheVariants.{Own, OwnOne, Submit, Grant, Revoke}
+use Rattle.reg_wire.specs.declared.route.Operation.TheVariants.{Registries, Registry, RegistryCsv, Own, OwnOne, Submit, Define, Grant, Revoke}
 use Rattle.reg_wire.specs.declared.route.Methods.{Methods}
 
 abbrev pub operation_for : List ℕ → Methods → Option Operation
@@ -26,8 +26,12 @@ row path get put delete = (path, record { get = get; put = put; delete = delete 
 
 abbrev pub rows : List Row
 rows =
-    row (codes "/requests") (Some Own) None None
+    row (codes "/registries") (Some Registries) None None
+    ∷ row (codes "/registries/{name}") (Some Registry) None None
+    ∷ row (codes "/listings/registries/{name}") (Some RegistryCsv) None None
+    ∷ row (codes "/requests") (Some Own) None None
     ∷ row (codes "/requests/{reference}") (Some OwnOne) (Some Submit) None
+    ∷ row (codes "/desk/registries/{name}/{max}") None (Some Define) None
     ∷ row (codes "/desk/tokens") None (Some Grant) None
     ∷ row (codes "/desk/revoke") None (Some Revoke) None
     ∷ []

@@ -3,19 +3,23 @@ ghost use Rattle.std.specs.Prelude.{◌≡◌, true, IfOk, IfSome, option_map};
 ghost use Rattle.reg_core.specs.Command.{has_command_form};
 ghost use Rattle.reg_wire.specs.Route.{operation_for};
 ghost use Rattle.reg_wire.specs.Members.{Gives};
-ghost use Rattle.reg_wire.specs.Asked.{asked, command_of, empty, grant_of, own_one_of, revoke_of, routed, segment, submit_of};
+ghost use Rattle.reg_ranges.specs.Numbers.{read_number};
+ghost use Rattle.reg_ranges.specs.Texts.{read_text};
+ghost use Rattle.reg_wire.specs.Asked.{asked, command_of, define_of, empty, grant_of, own_one_of, registry_csv_of, registry_of, revoke_of, routed, segment, submit_of};
 
 use crate::item::Item;
 use crate::refusal::{ReadFault, WireRefusal};
 use crate::route::{Methods, Operation, Routes};
-use crate::{bodies, json_read, path};
-use reg_core::command::Command;
+use crate::table_file::read_table;
+use crate::{asks, bodies, json_read, path};
+use reg_core::command::{ApplicantCommand, ClerkCommand, Command, PublicCommand};
 use reg_core::text::{Form, Word};
+use reg_ranges::number::read_number;
 use std::alloc::Global;
 
 /// The command that these bytes spell. What is wrong with them is looked for in this order: `Route`,
 /// `Method`, `Body`, then `Field` of the segments of the path from left to right, of the members of the
-/// body, and of a member too many. `Memory` comes only where there was none for the reading.
+/// body, and of a member too many, and `Ranges`. `Memory` comes only where there was none for the reading.
 #[tactic(auto, unfolding(crate::specs::Asked::asked))]
 pub fn read_command(
     alloc: Global,
@@ -63,15 +67,40 @@ fn command_of(
     ensures { Gives result (command_of operation path.now body.now) }
 {
     match operation {
+        Operation::Registries => {
+            empty(body)?;
+            Ok(Command::Public(PublicCommand::Registries))
+        },
+        Operation::Registry => read_registry(alloc, path, body),
+        Operation::RegistryCsv => read_registry_csv(alloc, path, body),
         Operation::Own => {
             empty(body)?;
-            Ok(Command::Own)
+            Ok(Command::Applicant(ApplicantCommand::Own))
         },
         Operation::OwnOne => read_own_one(alloc, path, body),
         Operation::Submit => read_submit(alloc, path, body),
+        Operation::Define => read_define(alloc, path, body),
         Operation::Grant => read_grant(alloc, body),
         Operation::Revoke => read_revoke(alloc, body),
     }
+}
+
+#[tactic(auto, unfolding(crate::specs::Asked::registry_of))]
+fn read_registry(alloc: Global, path: &str, body: &[u8]) -> Result<Command, ReadFault>
+    ensures { Gives result (registry_of path.now body.now) }
+{
+    empty(body)?;
+    let name = word_at(alloc, path, 2, Item::Name)?;
+    Ok(Command::Public(PublicCommand::Registry(name)))
+}
+
+#[tactic(auto, unfolding(crate::specs::Asked::registry_csv_of))]
+fn read_registry_csv(alloc: Global, path: &str, body: &[u8]) -> Result<Command, ReadFault>
+    ensures { Gives result (registry_csv_of path.now body.now) }
+{
+    empty(body)?;
+    let name = word_at(alloc, path, 3, Item::Name)?;
+    Ok(Command::Public(PublicCommand::RegistryCsv(name)))
 }
 
 #[tactic(auto, unfolding(crate::specs::Asked::own_one_of))]
@@ -79,8 +108,8 @@ fn read_own_one(alloc: Global, path: &str, body: &[u8]) -> Result<Command, ReadF
     ensures { Gives result (own_one_of path.now body.now) }
 {
     empty(body)?;
-    let reference = segment(alloc, path, 2, Item::Reference)?;
-    Ok(Command::OwnOne(reference))
+    let reference = word_at(alloc, path, 2, Item::Reference)?;
+    Ok(Command::Applicant(ApplicantCommand::OwnOne(reference)))
 }
 
 #[tactic(auto, unfolding(crate::specs::Asked::submit_of))]
@@ -88,9 +117,19 @@ fn read_submit(alloc: Global, path: &str, body: &[u8]) -> Result<Command, ReadFa
     ensures { Gives result (submit_of path.now body.now) }
 {
     let json = json_read::object_of(alloc, body)?;
-    let reference = segment(alloc, path, 2, Item::Reference)?;
-    let ask = bodies::read_ask(alloc, &json)?;
-    Ok(Command::Submit(reference, ask))
+    let reference = word_at(alloc, path, 2, Item::Reference)?;
+    let ask = asks::read_ask(alloc, &json)?;
+    Ok(Command::Applicant(ApplicantCommand::Submit(reference, ask)))
+}
+
+#[tactic(auto, unfolding(crate::specs::Asked::define_of))]
+fn read_define(alloc: Global, path: &str, body: &[u8]) -> Result<Command, ReadFault>
+    ensures { Gives result (define_of path.now body.now) }
+{
+    let name = word_at(alloc, path, 3, Item::Name)?;
+    let max = number_at(path, 4, Item::Max)?;
+    let table = read_table(alloc, max, body)?;
+    Ok(Command::Clerk(ClerkCommand::Define(name, table)))
 }
 
 #[tactic(auto, unfolding(crate::specs::Asked::grant_of))]
@@ -104,7 +143,7 @@ fn read_grant(alloc: Global, body: &[u8]) -> Result<Command, ReadFault>
         &[Item::Token, Item::Account, Item::Kind, Item::Until],
         &json,
     )?;
-    Ok(Command::Grant(token, cap))
+    Ok(Command::Clerk(ClerkCommand::Grant(token, cap)))
 }
 
 #[tactic(auto, unfolding(crate::specs::Asked::revoke_of))]
@@ -114,7 +153,7 @@ fn read_revoke(alloc: Global, body: &[u8]) -> Result<Command, ReadFault>
     let json = json_read::object_of(alloc, body)?;
     let token = json_read::word(alloc, &json, Item::Token)?;
     json_read::only(&[Item::Token], &json)?;
-    Ok(Command::Revoke(token))
+    Ok(Command::Clerk(ClerkCommand::Revoke(token)))
 }
 
 fn empty(body: &[u8]) -> Result<(), ReadFault>
@@ -128,17 +167,30 @@ fn empty(body: &[u8]) -> Result<(), ReadFault>
 }
 
 // The segment that follows this many slashes, in its form.
-fn segment<F: Form>(
+fn word_at<F: Form>(
     alloc: Global,
     path: &str,
     slashes: usize,
     item: Item,
 ) -> Result<Word<F>, ReadFault>
-    ensures { Gives result (segment item F.fits slashes path.now) }
+    ensures { Gives result (segment item (read_text F.fits) slashes path.now) }
 {
     match path::segment(path, slashes) {
         Some(text) => match Word::read(alloc, text.as_bytes())? {
             Some(word) => Ok(word),
+            None => Err(ReadFault::field(item)),
+        },
+        None => Err(ReadFault::field(item)),
+    }
+}
+
+// The number of 0 to 4294967295 that follows this many slashes, in decimal without leading zeros.
+fn number_at(path: &str, slashes: usize, item: Item) -> Result<u32, ReadFault>
+    ensures { Gives result (segment item read_number slashes path.now) }
+{
+    match path::segment(path, slashes) {
+        Some(text) => match read_number(text.as_bytes()) {
+            Some(number) => Ok(number),
             None => Err(ReadFault::field(item)),
         },
         None => Err(ReadFault::field(item)),

@@ -2,7 +2,8 @@
 ghost use Rattle.std.specs.Prelude.{◌≡◌};
 ghost use Rattle.reg_wire.specs.Item.{item_name};
 
-/// A part of a request: a segment of its path or a member of its body.
+/// A part of a request: a segment of its path or a member of its body. `Number`, `Stream` and `Track` are the
+/// members of an RFC; a fault in one of them is a fault of `Rfc`.
 #[derive(Clone, Copy, Debug, PartialEq, Eq)]
 pub enum Item {
     Account,
@@ -11,9 +12,18 @@ pub enum Item {
     Extra,
     Kind,
     Label,
+    Least,
+    Max,
+    Minute,
+    Name,
+    Number,
     Reference,
     Registry,
+    Rfc,
+    Specification,
+    Stream,
     Token,
+    Track,
     Until,
     Value,
 }
@@ -29,9 +39,18 @@ impl Item {
             Item::Extra => "extra",
             Item::Kind => "kind",
             Item::Label => "label",
+            Item::Least => "least",
+            Item::Max => "max",
+            Item::Minute => "minute",
+            Item::Name => "name",
+            Item::Number => "number",
             Item::Reference => "reference",
             Item::Registry => "registry",
+            Item::Rfc => "rfc",
+            Item::Specification => "specification",
+            Item::Stream => "stream",
             Item::Token => "token",
+            Item::Track => "track",
             Item::Until => "until",
             Item::Value => "value",
         }

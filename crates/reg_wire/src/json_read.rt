@@ -5,7 +5,7 @@ ghost use Rattle.std.specs.List.{list_all};
 ghost use Rattle.std.specs.String.{string_bytes};
 ghost use Rattle.serde_json.specs.View.{view};
 ghost use Rattle.serde_json.specs.Find.{as_object};
-ghost use Rattle.reg_wire.specs.Members.{Gives, GivesSeen, object_of, needed, optional, only, is_among, names_any, text_form, value_form, until_form, kind_form, kind_named};
+ghost use Rattle.reg_wire.specs.Members.{Gives, GivesSeen, object_of, needed, optional, only, is_among, names_any, text_form, number_form, until_form, kind_form, kind_named};
 
 use crate::item::Item;
 use crate::refusal::{ReadFault, WireRefusal};
@@ -60,17 +60,13 @@ pub fn word_if_there<F: Form>(
     Ok(Some(word(alloc, object, item)?))
 }
 
-/// The number of this member, 0 to 4294967295, written with digits alone. `Field` with the item where it
-/// is missing or no such number.
-pub fn value(object: &Value, item: Item) -> Result<u32, ReadFault>
-    ensures { Gives result (needed item value_form (view object.now)) }
+/// The whole number that this is, 0 to 4294967295, written with digits alone.
+pub fn number(json: &Value) -> Option<u32>
+    ensures { result ≡ number_form (view json.now) }
 {
-    match object.get(item.name()).and_then(Value::as_u64) {
-        Some(n) => match u32::try_from(n) {
-            Ok(value) => Ok(value),
-            Err(_) => Err(ReadFault::field(item)),
-        },
-        None => Err(ReadFault::field(item)),
+    match json.as_u64() {
+        Some(n) => u32::try_from(n).ok(),
+        None => None,
     }
 }
 
@@ -123,7 +119,8 @@ pub fn only(items: &[Item], object: &Value) -> Result<(), ReadFault>
     }
 }
 
-fn has_only(items: &[Item], object: &Value) -> bool
+/// Whether it has no other members than these.
+pub fn has_only(items: &[Item], object: &Value) -> bool
     ensures { result ≡ is_among items.now (as_object (view object.now)) }
 {
     match object.as_object() {

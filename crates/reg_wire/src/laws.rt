@@ -1,5 +1,5 @@
 //! Laws of requests and answers, over their definitions.
-ghost use Rattle.reg_wire.specs.Laws.{AsksReadBack, CommandsHaveForm};
+ghost use Rattle.reg_wire.specs.Laws.{AsksReadBack, CommandsHaveForm, FilesHaveOwnFaults};
 
 /// What is printed of an ask reads back as the same ask.
 pub fn asks_read_back()
@@ -9,4 +9,9 @@ pub fn asks_read_back()
 /// The texts and numbers of a command that bytes spell have their forms.
 pub fn commands_have_form()
     ensures { CommandsHaveForm }
+{}
+
+/// The fault that a range file is refused with is never want of memory, which only a call can meet.
+pub fn files_have_own_faults()
+    ensures { FilesHaveOwnFaults }
 {}

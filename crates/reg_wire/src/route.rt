@@ -9,9 +9,13 @@ use std::marker::Model;
 /// Which command is meant, without what it is about.
 #[derive(Clone, Copy, Debug, PartialEq, Eq)]
 pub enum Operation {
+    Registries,
+    Registry,
+    RegistryCsv,
     Own,
     OwnOne,
     Submit,
+    Define,
     Grant,
     Revoke,
 }
@@ -65,7 +69,28 @@ const NONE: Methods = Methods {
 };
 
 // Each path, and what the methods do there.
-const ROWS: [(&str, Methods); 4] = [
+const ROWS: [(&str, Methods); 8] = [
+    (
+        "/registries",
+        Methods {
+            get: Some(Operation::Registries),
+            ..NONE
+        },
+    ),
+    (
+        "/registries/{name}",
+        Methods {
+            get: Some(Operation::Registry),
+            ..NONE
+        },
+    ),
+    (
+        "/listings/registries/{name}",
+        Methods {
+            get: Some(Operation::RegistryCsv),
+            ..NONE
+        },
+    ),
     (
         "/requests",
         Methods {
@@ -78,6 +103,13 @@ const ROWS: [(&str, Methods); 4] = [
         Methods {
             get: Some(Operation::OwnOne),
             put: Some(Operation::Submit),
+            ..NONE
+        },
+    ),
+    (
+        "/desk/registries/{name}/{max}",
+        Methods {
+            put: Some(Operation::Define),
             ..NONE
         },
     ),

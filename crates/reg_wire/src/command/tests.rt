@@ -27,16 +27,25 @@ fn reply(alloc: Global, command: Command) -> Result<Reply, Fail> {
         return Err(Fail::from("account"));
     };
     match command {
-        Command::Own => Ok(Reply::Rows(Rows::from_vec(Vec::new(alloc)))),
-        Command::OwnOne(_) => Ok(Reply::Refused(Refusal::Request)),
-        Command::Submit(reference, ask) => Ok(Reply::Made(Request {
+        Command::Public(PublicCommand::Registries) => Ok(Reply::Names(Rows::from_vec(Vec::new(
+            alloc,
+        )))),
+        Command::Public(PublicCommand::Registry(_) | PublicCommand::RegistryCsv(_)) => Ok(
+            Reply::Refused(Refusal::Registry),
+        ),
+        Command::Applicant(ApplicantCommand::Own) => Ok(Reply::Rows(Rows::from_vec(Vec::new(
+            alloc,
+        )))),
+        Command::Applicant(ApplicantCommand::OwnOne(_)) => Ok(Reply::Refused(Refusal::Request)),
+        Command::Applicant(ApplicantCommand::Submit(reference, ask)) => Ok(Reply::Made(Request {
             account,
             reference,
             ask,
             state: State::Pending,
         })),
-        Command::Grant(_, cap) => Ok(Reply::Granted(cap)),
-        Command::Revoke(_) => Ok(Reply::Revoked),
+        Command::Clerk(ClerkCommand::Define(name, _)) => Ok(Reply::Defined(name)),
+        Command::Clerk(ClerkCommand::Grant(_, cap)) => Ok(Reply::Granted(cap)),
+        Command::Clerk(ClerkCommand::Revoke(_)) => Ok(Reply::Revoked),
     }
 }
 
@@ -77,7 +86,24 @@ get|/requests||405|{"error":"method"}
 PUT|/requests||405|{"error":"method"}
 GET|/desk/tokens||405|{"error":"method"}
 GET|/requests|{}|400|{"error":"body"}
-GET|/requests/UP|{}|400|{"error":"body"}"#
+GET|/requests/UP|{}|400|{"error":"body"}
+GET|/registries||200|[]
+GET|/registries|x|400|{"error":"body"}
+PUT|/registries||405|{"error":"method"}
+GET|/registries/flags||404|{"error":"registry"}
+GET|/registries/UP||422|{"error":"field","item":"name"}
+GET|/registries/UP|x|400|{"error":"body"}
+GET|/listings/registries/flags||404|{"error":"registry"}
+GET|/listings/registries/UP||422|{"error":"field","item":"name"}
+GET|/listings||404|{"error":"route"}
+PUT|/desk/registries/f||404|{"error":"route"}
+GET|/desk/registries/f/7||405|{"error":"method"}
+PUT|/desk/registries/UP/x|x|422|{"error":"field","item":"name"}
+PUT|/desk/registries/f/07|x|422|{"error":"field","item":"max"}
+PUT|/desk/registries/f/+7|x|422|{"error":"field","item":"max"}
+PUT|/desk/registries/f/4294967296|x|422|{"error":"field","item":"max"}
+PUT|/desk/registries/f/4294967295|x|422|{"error":"ranges","item":"header"}
+PUT|/desk/registries/f/0||422|{"error":"ranges","item":"header"}"#
 }
 
 #[test]
@@ -99,7 +125,7 @@ PUT|/requests/a|{"kind":"code","label":"L","registry":"f","value":-5}|422|{"erro
 PUT|/requests/a|{"kind":"code","label":"L","registry":"f","value":1e-999}|422|{"error":"field","item":"value"}
 PUT|/requests/a|{"kind":"code","label":"L","registry":"f","value":1e999}|400|{"error":"body"}
 PUT|/requests/a|{"kind":"code","label":"L","registry":"f","value":05}|400|{"error":"body"}
-PUT|/requests/a|{"kind":"code","label":"L","registry":"f","least":"x"}|422|{"error":"field","item":"value"}
+PUT|/requests/a|{"kind":"code","label":"L","registry":"f","value":18446744073709551616}|422|{"error":"field","item":"value"}
 PUT|/requests/a|{"contact":null,"kind":"code","label":"L","registry":"f","value":5}|422|{"error":"field","item":"contact"}
 PUT|/requests/a|{"kind":"code","label":"","registry":"f","value":5}|422|{"error":"field","item":"label"}
 PUT|/requests/a|{"kind":"code","label":"L","registry":"f","value":5,"x":1}|422|{"error":"field","item":"extra"}
@@ -118,6 +144,41 @@ PUT|/requests/UP|{}|422|{"error":"field","item":"reference"}"#
 #[test]
 fn bodies_of_asks(rt: HostRuntime) -> Result<(), Fail> {
     assert_eq!(rt; first_wrong(rt.alloc(), asks())?, None);
+    Ok(())
+}
+
+fn wants() -> &'static str {
+    r#"PUT|/requests/a|{"kind":"code","label":"L","least":"expert-review","registry":"f"}|201|{"ask":{"kind":"code","label":"L","least":"expert-review","registry":"f"},"reference":"a","state":"pending"}
+PUT|/requests/a|{"kind":"code","label":"L","least":"reserved","registry":"f"}|422|{"error":"field","item":"least"}
+PUT|/requests/a|{"kind":"code","label":"L","least":null,"registry":"f"}|422|{"error":"field","item":"least"}
+PUT|/requests/a|{"kind":"code","label":"L","registry":"f","value":null}|422|{"error":"field","item":"value"}
+PUT|/requests/a|{"kind":"code","label":"L","least":"x","registry":"f","value":null}|422|{"error":"field","item":"value"}
+PUT|/requests/a|{"kind":"code","label":"L","least":"expert-review","registry":"f","value":5}|422|{"error":"field","item":"value"}
+PUT|/requests/a|{"kind":"code","label":"","registry":"f"}|422|{"error":"field","item":"value"}"#
+}
+
+#[test]
+fn asks_want_one_thing(rt: HostRuntime) -> Result<(), Fail> {
+    assert_eq!(rt; first_wrong(rt.alloc(), wants())?, None);
+    Ok(())
+}
+
+fn evidence() -> &'static str {
+    r#"PUT|/requests/a|{"contact":"c","kind":"code","label":"L","minute":"m","registry":"f","rfc":{"track":"bcp","number":8126,"stream":"ietf"},"specification":"s","value":5}|201|{"ask":{"contact":"c","kind":"code","label":"L","minute":"m","registry":"f","rfc":{"number":8126,"stream":"ietf","track":"bcp"},"specification":"s","value":5},"reference":"a","state":"pending"}
+PUT|/requests/a|{"kind":"code","label":"L","registry":"f","rfc":{"number":0,"stream":7,"track":"bcp","number":99999,"stream":"iab"},"value":5}|201|{"ask":{"kind":"code","label":"L","registry":"f","rfc":{"number":99999,"stream":"iab","track":"bcp"},"value":5},"reference":"a","state":"pending"}
+PUT|/requests/a|{"kind":"code","label":"L","registry":"f","rfc":{"number":0,"stream":"ietf","track":"bcp"},"value":5}|422|{"error":"field","item":"rfc"}
+PUT|/requests/a|{"kind":"code","label":"L","registry":"f","rfc":{"number":100000,"stream":"ietf","track":"bcp"},"value":5}|422|{"error":"field","item":"rfc"}
+PUT|/requests/a|{"kind":"code","label":"L","registry":"f","rfc":{"number":1,"stream":"IETF","track":"bcp"},"value":5}|422|{"error":"field","item":"rfc"}
+PUT|/requests/a|{"kind":"code","label":"L","registry":"f","rfc":{"number":1,"stream":"ietf"},"value":5}|422|{"error":"field","item":"rfc"}
+PUT|/requests/a|{"kind":"code","label":"L","registry":"f","rfc":{"number":1,"stream":"ietf","track":"bcp","x":0},"value":5}|422|{"error":"field","item":"rfc"}
+PUT|/requests/a|{"kind":"code","label":"L","minute":"","registry":"f","rfc":null,"value":5}|422|{"error":"field","item":"rfc"}
+PUT|/requests/a|{"kind":"code","label":"L","registry":"f","rfc":1,"specification":"","value":5}|422|{"error":"field","item":"specification"}
+PUT|/requests/a|{"kind":"code","label":"L","minute":null,"registry":"f","value":5,"x":0}|422|{"error":"field","item":"minute"}"#
+}
+
+#[test]
+fn asks_show_evidence(rt: HostRuntime) -> Result<(), Fail> {
+    assert_eq!(rt; first_wrong(rt.alloc(), evidence())?, None);
     Ok(())
 }
 

@@ -1,40 +1,99 @@
-use Rattle.std.proofs.Common.{◌≡◌, ap, sym, ◌∙◌}
+use Rattle.std.proofs.Common.{◌≡◌, ap, sym, ◌∙◌, subst}
 use Rattle.std.specs.FinMap.{get}
 use Rattle.std.specs.Option.{option_copied}
-use Rattle.std.specs.Prelude.{option_map}
+use Rattle.std.specs.Prelude.{Option, None, option_map}
+use Rattle.reg_ranges.specs.Tables.{Table}
+use Rattle.reg_core.specs.Allowance.{Ground, allowed, allowed_on, ground_of}
 use Rattle.reg_core.specs.Answer.{Answer}
-use Rattle.reg_core.specs.Request.{request_row}
-use Rattle.reg_core.specs.Rules.{allowed}
-use Rattle.reg_core.specs.View.{nothing_published}
-use Rattle.reg_core.specs.World.{World, RequestName, applied_if}
-use Rattle.reg_office.proofs.Decided.{submit_carried, submit_denied}
+use Rattle.reg_core.specs.Request.{filing_of, request_row}
+use Rattle.reg_core.specs.Rules.{submit_rule}
+use Rattle.reg_core.specs.View.{published}
+use Rattle.reg_core.specs.WellKept.{WellKept, CanApply}
+use Rattle.reg_core.specs.World.{World, applied, applied_if}
+use Rattle.reg_core.specs.declared.reply.Reply.TheVariants.{Made}
+use Rattle.reg_office.specs.Rows.{row_or_refused}
+use Rattle.reg_office.proofs.Decided.{submission_rule, submission_rule_read, submit_carried, submission_made, submission_there, submission_denied}
+use Rattle.reg_office.proofs.applicant.submit.Given.{Over}
+use Rattle.reg_office.proofs.applicant.submit.Goals.{After-decide_submit}
 use Rattle.reg_office.proofs.applicant.submit.Goals as goal
+
+-- what is known of the rows where a decision was taken
+module _ (g : Over) (c : After-decide_submit g) (h : g.K.Keeper.Holds c.table_for.new.keeper) where
+  same_world : g.K.Keeper.world c.table_for.new.keeper ≡ g.K.Keeper.world c.args.keeper.now
+  same_world = c.in_ok-table.ensures.same h ∙ c.in_ok-found.ensures.same (c.in_ok-table.ensures.held h)
+
+  -- the own request is that of the world
+  row_read : option_copied c.as_ref-3.result
+      ≡ option_map (request_row (c.args.account.now, c.args.reference.now)) (get (g.K.Keeper.world c.args.keeper.now).requests (c.args.account.now, c.args.reference.now))
+  row_read = c.as_ref-3.ensures.value ∙ c.in_ok-found.ensures.row (c.in_ok-table.ensures.held h)
+
+  -- and where there is none, so are the ranges
+  ranges_read : option_copied c.as_ref-3.result ≡ None
+      → allowed_on (record { table = option_copied c.as_ref-2.result }) c.args.account.now c.args.ask.now
+      ≡ allowed (published (g.K.Keeper.world c.args.keeper.now)) c.args.account.now c.args.ask.now
+  ranges_read none =
+      ap (λ (rows : Ground). allowed_on rows c.args.account.now c.args.ask.now)
+      (ap (λ (table : Option Table). record { table = table }) c.as_ref-2.ensures.value
+      ∙ c.in_ok-table.ensures.row h (c.as_ref.ensures.value ∙ sym c.as_ref-3.ensures.value ∙ none)
+      ∙ ap (λ (w : World). ground_of (published w) c.args.ask.now) (c.in_ok-found.ensures.same (c.in_ok-table.ensures.held h)))
+
+  rule_read : submit_rule (allowed_on (record { table = option_copied c.as_ref-2.result }) c.args.account.now c.args.ask.now) (c.args.account.now, c.args.reference.now) c.args.ask.now
+      (option_map filing_of (option_copied c.as_ref-3.result)) ≡ submission_rule (g.K.Keeper.world c.args.keeper.now) c.args.account.now c.args.reference.now c.args.ask.now
+  rule_read = submission_rule_read (g.K.Keeper.world c.args.keeper.now) c.args.account.now c.args.reference.now c.args.ask.now _ (option_copied c.as_ref-3.result) row_read ranges_read
 
 pub make-requires : goal.make-requires
 make-requires g c = λ h kept.
-    let w = g.K.Keeper.world c.own_one.new.self in
-    let name : RequestName = (c.args.account.now, c.args.reference.now) in
-    let found : option_copied c.as_ref.result ≡ option_map (request_row name) (get w.requests name) =
-    c.as_ref.ensures.value ∙ c.in_ok-found.ensures.row h
-    ∙ ap (λ (v : World). option_map (request_row name) (get v.requests name)) (sym (c.in_ok-found.ensures.same h)) in
+    let w = g.K.Keeper.world c.args.keeper.now in
+    let read = (goal.at.make-requires g c).After-decide_submit in
+    let same = same_world g read h in
     let follows = rw c.in-Ok-Make.field-0-is at c.in-Ok-Make.ensures in
-    submit_carried w (allowed nothing_published c.args.account.now c.args.ask.now) name c.args.ask.now (option_copied c.as_ref.result) found
-    c.in-Ok-Make.change kept c.in_ok-row-in-Ok-Make.ensures.form follows
+    subst (λ (v : World). CanApply v c.in-Ok-Make.change) (sym same)
+    (submit_carried w _ _ _ _ (rule_read g read h) c.in-Ok-Make.change follows (subst WellKept same kept) c.in_ok-row-in-Ok-Make.ensures.form)
+
+pub returns-in-Ok-Make-clause-reply : goal.returns-in-Ok-Make-clause-reply
+returns-in-Ok-Make-clause-reply g c = λ h.
+    let w = g.K.Keeper.world c.args.keeper.now in
+    let read = (goal.at.returns-in-Ok-Make-clause-reply g c).After-decide_submit in
+    let follows = rw c.in-Ok-Make.field-0-is at c.in-Ok-Make.ensures in
+    ap Made c.in_ok-row-in-Ok-Make.ensures.row
+    ∙ ap (λ (a : Answer). a.reply) (sym (submission_made w _ _ _ _ (rule_read g read (c.in_ok-make-in-Ok-Make.ensures.held h)) c.in-Ok-Make.change follows))
+
+pub returns-in-Ok-Make-clause-made : goal.returns-in-Ok-Make-clause-made
+returns-in-Ok-Make-clause-made g c = λ h.
+    let w = g.K.Keeper.world c.args.keeper.now in
+    let read = (goal.at.returns-in-Ok-Make-clause-made g c).After-decide_submit in
+    let before = c.in_ok-make-in-Ok-Make.ensures.held h in
+    let follows = rw c.in-Ok-Make.field-0-is at c.in-Ok-Make.ensures in
+    c.in_ok-make-in-Ok-Make.ensures.made h ∙ ap (λ (v : World). applied v c.in-Ok-Make.change) (same_world g read before)
+    ∙ ap (λ (a : Answer). applied_if w a.change) (sym (submission_made w _ _ _ _ (rule_read g read before) c.in-Ok-Make.change follows))
+
+pub returns-in-Ok-Same-clause-reply : goal.returns-in-Ok-Same-clause-reply
+returns-in-Ok-Same-clause-reply g c = λ h.
+    let w = g.K.Keeper.world c.args.keeper.now in
+    let read = (goal.at.returns-in-Ok-Same-clause-reply g c).After-decide_submit in
+    let follows = rw c.in-Ok-Same.field-0-is at c.in-Ok-Same.ensures in
+    c.row_or_refused.ensures ∙ ap row_or_refused (sym c.as_ref-3.ensures.value)
+    ∙ ap (λ (a : Answer). a.reply) (sym (submission_there w _ _ _ _ (rule_read g read h) (option_copied c.as_ref-3.result) (row_read g read h) follows))
+
+pub returns-in-Ok-Same-clause-made : goal.returns-in-Ok-Same-clause-made
+returns-in-Ok-Same-clause-made g c = λ h.
+    let w = g.K.Keeper.world c.args.keeper.now in
+    let read = (goal.at.returns-in-Ok-Same-clause-made g c).After-decide_submit in
+    let follows = rw c.in-Ok-Same.field-0-is at c.in-Ok-Same.ensures in
+    same_world g read h ∙ ap (λ (a : Answer). applied_if w a.change)
+    (sym (submission_there w _ _ _ _ (rule_read g read h) (option_copied c.as_ref-3.result) (row_read g read h) follows))
 
 pub returns-in-Err-Refused-clause-reply : goal.returns-in-Err-Refused-clause-reply
 returns-in-Err-Refused-clause-reply g c = λ h.
     let w = g.K.Keeper.world c.args.keeper.now in
-    let name : RequestName = (c.args.account.now, c.args.reference.now) in
-    let found : option_copied c.as_ref.result ≡ option_map (request_row name) (get w.requests name) = c.as_ref.ensures.value ∙ c.in_ok-found.ensures.row h in
+    let read = (goal.at.returns-in-Err-Refused-clause-reply g c).After-decide_submit in
     let follows = rw c.in-Err-Refused.field-0-is at c.in-Err-Refused.ensures in
-    ap (λ (a : Answer). a.reply)
-    (submit_denied w (allowed nothing_published c.args.account.now c.args.ask.now) name c.args.ask.now (option_copied c.as_ref.result) found c.in-Err-Refused.refusal follows)
+    ap (λ (a : Answer). a.reply) (sym (submission_denied w _ _ _ _ (rule_read g read h) c.in-Err-Refused.refusal follows))
 
 pub returns-in-Err-Refused-clause-made : goal.returns-in-Err-Refused-clause-made
 returns-in-Err-Refused-clause-made g c = λ h.
     let w = g.K.Keeper.world c.args.keeper.now in
-    let name : RequestName = (c.args.account.now, c.args.reference.now) in
-    let found : option_copied c.as_ref.result ≡ option_map (request_row name) (get w.requests name) = c.as_ref.ensures.value ∙ c.in_ok-found.ensures.row h in
+    let read = (goal.at.returns-in-Err-Refused-clause-made g c).After-decide_submit in
     let follows = rw c.in-Err-Refused.field-0-is at c.in-Err-Refused.ensures in
-    c.in_ok-found.ensures.same h ∙ ap (λ (a : Answer). applied_if w a.change)
-    (submit_denied w (allowed nothing_published c.args.account.now c.args.ask.now) name c.args.ask.now (option_copied c.as_ref.result) found c.in-Err-Refused.refusal follows)
+    same_world g read h ∙ ap (λ (a : Answer). applied_if w a.change)
+    (sym (submission_denied w _ _ _ _ (rule_read g read h) c.in-Err-Refused.refusal follows))

@@ -1,44 +1,55 @@
-use Rattle.std.proofs.Common.{◌≡◌, true, Ok, Some, sym, ◌∙◌, ap, subst, rules, IfOk, OnOk}
-use Rattle.std.specs.FinMap.{get}
+use Rattle.std.proofs.Common.{◌≡◌, true, sym, ◌∙◌, ap, subst, rules, IfOk, OnOk}
 use Rattle.std.specs.Option.{option_copied}
-use Rattle.reg_core.specs.Answer.{Answer, is_moment, admitted}
-use Rattle.reg_core.specs.Command.{kind_of}
+use Rattle.reg_core.specs.Answer.{Answer, is_moment}
 use Rattle.reg_core.specs.Step.{answer_to}
 use Rattle.reg_core.specs.World.{World, applied_if}
-use Rattle.reg_office.specs.Acts.{act}
+use Rattle.reg_core.specs.declared.command.Command.{Command}
+use Rattle.reg_office.specs.Acts.{applicant_act, clerk_act}
 use Rattle.reg_office.specs.Caller.{token_digest, caller_of as caller}
-use Rattle.reg_office.proofs.Admitted.{answer_to-admitted}
+use Rattle.reg_office.proofs.Admitted.{applicant_told, clerk_told}
+use Rattle.reg_office.proofs.office.handle.Given.{Over}
 use Rattle.reg_office.proofs.office.handle.Goals as goal
+
+-- an applicant who is admitted is answered as in the step
+applicant_step : (g : Over) (c : goal.After-drop-caller-in-Ok g) → g.K.Keeper.Holds c.perform-in-Ok.new.keeper
+    → applicant_act (g.K.Keeper.world c.admit.new.keeper) c.in-Ok.caller.cap.account c.in-Applicant.command
+    ≡ answer_to token_digest (g.K.Keeper.world c.args.keeper.now) (caller (option_copied c.args.token)) c.args.moment c.args.command.now
+applicant_step g c h =
+    let before = c.perform-in-Ok.ensures.held h in
+    let admitted = c.in_ok-caller-in-Applicant.ensures in
+    let now : is_moment c.args.moment ≡ true = search rules in
+    applicant_told (g.K.Keeper.world c.args.keeper.now) (g.K.Keeper.world c.admit.new.keeper) (caller (option_copied c.args.token)) c.args.moment c.in-Ok.caller
+    (admitted.same before) now c.in-Applicant.command (sym c.in-Ok.is ∙ admitted.outcome before)
+    ∙ ap (λ (command : Command). answer_to token_digest (g.K.Keeper.world c.args.keeper.now) (caller (option_copied c.args.token)) c.args.moment command) (sym c.in-Applicant.is)
 
 pub returns-in-Ok-clause-reply : goal.returns-in-Ok-clause-reply
 returns-in-Ok-clause-reply g c = λ h.
-    let w = g.K.Keeper.world c.args.keeper.now in
-    let v = g.K.Keeper.world c.cap.new.self in
-    let before = c.perform.ensures.held h in
-    let who : caller (option_copied c.args.token) ≡ Some c.in-Some.digest = search rules in
-    let now : is_moment c.args.moment ≡ true = search rules in
-    let found = c.in_ok-found.ensures.row before in
-    let may : admitted (get w.caps c.in-Some.digest) c.args.moment (kind_of c.args.command.now) ≡ Ok c.in-Ok.cap =
-    (λ i. admitted (sym found i) c.args.moment (sym c.kind.ensures i)) ∙ sym c.admit.ensures ∙ c.in-Ok.is in
-    let whole : act v c.in-Some.digest c.in-Ok.cap c.args.command.now ≡ answer_to token_digest w (caller (option_copied c.args.token)) c.args.moment c.args.command.now =
-    ap (λ (x : World). act x c.in-Some.digest c.in-Ok.cap c.args.command.now) (c.in_ok-found.ensures.same before)
-    ∙ sym (answer_to-admitted w c.in-Some.digest c.args.moment c.args.command.now c.in-Ok.cap now may)
-    ∙ ap (λ t. answer_to token_digest w t c.args.moment c.args.command.now) (sym who) in
-    subst (λ (a : Answer). IfOk c.perform.result (λ r. r ≡ a.reply)) whole (c.perform.ensures.reply h)
+    subst (λ (a : Answer). IfOk c.perform-in-Ok.result (λ r. r ≡ a.reply)) (applicant_step g c h) (c.perform-in-Ok.ensures.reply h)
 
 pub returns-in-Ok-clause-world : goal.returns-in-Ok-clause-world
 returns-in-Ok-clause-world g c = λ h.
-    let w = g.K.Keeper.world c.args.keeper.now in
-    let v = g.K.Keeper.world c.cap.new.self in
-    let before = c.perform.ensures.held h in
-    let who : caller (option_copied c.args.token) ≡ Some c.in-Some.digest = search rules in
+    let same = c.in_ok-caller-in-Applicant.ensures.same (c.perform-in-Ok.ensures.held h) in
+    subst (λ (x : World × Answer). OnOk c.perform-in-Ok.result (g.K.Keeper.world c.perform-in-Ok.new.keeper ≡ applied_if x.0 x.1.change))
+    (λ i. (same i, applicant_step g c h i)) (c.perform-in-Ok.ensures.made h)
+
+-- and so is a clerk
+clerk_step : (g : Over) (c : goal.After-drop-caller-in-Ok-2-2 g) → g.K.Keeper.Holds c.perform-in-Ok-2.new.keeper
+    → clerk_act (g.K.Keeper.world c.admit-in-Clerk.new.keeper) c.in-Ok-2.caller.digest c.in-Clerk.command
+    ≡ answer_to token_digest (g.K.Keeper.world c.args.keeper.now) (caller (option_copied c.args.token)) c.args.moment c.args.command.now
+clerk_step g c h =
+    let before = c.perform-in-Ok-2.ensures.held h in
+    let admitted = c.in_ok-caller-in-Clerk.ensures in
     let now : is_moment c.args.moment ≡ true = search rules in
-    let found = c.in_ok-found.ensures.row before in
-    let may : admitted (get w.caps c.in-Some.digest) c.args.moment (kind_of c.args.command.now) ≡ Ok c.in-Ok.cap =
-    (λ i. admitted (sym found i) c.args.moment (sym c.kind.ensures i)) ∙ sym c.admit.ensures ∙ c.in-Ok.is in
-    let whole : applied_if v (act v c.in-Some.digest c.in-Ok.cap c.args.command.now).change
-    ≡ applied_if w (answer_to token_digest w (caller (option_copied c.args.token)) c.args.moment c.args.command.now).change =
-    ap (λ (x : World). applied_if x (act x c.in-Some.digest c.in-Ok.cap c.args.command.now).change) (c.in_ok-found.ensures.same before)
-    ∙ ap (λ (a : Answer). applied_if w a.change) (sym (answer_to-admitted w c.in-Some.digest c.args.moment c.args.command.now c.in-Ok.cap now may)
-    ∙ ap (λ t. answer_to token_digest w t c.args.moment c.args.command.now) (sym who)) in
-    subst (λ (x : World). OnOk c.perform.result (g.K.Keeper.world c.perform.new.keeper ≡ x)) whole (c.perform.ensures.made h)
+    clerk_told (g.K.Keeper.world c.args.keeper.now) (g.K.Keeper.world c.admit-in-Clerk.new.keeper) (caller (option_copied c.args.token)) c.args.moment c.in-Ok-2.caller
+    (admitted.same before) now c.in-Clerk.command (sym c.in-Ok-2.is ∙ admitted.outcome before)
+    ∙ ap (λ (command : Command). answer_to token_digest (g.K.Keeper.world c.args.keeper.now) (caller (option_copied c.args.token)) c.args.moment command) (sym c.in-Clerk.is)
+
+pub returns-in-Ok-2-clause-reply : goal.returns-in-Ok-2-clause-reply
+returns-in-Ok-2-clause-reply g c = λ h.
+    subst (λ (a : Answer). IfOk c.perform-in-Ok-2.result (λ r. r ≡ a.reply)) (clerk_step g c h) (c.perform-in-Ok-2.ensures.reply h)
+
+pub returns-in-Ok-2-clause-world : goal.returns-in-Ok-2-clause-world
+returns-in-Ok-2-clause-world g c = λ h.
+    let same = c.in_ok-caller-in-Clerk.ensures.same (c.perform-in-Ok-2.ensures.held h) in
+    subst (λ (x : World × Answer). OnOk c.perform-in-Ok-2.result (g.K.Keeper.world c.perform-in-Ok-2.new.keeper ≡ applied_if x.0 x.1.change))
+    (λ i. (same i, clerk_step g c h i)) (c.perform-in-Ok-2.ensures.made h)

@@ -1,4 +1,4 @@
-use Rattle.reg_wire.proofs.Formed.{asked-formed}
+use Rattle.reg_wire.proofs.FormedCommands.{asked-formed}
 use Rattle.reg_wire.proofs.laws.commands_have_form.Goals as goal
 
 pub returns : goal.returns

@@ -1,0 +1,67 @@
+-- Whether an ask meets the published registers (RFC 8126 section 4).
+use Rattle.std.specs.Prelude.{ℕ, nat_lt, List, Option, Some, None, Result, Ok, Err, if◌then◌else◌}
+use Rattle.std.specs.FinMap.{get}
+use Rattle.std.specs.List.{list_any}
+use Rattle.reg_ranges.specs.Requirements.{first_item, is_closed_policy, unmet}
+use Rattle.reg_ranges.specs.Sameness.{same_treatment}
+use Rattle.reg_ranges.specs.Tables.{Table, treatment_of}
+use Rattle.reg_ranges.specs.declared.evidence.Item.{Item}
+use Rattle.reg_ranges.specs.declared.policy.Policy.{Policy}
+use Rattle.reg_ranges.specs.declared.policy.Treatment.{Treatment}
+use Rattle.reg_ranges.specs.declared.policy.Treatment.TheVariants.{Under, Reserved}
+use Rattle.reg_core.specs.View.{Published}
+use Rattle.reg_core.specs.declared.ask.Ask.{Ask}
+use Rattle.reg_core.specs.declared.ask.Ask.TheVariants.{Code}
+use Rattle.reg_core.specs.declared.ask.Want.{Want}
+use Rattle.reg_core.specs.declared.ask.Want.TheVariants.{Value, Least}
+use Rattle.reg_core.specs.declared.refusal.Refusal.{Refusal}
+use Rattle.reg_core.specs.declared.refusal.Refusal.TheVariants as no
+
+-- the published rows that an ask needs: its registry, if there is one
+pub record Ground : Type 0 where
+  pub table : Option Table
+
+-- each check in turn, as far as none refuses
+infixl 10 ◌>>=◌
+abbrev pub ◌>>=◌ : {A B : Type 0} → Result A Refusal → (A → Result B Refusal) → Result B Refusal
+(Ok x) >>= f = f x
+(Err refusal) >>= f = Err refusal
+
+abbrev pub or_refusal : {A : Type 0} → Refusal → Option A → Result A Refusal
+or_refusal refusal None = Err refusal
+or_refusal refusal (Some x) = Ok x
+
+-- the policy under which values are assigned one by one, if it is such a one
+abbrev pub open_policy : Option Treatment → Result Policy Refusal
+open_policy None = Err no.Policy
+open_policy (Some Reserved) = Err no.Policy
+open_policy (Some (Under policy)) = if is_closed_policy policy then Err no.Policy else Ok policy
+
+-- the policy, where the registry has a range under it
+abbrev pub policy_in : Table → Policy → Option Treatment
+policy_in table policy =
+    if list_any (λ range. same_treatment range.treatment (Under policy)) table.ranges then Some (Under policy) else None
+
+-- the policy that decides about what is wanted
+abbrev pub policy_for : Table → Want → Result Policy Refusal
+policy_for table (Value v) = if nat_lt table.max v then Err no.Range else open_policy (treatment_of table v)
+policy_for table (Least policy) = open_policy (policy_in table policy)
+
+-- nothing is missing of the evidence that the policy asks for
+abbrev pub is_met : Option Item → Result (Unit {0}) Refusal
+is_met None = Ok tt
+is_met (Some item) = Err (no.Evidence item)
+
+-- the first refusal that an ask meets
+abbrev pub allowed_on : Ground → List ℕ → Ask → Result (Unit {0}) Refusal
+allowed_on rows account (Code ask) = do
+  table ← or_refusal no.Registry rows.table
+  policy ← policy_for table ask.want
+  is_met (first_item (unmet policy ask.evidence))
+
+abbrev pub ground_of : Published → Ask → Ground
+ground_of p (Code ask) = record { table = get p.registries ask.registry }
+
+-- the first refusal that an ask of an account meets in the published registers
+abbrev pub allowed : Published → List ℕ → Ask → Result (Unit {0}) Refusal
+allowed p account ask = allowed_on (ground_of p ask) account ask

@@ -1,0 +1,25 @@
+//! A clerk opens a registry.
+ghost use Rattle.std.specs.Option.{option_copied};
+ghost use Rattle.reg_core.specs.Rules.{Follows, define_rule};
+
+use crate::change::Change;
+use crate::decide::{Decision, Deny};
+use crate::refusal::Refusal;
+use crate::text::Name;
+use reg_ranges::table::RangeTable;
+
+/// Decides a definition over the registry that has the name already: the same ranges again change
+/// nothing, and others are refused as `Exists`.
+pub fn decide_define(
+    found: Option<&RangeTable>,
+    name: &Name,
+    table: &RangeTable,
+) -> Result<Decision, Deny>
+    ensures { Follows (define_rule (option_copied found.entry) name.now table.now) result }
+{
+    match found {
+        Some(old) if old == table => Ok(Decision::Same),
+        Some(_) => Err(Deny::Refused(Refusal::Exists)),
+        None => Ok(Decision::Make(Change::Define(name.copy()?, table.copy()?))),
+    }
+}

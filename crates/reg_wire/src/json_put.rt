@@ -1,0 +1,52 @@
+//! Puts texts and numbers into objects of JSON.
+ghost use Rattle.std.specs.Prelude.{◌≡◌, OnOk, option_map};
+ghost use Rattle.serde_json.specs.Data.{put as with_member, number, string, unsigned};
+ghost use Rattle.serde_json.specs.View.{members_view};
+ghost use Rattle.reg_wire.specs.Listed.{put_some};
+
+use reg_core::text::Text;
+use serde_json::{Map, Value};
+use std::alloc::{AllocError, Global};
+
+/// The members of an object, by their names.
+pub type Members = Map<String, Value>;
+
+/// This text under this name.
+pub fn put_text(
+    members: &mut Members,
+    alloc: Global,
+    name: &str,
+    text: &str,
+) -> Result<(), AllocError>
+    ensures { OnOk result (members_view members.new.entries ≡ with_member name.now (string text.now) (members_view members.old.entries)) }
+{
+    let value = Value::try_from_str(alloc, text)?;
+    serde_json::put(members, alloc, name, value)
+}
+
+/// This number under this name.
+pub fn put_number(
+    members: &mut Members,
+    alloc: Global,
+    name: &str,
+    n: u64,
+) -> Result<(), AllocError>
+    ensures { OnOk result (members_view members.new.entries ≡ with_member name.now (number (unsigned n)) (members_view members.old.entries)) }
+{
+    serde_json::put(members, alloc, name, Value::from(n))
+}
+
+/// This text under this name, where there is one.
+pub fn put_text_if(
+    members: &mut Members,
+    alloc: Global,
+    name: &str,
+    text: &Option<Text>,
+) -> Result<(), AllocError>
+    ensures { OnOk result (members_view members.new.entries ≡ put_some name.now (option_map string text.now) (members_view members.old.entries)) }
+{
+    match text {
+        Some(text) => put_text(members, alloc, name, text.as_str()),
+        None => Ok(()),
+    }
+}
