@@ -3,9 +3,15 @@ use crate::jobs::Job;
 use crate::performing::perform;
 use std::test::Fail;
 
+mod approvals;
 mod command_lines;
+mod decisions;
 mod devices;
-mod rows;
+mod experts;
+mod floods;
+mod refusals;
+mod registers;
+mod transcript;
 
 const CLERK: &str = "clerk-token-00001";
 

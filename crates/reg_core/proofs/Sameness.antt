@@ -3,6 +3,8 @@ use Rattle.std.proofs.Common.{◌≡◌, ℕ, Bool, true, ◌&&◌, List, refl, 
 use Rattle.std.specs.Bool.{Decides}
 use Rattle.std.specs.Str.{bytes_eq}
 use Rattle.std.proofs.lemmas.Slice.Eq.{bytes_eq-Decides}
+use Rattle.std.specs.Prelude.{Option, Some, None}
+use Rattle.reg_core.specs.Advice.{same_advice, is_given}
 use Rattle.reg_core.specs.Ask.{same_want, same_code, same_ask}
 use Rattle.reg_core.specs.Equivalences.{want_decided}
 use Rattle.reg_core.specs.Capability.{same_cap, same_kind}
@@ -11,6 +13,7 @@ use Rattle.reg_core.specs.Maps.{same_text}
 use Rattle.reg_ranges.specs.Sameness.{same_evidence, same_table}
 use Rattle.reg_ranges.specs.Tables.{Table}
 use Rattle.reg_ranges.proofs.Sames.{both_decided, evidence_decided, table_decided}
+use Rattle.reg_core.specs.declared.advice.Advice.{Advice}
 use Rattle.reg_core.specs.declared.ask.Ask.{Ask}
 use Rattle.reg_core.specs.declared.ask.Ask.TheVariants.{Code}
 use Rattle.reg_core.specs.declared.ask.CodeAsk.{CodeAsk}
@@ -45,6 +48,22 @@ same_cap-itself cap = search rules
 
 pub same_cap-decides : DecidesSame same_cap
 same_cap-decides = from_both same_cap same_cap-is same_cap-itself
+
+-- ---- Advice
+
+same_advice-is : (a b : Advice) → same_advice a b ≡ true → a ≡ b
+same_advice-is a b = search rules
+
+pub same_advice-itself : (advice : Advice) → same_advice advice advice ≡ true
+same_advice-itself advice = search rules
+
+pub same_advice-decides : DecidesSame same_advice
+same_advice-decides = from_both same_advice same_advice-is same_advice-itself
+
+-- what was given already is this advice
+pub is_given-is : (old : Option Advice) (advice : Advice) → is_given old advice ≡ true → old ≡ Some advice
+is_given-is None advice h = absurd (cc)
+is_given-is (Some old) advice h = ap Some (same_advice-is old advice h)
 
 -- ---- Asks
 

@@ -1,14 +1,15 @@
 -- What a step looks up: the caller's capability, and its own requests.
-use Rattle.std.proofs.Common.{◌≡◌, ℕ, Bool, true, false, List, refl, ap, ◌∙◌}
+use Rattle.std.proofs.Common.{◌≡◌, ℕ, Bool, true, false, List, refl, sym, ap, ◌∙◌}
 use Rattle.std.specs.Prelude.{Option, Some, None, Ok, Err, option_and_then, nat_le, if◌then◌else◌}
 use Rattle.std.specs.FinMap.{get}
 use Rattle.reg_core.specs.Answer.{admitted}
 use Rattle.reg_core.specs.Capability.{same_kind}
 use Rattle.reg_core.specs.Maps.{same_text, only_if}
 use Rattle.reg_core.specs.View.{requests_of}
-use Rattle.reg_core.specs.World.{World}
+use Rattle.reg_core.specs.World.{World, RequestName}
 use Rattle.reg_core.specs.declared.capability.Cap.{Cap}
 use Rattle.reg_core.specs.declared.capability.Kind.{Kind}
+use Rattle.reg_core.specs.declared.request.Filing.{Filing}
 use Rattle.reg_core.specs.declared.refusal.Refusal.TheVariants as no
 use Rattle.reg_core.proofs.MapLaws.{name_keys, get-select}
 use Rattle.reg_core.proofs.Sameness.{same_text-itself}
@@ -21,6 +22,19 @@ own_request account reference w =
       | None ↦ refl
       | Some filing ↦ ap (λ b. only_if b filing) (same_text-itself account)
     ]
+
+-- an account's own row is a row of the world
+pub own_row_found : (account : List ℕ) (w : World) (name : RequestName) (filing : Filing) → get (requests_of account w) name ≡ Some filing → get w.requests name ≡ Some filing
+own_row_found account w name filing found =
+    from (get w.requests name) (sym (get-select name_keys (λ name filing. only_if (same_text name.0 account) filing) w.requests name) ∙ found)
+  where
+    shown : (b : Bool) (row : Filing) → only_if b row ≡ Some filing → Some row ≡ Some filing
+    shown true row h = h
+    shown false row h = absurd (cc)
+
+    from : (o : Option Filing) → option_and_then (λ filing. only_if (same_text name.0 account) filing) o ≡ Some filing → o ≡ Some filing
+    from None h = absurd (cc)
+    from (Some row) h = shown (same_text name.0 account) row h
 
 -- the capability by which a command is admitted is the one that was found, still valid and of the kind
 pub admitted-ok : (found : Option Cap) (moment : ℕ) (kind : Kind) (cap : Cap) → admitted found moment kind ≡ Ok cap

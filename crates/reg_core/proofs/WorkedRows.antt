@@ -3,7 +3,7 @@ use Rattle.std.proofs.Common.{◌≡◌, ℕ, true, false, List, [], ◌∷◌, 
 use Rattle.std.specs.Prelude.{Option, Some, None, codes, filter_map}
 use Rattle.std.specs.FinMap as map
 use Rattle.std.specs.FinMap.{get, entries, get-insert, get-empty, len-entries, len-empty}
-use Rattle.reg_core.specs.Answer.{is_moment}
+use Rattle.reg_early.specs.Moment.{is_in_clock}
 use Rattle.reg_core.specs.Laws.{clerk_cap, founded_world}
 use Rattle.reg_core.specs.Maps.{text_cmp, keyed, same_text, only_if}
 use Rattle.reg_core.specs.Run.{Event, run}
@@ -14,7 +14,7 @@ use Rattle.reg_core.specs.declared.capability.Cap.{Cap}
 use Rattle.reg_core.specs.declared.capability.Kind.TheVariants.{Applicant}
 use Rattle.reg_core.specs.declared.change.Change.TheVariants as change
 use Rattle.reg_core.specs.declared.command.Command.{Command}
-use Rattle.reg_core.specs.declared.command.Command.TheVariants.{Public, Applicant, Clerk}
+use Rattle.reg_core.specs.declared.command.Command.TheVariants.{Public, Applicant, Expert, Clerk}
 use Rattle.reg_core.specs.declared.command.ApplicantCommand.TheVariants.{Own}
 use Rattle.reg_core.specs.declared.command.ClerkCommand.TheVariants.{Grant, Revoke}
 use Rattle.reg_core.specs.declared.refusal.Refusal.TheVariants as no
@@ -100,13 +100,14 @@ grant_by_an_applicant = rw granted-alice refl
 token_in_use : taken granted (Some clerk) 1700000000 (Clerk (Revoke clerk)) ≡ record { reply = Refused no.Own; world = granted }
 token_in_use = rw granted-clerk refl
 
-clock : (is_moment 946684799 ≡ false) × (is_moment 946684800 ≡ true) × (is_moment 32503679999 ≡ true) × (is_moment 32503680000 ≡ false)
+clock : (is_in_clock 946684799 ≡ false) × (is_in_clock 946684800 ≡ true) × (is_in_clock 32503679999 ≡ true) × (is_in_clock 32503680000 ≡ false)
 clock = (refl, refl, refl, refl)
 
 -- outside those years every command of every caller is refused, whatever the world
 closed : (w : World) (caller : Option (List ℕ)) (command : Command) → taken w caller 946684799 command ≡ record { reply = Refused no.Clock; world = w }
 closed w caller (Public command) = refl
 closed w caller (Applicant command) = refl
+closed w caller (Expert command) = refl
 closed w None (Clerk command) = refl
 closed w (Some digest) (Clerk command) = refl
 

@@ -1,25 +1,32 @@
 -- Whether an ask meets the published registers (RFC 8126 section 4).
-use Rattle.std.specs.Prelude.{ℕ, nat_lt, List, Option, Some, None, Result, Ok, Err, if◌then◌else◌}
-use Rattle.std.specs.FinMap.{get}
+use Rattle.std.specs.Prelude.{ℕ, Bool, false, nat_lt, List, [], map, is_some, Option, Some, None, Result, Ok, Err, if◌then◌else◌}
+use Rattle.std.specs.FinMap.{get, entries}
 use Rattle.std.specs.List.{list_any}
-use Rattle.reg_ranges.specs.Requirements.{first_item, is_closed_policy, unmet}
+use Rattle.reg_ranges.specs.FreeValues.{least_value}
+use Rattle.reg_ranges.specs.Requirements.{first_item, is_closed_policy, is_expert_policy, unmet}
 use Rattle.reg_ranges.specs.Sameness.{same_treatment}
 use Rattle.reg_ranges.specs.Tables.{Table, treatment_of}
 use Rattle.reg_ranges.specs.declared.evidence.Item.{Item}
 use Rattle.reg_ranges.specs.declared.policy.Policy.{Policy}
 use Rattle.reg_ranges.specs.declared.policy.Treatment.{Treatment}
 use Rattle.reg_ranges.specs.declared.policy.Treatment.TheVariants.{Under, Reserved}
-use Rattle.reg_core.specs.View.{Published}
+use Rattle.reg_core.specs.View.{Published, entries_of}
 use Rattle.reg_core.specs.declared.ask.Ask.{Ask}
 use Rattle.reg_core.specs.declared.ask.Ask.TheVariants.{Code}
 use Rattle.reg_core.specs.declared.ask.Want.{Want}
 use Rattle.reg_core.specs.declared.ask.Want.TheVariants.{Value, Least}
 use Rattle.reg_core.specs.declared.refusal.Refusal.{Refusal}
 use Rattle.reg_core.specs.declared.refusal.Refusal.TheVariants as no
+use Rattle.reg_core.specs.declared.entry.Assignment.{Assignment}
+use Rattle.reg_core.specs.declared.request.Given.{Given}
+use Rattle.reg_core.specs.declared.request.Given.TheVariants as given
 
--- the published rows that an ask needs: its registry, if there is one
+-- the published rows that an ask needs: its registry, the entry at the value that it names, and the values
+-- that have entries where it wants the least
 pub record Ground : Type 0 where
   pub table : Option Table
+  pub entry : Option Assignment
+  pub taken : List ℕ
 
 -- each check in turn, as far as none refuses
 infixl 10 ◌>>=◌
@@ -52,16 +59,52 @@ abbrev pub is_met : Option Item → Result (Unit {0}) Refusal
 is_met None = Ok tt
 is_met (Some item) = Err (no.Evidence item)
 
--- the first refusal that an ask meets
-abbrev pub allowed_on : Ground → List ℕ → Ask → Result (Unit {0}) Refusal
+-- the value that is wanted, where it has no entry
+abbrev pub value_for : Ground → Table → Want → Result ℕ Refusal
+value_for rows table (Value v) = if is_some rows.entry then Err no.Taken else Ok v
+value_for rows table (Least policy) = or_refusal no.Exhausted (least_value table policy rows.taken)
+
+-- what an ask of an account would be given, or the first refusal that it meets
+abbrev pub allowed_on : Ground → List ℕ → Ask → Result Given Refusal
 allowed_on rows account (Code ask) = do
   table ← or_refusal no.Registry rows.table
   policy ← policy_for table ask.want
-  is_met (first_item (unmet policy ask.evidence))
+  nothing ← is_met (first_item (unmet policy ask.evidence))
+  value ← value_for rows table ask.want
+  Ok (given.Value value)
+
+-- ---- In the published registers
+
+abbrev pub entry_wanted : Published → List ℕ → Want → Option Assignment
+entry_wanted p registry (Value v) = get p.entries (registry, v)
+entry_wanted p registry (Least policy) = None
+
+abbrev pub values_taken : Published → List ℕ → Want → List ℕ
+values_taken p registry (Value v) = []
+values_taken p registry (Least policy) = map (λ e. e.0.1) (entries (entries_of registry p.entries))
 
 abbrev pub ground_of : Published → Ask → Ground
-ground_of p (Code ask) = record { table = get p.registries ask.registry }
+ground_of p (Code ask) = record {
+  table = get p.registries ask.registry;
+  entry = entry_wanted p ask.registry ask.want;
+  taken = values_taken p ask.registry ask.want;
+}
 
--- the first refusal that an ask of an account meets in the published registers
-abbrev pub allowed : Published → List ℕ → Ask → Result (Unit {0}) Refusal
+abbrev pub allowed : Published → List ℕ → Ask → Result Given Refusal
 allowed p account ask = allowed_on (ground_of p ask) account ask
+
+-- ---- Review
+
+-- a designated expert has to approve (RFC 8126 sections 4.5 and 4.6)
+abbrev pub is_reviewed : Result Policy Refusal → Bool
+is_reviewed (Ok policy) = is_expert_policy policy
+is_reviewed (Err refusal) = false
+
+-- the policy that decides about what is wanted of a registry that may not be there
+abbrev pub policy_wanted : Option Table → Want → Result Policy Refusal
+policy_wanted found want = do
+  table ← or_refusal no.Registry found
+  policy_for table want
+
+abbrev pub needs_advice : Ground → Ask → Bool
+needs_advice rows (Code ask) = is_reviewed (policy_wanted rows.table ask.want)

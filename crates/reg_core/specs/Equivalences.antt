@@ -1,5 +1,5 @@
 -- Sameness of asks is an equivalence.
-use Rattle.std.specs.Prelude.{◌≡◌, ◌==◌}
+use Rattle.std.specs.Prelude.{◌≡◌}
 use Rattle.std.proofs.Common.{ap}
 use Rattle.std.specs.Bool.{Decides}
 use Rattle.std.specs.Cmp.{IsEquivalence}

@@ -1,31 +1,48 @@
 -- The laws of the office.
-use Rattle.std.specs.Prelude.{◌≡◌, ◌<◌, ◌↔◌, ℕ, Bool, true, false, List, Option, Some, None, IsTrue, All, codes}
-use Rattle.std.specs.FinMap.{get, keys}
-use Rattle.reg_core.specs.Answer.{is_moment}
+use Rattle.std.specs.Prelude.{◌≡◌, ◌<◌, ◌↔◌, ℕ, Bool, true, false, List, Option, Some, None, Ok, IsTrue, All, codes}
+use Rattle.std.specs.FinMap.{get, contains_key, keys}
+use Rattle.reg_early.specs.Moment.{is_in_clock, utc_day}
+use Rattle.reg_core.specs.Allowance.{allowed, ground_of, needs_advice}
+use Rattle.reg_ranges.specs.Tables.{Table}
 use Rattle.reg_core.specs.Capability.{last_until}
 use Rattle.reg_core.specs.Command.{kind_of, has_command_form}
+use Rattle.reg_core.specs.File.{experts_of, opinions_of}
 use Rattle.reg_core.specs.Names.{is_token, is_digest}
-use Rattle.reg_core.specs.Request.{filing_of}
+use Rattle.reg_core.specs.Queue.{queue_rows}
+use Rattle.reg_core.specs.Request.{filing_of, request_rows, word_of}
+use Rattle.reg_core.specs.Page.{page_entries}
+use Rattle.reg_core.specs.Rules.{award}
 use Rattle.reg_core.specs.Run.{Event, have_forms, world_after}
 use Rattle.reg_core.specs.Step.{answer_to, step}
-use Rattle.reg_core.specs.View.{cap_at, view_of}
+use Rattle.reg_core.specs.View.{published, queue_of, cap_at, view_of}
 use Rattle.reg_core.specs.WellKept.{WellKept, CanApply}
-use Rattle.reg_core.specs.World.{World, empty_world, applied}
+use Rattle.reg_core.specs.World.{World, Place, RequestName, empty_world, applied}
+use Rattle.reg_core.specs.declared.advice.Advice.{Advice}
+use Rattle.reg_core.specs.declared.advice.Verdict.TheVariants.{For}
+use Rattle.reg_core.specs.declared.ask.Ask.{Ask}
 use Rattle.reg_core.specs.declared.capability.Cap.{Cap}
 use Rattle.reg_core.specs.declared.capability.Kind.{Kind}
 use Rattle.reg_core.specs.declared.capability.Kind.TheVariants as kind
 use Rattle.reg_core.specs.declared.change.Change.{Change}
 use Rattle.reg_core.specs.declared.change.Change.TheVariants.{Grant as GrantIt}
 use Rattle.reg_core.specs.declared.command.Command.{Command}
-use Rattle.reg_core.specs.declared.command.Command.TheVariants.{Public, Applicant, Clerk}
-use Rattle.reg_core.specs.declared.command.ApplicantCommand.TheVariants.{Own, OwnOne, Submit}
-use Rattle.reg_core.specs.declared.command.ClerkCommand.TheVariants.{Define, Grant, Revoke}
+use Rattle.reg_core.specs.declared.command.Command.TheVariants.{Public, Applicant, Expert, Clerk}
+use Rattle.reg_core.specs.declared.command.ApplicantCommand.TheVariants.{Own, OwnOne, Submit, Withdraw}
+use Rattle.reg_core.specs.declared.command.ExpertCommand.TheVariants.{Queue, Advise}
+use Rattle.reg_core.specs.declared.command.ClerkCommand.TheVariants.{AllRequests, OneRequest, AssignExpert, Approve, Decline, Define, Grant, Revoke}
 use Rattle.reg_core.specs.declared.command.PublicCommand.TheVariants.{Registries, Registry, RegistryCsv}
+use Rattle.reg_core.specs.declared.file.File.{File}
 use Rattle.reg_core.specs.declared.page.Page.{Page as PageOf}
+use Rattle.reg_core.specs.declared.queue.QueueRow.{QueueRow}
 use Rattle.reg_core.specs.declared.refusal.Refusal.{Refusal}
 use Rattle.reg_core.specs.declared.reply.Reply.{Reply}
-use Rattle.reg_core.specs.declared.reply.Reply.TheVariants.{Names, Page, Sheet, Made, Row, Rows, Defined, Granted, Revoked, Refused}
+use Rattle.reg_core.specs.declared.reply.Reply.TheVariants.{Names, Page, Sheet, Made, Row, Rows, Item, Items, Desk, Desks, Filed, Defined, Granted, Revoked, Refused}
+use Rattle.reg_core.specs.declared.entry.Assignment.{Assignment}
+use Rattle.reg_core.specs.declared.request.Filing.{Filing}
+use Rattle.reg_core.specs.declared.request.Given.{Given}
 use Rattle.reg_core.specs.declared.request.Request.{Request}
+use Rattle.reg_core.specs.declared.request.State.{State}
+use Rattle.reg_core.specs.declared.request.State.TheVariants.{Pending, Approved, Declined, Withdrawn}
 
 -- the digest of a token has a digest's form
 abbrev pub GivesDigests : (List ℕ → List ℕ) → Type 0
@@ -67,29 +84,82 @@ RunsKeepWell digest_of = (w : World) (events : List Event) → WellKept w → ha
 abbrev pub HasRow : World → Request → Type 0
 HasRow w row = get w.requests (row.account, row.reference) ≡ Some (filing_of row)
 
--- the page shows the registry of this name
-abbrev pub Shows : World → List ℕ → PageOf → Type 0
-Shows w name page = (page.name ≡ name) × (get w.registries name ≡ Some page.table)
+-- the page shows the registry of this name as it is on the day
+abbrev pub Shows : World → List ℕ → ℕ → PageOf → Type 0
+Shows w name today page =
+    (page.name ≡ name) × (get w.registries name ≡ Some page.table) × (page.entries ≡ page_entries (published w) name today)
 
--- the world after a command has what the reply says, and the reply is about what was asked
-abbrev pub WasDone : (List ℕ → List ℕ) → World → Command → Reply → Type 0
-WasDone digest_of w command (Refused refusal) = Unit {0}
-WasDone digest_of w (Public Registries) (Names names) = names ≡ keys w.registries
-WasDone digest_of w (Public (Registry name)) (Page page) = Shows w name page
-WasDone digest_of w (Public (RegistryCsv name)) (Sheet page) = Shows w name page
-WasDone digest_of w (Applicant Own) (Rows rows) = All (HasRow w) rows
-WasDone digest_of w (Applicant (OwnOne reference)) (Row row) = (row.reference ≡ reference) × HasRow w row
-WasDone digest_of w (Applicant (Submit reference ask)) (Made row) = (row.reference ≡ reference) × (row.ask ≡ ask) × HasRow w row
-WasDone digest_of w (Applicant (Submit reference ask)) (Row row) = (row.reference ≡ reference) × (row.ask ≡ ask) × HasRow w row
-WasDone digest_of w (Clerk (Define name table)) (Defined given) = (given ≡ name) × (get w.registries name ≡ Some table)
-WasDone digest_of w (Clerk (Grant token cap)) (Granted given) = (given ≡ cap) × (get w.caps (digest_of token) ≡ Some cap)
-WasDone digest_of w (Clerk (Revoke token)) Revoked = get w.caps (digest_of token) ≡ None
-WasDone digest_of w command reply = ⊥
+-- the row is of the request of this name
+abbrev pub IsRow : World → List ℕ → List ℕ → Request → Type 0
+IsRow w account reference row = (row.account ≡ account) × (row.reference ≡ reference) × HasRow w row
+
+-- the file is of the request of this name, with all its experts and all advice on it
+abbrev pub IsFile : World → List ℕ → List ℕ → File → Type 0
+IsFile w account reference file =
+    IsRow w account reference file.request
+    × (file.experts ≡ experts_of w (account, reference)) × (file.advice ≡ opinions_of w (account, reference))
+
+-- the row is of the request of this name, as this expert sees it to whom it is assigned
+abbrev pub IsItem : World → List ℕ → List ℕ → List ℕ → QueueRow → Type 0
+IsItem w expert account reference row =
+    (row.account ≡ account) × (row.reference ≡ reference)
+    × (contains_key w.queue ((account, reference), expert) ≡ true) × (row.advice ≡ get w.advice ((account, reference), expert))
+    × (filing : Filing) × (get w.requests (account, reference) ≡ Some filing) × (row.ask ≡ filing.ask) × (row.word ≡ word_of filing.state)
+
+abbrev pub IsApproved : State → Type 0
+IsApproved state = (given : Given) × (state ≡ Approved given)
+
+-- the world after a command on a day has what the reply says, and the reply is about what was asked
+abbrev pub WasDone : (List ℕ → List ℕ) → World → ℕ → Command → Reply → Type 0
+WasDone digest_of w today command (Refused refusal) = Unit {0}
+WasDone digest_of w today (Public Registries) (Names names) = names ≡ keys w.registries
+WasDone digest_of w today (Public (Registry name)) (Page page) = Shows w name today page
+WasDone digest_of w today (Public (RegistryCsv name)) (Sheet page) = Shows w name today page
+WasDone digest_of w today (Applicant Own) (Rows rows) = All (HasRow w) rows
+WasDone digest_of w today (Applicant (OwnOne reference)) (Row row) = (row.reference ≡ reference) × HasRow w row
+WasDone digest_of w today (Applicant (Submit reference ask)) (Made row) = (row.reference ≡ reference) × (row.ask ≡ ask) × HasRow w row
+WasDone digest_of w today (Applicant (Submit reference ask)) (Row row) = (row.reference ≡ reference) × (row.ask ≡ ask) × HasRow w row
+WasDone digest_of w today (Applicant (Withdraw reference)) (Row row) = (row.reference ≡ reference) × (row.state ≡ Withdrawn) × HasRow w row
+WasDone digest_of w today (Expert Queue) (Items rows) = (expert : List ℕ) × (rows ≡ queue_rows (queue_of expert w))
+WasDone digest_of w today (Expert (Advise account reference advice)) (Item row) =
+    (row.advice ≡ Some advice) × (expert : List ℕ) × IsItem w expert account reference row
+WasDone digest_of w today (Clerk AllRequests) (Desks rows) = rows ≡ request_rows w.requests
+WasDone digest_of w today (Clerk (OneRequest account reference)) (Filed file) = IsFile w account reference file
+WasDone digest_of w today (Clerk (AssignExpert account reference expert)) (Desk row) =
+    (contains_key w.queue ((account, reference), expert) ≡ true) × IsRow w account reference row
+WasDone digest_of w today (Clerk (Approve account reference)) (Desk row) = IsApproved row.state × IsRow w account reference row
+WasDone digest_of w today (Clerk (Decline account reference reason)) (Desk row) = (row.state ≡ Declined reason) × IsRow w account reference row
+WasDone digest_of w today (Clerk (Define name table)) (Defined given) = (given ≡ name) × (get w.registries name ≡ Some table)
+WasDone digest_of w today (Clerk (Grant token cap)) (Granted given) = (given ≡ cap) × (get w.caps (digest_of token) ≡ Some cap)
+WasDone digest_of w today (Clerk (Revoke token)) Revoked = get w.caps (digest_of token) ≡ None
+WasDone digest_of w today command reply = ⊥
 
 abbrev pub AnswersAreDone : (List ℕ → List ℕ) → Type 0
 AnswersAreDone digest_of =
     (w : World) (caller : Option (List ℕ)) (moment : ℕ) (command : Command)
-    → WasDone digest_of (step digest_of w caller moment command).world command (step digest_of w caller moment command).reply
+    → WasDone digest_of (step digest_of w caller moment command).world (utc_day moment) command (step digest_of w caller moment command).reply
+
+-- an approval that changes something gives exactly what is allowed, on the day of the moment
+abbrev pub ApprovalsGiveWhatIsAllowed : (List ℕ → List ℕ) → Type 0
+ApprovalsGiveWhatIsAllowed digest_of =
+    (w : World) (caller : Option (List ℕ)) (moment : ℕ) (account reference : List ℕ) (change : Change)
+    → (answer_to digest_of w caller moment (Clerk (Approve account reference))).change ≡ Some change
+    → (filing : Filing) × (get w.requests (account, reference) ≡ Some filing) × (filing.state ≡ Pending)
+    × (given : Given) × (allowed (published w) account filing.ask ≡ Ok given) × (change ≡ award (account, reference) filing.ask (utc_day moment) given)
+
+-- an expert to whom the request is assigned is for it
+abbrev pub IsAdvised : World → RequestName → Type 0
+IsAdvised w name =
+    (expert : List ℕ) × (contains_key w.queue (name, expert) ≡ true)
+    × (advice : Advice) × (get w.advice (name, expert) ≡ Some advice) × (advice.verdict ≡ For)
+
+-- an approval that changes something, of what experts review, is of a request that one of its experts is for
+abbrev pub ApprovalsAreAdvised : (List ℕ → List ℕ) → Type 0
+ApprovalsAreAdvised digest_of =
+    (w : World) (caller : Option (List ℕ)) (moment : ℕ) (account reference : List ℕ) (change : Change) (filing : Filing)
+    → (answer_to digest_of w caller moment (Clerk (Approve account reference))).change ≡ Some change
+    → get w.requests (account, reference) ≡ Some filing → needs_advice (ground_of (published w) filing.ask) filing.ask ≡ true
+    → IsAdvised w (account, reference)
 
 abbrev pub RefusalsChangeNothing : (List ℕ → List ℕ) → Type 0
 RefusalsChangeNothing digest_of =
@@ -106,6 +176,11 @@ is_refused (Sheet page) = false
 is_refused (Made row) = false
 is_refused (Row row) = false
 is_refused (Rows rows) = false
+is_refused (Item row) = false
+is_refused (Items rows) = false
+is_refused (Desk row) = false
+is_refused (Desks rows) = false
+is_refused (Filed file) = false
 is_refused (Defined name) = false
 is_refused (Granted cap) = false
 is_refused Revoked = false
@@ -130,8 +205,65 @@ abbrev pub RepeatsActOnce : (List ℕ → List ℕ) → Type 0
 RepeatsActOnce digest_of =
     (w : World) (caller : Option (List ℕ)) (first second : ℕ) (command : Command)
     → let v = (step digest_of w caller first command).world in
-    is_refused (step digest_of w caller first command).reply ≡ false → is_moment second ≡ true → MayRepeat w v caller second (kind_of command)
+    is_refused (step digest_of w caller first command).reply ≡ false → is_in_clock second ≡ true → MayRepeat w v caller second (kind_of command)
     → (is_refused (step digest_of v caller second command).reply ≡ false) × ((step digest_of v caller second command).world ≡ v)
+
+-- ---- What was given stays
+
+-- an entry keeps its label, its assignee and its first day
+abbrev pub StillGiven : Assignment → Option Assignment → Type 0
+StillGiven a None = ⊥
+StillGiven a (Some now) = (now.label ≡ a.label) × (now.assignee ≡ a.assignee) × (now.term.first ≡ a.term.first)
+
+-- a request that is not pending keeps its state
+abbrev pub StillStands : State → State → Type 0
+StillStands Pending now = Unit {0}
+StillStands (Approved given) now = now ≡ Approved given
+StillStands (Declined reason) now = now ≡ Declined reason
+StillStands Withdrawn now = now ≡ Withdrawn
+
+abbrev pub StillAsks : Filing → Option Filing → Type 0
+StillAsks filing None = ⊥
+StillAsks filing (Some now) = (now.ask ≡ filing.ask) × StillStands filing.state now.state
+
+-- no registry, entry or request goes away, and each keeps what it is
+pub record Stays (w v : World) : Type 0 where
+  pub registries : (name : List ℕ) (table : Table) → get w.registries name ≡ Some table → get v.registries name ≡ Some table
+  pub entries : (place : Place) (a : Assignment) → get w.entries place ≡ Some a → StillGiven a (get v.entries place)
+  pub requests : (name : RequestName) (filing : Filing) → get w.requests name ≡ Some filing → StillAsks filing (get v.requests name)
+
+-- what a well kept world has stays in every run
+abbrev pub GivenStays : (List ℕ → List ℕ) → Type 0
+GivenStays digest_of = (w : World) (events : List Event) → WellKept w → have_forms events ≡ true → Stays w (world_after digest_of w events)
+
+-- ---- The same again, later
+
+-- a command is accepted, and then others are given in a run; a caller who may gives it again at a moment
+pub record IsLater (digest_of : List ℕ → List ℕ) (w : World) (caller : Option (List ℕ)) (first : ℕ) (command : Command) (events : List Event) (second : ℕ) (v : World) : Type 0 where
+  pub kept : WellKept w
+  pub form : has_command_form command ≡ true
+  pub accepted : is_refused (step digest_of w caller first command).reply ≡ false
+  pub forms : have_forms events ≡ true
+  pub after : v ≡ world_after digest_of (step digest_of w caller first command).world events
+  pub is_open : is_in_clock second ≡ true
+  pub may : IsStillValid w v caller second
+
+-- the same request is accepted whatever came between, and nothing changes
+abbrev pub SubmissionsStand : (List ℕ → List ℕ) → Type 0
+SubmissionsStand digest_of =
+    (w v : World) (caller : Option (List ℕ)) (first second : ℕ) (reference : List ℕ) (ask : Ask) (events : List Event)
+    → let command = Applicant (Submit reference ask) in
+    IsLater digest_of w caller first command events second v
+    → (is_refused (step digest_of v caller second command).reply ≡ false) × ((step digest_of v caller second command).world ≡ v)
+
+-- the same approval is answered as it first was whatever came between, and nothing changes
+abbrev pub ApprovalsStand : (List ℕ → List ℕ) → Type 0
+ApprovalsStand digest_of =
+    (w v : World) (caller : Option (List ℕ)) (first second : ℕ) (account reference : List ℕ) (events : List Event)
+    → let command = Clerk (Approve account reference) in
+    IsLater digest_of w caller first command events second v
+    → ((step digest_of v caller second command).reply ≡ (step digest_of w caller first command).reply)
+    × ((step digest_of v caller second command).world ≡ v)
 
 -- ---- Tests of sameness
 

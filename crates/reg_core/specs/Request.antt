@@ -1,8 +1,17 @@
 -- Requests with their names, and without.
-use Rattle.std.specs.Prelude.{List, map}
+use Rattle.std.specs.Prelude.{Bool, true, false, ◌^◌, nat_lt, List, map, Option, Some, None, unwrap_or}
 use Rattle.std.specs.FinMap.{FinMap, entries}
-use Rattle.reg_core.specs.World.{RequestName, name_cmp}
+use Rattle.reg_ranges.specs.Texts.{is_text}
+use Rattle.reg_core.specs.World.{RequestName, name_cmp, in_state}
+use Rattle.reg_core.specs.declared.change.Change.{Change}
+use Rattle.reg_core.specs.declared.change.Change.TheVariants.{Grant, Revoke, Define, Submit, Close, Assign, Advise, GiveValue}
 use Rattle.reg_core.specs.declared.request.Filing.{Filing}
+use Rattle.reg_core.specs.declared.request.Given.{Given}
+use Rattle.reg_core.specs.declared.request.Given.TheVariants.{Value}
+use Rattle.reg_core.specs.declared.request.State.{State}
+use Rattle.reg_core.specs.declared.request.State.TheVariants.{Pending, Approved, Declined, Withdrawn}
+use Rattle.reg_core.specs.declared.request.StateWord.{StateWord}
+use Rattle.reg_core.specs.declared.request.StateWord.TheVariants as word
 use Rattle.reg_core.specs.declared.request.Request.{Request}
 
 abbrev pub filing_of : Request → Filing
@@ -13,3 +22,44 @@ request_row name filing = record { account = name.0; reference = name.1; ask = f
 
 abbrev pub request_rows : FinMap name_cmp Filing → List Request
 request_rows m = map (λ e. request_row e.0 e.1) (entries m)
+
+-- ---- Forms
+
+abbrev pub has_given_form : Given → Bool
+has_given_form (Value v) = nat_lt v (2 ^ 32)
+
+abbrev pub has_state_form : State → Bool
+has_state_form Pending = true
+has_state_form (Approved given) = has_given_form given
+has_state_form (Declined reason) = is_text reason
+has_state_form Withdrawn = true
+
+-- ---- States
+
+abbrev pub is_pending : State → Bool
+is_pending Pending = true
+is_pending (Approved given) = false
+is_pending (Declined reason) = false
+is_pending Withdrawn = false
+
+-- the bare word of a state
+abbrev pub word_of : State → StateWord
+word_of Pending = word.Pending
+word_of (Approved given) = word.Approved
+word_of (Declined reason) = word.Declined
+word_of Withdrawn = word.Withdrawn
+
+-- the state in which a change leaves the request that it is about, if it is about one
+abbrev pub state_by : Change → Option State
+state_by (Grant digest cap) = None
+state_by (Revoke digest) = None
+state_by (Define name table) = None
+state_by (Submit account reference ask) = Some Pending
+state_by (Close account reference state) = Some state
+state_by (Assign account reference expert) = None
+state_by (Advise account reference expert advice) = None
+state_by (GiveValue account reference entry) = Some (Approved (Value entry.value))
+
+-- a request after the change
+abbrev pub after : Change → Filing → Filing
+after change filing = in_state (unwrap_or (state_by change) filing.state) filing

@@ -1,27 +1,88 @@
 -- The rule by which each command is decided, over just the rows that it needs.
-use Rattle.std.specs.Prelude.{◌≡◌, ℕ, List, Option, Some, None, Result, Ok, Err, is_some, if◌then◌else◌, MatchResult}
+use Rattle.std.specs.Prelude.{◌≡◌, ℕ, Bool, true, false, ◌&&◌, not, List, Option, Some, None, Result, Ok, Err, is_some, if◌then◌else◌, MatchResult}
 use Rattle.reg_ranges.specs.Sameness.{same_table}
 use Rattle.reg_ranges.specs.Tables.{Table}
+use Rattle.reg_core.specs.Advice.{is_given}
 use Rattle.reg_core.specs.Maps.{same_text}
+use Rattle.reg_core.specs.Allowance.{Ground, allowed_on, needs_advice}
 use Rattle.reg_core.specs.Ask.{same_ask}
 use Rattle.reg_core.specs.Capability.{same_cap}
+use Rattle.reg_core.specs.Entry.{entry_for}
 use Rattle.reg_core.specs.World.{RequestName}
+use Rattle.reg_core.specs.declared.advice.Advice.{Advice as AdviceOf}
 use Rattle.reg_core.specs.declared.ask.Ask.{Ask}
+use Rattle.reg_core.specs.declared.ask.Ask.TheVariants.{Code}
 use Rattle.reg_core.specs.declared.capability.Cap.{Cap}
-use Rattle.reg_core.specs.declared.change.Change.TheVariants.{Grant, Revoke, Define, Submit}
+use Rattle.reg_core.specs.declared.change.Change.{Change}
+use Rattle.reg_core.specs.declared.change.Change.TheVariants.{Grant, Revoke, Define, Submit, Close, Assign, Advise, GiveValue}
 use Rattle.reg_core.specs.declared.decide.Decision.{Decision}
 use Rattle.reg_core.specs.declared.decide.Decision.TheVariants.{Make, Same}
 use Rattle.reg_core.specs.declared.decide.Deny.{Deny}
 use Rattle.reg_core.specs.declared.decide.Deny.TheVariants.{Refused, Memory}
 use Rattle.reg_core.specs.declared.refusal.Refusal.{Refusal}
-use Rattle.reg_core.specs.declared.refusal.Refusal.TheVariants.{Ref, Own, Exists}
+use Rattle.reg_core.specs.declared.refusal.Refusal.TheVariants.{Ref, Closed, Advice, Own, Exists}
 use Rattle.reg_core.specs.declared.request.Filing.{Filing}
+use Rattle.reg_core.specs.declared.request.Given.{Given}
+use Rattle.reg_core.specs.declared.request.Given.TheVariants.{Value}
+use Rattle.reg_core.specs.declared.request.State.{State}
+use Rattle.reg_core.specs.declared.request.State.TheVariants.{Pending, Approved, Declined, Withdrawn}
+use Rattle.reg_core.specs.declared.request.StateWord.{StateWord}
+use Rattle.reg_core.specs.declared.request.StateWord.TheVariants as word
 
 -- another request is made where the ask is allowed; the same ask again is the request that is there
-abbrev pub submit_rule : Result (Unit {0}) Refusal → RequestName → Ask → Option Filing → Result Decision Refusal
+abbrev pub submit_rule : Result Given Refusal → RequestName → Ask → Option Filing → Result Decision Refusal
 submit_rule allowance name ask (Some old) = if same_ask old.ask ask then Ok Same else Err Ref
 submit_rule (Ok _) name ask None = Ok (Make (Submit name.0 name.1 ask))
 submit_rule (Err refusal) name ask None = Err refusal
+
+-- an applicant takes a pending request back
+abbrev pub withdraw_rule : RequestName → State → Result Decision Refusal
+withdraw_rule name Pending = Ok (Make (Close name.0 name.1 Withdrawn))
+withdraw_rule name (Approved given) = Err Closed
+withdraw_rule name (Declined reason) = Err Closed
+withdraw_rule name Withdrawn = Ok Same
+
+-- a pending request is declined for a reason
+abbrev pub decline_rule : RequestName → List ℕ → State → Result Decision Refusal
+decline_rule name reason Pending = Ok (Make (Close name.0 name.1 (Declined reason)))
+decline_rule name reason (Approved given) = Err Closed
+decline_rule name reason (Declined old) = if same_text old reason then Ok Same else Err Closed
+decline_rule name reason Withdrawn = Err Closed
+
+-- a pending request is assigned to an expert, who is not its applicant
+abbrev pub assign_rule : RequestName → List ℕ → Bool → State → Result Decision Refusal
+assign_rule name expert true state = Ok Same
+assign_rule name expert false Pending = if same_text expert name.0 then Err Own else Ok (Make (Assign name.0 name.1 expert))
+assign_rule name expert false (Approved given) = Err Closed
+assign_rule name expert false (Declined reason) = Err Closed
+assign_rule name expert false Withdrawn = Err Closed
+
+-- an expert's advice is taken while the request is pending
+abbrev pub taken_rule : RequestName → List ℕ → AdviceOf → StateWord → Result Decision Refusal
+taken_rule name expert advice word.Pending = Ok (Make (Advise name.0 name.1 expert advice))
+taken_rule name expert advice word.Approved = Err Closed
+taken_rule name expert advice word.Declined = Err Closed
+taken_rule name expert advice word.Withdrawn = Err Closed
+
+-- an expert gives advice on a request that is queued to it, in place of what it gave before
+abbrev pub advise_rule : RequestName → List ℕ → AdviceOf → Option AdviceOf → StateWord → Result Decision Refusal
+advise_rule name expert advice old word = if is_given old advice then Ok Same else taken_rule name expert advice word
+
+-- the change by which a request is given what it is allowed
+abbrev pub award : RequestName → Ask → ℕ → Given → Change
+award name (Code ask) today (Value v) = GiveValue name.0 name.1 (entry_for name.0 ask today v)
+
+-- what is allowed is given, unless an expert's advice is wanting
+abbrev pub give_rule : RequestName → Ask → ℕ → Bool → Result Given Refusal → Result Decision Refusal
+give_rule name ask today wanting (Err refusal) = Err refusal
+give_rule name ask today wanting (Ok given) = if wanting then Err Advice else Ok (Make (award name ask today given))
+
+-- a pending request is approved on a day, over the published rows that its ask needs, and whether one of its experts is for it
+abbrev pub approve_rule : Ground → Bool → RequestName → Ask → ℕ → State → Result Decision Refusal
+approve_rule rows advised name ask today Pending = give_rule name ask today (needs_advice rows ask && not advised) (allowed_on rows name.0 ask)
+approve_rule rows advised name ask today (Approved given) = Ok Same
+approve_rule rows advised name ask today (Declined reason) = Err Closed
+approve_rule rows advised name ask today Withdrawn = Err Closed
 
 -- a registry keeps the ranges with which it was defined
 abbrev pub define_rule : Option Table → List ℕ → Table → Result Decision Refusal

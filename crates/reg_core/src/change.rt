@@ -1,6 +1,9 @@
 //! What a command changes.
+use crate::advice::Advice;
 use crate::ask::Ask;
 use crate::capability::Cap;
+use crate::entry::Entry;
+use crate::request::State;
 use crate::text::{Account, Digest, Name, Ref};
 use reg_ranges::table::RangeTable;
 
@@ -15,4 +18,12 @@ pub enum Change {
     Define(Name, RangeTable),
     /// Adds a pending request.
     Submit(Account, Ref, Ask),
+    /// Closes a request, which is given nothing: declined or withdrawn.
+    Close(Account, Ref, State),
+    /// Assigns a request to an expert.
+    Assign(Account, Ref, Account),
+    /// Adds an expert's advice on a request, or replaces the one that the expert gave before.
+    Advise(Account, Ref, Account, Advice),
+    /// Approves a request and adds the entry of the value that it is given.
+    GiveValue(Account, Ref, Entry),
 }

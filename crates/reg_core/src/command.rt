@@ -2,9 +2,10 @@
 ghost use Rattle.std.specs.Prelude.{◌≡◌};
 ghost use Rattle.reg_core.specs.Command.{kind_of};
 
+use crate::advice::Advice;
 use crate::ask::Ask;
 use crate::capability::{Cap, Kind};
-use crate::text::{Name, Ref, Token};
+use crate::text::{Account, Name, Ref, Text, Token};
 use reg_ranges::table::RangeTable;
 
 /// What a caller asks the office to do, by whose command it is.
@@ -13,6 +14,7 @@ pub enum Command {
     /// Anybody's, with any token or none.
     Public(PublicCommand),
     Applicant(ApplicantCommand),
+    Expert(ExpertCommand),
     Clerk(ClerkCommand),
 }
 
@@ -36,11 +38,32 @@ pub enum ApplicantCommand {
     OwnOne(Ref),
     /// Files a request under a reference of its own.
     Submit(Ref, Ask),
+    /// Takes one of its requests back.
+    Withdraw(Ref),
+}
+
+/// What an expert may ask, of the requests that are queued to its account.
+#[derive(Drop)]
+pub enum ExpertCommand {
+    /// Lists these requests.
+    Queue,
+    /// Gives advice on one of them.
+    Advise(Account, Ref, Advice),
 }
 
 /// What a clerk may ask.
 #[derive(Drop)]
 pub enum ClerkCommand {
+    /// Lists all requests.
+    AllRequests,
+    /// Looks at a request.
+    OneRequest(Account, Ref),
+    /// Assigns a request to an expert, the last account.
+    AssignExpert(Account, Ref, Account),
+    /// Approves a request.
+    Approve(Account, Ref),
+    /// Declines a request, for a reason.
+    Decline(Account, Ref, Text),
     /// Opens a registry with its largest value and its ranges.
     Define(Name, RangeTable),
     /// Gives a token a capability.
@@ -57,6 +80,7 @@ impl Command {
         match self {
             Command::Public(_) => None,
             Command::Applicant(_) => Some(Kind::Applicant),
+            Command::Expert(_) => Some(Kind::Expert),
             Command::Clerk(_) => Some(Kind::Clerk),
         }
     }

@@ -1,18 +1,29 @@
 //! What each command that may change something is decided to be, over just the rows that it needs.
+mod advise;
 mod allowance;
+mod approve;
+mod assign;
+mod decline;
 mod define;
 mod grant;
+mod review;
 mod revoke;
 mod submit;
+mod withdraw;
 
 use crate::change::Change;
 use crate::refusal::Refusal;
-pub use allowance::{Ground, check_ask};
+pub use advise::decide_advise;
+pub use allowance::{Ground, check_ask, needs_advice};
+pub use approve::decide_approve;
+pub use assign::decide_assign;
+pub use decline::decide_decline;
 pub use define::decide_define;
 pub use grant::decide_grant;
 pub use revoke::decide_revoke;
 use std::alloc::AllocError;
 pub use submit::decide_submit;
+pub use withdraw::decide_withdraw;
 
 /// What an accepted command comes to.
 #[derive(Drop)]

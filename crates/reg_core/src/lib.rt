@@ -2,13 +2,17 @@
 //! and the laws of the whole.
 #![tactic(auto)]
 
+pub mod advice;
 pub mod ask;
 pub mod capability;
 pub mod change;
 pub mod command;
 pub mod decide;
+pub mod entry;
+pub mod file;
 pub mod laws;
 pub mod page;
+pub mod queue;
 pub mod refusal;
 pub mod reply;
 pub mod request;

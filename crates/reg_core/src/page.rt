@@ -4,16 +4,20 @@ ghost use Rattle.std.specs.List.{list_all};
 ghost use Rattle.reg_core.specs.Ask.{has_note_form};
 ghost use Rattle.reg_core.specs.Registry.{has_table_form};
 
+use crate::entry::PageEntry;
+use crate::rows::Rows;
 use crate::text::{Name, Text};
 use reg_ranges::laws::faults_tell_partitions;
 use reg_ranges::range::Range;
 use reg_ranges::table::RangeTable;
 
-/// A registry as it is published: its name, its largest value and its ranges.
+/// A registry as it is published on a day: its name, its largest value, its ranges, and its entries by
+/// value.
 #[derive(Drop)]
 pub struct Page {
     pub name: Name,
     pub table: RangeTable,
+    pub entries: Rows<PageEntry>,
 }
 
 /// Does nothing: what it ensures is known of a table by its type.

@@ -16,6 +16,8 @@ pub enum Refusal {
     Ref,
     /// There is no such request among those that the caller may see.
     Request,
+    /// The request is not pending any more.
+    Closed,
     /// There is no such registry.
     Registry,
     /// The value is above the registry's largest.
@@ -25,7 +27,13 @@ pub enum Refusal {
     Policy,
     /// The policy asks for this item of evidence, and it is not met (RFC 8126 section 4).
     Evidence(Item),
-    /// A clerk revokes the token in use.
+    /// The value has an entry.
+    Taken,
+    /// Each value under the policy has an entry.
+    Exhausted,
+    /// An expert's favourable advice is wanting (RFC 8126 sections 4.5 and 4.6).
+    Advice,
+    /// A clerk names the applicant as an expert, or revokes the token in use.
     Own,
     /// Something else is there already.
     Exists,

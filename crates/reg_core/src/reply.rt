@@ -3,7 +3,9 @@ ghost use Rattle.std.specs.Prelude.{◌≡◌};
 ghost use Rattle.reg_core.specs.Laws.{is_refused as refused};
 
 use crate::capability::Cap;
+use crate::file::File;
 use crate::page::Page;
+use crate::queue::QueueRow;
 use crate::refusal::Refusal;
 use crate::request::Request;
 use crate::rows::Rows;
@@ -24,6 +26,16 @@ pub enum Reply {
     Row(Request),
     /// The caller's requests, by reference.
     Rows(Rows<Request>),
+    /// A request that is queued to the caller.
+    Item(QueueRow),
+    /// The requests that are queued to the caller, by account and reference.
+    Items(Rows<QueueRow>),
+    /// A request, as the desk sees it.
+    Desk(Request),
+    /// All requests, by account and reference.
+    Desks(Rows<Request>),
+    /// A request with all that the desk has of it.
+    Filed(File),
     /// The registry of this name is there as it was defined.
     Defined(Name),
     /// The capability that a token now has.

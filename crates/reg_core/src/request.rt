@@ -1,15 +1,38 @@
 //! Requests: what was asked for, under which name, and where it stands.
-ghost use Rattle.std.specs.Prelude.{◌≡◌, IfOk};
+ghost use Rattle.std.specs.Prelude.{◌≡◌, true, IfOk};
+ghost use Rattle.reg_core.specs.Request.{has_state_form, word_of};
 
 use crate::ask::Ask;
-use crate::text::{Account, Ref};
+use crate::text::{Account, Ref, Text};
 use std::alloc::AllocError;
 
-/// Where a request stands.
+/// What an approved request was given.
 #[derive(Clone, Copy, Debug, PartialEq, Eq)]
+pub enum Given {
+    /// This value of the registry that the ask names.
+    Value(u32),
+}
+
+/// Where a request stands.
+#[derive(Drop, PartialEq, Eq)]
 pub enum State {
     /// It waits for the office, and holds nothing.
     Pending,
+    /// It was given what it asks for.
+    Approved(Given),
+    /// The office gives it nothing, for this reason.
+    Declined(Text),
+    /// Its applicant takes it back.
+    Withdrawn,
+}
+
+/// Where a request stands, by the bare word: not what it was given, nor why it is given nothing.
+#[derive(Clone, Copy, Debug, PartialEq, Eq)]
+pub enum StateWord {
+    Pending,
+    Approved,
+    Declined,
+    Withdrawn,
 }
 
 /// A request without its name: what is asked for, and where it stands.
@@ -28,6 +51,37 @@ pub struct Request {
     pub state: State,
 }
 
+impl State {
+    /// An equal state.
+    #[tactic(auto, using(std::proofs::lemmas::Bool::Decides::nat_tests))]
+    pub fn copy(&self) -> Result<Self, AllocError>
+        ensures equal { IfOk result (λ s. s ≡ self.now) }
+        ensures form { has_state_form self.now ≡ true }
+    {
+        match self {
+            State::Pending => Ok(State::Pending),
+            State::Approved(Given::Value(value)) => {
+                let value = *value;
+                Ok(State::Approved(Given::Value(value)))
+            }
+            State::Declined(reason) => Ok(State::Declined(reason.copy()?)),
+            State::Withdrawn => Ok(State::Withdrawn),
+        }
+    }
+
+    /// The bare word.
+    pub fn word(&self) -> StateWord
+        ensures { result ≡ word_of self.now }
+    {
+        match self {
+            State::Pending => StateWord::Pending,
+            State::Approved(_) => StateWord::Approved,
+            State::Declined(_) => StateWord::Declined,
+            State::Withdrawn => StateWord::Withdrawn,
+        }
+    }
+}
+
 impl Filing {
     /// An equal filing.
     pub fn copy(&self) -> Result<Self, AllocError>
@@ -35,7 +89,7 @@ impl Filing {
     {
         Ok(Filing {
             ask: self.ask.copy()?,
-            state: self.state,
+            state: self.state.copy()?,
         })
     }
 }
@@ -49,7 +103,7 @@ impl Request {
             account: self.account.copy()?,
             reference: self.reference.copy()?,
             ask: self.ask.copy()?,
-            state: self.state,
+            state: self.state.copy()?,
         })
     }
 }

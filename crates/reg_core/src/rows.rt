@@ -1,6 +1,7 @@
 //! A list inside a row or a reply.
-ghost use Rattle.std.specs.Prelude.{◌≡◌};
+ghost use Rattle.std.specs.Prelude.{◌≡◌, [], IfOk};
 
+use std::alloc::AllocError;
 use std::marker::Model;
 
 /// Some rows in order.
@@ -30,6 +31,13 @@ impl<T> Rows<T> {
         ensures { result.now ≡ self.now }
     {
         self.items.as_slice()
+    }
+
+    /// An empty vector with room for as many rows.
+    pub(crate) fn room(&self) -> Result<Vec<T>, AllocError>
+        ensures { IfOk result (λ v. v.items ≡ []) }
+    {
+        Vec::with_capacity(*self.items.allocator(), self.items.len())
     }
 
     /// The vector of all rows.

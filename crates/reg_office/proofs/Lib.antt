@@ -1,3 +1,5 @@
 pub mod Admitted
+pub mod Advised
 pub mod Decided
 pub mod Digests
+pub mod Values

@@ -1,7 +1,7 @@
-//! Who may give a command, and when.
+//! Who may give a command.
 ghost use Rattle.std.specs.Prelude.{◌≡◌, None, Ok, Err, IfOk, IfErr};
 ghost use Rattle.std.specs.Option.{option_copied};
-ghost use Rattle.reg_core.specs.Answer.{is_moment, admitted};
+ghost use Rattle.reg_core.specs.Answer.{admitted};
 ghost use Rattle.reg_store.specs.Keeper.{MayFault};
 ghost use Rattle.reg_office.specs.Caller.{admission, caller_of as caller};
 
@@ -19,13 +19,6 @@ pub struct Caller {
     pub digest: Digest,
     /// The capability at that digest.
     pub cap: Cap,
-}
-
-/// Whether the moment lies in the years 2000 to 2999.
-pub fn is_open(moment: u64) -> bool
-    ensures { result ≡ is_moment moment }
-{
-    (946_684_800..32_503_680_000).contains(&moment)
 }
 
 /// The caller with this token, where it may give commands of this kind at this moment, or the first

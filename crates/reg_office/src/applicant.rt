@@ -1,29 +1,27 @@
 //! What an applicant may do, once admitted.
-ghost use Rattle.std.specs.Prelude.{◌≡◌, true, None, IfOk, IfErr, OnOk, OnErr};
-ghost use Rattle.std.specs.Option.{option_copied};
-ghost use Rattle.reg_core.specs.Allowance.{ground_of};
+ghost use Rattle.std.specs.Prelude.{◌≡◌, true, IfOk, IfErr, OnOk, OnErr};
 ghost use Rattle.reg_core.specs.Request.{request_row};
-ghost use Rattle.reg_core.specs.View.{published};
 ghost use Rattle.reg_core.specs.WellKept.{has_request_form};
 ghost use Rattle.reg_core.specs.World.{applied_if, pending as pending_filing};
 ghost use Rattle.reg_store.specs.Keeper.{MayFault};
-ghost use Rattle.reg_office.specs.Acts.{applicant_act, own_list, own_row, submission};
+ghost use Rattle.reg_office.specs.Acts.{applicant_act, own_list, own_one, submission, withdrawal};
 ghost use Rattle.reg_office.specs.Rows.{row_or_refused as row_told};
 
-use crate::carrying::make;
+use crate::carrying::{conclude, make};
+use crate::ground::ground_if;
 use reg_core::ask::Ask;
 use reg_core::command::ApplicantCommand;
-use reg_core::decide::{Decision, Deny, Ground, decide_submit};
+use reg_core::decide::{Decision, Deny, decide_submit, decide_withdraw};
 use reg_core::refusal::Refusal;
 use reg_core::reply::Reply;
 use reg_core::request::{Request, State};
 use reg_core::text::{Account, Ref};
-use reg_ranges::table::RangeTable;
 use reg_store::keeper::{Fault, Keeper};
-use std::alloc::AllocError;
+use std::alloc::{AllocError, Global};
 
 /// What a command of this account's is answered.
 pub fn perform<K: Keeper>(
+    alloc: Global,
     keeper: &mut K,
     account: &Account,
     command: &ApplicantCommand,
@@ -37,7 +35,10 @@ pub fn perform<K: Keeper>(
     match command {
         ApplicantCommand::Own => list_own(keeper, account),
         ApplicantCommand::OwnOne(reference) => show_own(keeper, account, reference),
-        ApplicantCommand::Submit(reference, ask) => submit(keeper, account, reference, ask),
+        ApplicantCommand::Submit(reference, ask) => {
+            submit(alloc, keeper, account, reference, ask)
+        }
+        ApplicantCommand::Withdraw(reference) => withdraw(keeper, account, reference),
     }
 }
 
@@ -53,7 +54,7 @@ fn list_own<K: Keeper>(keeper: &mut K, account: &Account) -> Result<Reply, Fault
 
 // One of the applicant's own requests.
 fn show_own<K: Keeper>(keeper: &mut K, account: &Account, reference: &Ref) -> Result<Reply, Fault>
-    ensures reply { K.Holds keeper.new → IfOk result (λ r. r ≡ (own_row (K.world keeper.old) account.now reference.now).reply) }
+    ensures reply { K.Holds keeper.new → IfOk result (λ r. r ≡ (own_one (K.world keeper.old) account.now reference.now).reply) }
     ensures same { K.Holds keeper.new → K.world keeper.new ≡ K.world keeper.old }
     ensures held { K.Holds keeper.new → K.Holds keeper.old }
     ensures fault { IfErr result (MayFault K.FAILS) }
@@ -64,6 +65,7 @@ fn show_own<K: Keeper>(keeper: &mut K, account: &Account, reference: &Ref) -> Re
 
 // A request of the applicant's. No registry is looked at for one that is there already.
 fn submit<K: Keeper>(
+    alloc: Global,
     keeper: &mut K,
     account: &Account,
     reference: &Ref,
@@ -76,11 +78,8 @@ fn submit<K: Keeper>(
     ensures fault { IfErr result (MayFault K.FAILS) }
 {
     let found = keeper.own_one(account, reference)?;
-    let table = table_for(keeper, found.as_ref(), ask)?;
-    let rows = Ground {
-        table: table.as_ref(),
-    };
-    match decide_submit(found.as_ref(), account, reference, ask, rows) {
+    let rows = ground_if(alloc, keeper, found.is_none(), ask)?;
+    match decide_submit(found.as_ref(), account, reference, ask, rows.ground()) {
         Ok(Decision::Make(change)) => {
             let row = pending(account, reference, ask)?;
             make(keeper, change)?;
@@ -92,20 +91,21 @@ fn submit<K: Keeper>(
     }
 }
 
-// The ranges that an ask needs, where no request is there yet.
-fn table_for<K: Keeper>(
-    keeper: &mut K,
-    found: Option<&Request>,
-    ask: &Ask,
-) -> Result<Option<RangeTable>, Fault>
-    ensures row { K.Holds keeper.new → option_copied found.entry ≡ None → IfOk result (λ table. record { table = table } ≡ ground_of (published (K.world keeper.old)) ask.now) }
-    ensures same { K.Holds keeper.new → K.world keeper.new ≡ K.world keeper.old }
+// Takes a request of the applicant's back.
+fn withdraw<K: Keeper>(keeper: &mut K, account: &Account, reference: &Ref) -> Result<Reply, Fault>
+    ensures reply { K.Holds keeper.new → IfOk result (λ r. r ≡ (withdrawal (K.world keeper.old) account.now reference.now).reply) }
+    ensures made { K.Holds keeper.new → OnOk result (K.world keeper.new ≡ applied_if (K.world keeper.old) (withdrawal (K.world keeper.old) account.now reference.now).change) }
+    ensures kept { K.Holds keeper.new → OnErr result (K.world keeper.new ≡ K.world keeper.old) }
     ensures held { K.Holds keeper.new → K.Holds keeper.old }
     ensures fault { IfErr result (MayFault K.FAILS) }
 {
-    match (found, ask) {
-        (Some(_), _) => Ok(None),
-        (None, Ask::Code(code)) => keeper.ranges(&code.registry),
+    let Some(request) = keeper.own_one(account, reference)? else {
+        return Ok(Reply::Refused(Refusal::Request));
+    };
+    match decide_withdraw(&request) {
+        Ok(decision) => Ok(Reply::Row(conclude(keeper, request, decision)?)),
+        Err(Deny::Refused(refusal)) => Ok(Reply::Refused(refusal)),
+        Err(Deny::Memory) => Err(Fault::Memory),
     }
 }
 

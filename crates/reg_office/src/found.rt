@@ -4,7 +4,7 @@ ghost use Rattle.reg_core.specs.Laws.{clerk_cap as first_clerk};
 ghost use Rattle.reg_core.specs.Names.{is_token};
 ghost use Rattle.reg_office.specs.Found.{WasFounded, IsCause, MayFound};
 
-use crate::clerk::grant;
+use crate::clerk::give_cap;
 use reg_core::capability::{Cap, Kind, Until};
 use reg_core::text::{Account, Token};
 use reg_store::keeper::{Fault, Keeper};
@@ -57,11 +57,9 @@ pub fn found<K: Keeper>(alloc: Global, keeper: &mut K, token: &[u8]) -> Result<(
         return Err(FoundFault::Token);
     };
     let cap = clerk_cap(alloc)?;
-    let reply = grant(alloc, keeper, &token, &cap)?;
-    if reply.is_refused() {
-        Err(FoundFault::Exists)
-    } else {
-        Ok(())
+    match give_cap(alloc, keeper, &token, &cap)? {
+        Ok(_) => Ok(()),
+        Err(_) => Err(FoundFault::Exists),
     }
 }
 

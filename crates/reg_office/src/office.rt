@@ -1,20 +1,21 @@
 //! The office over whatever keeps its content.
 ghost use Rattle.std.specs.Prelude.{◌≡◌, None, Err, IfOk, IfErr, OnOk, OnErr, IsOk, IsSome, false};
 ghost use Rattle.std.specs.Option.{option_copied};
-ghost use Rattle.reg_core.specs.Answer.{is_moment};
+ghost use Rattle.reg_early.specs.Moment.{is_in_clock};
 ghost use Rattle.reg_core.specs.Command.{kind_of};
 ghost use Rattle.reg_core.specs.Names.{is_token};
 ghost use Rattle.reg_store.specs.Keeper.{MayFault};
 ghost use Rattle.reg_office.specs.Caller.{caller_of as caller, step_by};
 ghost use Rattle.reg_office.specs.Found.{WasFounded, IsCause, MayFound};
 
-use crate::admission::{admit, is_open};
+use crate::admission::admit;
 use crate::found::{FoundFault, found};
-use crate::{applicant, clerk, public};
+use crate::{applicant, clerk, expert, public};
 use reg_core::capability::Kind;
 use reg_core::command::Command;
 use reg_core::refusal::Refusal;
 use reg_core::reply::Reply;
+use reg_early::day::day_of;
 use reg_store::keeper::{Fault, Keeper};
 use std::alloc::Global;
 use std::marker::Model;
@@ -76,7 +77,7 @@ impl<K: Keeper> Office<K> {
         ensures kept { K.Holds self.new → OnErr result (K.world self.new ≡ K.world self.old) }
         ensures held { K.Holds self.new → K.Holds self.old }
         ensures fault { IfErr result (MayFault K.FAILS) }
-        ensures clock { is_moment moment ≡ false → IsOk result }
+        ensures clock { is_in_clock moment ≡ false → IsOk result }
         ensures nobody { IsSome (kind_of command.now) → caller (option_copied token.entry) ≡ None → IsOk result }
     {
         handle(self.alloc, &mut self.keeper, moment, token, command)
@@ -95,22 +96,26 @@ fn handle<K: Keeper>(
     ensures kept { K.Holds keeper.new → OnErr result (K.world keeper.new ≡ K.world keeper.old) }
     ensures held { K.Holds keeper.new → K.Holds keeper.old }
     ensures fault { IfErr result (MayFault K.FAILS) }
-    ensures clock { is_moment moment ≡ false → IsOk result }
+    ensures clock { is_in_clock moment ≡ false → IsOk result }
     ensures nobody { IsSome (kind_of command.now) → caller (option_copied token.entry) ≡ None → IsOk result }
 {
-    if !is_open(moment) {
+    let Some(today) = day_of(moment) else {
         return Ok(Reply::Refused(Refusal::Clock));
-    }
+    };
     match command {
-        Command::Public(command) => public::perform(keeper, command),
+        Command::Public(command) => public::perform(alloc, keeper, today, command),
         Command::Applicant(command) => {
             match admit(alloc, keeper, token, moment, Kind::Applicant)? {
-                Ok(caller) => applicant::perform(keeper, &caller.cap.account, command),
+                Ok(caller) => applicant::perform(alloc, keeper, &caller.cap.account, command),
                 Err(refusal) => Ok(Reply::Refused(refusal)),
             }
         }
+        Command::Expert(command) => match admit(alloc, keeper, token, moment, Kind::Expert)? {
+            Ok(caller) => expert::perform(keeper, &caller.cap.account, command),
+            Err(refusal) => Ok(Reply::Refused(refusal)),
+        },
         Command::Clerk(command) => match admit(alloc, keeper, token, moment, Kind::Clerk)? {
-            Ok(caller) => clerk::perform(alloc, keeper, &caller.digest, command),
+            Ok(caller) => clerk::perform(alloc, keeper, &caller.digest, today, command),
             Err(refusal) => Ok(Reply::Refused(refusal)),
         },
     }

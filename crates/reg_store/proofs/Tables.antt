@@ -1,46 +1,49 @@
 -- Ordered maps, and maps of maps, as finite maps.
 use Rattle.std.proofs.Common.{◌≡◌, ℕ, Bool, true, false, cond, ◌&&◌, T, List, [], ◌∷◌, ◌++◌, refl, sym, ap, subst, ◌∙◌}
-use Rattle.std.specs.Prelude.{Option, Some, None, Result, Ok, Err, OnOk, OnErr, IfSome, option_map, option_and_then}
+use Rattle.std.specs.Prelude.{Option, Some, None, Result, Ok, Err, OnOk, OnErr, IfOk, is_some, option_map, option_and_then}
 use Rattle.std.specs.declared.cmp.Ordering.{Ordering}
 use Rattle.std.specs.declared.cmp.Ordering.TheVariants.{Less, Equal, Greater}
-use Rattle.std.specs.Ordering.{eq_by_cmp, is_eq, is_lt, ordering_then, ordering_reverse}
-use Rattle.std.specs.Cmp.{IsTotalOrder, eq_by_cmp_equiv}
-use Rattle.std.specs.Cmp.Lexicographic.{nat_list_cmp_total}
-use Rattle.std.proofs.lemmas.Map.Text.{is_eq-slice_cmp}
+use Rattle.std.specs.Ordering.{eq_by_cmp, is_eq, is_lt, nat_cmp, ordering_then}
+use Rattle.std.specs.Cmp.{eq_by_cmp_equiv}
 use Rattle.reg_ranges.specs.Tables.{Table}
 use Rattle.reg_core.specs.declared.capability.Cap.{Cap}
-use Rattle.reg_core.specs.declared.request.Filing.{Filing}
 use Rattle.reg_core.specs.WellKept.{WellKept}
-use Rattle.reg_store.specs.Kept.{kept}
+use Rattle.reg_core.specs.World.{Seat, name_cmp, seat_cmp}
+use Rattle.reg_store.specs.Kept.{kept, Places, Requests, Opinions}
+use Rattle.reg_store.specs.Seats.{Panels, seated}
 use Rattle.std.specs.Map.{lookup, keys_of}
 use Rattle.std.specs.List.{AllByRecursion}
 use Rattle.std.specs.List.Sorted.{IsStrictlySortedBy}
 use Rattle.std.specs.BTreeMap as tree
 use Rattle.std.specs.BTreeMap.{BTreeMap, is_at, IsOrdered}
-use Rattle.std.specs.FinMap.{FinMap, get, insert, remove, keys, entries, entries_sorted, find, is_sorted, get-from_entries, get-remove, get-entries}
-use Rattle.std.specs.FinMap.Entries.{below_all, same_entries}
-use Rattle.reg_core.specs.Maps.{text_cmp, pair_cmp, same_text, only_if, select, update}
-use Rattle.reg_core.proofs.MapLaws.{IsKeyOrder, text_keys, pair_keys, name_keys, same_at, get-select, get-update, get-at_insert, tied}
-use Rattle.reg_store.specs.Groups.{table, row_at, group_rows, rows_in, grouped, rows_of}
+use Rattle.std.specs.FinMap.{get, contains_key, insert, remove, find, is_sorted, get-from_entries, get-remove}
+use Rattle.std.specs.FinSet.{FinSet}
+use Rattle.std.specs.FinMap.Entries.{below_all}
+use Rattle.reg_core.specs.Maps.{text_cmp, pair_cmp, update}
+use Rattle.reg_core.proofs.MapLaws.{IsKeyOrder, text_keys, number_keys, name_keys, pair_keys, same_at, get-update, get-at_insert, tied}
+use Rattle.reg_store.specs.Groups.{table, row_at, group_rows, rows_in, grouped}
 
 -- ---- Lists in order
 
-both : (a b : Bool) → T a → T b → T (a && b)
+-- a test of two holds where both hold, and only there
+pub both : (a b : Bool) → T a → T b → T (a && b)
 both true b p q = q
 both false b p q = p
 
-first : (a b : Bool) → T (a && b) → T a
+pub first : (a b : Bool) → T (a && b) → T a
 first true b p = tt
 first false b p = p
 
-second : (a b : Bool) → T (a && b) → T b
+pub second : (a b : Bool) → T (a && b) → T b
 second true b p = p
 second false b p = absurd p
 
+-- a key that is less than each key comes before all entries
 all_below : {K X : Type 0} (R : K → K → Ordering) (k : K) (es : List (K × X)) → AllByRecursion (λ y. R k y ≡ Less) (keys_of es) → T (below_all R k es)
 all_below R k [] h = tt
 all_below R k (e ∷ es) h = both (is_lt (R k e.0)) (below_all R k es) (rw h.0 tt) (all_below R k es h.1)
 
+-- entries whose keys ascend are in order
 pub sorted : {K X : Type 0} (R : K → K → Ordering) (es : List (K × X)) → IsStrictlySortedBy R (keys_of es) → T (is_sorted R es)
 unfolding IsStrictlySortedBy
 sorted R [] h = tt
@@ -48,24 +51,29 @@ sorted R (e ∷ es) h = both (below_all R e.0 es) (is_sorted R es) (all_below R 
 
 -- ---- An ordered map
 
+-- two words for one search
 pub find_is : {K X : Type 0} (R : K → K → Ordering) (q : K) (es : List (K × X)) → find R q es ≡ lookup (is_at (R q)) es
 find_is R q [] = refl
 find_is R q (e ∷ es) = ap (cond (is_at (R q) e.0) (Some e.1)) (find_is R q es)
 
 module _ {K X : Type 0} {R : K → K → Ordering} (o : IsKeyOrder R) where
+  -- what it has at a key
   pub get-table : (m : BTreeMap K X) (q : K) → get (table R m) q ≡ tree.get R m q
   get-table m q = get-from_entries o.total m.entries q ∙ find_is R q m.entries
 
+  -- with one row put
   pub table-insert : (m n : BTreeMap K X) (k : K) (v : X) → ((q : K) → tree.get R n q ≡ cond (is_at (R k) q) (Some v) (tree.get R m q)) → table R n ≡ insert (table R m) k v
   table-insert m n k v h = same_at o _ _ (λ q.
       get-table n q ∙ h q ∙ ap (λ b. cond b (Some v) (tree.get R m q)) ((eq_by_cmp_equiv o.total).symm k q)
       ∙ sym (get-at_insert o (table R m) k v q ∙ ap (cond (eq_by_cmp R q k) (Some v)) (get-table m q)))
 
+  -- with one row taken away
   pub table-remove : (m n : BTreeMap K X) (k : K) → ((q : K) → tree.get R n q ≡ cond (is_at (R k) q) None (tree.get R m q)) → table R n ≡ remove (table R m) k
   table-remove m n k h = same_at o _ _ (λ q.
       get-table n q ∙ h q ∙ ap (λ b. cond b None (tree.get R m q)) ((eq_by_cmp_equiv o.total).symm k q)
       ∙ sym (get-remove o.total (table R m) k q ∙ ap (cond (eq_by_cmp R q k) None) (get-table m q)))
 
+  -- with one row changed that is not there
   pub set-no_row : (m : BTreeMap K X) (k : K) (f : X → X) → tree.get R m k ≡ None → (q : K) → tree.get R m q ≡ cond (is_at (R k) q) (option_map f (tree.get R m k)) (tree.get R m q)
   set-no_row m k f none q =
       elim (is_at (R k) q) as (λ t. is_at (R k) q ≡ t → tree.get R m q ≡ cond t (option_map f (tree.get R m k)) (tree.get R m q)) [
@@ -75,6 +83,7 @@ module _ {K X : Type 0} {R : K → K → Ordering} (o : IsKeyOrder R) where
 
 -- ---- A map of maps
 
+-- the first of two rows that is there
 abbrev or_else : {X : Type 0} → Option X → Option X → Option X
 or_else None y = y
 or_else (Some x) y = Some x
@@ -83,6 +92,7 @@ or_none : {X : Type 0} (x : Option X) → or_else x None ≡ x
 or_none None = refl
 or_none (Some x) = refl
 
+-- a search of two lists, one after the other
 find-both : {K X : Type 0} (R : K → K → Ordering) (q : K) (xs ys : List (K × X)) → find R q (xs ++ ys) ≡ or_else (find R q xs) (find R q ys)
 find-both R q [] ys = refl
 find-both R q (e ∷ xs) ys =
@@ -91,26 +101,31 @@ find-both R q (e ∷ xs) ys =
       | false ↦ find-both R q xs ys
     ]
 
+-- what ties is equal
 equal : (r : Ordering) → is_eq r ≡ true → r ≡ Equal
 equal Less p = absurd (subst T (sym p) tt)
 equal Equal p = refl
 equal Greater p = absurd (subst T (sym p) tt)
 
+-- a lesser key is no tie
 not_eq_of_lt : (r : Ordering) → T (is_lt r) → is_eq r ≡ false
 not_eq_of_lt Less p = refl
 not_eq_of_lt Equal p = absurd p
 not_eq_of_lt Greater p = absurd p
 
+-- no key below all is found
 find-below : {K Z : Type 0} (R : K → K → Ordering) (q : K) (es : List (K × Z)) → T (below_all R q es) → find R q es ≡ None
 find-below R q [] h = refl
 find-below R q (e ∷ es) h = ap (λ b. cond b (Some e.1) (find R q es)) (not_eq_of_lt (R q e.0) (first _ _ h)) ∙ find-below R q es (second _ _ h)
 
-tie : (x y : Ordering) → is_eq (ordering_then x y) ≡ (is_eq x && is_eq y)
+-- pairs tie where both parts do
+pub tie : (x y : Ordering) → is_eq (ordering_then x y) ≡ (is_eq x && is_eq y)
 tie Less y = refl
 tie Equal y = refl
 tie Greater y = refl
 
 module _ {A B V : Type 0} (P : A → A → Ordering) (Q : B → B → Ordering) where
+  -- what a group has at two keys
   pub find-group : (q : A × B) (a : A) (rs : List (B × V)) → find (pair_cmp P Q) q (group_rows a rs) ≡ cond (is_at (P q.0) a) (lookup (is_at (Q q.1)) rs) None
   find-group q a [] = elim (is_at (P q.0) a) as (λ b. ◌≡◌ {A = Option V} None (cond b None None)) [ true ↦ refl | false ↦ refl ]
   find-group q a (r ∷ rs) =
@@ -118,9 +133,11 @@ module _ {A B V : Type 0} (P : A → A → Ordering) (Q : B → B → Ordering) 
       ∙ ap (cond (is_at (P q.0) a && is_at (Q q.1) r.0) (Some r.1)) (find-group q a rs)
       ∙ elim (is_at (P q.0) a) as (λ b. cond (b && is_at (Q q.1) r.0) (Some r.1) (cond b (lookup (is_at (Q q.1)) rs) None) ≡ cond b (cond (is_at (Q q.1) r.0) (Some r.1) (lookup (is_at (Q q.1)) rs)) None) [ true ↦ refl | false ↦ refl ]
 
+  -- the row of a group that may be absent
   abbrev there : B → Option (BTreeMap B V) → Option V
   there b = option_and_then (λ group. tree.get Q group b)
 
+  -- what all groups have at two keys
   find-groups : IsKeyOrder P → (q : A × B) (es : List (A × BTreeMap B V)) → T (is_sorted P es) → find (pair_cmp P Q) q (rows_in es) ≡ there q.1 (lookup (is_at (P q.0)) es)
   find-groups o q [] h = refl
   find-groups o q (e ∷ es) h =
@@ -136,6 +153,7 @@ module _ {A B V : Type 0} (P : A → A → Ordering) (Q : B → B → Ordering) 
       ] refl
 
 module _ {A B V : Type 0} {P : A → A → Ordering} {Q : B → B → Ordering} (o : IsKeyOrder P) (p : IsKeyOrder Q) where
+  -- what a map of maps has at two keys
   pub get-grouped : (m : BTreeMap A (BTreeMap B V)) → IsOrdered P m → (q : A × B) → get (grouped P Q m) q ≡ row_at P Q m q.0 q.1
   get-grouped m h q = get-from_entries (pair_keys o p).total (rows_in m.entries) q ∙ find-groups P Q o q m.entries (sorted P m.entries h)
 
@@ -159,86 +177,47 @@ module _ {A B V : Type 0} {P : A → A → Ordering} {Q : B → B → Ordering} 
       ∙ ap (λ t. cond t (option_map f (row_at P Q m a b)) (row_at P Q m q.0 q.1)) (sym (tie (P a q.0) (Q b q.1)) ∙ (eq_by_cmp_equiv (pair_keys o p).total).symm (a, b) q)
       ∙ sym (get-update (pair_keys o p) (grouped P Q m) (a, b) f q ∙ λ i. cond (eq_by_cmp (pair_cmp P Q) q (a, b)) (option_map f (get-grouped m h (a, b) i)) (get-grouped m h q i)))
 
+  -- with one row of one group put, changed or taken
+  pub row-in_group : (m n : BTreeMap A (BTreeMap B V)) (k : A) (j : B) (x : Option V) (g w : BTreeMap B V) → tree.get P m k ≡ Some g
+      → ((q : A) → tree.get P n q ≡ cond (is_at (P k) q) (Some w) (tree.get P m q))
+      → ((b : B) → tree.get Q w b ≡ cond (is_at (Q j) b) x (tree.get Q g b))
+      → (a : A) (b : B) → row_at P Q n a b ≡ cond (is_at (P k) a && is_at (Q j) b) x (row_at P Q m a b)
+  row-in_group m n k j x g w is put rows a b =
+      ap (there P Q b) (put a)
+      ∙ elim (is_at (P k) a) as (λ t. is_at (P k) a ≡ t → there P Q b (cond t (Some w) (tree.get P m a)) ≡ cond (t && is_at (Q j) b) x (row_at P Q m a b)) [
+        | true ↦ λ t.
+            let old : tree.get P m a ≡ Some g = ap (tree.get P m) (sym (tied o k a t)) ∙ is in
+            rows b ∙ ap (λ group. cond (is_at (Q j) b) x (there P Q b group)) (sym old)
+        | false ↦ λ t. refl
+      ] refl
+
+  -- with no row of a group that is not there
+  pub row-no_group : (m : BTreeMap A (BTreeMap B V)) (k : A) (j : B) (x : Option V) → tree.get P m k ≡ None → x ≡ None
+      → (a : A) (b : B) → row_at P Q m a b ≡ cond (is_at (P k) a && is_at (Q j) b) x (row_at P Q m a b)
+  row-no_group m k j x none no_row a b =
+      elim (is_at (P k) a) as (λ t. is_at (P k) a ≡ t → row_at P Q m a b ≡ cond (t && is_at (Q j) b) x (row_at P Q m a b)) [
+        | true ↦ λ t.
+            let old : row_at P Q m a b ≡ None = ap (there P Q b) (ap (tree.get P m) (sym (tied o k a t)) ∙ none) in
+            elim (is_at (Q j) b) as (λ s. row_at P Q m a b ≡ cond s x (row_at P Q m a b)) [ true ↦ old ∙ sym no_row | false ↦ refl ]
+        | false ↦ λ t. refl
+      ] refl
+
   -- with one row of one group changed, or none where there is no such group
   pub set-in_group : (m n : BTreeMap A (BTreeMap B V)) (k : A) (j : B) (f : V → V) (g w : BTreeMap B V) → tree.get P m k ≡ Some g
       → ((q : A) → tree.get P n q ≡ cond (is_at (P k) q) (Some w) (tree.get P m q))
       → ((b : B) → tree.get Q w b ≡ cond (is_at (Q j) b) (option_map f (tree.get Q g j)) (tree.get Q g b))
       → (a : A) (b : B) → row_at P Q n a b ≡ cond (is_at (P k) a && is_at (Q j) b) (option_map f (row_at P Q m k j)) (row_at P Q m a b)
-  set-in_group m n k j f g w is put rows a b =
-      ap (there P Q b) (put a)
-      ∙ elim (is_at (P k) a) as (λ t. is_at (P k) a ≡ t → there P Q b (cond t (Some w) (tree.get P m a)) ≡ cond (t && is_at (Q j) b) (option_map f (row_at P Q m k j)) (row_at P Q m a b)) [
-        | true ↦ λ t.
-            let old : tree.get P m a ≡ Some g = ap (tree.get P m) (sym (tied o k a t)) ∙ is in
-            rows b ∙ (λ i. cond (is_at (Q j) b) (option_map f (there P Q j (sym is i))) (there P Q b (sym old i)))
-        | false ↦ λ t. refl
-      ] refl
+  set-in_group m n k j f g w is put rows =
+      row-in_group m n k j (option_map f (row_at P Q m k j)) g w is put (λ b.
+      rows b ∙ ap (λ group. cond (is_at (Q j) b) (option_map f (there P Q j group)) (tree.get Q g b)) (sym is))
 
   pub set-no_group : (m : BTreeMap A (BTreeMap B V)) (k : A) (j : B) (f : V → V) → tree.get P m k ≡ None
       → (a : A) (b : B) → row_at P Q m a b ≡ cond (is_at (P k) a && is_at (Q j) b) (option_map f (row_at P Q m k j)) (row_at P Q m a b)
-  set-no_group m k j f none a b =
-      elim (is_at (P k) a) as (λ t. is_at (P k) a ≡ t → row_at P Q m a b ≡ cond (t && is_at (Q j) b) (option_map f (row_at P Q m k j)) (row_at P Q m a b)) [
-        | true ↦ λ t.
-            let old : tree.get P m a ≡ None = ap (tree.get P m) (sym (tied o k a t)) ∙ none in
-            ap (there P Q b) old
-            ∙ elim (is_at (Q j) b) as (λ s. ◌≡◌ {A = Option V} None (cond s (option_map f None) None)) [ true ↦ refl | false ↦ refl ]
-            ∙ (λ i. cond (is_at (Q j) b) (option_map f (there P Q j (sym none i))) (there P Q b (sym old i)))
-        | false ↦ λ t. refl
-      ] refl
-
--- ---- Selections as lists
-
-self_tie : (r : Ordering) → r ≡ ordering_reverse r → r ≡ Equal
-self_tie Less e = absurd (subst (λ r. T (is_lt r)) e tt)
-self_tie Equal e = refl
-self_tie Greater e = absurd (subst (λ r. T (is_lt r)) (sym e) tt)
-
-pub entries_are : {K X : Type 0} {R : K → K → Ordering} → IsKeyOrder R → (m : FinMap R X) (es : List (K × X)) → T (is_sorted R es) → ((q : K) → get m q ≡ find R q es) → entries m ≡ es
-entries_are {R = R} o m es h is = same_entries R o.total o.exact (entries m) es (entries_sorted m) h (λ q. sym (get-entries m q) ∙ is q)
-
--- an ordered map has the keys of the finite map that it is seen as, in the same order
-pub keys-table : {K X : Type 0} {R : K → K → Ordering} → IsKeyOrder R → (m : BTreeMap K X) → IsOrdered R m → keys (table R m) ≡ keys_of m.entries
-keys-table {R = R} o m h = ap keys_of (entries_are o (table R m) m.entries (sorted R m.entries h) (get-from_entries o.total m.entries))
-
-module _ {A B V : Type 0} {P : A → A → Ordering} (Q : B → B → Ordering) (o : IsTotalOrder P) where
-  below-group : (a : A) (b : B) (rs : List (B × V)) → T (below_all Q b rs) → T (below_all (pair_cmp P Q) (a, b) (group_rows a rs))
-  below-group a b [] h = tt
-  below-group a b (r ∷ rs) h = both _ _ (subst (λ x. T (is_lt (ordering_then x (Q b r.0)))) (sym (self_tie (P a a) (o.antisymm a a))) (first _ _ h)) (below-group a b rs (second _ _ h))
-
-  pub is_sorted-group : (a : A) (rs : List (B × V)) → T (is_sorted Q rs) → T (is_sorted (pair_cmp P Q) (group_rows a rs))
-  is_sorted-group a [] h = tt
-  is_sorted-group a (r ∷ rs) h = both _ _ (below-group a r.0 rs (first _ _ h)) (is_sorted-group a rs (second _ _ h))
-
-some_of : {X : Type 0} (x : Option X) → option_and_then (λ y. Some y) x ≡ x
-some_of None = refl
-some_of (Some x) = refl
-
-none_of : {X Y : Type 0} (x : Option X) → ◌≡◌ {A = Option Y} (option_and_then (λ y. None) x) None
-none_of None = refl
-none_of (Some x) = refl
-
-in_rows : {B V : Type 0} (Q : B → B → Ordering) (b : B) (g : Option (BTreeMap B V)) → option_and_then (λ group. tree.get Q group b) g ≡ lookup (is_at (Q b)) (rows_of g)
-in_rows Q b None = refl
-in_rows Q b (Some m) = refl
-
-sorted-rows_of : {B V : Type 0} (Q : B → B → Ordering) (g : Option (BTreeMap B V)) → IfSome g (IsOrdered Q) → T (is_sorted Q (rows_of g))
-sorted-rows_of Q None h = tt
-sorted-rows_of Q (Some m) h = sorted Q m.entries h
-
--- the requests of an account are its group
-pub own-group : (m : BTreeMap (List ℕ) (BTreeMap (List ℕ) Filing)) → IsOrdered text_cmp m → (a : List ℕ) (g : Option (BTreeMap (List ℕ) Filing)) → tree.get text_cmp m a ≡ g → IfSome g (IsOrdered text_cmp)
-    → entries (select (λ name filing. only_if (same_text name.0 a) filing) (grouped text_cmp text_cmp m)) ≡ group_rows a (rows_of g)
-own-group m h a g is ordered = entries_are name_keys _ _ (is_sorted-group text_cmp nat_list_cmp_total a (rows_of g) (sorted-rows_of text_cmp g ordered)) (λ q.
-    get-select name_keys (λ name filing. only_if (same_text name.0 a) filing) (grouped text_cmp text_cmp m) q
-    ∙ ap (option_and_then (λ filing. only_if (same_text q.0 a) filing)) (get-grouped text_keys text_keys m h q)
-    ∙ ap (λ b. option_and_then (λ filing. only_if b filing) (row_at text_cmp text_cmp m q.0 q.1)) (sym (is_eq-slice_cmp q.0 a))
-    ∙ elim (is_at (text_cmp q.0) a) as (λ b. is_at (text_cmp q.0) a ≡ b → option_and_then (λ filing. only_if b filing) (row_at text_cmp text_cmp m q.0 q.1) ≡ cond b (lookup (is_at (text_cmp q.1)) (rows_of g)) None) [
-      | true ↦ λ t. some_of (row_at text_cmp text_cmp m q.0 q.1) ∙ ap (there text_cmp text_cmp q.1) (ap (tree.get text_cmp m) (tied text_keys q.0 a t) ∙ is) ∙ in_rows text_cmp q.1 g
-      | false ↦ λ t. none_of (row_at text_cmp text_cmp m q.0 q.1)
-    ] refl
-    ∙ sym (find-group text_cmp text_cmp q a (rows_of g)))
+  set-no_group m k j f none = row-no_group m k j (option_map f (row_at P Q m k j)) none (ap (λ group. option_map f (there P Q j group)) none)
 
 -- ---- Results
 
+-- what follows at an outcome
 pub on_ok : {T E : Type 0} {P Q : Type 0} (r : Result T E) → (P → Q) → OnOk r P → OnOk r Q
 on_ok (Ok x) f p = f p
 on_ok (Err e) f p = tt
@@ -247,11 +226,21 @@ pub on_err : {T E : Type 0} {P Q : Type 0} (r : Result T E) → (P → Q) → On
 on_err (Ok x) f p = tt
 on_err (Err e) f p = f p
 
+pub any_err : {T E : Type 0} {P : Type 0} (r : Result T E) → P → OnErr r P
+any_err (Ok x) p = tt
+any_err (Err e) p = p
+
+pub if_ok : {T E : Type 0} {P Q : T → Type 0} (r : Result T E) → ((x : T) → P x → Q x) → IfOk r P → IfOk r Q
+if_ok (Ok x) f p = f x p
+if_ok (Err e) f p = tt
+
 -- ---- The empty office
 
+-- a map without entries has no row
 no_row : {K X : Type 0} (R : K → K → Ordering) (m : BTreeMap K X) → m.entries ≡ [] → (q : K) → tree.get R m q ≡ None
 no_row R m e q = ap (lookup (is_at (R q))) e
 
+-- what is not there is not a row
 none_is : {X : Type 0} {A : Type 0} (o : Option X) (x : X) → o ≡ None → o ≡ Some x → A
 none_is o x n s = absurd (cc)
 
@@ -259,12 +248,33 @@ none_is o x n s = absurd (cc)
 get-no_rows : {X : Type 0} (m : BTreeMap (List ℕ) X) → m.entries ≡ [] → (q : List ℕ) → get (table text_cmp m) q ≡ None
 get-no_rows m none q = get-table text_keys m q ∙ no_row text_cmp m none q
 
+-- a map of maps without groups has no row
+get-no_groups : {A B V : Type 0} {P : A → A → Ordering} {Q : B → B → Ordering} → IsKeyOrder P → IsKeyOrder Q → (m : BTreeMap A (BTreeMap B V)) → IsOrdered P m → m.entries ≡ [] → (q : A × B) → get (grouped P Q m) q ≡ None
+get-no_groups {P = P} {Q = Q} o p m h none q = get-grouped o p m h q ∙ ap (option_and_then (λ group. tree.get Q group q.1)) (no_row P m none q.0)
+
+-- so a set has no such key
+not_there : {A : Type 0} (m : FinSet seat_cmp) (seat : Seat) → get m seat ≡ None → contains_key m seat ≡ true → A
+not_there m seat none there = let absent : contains_key m seat ≡ false = ap is_some none in absurd (cc)
+
 -- maps without entries hold a well kept world
-pub empty-kept : (caps : BTreeMap (List ℕ) Cap) (registries : BTreeMap (List ℕ) Table) (requests : BTreeMap (List ℕ) (BTreeMap (List ℕ) Filing)) → IsOrdered text_cmp requests
-    → caps.entries ≡ [] → registries.entries ≡ [] → requests.entries ≡ [] → WellKept (kept caps registries requests)
-empty-kept caps registries requests h no_caps no_registries no_requests = record {
-  caps = λ digest cap is. none_is (get (table text_cmp caps) digest) cap (get-no_rows caps no_caps digest) is;
-  registries = λ name ranges is. none_is (get (table text_cmp registries) name) ranges (get-no_rows registries no_registries name) is;
-  requests = λ name filing is. none_is (get (grouped text_cmp text_cmp requests) name) filing
-      (get-grouped text_keys text_keys requests h name ∙ ap (option_and_then (λ group. tree.get text_cmp group name.1)) (no_row text_cmp requests no_requests name.0)) is;
-}
+pub empty-kept : (caps : BTreeMap (List ℕ) Cap) (registries : BTreeMap (List ℕ) Table) (places : Places) (requests : Requests) (panels : Panels) (opinions : Opinions)
+    → IsOrdered text_cmp places → IsOrdered text_cmp requests → IsOrdered name_cmp panels → IsOrdered name_cmp opinions
+    → caps.entries ≡ [] → registries.entries ≡ [] → places.entries ≡ [] → requests.entries ≡ [] → panels.entries ≡ [] → opinions.entries ≡ []
+    → WellKept (kept caps registries places requests panels opinions)
+empty-kept caps registries places requests panels opinions h i j k no_caps no_registries no_places no_requests no_panels no_opinions =
+    let no_place = get-no_groups text_keys number_keys places h no_places in
+    let no_request = get-no_groups text_keys text_keys requests i no_requests in
+    let no_seat = get-no_groups name_keys text_keys panels j no_panels in
+    let no_opinion = get-no_groups name_keys text_keys opinions k no_opinions in
+    record {
+      caps = λ digest cap is. none_is (get (table text_cmp caps) digest) cap (get-no_rows caps no_caps digest) is;
+      registries = λ name ranges is. none_is (get (table text_cmp registries) name) ranges (get-no_rows registries no_registries name) is;
+      entries = λ place a is. none_is (get (grouped text_cmp nat_cmp places) place) a (no_place place) is;
+      open_values = λ place a is. none_is (get (grouped text_cmp nat_cmp places) place) a (no_place place) is;
+      requests = λ name filing is. none_is (get (grouped text_cmp text_cmp requests) name) filing (no_request name) is;
+      given = λ name filing is. none_is (get (grouped text_cmp text_cmp requests) name) filing (no_request name) is;
+      queue = λ seat is. not_there (seated panels) seat (no_seat seat) is;
+      queued = λ seat is. not_there (seated panels) seat (no_seat seat) is;
+      advice = λ seat advice is. none_is (get (grouped name_cmp text_cmp opinions) seat) advice (no_opinion seat) is;
+      advised = λ seat advice is. none_is (get (grouped name_cmp text_cmp opinions) seat) advice (no_opinion seat) is;
+    }

@@ -38,6 +38,7 @@ pub fn put_row<A: Ord + Drop, B: Ord + Drop, V: Drop>(
 ) -> Result<(), AllocError>
     ensures ok { OnOk result ((a : A) (b : B) → row_at A.cmp B.cmp groups.new a b ≡ cond (is_at (A.cmp first) a && is_at (B.cmp second) b) (Some row) (row_at A.cmp B.cmp groups.old a b)) }
     ensures err { OnErr result ((a : A) (b : B) → row_at A.cmp B.cmp groups.new a b ≡ row_at A.cmp B.cmp groups.old a b) }
+    ensures absent { OnErr result (row_at A.cmp B.cmp groups.old first second ≡ None) }
     ensures was_ordered { IsOrdered A.cmp groups.old }
     ensures ordered { IsOrdered A.cmp groups.new }
 {

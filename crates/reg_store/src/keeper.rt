@@ -1,14 +1,21 @@
 //! What keeps the content of an office.
 ghost use Rattle.std.specs.Prelude.{◌≡◌, Bool, IfOk, IfErr, OnOk, OnErr, option_map};
 ghost use Rattle.std.specs.FinMap.{get, keys};
+ghost use Rattle.reg_core.specs.Entry.{entry_row};
+ghost use Rattle.reg_core.specs.File.{file as file_of};
+ghost use Rattle.reg_core.specs.Page.{entry_rows};
+ghost use Rattle.reg_core.specs.Queue.{queue_row, queue_rows};
 ghost use Rattle.reg_core.specs.Request.{request_row, request_rows};
-ghost use Rattle.reg_core.specs.View.{requests_of};
+ghost use Rattle.reg_core.specs.View.{entries_of, queue_of, requests_of};
 ghost use Rattle.reg_core.specs.WellKept.{WellKept, CanApply};
 ghost use Rattle.reg_core.specs.World.{World, applied};
 ghost use Rattle.reg_store.specs.Keeper.{MayFault};
 
 use reg_core::capability::Cap;
 use reg_core::change::Change;
+use reg_core::entry::Entry;
+use reg_core::file::File;
+use reg_core::queue::QueueRow;
 use reg_core::request::Request;
 use reg_core::rows::Rows;
 use reg_core::text::{Account, Digest, Name, Ref};
@@ -75,6 +82,20 @@ pub trait Keeper {
         ensures held { Holds self.new → Holds self.old }
         ensures fault { IfErr result (MayFault FAILS) };
 
+    /// The entry of a registry at a value.
+    fn entry(&mut self, registry: &Name, value: u32) -> Result<Option<Entry>, Fault>
+        ensures row { Holds self.new → IfOk result (λ entry. entry ≡ option_map (entry_row registry.now value) (get (world self.old).entries (registry.now, value))) }
+        ensures same { Holds self.new → world self.new ≡ world self.old }
+        ensures held { Holds self.new → Holds self.old }
+        ensures fault { IfErr result (MayFault FAILS) };
+
+    /// All entries of a registry, by value.
+    fn entries(&mut self, registry: &Name) -> Result<Rows<Entry>, Fault>
+        ensures rows { Holds self.new → IfOk result (λ entries. entries ≡ entry_rows (entries_of registry.now (world self.old).entries)) }
+        ensures same { Holds self.new → world self.new ≡ world self.old }
+        ensures held { Holds self.new → Holds self.old }
+        ensures fault { IfErr result (MayFault FAILS) };
+
     /// All requests of an account, by reference.
     fn own(&mut self, account: &Account) -> Result<Rows<Request>, Fault>
         ensures rows { Holds self.new → IfOk result (λ rows. rows ≡ request_rows (requests_of account.now (world self.old))) }
@@ -85,6 +106,39 @@ pub trait Keeper {
     /// The request of an account under a reference.
     fn own_one(&mut self, account: &Account, reference: &Ref) -> Result<Option<Request>, Fault>
         ensures row { Holds self.new → IfOk result (λ row. row ≡ option_map (request_row (account.now, reference.now)) (get (world self.old).requests (account.now, reference.now))) }
+        ensures same { Holds self.new → world self.new ≡ world self.old }
+        ensures held { Holds self.new → Holds self.old }
+        ensures fault { IfErr result (MayFault FAILS) };
+
+    /// All requests, by account and then by reference.
+    fn all(&mut self) -> Result<Rows<Request>, Fault>
+        ensures rows { Holds self.new → IfOk result (λ rows. rows ≡ request_rows (world self.old).requests) }
+        ensures same { Holds self.new → world self.new ≡ world self.old }
+        ensures held { Holds self.new → Holds self.old }
+        ensures fault { IfErr result (MayFault FAILS) };
+
+    /// The request of an account under a reference, with its experts and all advice on it, by expert.
+    fn file(&mut self, account: &Account, reference: &Ref) -> Result<Option<File>, Fault>
+        ensures row { Holds self.new → IfOk result (λ row. row ≡ option_map (file_of (world self.old) (account.now, reference.now)) (get (world self.old).requests (account.now, reference.now))) }
+        ensures same { Holds self.new → world self.new ≡ world self.old }
+        ensures held { Holds self.new → Holds self.old }
+        ensures fault { IfErr result (MayFault FAILS) };
+
+    /// All requests that are assigned to an expert, with the expert's own advice, by account and then by reference.
+    fn queue(&mut self, expert: &Account) -> Result<Rows<QueueRow>, Fault>
+        ensures rows { Holds self.new → IfOk result (λ rows. rows ≡ queue_rows (queue_of expert.now (world self.old))) }
+        ensures same { Holds self.new → world self.new ≡ world self.old }
+        ensures held { Holds self.new → Holds self.old }
+        ensures fault { IfErr result (MayFault FAILS) };
+
+    /// The request of an account under a reference, with the expert's own advice, if it is assigned to the expert.
+    fn queue_one(
+        &mut self,
+        expert: &Account,
+        account: &Account,
+        reference: &Ref,
+    ) -> Result<Option<QueueRow>, Fault>
+        ensures row { Holds self.new → IfOk result (λ row. row ≡ option_map (queue_row (account.now, reference.now)) (get (queue_of expert.now (world self.old)) (account.now, reference.now))) }
         ensures same { Holds self.new → world self.new ≡ world self.old }
         ensures held { Holds self.new → Holds self.old }
         ensures fault { IfErr result (MayFault FAILS) };

@@ -5,32 +5,50 @@ ghost use Rattle.reg_core.specs.World.{empty_world};
 ghost use Rattle.reg_store.specs.Kept.{kept};
 
 mod caps;
+mod entries;
+mod file;
+mod opinions;
+mod queue;
 mod registries;
 mod requests;
+mod seats;
 
 use crate::keeper::{Fault, Keeper};
 use caps::{Caps, cap_in, put_cap, take_cap};
+use entries::{Entries, entries_in, entry_in, put_entry};
+use file::file_in;
+use opinions::{Opinions, put_advice};
+use queue::{queue_rows, queued_in};
 use reg_core::capability::Cap;
 use reg_core::change::Change;
-use reg_core::request::{Filing, Request, State};
+use reg_core::entry::Entry;
+use reg_core::file::File;
+use reg_core::queue::QueueRow;
+use reg_core::request::{Filing, Given, Request, State};
 use reg_core::rows::Rows;
 use reg_core::text::{Account, Digest, Name, Ref};
 use reg_ranges::table::RangeTable;
 use registries::{Registries, names_in, put_table, table_in};
-use requests::{Requests, own_rows, put_filing, request_in};
+use requests::{Requests, all_rows, own_rows, put_filing, request_in, set_state};
+use seats::Seats;
 use std::alloc::Global;
 use std::collections::BTreeMap;
 
-/// The content of an office in memory: capabilities by digest, registries by name, and requests by account
-/// and reference. A row by its key takes O(log n), a registry's ranges and an account's own rows O(log n + rows),
-/// and the names of all registries O(names).
+/// The content of an office in memory: capabilities by digest, registries by name, entries by registry and
+/// value, requests by account and reference, their experts by request and, once more, by expert, and advice by
+/// request and expert. A row by its key and a change take O(log n), whatever else is held; a registry's ranges,
+/// its entries, an account's own requests and a request's file O(log n + rows); an expert's queue
+/// O((1 + rows) log n); the names of all registries and all requests O(rows).
 #[derive(Drop)]
 pub struct ListKeeper {
     alloc: Global,
     caps: Caps,
     registries: Registries,
+    entries: Entries,
     requests: Requests,
-    ghost well: { WellKept (kept caps registries requests) },
+    seats: Seats,
+    opinions: Opinions,
+    ghost well: { WellKept (kept caps registries entries requests seats.panels opinions) },
 }
 
 impl ListKeeper {
@@ -44,7 +62,10 @@ impl ListKeeper {
             alloc,
             caps: BTreeMap::new(alloc),
             registries: BTreeMap::new(alloc),
+            entries: BTreeMap::new(alloc),
             requests: BTreeMap::new(alloc),
+            seats: Seats::new(alloc),
+            opinions: BTreeMap::new(alloc),
         }
     }
 }
@@ -77,12 +98,61 @@ impl Keeper for ListKeeper {
         Ok(table_in(&self.registries, name)?)
     }
 
+    fn entry(&mut self, registry: &Name, value: u32) -> Result<Option<Entry>, Fault> {
+        Ok(entry_in(&self.entries, registry, value)?)
+    }
+
+    fn entries(&mut self, registry: &Name) -> Result<Rows<Entry>, Fault> {
+        Ok(entries_in(self.alloc, &self.entries, registry)?)
+    }
+
     fn own(&mut self, account: &Account) -> Result<Rows<Request>, Fault> {
         Ok(own_rows(self.alloc, &self.requests, account)?)
     }
 
     fn own_one(&mut self, account: &Account, reference: &Ref) -> Result<Option<Request>, Fault> {
         Ok(request_in(&self.requests, account, reference)?)
+    }
+
+    fn all(&mut self) -> Result<Rows<Request>, Fault> {
+        Ok(all_rows(self.alloc, &self.requests)?)
+    }
+
+    fn file(&mut self, account: &Account, reference: &Ref) -> Result<Option<File>, Fault> {
+        Ok(file_in(
+            self.alloc,
+            &self.requests,
+            &self.seats,
+            &self.opinions,
+            account,
+            reference,
+        )?)
+    }
+
+    fn queue(&mut self, expert: &Account) -> Result<Rows<QueueRow>, Fault> {
+        Ok(queue_rows(
+            self.alloc,
+            &self.requests,
+            &self.seats,
+            &self.opinions,
+            expert,
+        )?)
+    }
+
+    fn queue_one(
+        &mut self,
+        expert: &Account,
+        account: &Account,
+        reference: &Ref,
+    ) -> Result<Option<QueueRow>, Fault> {
+        Ok(queued_in(
+            &self.requests,
+            &self.seats,
+            &self.opinions,
+            expert,
+            account,
+            reference,
+        )?)
     }
 
     fn apply(&mut self, change: Change) -> Result<(), Fault> {
@@ -96,6 +166,21 @@ impl Keeper for ListKeeper {
                     state: State::Pending,
                 };
                 put_filing(self.alloc, &mut self.requests, account, reference, filing)?;
+            }
+            Change::Close(account, reference, state) => {
+                set_state(&mut self.requests, &account, &reference, state);
+            }
+            Change::Assign(account, reference, expert) => {
+                self.seats.assign(self.alloc, (account, reference), expert)?;
+            }
+            Change::Advise(account, reference, expert, advice) => {
+                let name = (account, reference);
+                put_advice(self.alloc, &mut self.opinions, name, expert, advice)?;
+            }
+            Change::GiveValue(account, reference, entry) => {
+                let given = State::Approved(Given::Value(entry.value));
+                put_entry(self.alloc, &mut self.entries, entry)?;
+                set_state(&mut self.requests, &account, &reference, given);
             }
         }
         Ok(())

@@ -8,7 +8,7 @@ use Rattle.serde_json.proofs.OnLiterals.{serde_json_on_literals}
 use Rattle.reg_core.specs.declared.refusal.Refusal.{Refusal}
 use Rattle.reg_core.specs.declared.refusal.Refusal.TheVariants as no
 use Rattle.reg_core.specs.declared.reply.Reply.{Reply}
-use Rattle.reg_core.specs.declared.reply.Reply.TheVariants.{Names, Page, Sheet, Made, Row, Rows, Defined, Granted, Revoked, Refused}
+use Rattle.reg_core.specs.declared.reply.Reply.TheVariants.{Names, Page, Sheet, Made, Row, Rows, Item, Items, Desk, Desks, Filed, Defined, Granted, Revoked, Refused}
 use Rattle.reg_wire.specs.Answer.{body_text, status_of}
 use Rattle.reg_wire.specs.Script.{IsOneLine, refusal, storage}
 use Rattle.reg_wire.specs.Served.{answer_line, tab_of}
@@ -32,10 +32,14 @@ refused_is_another no.Token = refl
 refused_is_another no.Kind = refl
 refused_is_another no.Ref = refl
 refused_is_another no.Request = refl
+refused_is_another no.Closed = refl
 refused_is_another no.Registry = refl
 refused_is_another no.Range = refl
 refused_is_another no.Policy = refl
 refused_is_another (no.Evidence item) = refl
+refused_is_another no.Taken = refl
+refused_is_another no.Exhausted = refl
+refused_is_another no.Advice = refl
 refused_is_another no.Own = refl
 refused_is_another no.Exists = refl
 
@@ -47,6 +51,11 @@ reply_is_another (Sheet page) = refl
 reply_is_another (Made request) = refl
 reply_is_another (Row request) = refl
 reply_is_another (Rows requests) = refl
+reply_is_another (Item row) = refl
+reply_is_another (Items rows) = refl
+reply_is_another (Desk request) = refl
+reply_is_another (Desks requests) = refl
+reply_is_another (Filed file) = refl
 reply_is_another (Defined name) = refl
 reply_is_another (Granted granted) = refl
 reply_is_another Revoked = refl

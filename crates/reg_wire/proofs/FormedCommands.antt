@@ -1,15 +1,19 @@
 -- A command that is read has its form.
-use Rattle.std.proofs.Common.{◌≡◌, ℕ, List, [], ◌∷◌, Bool, true, Option, Some, None, Result, Ok, Err, refl}
+use Rattle.std.proofs.Common.{◌≡◌, ℕ, List, [], ◌∷◌, Bool, true, ◌&&◌, Option, Some, None, Result, Ok, Err, refl}
 use Rattle.std.specs.Prelude.{⊤, IfOk}
+use Rattle.std.specs.Cmp.Derive.{both_true}
 use Rattle.serde_json.specs.Data.{Data}
 use Rattle.reg_ranges.specs.Numbers.{read_number}
 use Rattle.reg_ranges.specs.Tables.{Table}
-use Rattle.reg_ranges.specs.Texts.{read_text}
+use Rattle.reg_ranges.specs.Texts.{is_text, read_text}
 use Rattle.reg_core.specs.Names.{is_name, is_token}
+use Rattle.reg_core.specs.Advice.{has_advice_form}
 use Rattle.reg_core.specs.Capability.{has_cap_form}
 use Rattle.reg_core.specs.Ask.{has_ask_form}
 use Rattle.reg_core.specs.Command.{has_command_form}
 use Rattle.reg_core.specs.Registry.{has_table_form}
+use Rattle.reg_core.specs.declared.advice.Advice.{Advice}
+use Rattle.reg_core.specs.declared.advice.Verdict.{Verdict}
 use Rattle.reg_core.specs.declared.ask.Ask.{Ask}
 use Rattle.reg_core.specs.declared.capability.Cap.{Cap}
 use Rattle.reg_core.specs.declared.capability.Kind.{Kind}
@@ -17,6 +21,7 @@ use Rattle.reg_core.specs.declared.command.Command.{Command}
 use Rattle.reg_core.specs.declared.command.Command.TheVariants as command
 use Rattle.reg_core.specs.declared.command.PublicCommand.TheVariants as public
 use Rattle.reg_core.specs.declared.command.ApplicantCommand.TheVariants as applicant
+use Rattle.reg_core.specs.declared.command.ExpertCommand.TheVariants as expert
 use Rattle.reg_core.specs.declared.command.ClerkCommand.TheVariants as clerk
 use Rattle.reg_wire.specs.declared.item.Item.{Item}
 use Rattle.reg_wire.specs.declared.item.Item.TheVariants as item
@@ -26,10 +31,10 @@ use Rattle.reg_wire.specs.declared.route.Methods.{Methods}
 use Rattle.reg_wire.specs.declared.route.Operation.{Operation}
 use Rattle.reg_wire.specs.declared.route.Operation.TheVariants as operation
 use Rattle.reg_wire.specs.Route.{operation_for}
-use Rattle.reg_wire.specs.Members.{Reading, ◌>>=◌, GivesSeen, or_refusal, object_of, needed, only, kind_form, text_form, until_form}
+use Rattle.reg_wire.specs.Members.{Reading, ◌>>=◌, GivesSeen, or_refusal, object_of, needed, only, kind_form, text_form, until_form, verdict_form}
 use Rattle.reg_wire.specs.Asks.{ask_of}
 use Rattle.reg_wire.specs.TableFile.{table_of}
-use Rattle.reg_wire.specs.Asked.{asked, cap_of, command_of, define_of, empty, grant_of, name_at, own_one_of, registry_csv_of, registry_of, revoke_of, routed, segment, submit_of}
+use Rattle.reg_wire.specs.Asked.{advice_of, advise_of, approve_of, asked, assign_expert_of, cap_of, command_of, decline_of, define_of, empty, grant_of, name_at, one_request_of, own_one_of, registry_csv_of, registry_of, revoke_of, routed, segment, submit_of, withdraw_of}
 use Rattle.reg_wire.proofs.Formed.{Passes, Gives, ok-passes, err-passes, guard, after, or_refusal-passes, needed-passes, text_form-gives, until_form-gives, read_number-gives, is_below, is_until}
 use Rattle.reg_wire.proofs.FormedAsks.{ask_of-passes}
 use Rattle.reg_wire.proofs.FormedTables.{table_of-passes}
@@ -70,7 +75,62 @@ named_parts make h (Ok n) (Ok r) p = ok-passes has_command_form (make r) (h r (p
 named_parts make h (Ok n) (Err e) p = err-passes _ e
 named_parts make h (Err e) r p = err-passes _ e
 
+-- an account and a reference
+two_parts : (make : List ℕ → List ℕ → Command) → ((a r : List ℕ) → (is_name a && is_name r) ≡ true → has_command_form (make a r) ≡ true)
+    → (n : Reading ⊤) (a : Reading (List ℕ)) (r : Reading (List ℕ)) → Passes is_name a → Passes is_name r
+    → Passes has_command_form (n >>= (λ nothing. a >>= (λ account. r >>= (λ reference. Ok (make account reference)))))
+two_parts make form (Ok n) (Ok a) (Ok r) ha hr = ok-passes has_command_form _ (form a r (both_true (ha.passed a refl) (hr.passed r refl)))
+two_parts make form (Ok n) (Ok a) (Err e) ha hr = err-passes _ e
+two_parts make form (Ok n) (Err e) r ha hr = err-passes _ e
+two_parts make form (Err e) a r ha hr = err-passes _ e
+
+-- an account, a reference and an expert
+assign_parts : (n : Reading ⊤) (a r x : Reading (List ℕ)) → Passes is_name a → Passes is_name r → Passes is_name x
+    → Passes has_command_form (n >>= (λ nothing. a >>= (λ account. r >>= (λ reference. x >>= (λ adviser. Ok (command.Clerk (clerk.AssignExpert account reference adviser)))))))
+assign_parts (Ok n) (Ok a) (Ok r) (Ok x) ha hr hx = ok-passes has_command_form _ (both_true (both_true (ha.passed a refl) (hr.passed r refl)) (hx.passed x refl))
+assign_parts (Ok n) (Ok a) (Ok r) (Err e) ha hr hx = err-passes _ e
+assign_parts (Ok n) (Ok a) (Err e) x ha hr hx = err-passes _ e
+assign_parts (Ok n) (Err e) r x ha hr hx = err-passes _ e
+assign_parts (Err e) a r x ha hr hx = err-passes _ e
+
 -- ---- with a body
+
+advice_parts : (v : Reading Verdict) (t : Reading (List ℕ)) → Passes is_text t → Passes has_advice_form (v >>= (λ verdict. t >>= (λ text. Ok (record { verdict = verdict; text = text }))))
+advice_parts (Ok v) (Ok t) ht = ok-passes has_advice_form _ (ht.passed t refl)
+advice_parts (Ok v) (Err e) ht = err-passes _ e
+advice_parts (Err e) t ht = err-passes _ e
+
+advice_of-passes : (json : Data) → Passes has_advice_form (advice_of json)
+unfolding advice_of
+advice_of-passes json = advice_parts (needed item.Verdict verdict_form json) (needed item.Text (text_form is_text) json) (needed-passes is_text item.Text _ json (text_form-gives is_text))
+
+advise_last : (account reference : List ℕ) (v : Reading Advice) (o : Reading ⊤) → is_name account ≡ true → is_name reference ≡ true → Passes has_advice_form v
+    → Passes has_command_form (v >>= (λ advice. o >>= (λ others. Ok (command.Expert (expert.Advise account reference advice)))))
+advise_last account reference (Ok v) (Ok o) ha hr hv = ok-passes has_command_form _ (both_true (both_true ha hr) (hv.passed v refl))
+advise_last account reference (Ok v) (Err e) ha hr hv = err-passes _ e
+advise_last account reference (Err e) o ha hr hv = err-passes _ e
+
+advise_parts : (j : Reading Data) (a : Reading (List ℕ)) (r : Reading (List ℕ)) → Passes is_name a → Passes is_name r
+    → Passes has_command_form (j >>= (λ json. a >>= (λ account. r >>= (λ reference. advice_of json >>= (λ advice. only (item.Verdict ∷ item.Text ∷ []) json >>= (λ others. Ok (command.Expert (expert.Advise account reference advice))))))))
+advise_parts (Ok json) (Ok a) (Ok r) ha hr = advise_last a r (advice_of json) (only (item.Verdict ∷ item.Text ∷ []) json) (ha.passed a refl) (hr.passed r refl) (advice_of-passes json)
+advise_parts (Ok json) (Ok a) (Err e) ha hr = err-passes _ e
+advise_parts (Ok json) (Err e) r ha hr = err-passes _ e
+advise_parts (Err e) a r ha hr = err-passes _ e
+
+decline_last : (account reference : List ℕ) (t : Reading (List ℕ)) (o : Reading ⊤) → is_name account ≡ true → is_name reference ≡ true → Passes is_text t
+    → Passes has_command_form (t >>= (λ reason. o >>= (λ others. Ok (command.Clerk (clerk.Decline account reference reason)))))
+decline_last account reference (Ok t) (Ok o) ha hr ht = ok-passes has_command_form _ (both_true (both_true ha hr) (ht.passed t refl))
+decline_last account reference (Ok t) (Err e) ha hr ht = err-passes _ e
+decline_last account reference (Err e) o ha hr ht = err-passes _ e
+
+decline_parts : (j : Reading Data) (a : Reading (List ℕ)) (r : Reading (List ℕ)) → Passes is_name a → Passes is_name r
+    → Passes has_command_form (j >>= (λ json. a >>= (λ account. r >>= (λ reference. needed item.Reason (text_form is_text) json >>= (λ reason. only (item.Reason ∷ []) json >>= (λ others. Ok (command.Clerk (clerk.Decline account reference reason))))))))
+decline_parts (Ok json) (Ok a) (Ok r) ha hr =
+    decline_last a r (needed item.Reason (text_form is_text) json) (only (item.Reason ∷ []) json) (ha.passed a refl) (hr.passed r refl)
+    (needed-passes is_text item.Reason _ json (text_form-gives is_text))
+decline_parts (Ok json) (Ok a) (Err e) ha hr = err-passes _ e
+decline_parts (Ok json) (Err e) r ha hr = err-passes _ e
+decline_parts (Err e) a r ha hr = err-passes _ e
 
 submit_last : (r : List ℕ) (a : Reading Ask) → is_name r ≡ true → Passes has_ask_form a → Passes has_command_form (a >>= (λ asked. Ok (command.Applicant (applicant.Submit r asked))))
 submit_last r (Ok a) hr ha = ok-passes has_command_form _ (rw (hr, ha.passed a refl) refl)
@@ -112,13 +172,23 @@ revoke_of-passes_at (Ok json) = revoke_last (needed item.Token (text_form is_tok
 revoke_of-passes_at (Err e) = err-passes _ e
 
 command_of-passes : (o : Operation) (path body : List ℕ) → Passes has_command_form (command_of o path body)
-unfolding registry_of registry_csv_of own_one_of submit_of define_of grant_of revoke_of
+unfolding registry_of registry_csv_of own_one_of submit_of withdraw_of advise_of one_request_of assign_expert_of approve_of decline_of define_of grant_of revoke_of
 command_of-passes operation.Registries path body = plain_parts (empty body) _ refl
 command_of-passes operation.Registry path body = named_parts (λ s. command.Public (public.Registry s)) (λ s h. h) (empty body) (name_at item.Name 2 path) (name_at-passes item.Name 2 path)
 command_of-passes operation.RegistryCsv path body = named_parts (λ s. command.Public (public.RegistryCsv s)) (λ s h. h) (empty body) (name_at item.Name 3 path) (name_at-passes item.Name 3 path)
 command_of-passes operation.Own path body = plain_parts (empty body) _ refl
 command_of-passes operation.OwnOne path body = named_parts (λ s. command.Applicant (applicant.OwnOne s)) (λ s h. h) (empty body) (name_at item.Reference 2 path) (name_at-passes item.Reference 2 path)
 command_of-passes operation.Submit path body = submit_parts (object_of body) (name_at item.Reference 2 path) (name_at-passes item.Reference 2 path)
+command_of-passes operation.Withdraw path body = named_parts (λ s. command.Applicant (applicant.Withdraw s)) (λ s h. h) (empty body) (name_at item.Reference 2 path) (name_at-passes item.Reference 2 path)
+command_of-passes operation.Queue path body = plain_parts (empty body) _ refl
+command_of-passes operation.Advise path body = advise_parts (object_of body) (name_at item.Account 2 path) (name_at item.Reference 3 path) (name_at-passes item.Account 2 path) (name_at-passes item.Reference 3 path)
+command_of-passes operation.AllRequests path body = plain_parts (empty body) _ refl
+command_of-passes operation.OneRequest path body = two_parts (λ a r. command.Clerk (clerk.OneRequest a r)) (λ a r h. h) (empty body) (name_at item.Account 3 path) (name_at item.Reference 4 path) (name_at-passes item.Account 3 path) (name_at-passes item.Reference 4 path)
+command_of-passes operation.AssignExpert path body =
+    assign_parts (empty body) (name_at item.Account 3 path) (name_at item.Reference 4 path) (name_at item.Expert 5 path)
+    (name_at-passes item.Account 3 path) (name_at-passes item.Reference 4 path) (name_at-passes item.Expert 5 path)
+command_of-passes operation.Approve path body = two_parts (λ a r. command.Clerk (clerk.Approve a r)) (λ a r h. h) (empty body) (name_at item.Account 3 path) (name_at item.Reference 4 path) (name_at-passes item.Account 3 path) (name_at-passes item.Reference 4 path)
+command_of-passes operation.Decline path body = decline_parts (object_of body) (name_at item.Account 3 path) (name_at item.Reference 4 path) (name_at-passes item.Account 3 path) (name_at-passes item.Reference 4 path)
 command_of-passes operation.Define path body = define_parts (name_at item.Name 3 path) (segment item.Max read_number 4 path) body (name_at-passes item.Name 3 path) (segment-passes is_below item.Max read_number 4 path read_number-gives)
 command_of-passes operation.Grant path body = grant_of-passes_at (object_of body)
 command_of-passes operation.Revoke path body = revoke_of-passes_at (object_of body)

@@ -1,6 +1,8 @@
+pub mod AdviceShape
 pub mod AnswerLines
 pub mod AskShape
 pub mod AskText
+pub mod Covered
 pub mod FileFaults
 pub mod Formed
 pub mod FormedAsks

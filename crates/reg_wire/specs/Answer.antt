@@ -1,16 +1,18 @@
 -- The status and the body of an answer.
 use Rattle.std.specs.Prelude.{ℕ, List, None, codes}
 use Rattle.reg_core.specs.declared.reply.Reply.{Reply}
-use Rattle.reg_core.specs.declared.reply.Reply.TheVariants.{Names, Page, Sheet, Made, Row, Rows, Defined, Granted, Revoked}
+use Rattle.reg_core.specs.declared.reply.Reply.TheVariants.{Names, Page, Sheet, Made, Row, Rows, Item, Items, Desk, Desks, Filed, Defined, Granted, Revoked}
 use Rattle.reg_core.specs.declared.reply.Reply.TheVariants as reply
 use Rattle.reg_wire.specs.declared.answer.Answer.{Answer}
 use Rattle.reg_wire.specs.declared.answer.Answer.TheVariants as answer
 use Rattle.reg_wire.specs.declared.refusal.ReadFault.{ReadFault}
 use Rattle.reg_wire.specs.declared.refusal.ReadFault.TheVariants.{Refused, Memory}
 use Rattle.reg_wire.specs.Body.{Body, json, sheet, text_of}
+use Rattle.reg_wire.specs.FileTree.{file_tree}
 use Rattle.reg_wire.specs.PageTree.{names_tree, page_tree, defined_tree}
+use Rattle.reg_wire.specs.QueueTree.{queue_tree, queues_tree}
 use Rattle.reg_wire.specs.Refusal.{wire_name, wire_status, wire_detail, refusal_name, refusal_status, refusal_detail}
-use Rattle.reg_wire.specs.Tree.{request_tree, requests_tree, cap_tree, revoked_tree, error_tree}
+use Rattle.reg_wire.specs.Tree.{request_tree, requests_tree, desk_tree, desks_tree, cap_tree, revoked_tree, error_tree}
 
 -- what is answered where no command was read
 abbrev pub answer_to_fault : ReadFault → Answer
@@ -26,6 +28,11 @@ reply_status (Sheet page) = 200
 reply_status (Made request) = 201
 reply_status (Row request) = 200
 reply_status (Rows requests) = 200
+reply_status (Item row) = 200
+reply_status (Items rows) = 200
+reply_status (Desk request) = 200
+reply_status (Desks requests) = 200
+reply_status (Filed file) = 200
 reply_status (Defined name) = 200
 reply_status (Granted cap) = 200
 reply_status Revoked = 200
@@ -45,6 +52,11 @@ reply_body (Sheet page) = sheet page
 reply_body (Made request) = json (request_tree request)
 reply_body (Row request) = json (request_tree request)
 reply_body (Rows requests) = json (requests_tree requests)
+reply_body (Item row) = json (queue_tree row)
+reply_body (Items rows) = json (queues_tree rows)
+reply_body (Desk request) = json (desk_tree request)
+reply_body (Desks requests) = json (desks_tree requests)
+reply_body (Filed file) = json (file_tree file)
 reply_body (Defined name) = json (defined_tree name)
 reply_body (Granted cap) = json (cap_tree cap)
 reply_body Revoked = json revoked_tree

@@ -3,13 +3,15 @@ use Rattle.std.specs.Prelude.{ℕ, ◌==◌, ◌&&◌, List, [], ◌∷◌, leng
 use Rattle.std.specs.Str.{is_utf8}
 use Rattle.serde_json.specs.Data.{Data}
 use Rattle.reg_ranges.specs.Numbers.{read_number}
-use Rattle.reg_ranges.specs.Texts.{read_text}
+use Rattle.reg_ranges.specs.Texts.{is_text, read_text}
 use Rattle.reg_core.specs.Names.{is_name, is_token}
+use Rattle.reg_core.specs.declared.advice.Advice.{Advice}
 use Rattle.reg_core.specs.declared.capability.Cap.{Cap}
 use Rattle.reg_core.specs.declared.command.Command.{Command}
 use Rattle.reg_core.specs.declared.command.Command.TheVariants as command
 use Rattle.reg_core.specs.declared.command.PublicCommand.TheVariants as public
 use Rattle.reg_core.specs.declared.command.ApplicantCommand.TheVariants as applicant
+use Rattle.reg_core.specs.declared.command.ExpertCommand.TheVariants as expert
 use Rattle.reg_core.specs.declared.command.ClerkCommand.TheVariants as clerk
 use Rattle.reg_wire.specs.declared.item.Item.{Item}
 use Rattle.reg_wire.specs.declared.item.Item.TheVariants as item
@@ -17,7 +19,7 @@ use Rattle.reg_wire.specs.declared.refusal.WireRefusal.TheVariants.{Route, Metho
 use Rattle.reg_wire.specs.declared.route.Operation.{Operation}
 use Rattle.reg_wire.specs.declared.route.Operation.TheVariants as operation
 use Rattle.reg_wire.specs.declared.route.Methods.{Methods}
-use Rattle.reg_wire.specs.Members.{Reading, ◌>>=◌, or_refusal, object_of, needed, only, text_form, until_form, kind_form}
+use Rattle.reg_wire.specs.Members.{Reading, ◌>>=◌, or_refusal, object_of, needed, only, text_form, until_form, kind_form, verdict_form}
 use Rattle.reg_wire.specs.Asks.{ask_of}
 use Rattle.reg_wire.specs.TableFile.{table_of}
 use Rattle.reg_wire.specs.Route.{methods_at, operation_for}
@@ -32,10 +34,22 @@ cap_of json = do
   until ← needed item.Until until_form json
   Ok (record { account = account; kind = kind; until = until })
 
+unfoldable pub advice_of : Data → Reading Advice
+advice_of json = do
+  verdict ← needed item.Verdict verdict_form json
+  text ← needed item.Text (text_form is_text) json
+  Ok (record { verdict = verdict; text = text })
+
 -- ---- commands
 
 abbrev pub empty : List ℕ → Reading ⊤
 empty body = if length body == 0 then Ok tt else Err Body
+
+-- a command that has no body
+abbrev pub without_body : Command → List ℕ → Reading Command
+without_body spelled body = do
+  nothing ← empty body
+  Ok spelled
 
 -- the segment that follows this many slashes, in its form
 abbrev pub segment : {A : Type 0} → Item → (List ℕ → Option A) → ℕ → List ℕ → Reading A
@@ -62,12 +76,58 @@ own_one_of path body = do
   reference ← name_at item.Reference 2 path
   Ok (command.Applicant (applicant.OwnOne reference))
 
+unfoldable pub withdraw_of : List ℕ → List ℕ → Reading Command
+withdraw_of path body = do
+  nothing ← empty body
+  reference ← name_at item.Reference 2 path
+  Ok (command.Applicant (applicant.Withdraw reference))
+
 unfoldable pub submit_of : List ℕ → List ℕ → Reading Command
 submit_of path body = do
   json ← object_of body
   reference ← name_at item.Reference 2 path
   asked ← ask_of json
   Ok (command.Applicant (applicant.Submit reference asked))
+
+unfoldable pub advise_of : List ℕ → List ℕ → Reading Command
+advise_of path body = do
+  json ← object_of body
+  account ← name_at item.Account 2 path
+  reference ← name_at item.Reference 3 path
+  advice ← advice_of json
+  others ← only (item.Verdict ∷ item.Text ∷ []) json
+  Ok (command.Expert (expert.Advise account reference advice))
+
+unfoldable pub one_request_of : List ℕ → List ℕ → Reading Command
+one_request_of path body = do
+  nothing ← empty body
+  account ← name_at item.Account 3 path
+  reference ← name_at item.Reference 4 path
+  Ok (command.Clerk (clerk.OneRequest account reference))
+
+unfoldable pub assign_expert_of : List ℕ → List ℕ → Reading Command
+assign_expert_of path body = do
+  nothing ← empty body
+  account ← name_at item.Account 3 path
+  reference ← name_at item.Reference 4 path
+  adviser ← name_at item.Expert 5 path
+  Ok (command.Clerk (clerk.AssignExpert account reference adviser))
+
+unfoldable pub approve_of : List ℕ → List ℕ → Reading Command
+approve_of path body = do
+  nothing ← empty body
+  account ← name_at item.Account 3 path
+  reference ← name_at item.Reference 4 path
+  Ok (command.Clerk (clerk.Approve account reference))
+
+unfoldable pub decline_of : List ℕ → List ℕ → Reading Command
+decline_of path body = do
+  json ← object_of body
+  account ← name_at item.Account 3 path
+  reference ← name_at item.Reference 4 path
+  reason ← needed item.Reason (text_form is_text) json
+  others ← only (item.Reason ∷ []) json
+  Ok (command.Clerk (clerk.Decline account reference reason))
 
 unfoldable pub define_of : List ℕ → List ℕ → Reading Command
 define_of path body = do
@@ -92,16 +152,20 @@ revoke_of body = do
   Ok (command.Clerk (clerk.Revoke token))
 
 abbrev pub command_of : Operation → List ℕ → List ℕ → Reading Command
-command_of operation.Registries path body = do
-  nothing ← empty body
-  Ok (command.Public public.Registries)
+command_of operation.Registries path body = without_body (command.Public public.Registries) body
 command_of operation.Registry path body = registry_of path body
 command_of operation.RegistryCsv path body = registry_csv_of path body
-command_of operation.Own path body = do
-  nothing ← empty body
-  Ok (command.Applicant applicant.Own)
+command_of operation.Own path body = without_body (command.Applicant applicant.Own) body
 command_of operation.OwnOne path body = own_one_of path body
 command_of operation.Submit path body = submit_of path body
+command_of operation.Withdraw path body = withdraw_of path body
+command_of operation.Queue path body = without_body (command.Expert expert.Queue) body
+command_of operation.Advise path body = advise_of path body
+command_of operation.AllRequests path body = without_body (command.Clerk clerk.AllRequests) body
+command_of operation.OneRequest path body = one_request_of path body
+command_of operation.AssignExpert path body = assign_expert_of path body
+command_of operation.Approve path body = approve_of path body
+command_of operation.Decline path body = decline_of path body
 command_of operation.Define path body = define_of path body
 command_of operation.Grant path body = grant_of body
 command_of operation.Revoke path body = revoke_of body

@@ -10,13 +10,17 @@ pub mod Asked
 pub mod Listed
 pub mod AskTree
 pub mod Tree
+pub mod AdviceTree
+pub mod QueueTree
 pub mod PageTree
+pub mod FileTree
 pub mod Listing
 pub mod Detail
 pub mod Refusal
 pub mod Body
 pub mod Answer
 pub mod Laws
+pub mod SheetLaws
 pub mod Line
 pub mod Script
 pub mod Held

@@ -6,7 +6,9 @@ use Rattle.serde_json.specs.Data.{Data, Members, member, no_members}
 use Rattle.serde_json.specs.Read.{read}
 use Rattle.serde_json.specs.Find.{get, as_object, as_str, as_number, as_u64}
 use Rattle.reg_ranges.specs.Texts.{read_text}
+use Rattle.reg_core.specs.Advice.{read_verdict}
 use Rattle.reg_core.specs.Capability.{read_until}
+use Rattle.reg_core.specs.declared.advice.Verdict.{Verdict}
 use Rattle.reg_core.specs.declared.capability.Kind.{Kind}
 use Rattle.reg_core.specs.declared.capability.Kind.TheVariants.{Applicant, Expert, Clerk}
 use Rattle.reg_wire.specs.Item.{item_name}
@@ -103,3 +105,6 @@ kind_named word =
 
 abbrev pub kind_form : Data → Option Kind
 kind_form json = option_and_then kind_named (as_str json)
+
+abbrev pub verdict_form : Data → Option Verdict
+verdict_form json = option_and_then read_verdict (as_str json)

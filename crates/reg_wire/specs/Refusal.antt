@@ -1,7 +1,7 @@
 -- The names and statuses of refusals, and what they are about.
 use Rattle.std.specs.Prelude.{ℕ, List, Option, Some, None, codes}
 use Rattle.reg_core.specs.declared.refusal.Refusal.{Refusal}
-use Rattle.reg_core.specs.declared.refusal.Refusal.TheVariants.{Clock, Token, Kind, Ref, Request, Registry, Range, Policy, Evidence, Own, Exists}
+use Rattle.reg_core.specs.declared.refusal.Refusal.TheVariants.{Clock, Token, Kind, Ref, Request, Closed, Registry, Range, Policy, Evidence, Taken, Exhausted, Advice, Own, Exists}
 use Rattle.reg_wire.specs.declared.detail.Detail.{Detail}
 use Rattle.reg_wire.specs.declared.detail.Detail.TheVariants as detail
 use Rattle.reg_wire.specs.declared.refusal.WireRefusal.{WireRefusal}
@@ -41,10 +41,14 @@ refusal_name Token = codes "token"
 refusal_name Kind = codes "kind"
 refusal_name Ref = codes "ref"
 refusal_name Request = codes "request"
+refusal_name Closed = codes "closed"
 refusal_name Registry = codes "registry"
 refusal_name Range = codes "range"
 refusal_name Policy = codes "policy"
 refusal_name (Evidence item) = codes "evidence"
+refusal_name Taken = codes "taken"
+refusal_name Exhausted = codes "exhausted"
+refusal_name Advice = codes "advice"
 refusal_name Own = codes "own"
 refusal_name Exists = codes "exists"
 
@@ -54,10 +58,14 @@ refusal_status Token = 401
 refusal_status Kind = 403
 refusal_status Ref = 409
 refusal_status Request = 404
+refusal_status Closed = 409
 refusal_status Registry = 404
 refusal_status Range = 422
 refusal_status Policy = 409
 refusal_status (Evidence item) = 422
+refusal_status Taken = 409
+refusal_status Exhausted = 409
+refusal_status Advice = 409
 refusal_status Own = 409
 refusal_status Exists = 409
 
@@ -67,9 +75,13 @@ refusal_detail Token = None
 refusal_detail Kind = None
 refusal_detail Ref = None
 refusal_detail Request = None
+refusal_detail Closed = None
 refusal_detail Registry = None
 refusal_detail Range = None
 refusal_detail Policy = None
 refusal_detail (Evidence item) = Some (detail.Evidence item)
+refusal_detail Taken = None
+refusal_detail Exhausted = None
+refusal_detail Advice = None
 refusal_detail Own = None
 refusal_detail Exists = None

@@ -76,6 +76,11 @@ fn reply_status(reply: &Reply) -> u16
         | Reply::Sheet(_)
         | Reply::Row(_)
         | Reply::Rows(_)
+        | Reply::Item(_)
+        | Reply::Items(_)
+        | Reply::Desk(_)
+        | Reply::Desks(_)
+        | Reply::Filed(_)
         | Reply::Defined(_)
         | Reply::Granted(_)
         | Reply::Revoked => 200,

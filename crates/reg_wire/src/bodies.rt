@@ -1,11 +1,12 @@
 //! Reads the bodies of commands.
 ghost use Rattle.serde_json.specs.View.{view};
 ghost use Rattle.reg_wire.specs.Members.{Gives};
-ghost use Rattle.reg_wire.specs.Asked.{cap_of};
+ghost use Rattle.reg_wire.specs.Asked.{advice_of, cap_of};
 
 use crate::item::Item;
 use crate::json_read;
 use crate::refusal::ReadFault;
+use reg_core::advice::Advice;
 use reg_core::capability::Cap;
 use serde_json::Value;
 use std::alloc::Global;
@@ -23,4 +24,14 @@ pub fn read_cap(alloc: Global, json: &Value) -> Result<Cap, ReadFault>
         kind,
         until,
     })
+}
+
+/// The advice that stands in this object, or the first of its members that has not its form.
+#[tactic(auto, unfolding(crate::specs::Asked::advice_of))]
+pub fn read_advice(alloc: Global, json: &Value) -> Result<Advice, ReadFault>
+    ensures { Gives result (advice_of (view json.now)) }
+{
+    let verdict = json_read::verdict(json, Item::Verdict)?;
+    let text = json_read::word(alloc, json, Item::Text)?;
+    Ok(Advice { verdict, text })
 }

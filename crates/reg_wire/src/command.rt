@@ -5,14 +5,14 @@ ghost use Rattle.reg_wire.specs.Route.{operation_for};
 ghost use Rattle.reg_wire.specs.Members.{Gives};
 ghost use Rattle.reg_ranges.specs.Numbers.{read_number};
 ghost use Rattle.reg_ranges.specs.Texts.{read_text};
-ghost use Rattle.reg_wire.specs.Asked.{asked, command_of, define_of, empty, grant_of, own_one_of, registry_csv_of, registry_of, revoke_of, routed, segment, submit_of};
+ghost use Rattle.reg_wire.specs.Asked.{advise_of, approve_of, asked, assign_expert_of, command_of, decline_of, define_of, empty, grant_of, one_request_of, own_one_of, registry_csv_of, registry_of, revoke_of, routed, segment, submit_of, withdraw_of, without_body};
 
 use crate::item::Item;
 use crate::refusal::{ReadFault, WireRefusal};
 use crate::route::{Methods, Operation, Routes};
 use crate::table_file::read_table;
 use crate::{asks, bodies, json_read, path};
-use reg_core::command::{ApplicantCommand, ClerkCommand, Command, PublicCommand};
+use reg_core::command::{ApplicantCommand, ClerkCommand, Command, ExpertCommand, PublicCommand};
 use reg_core::text::{Form, Word};
 use reg_ranges::number::read_number;
 use std::alloc::Global;
@@ -67,18 +67,20 @@ fn command_of(
     ensures { Gives result (command_of operation path.now body.now) }
 {
     match operation {
-        Operation::Registries => {
-            empty(body)?;
-            Ok(Command::Public(PublicCommand::Registries))
-        },
+        Operation::Registries => without_body(Command::Public(PublicCommand::Registries), body),
         Operation::Registry => read_registry(alloc, path, body),
         Operation::RegistryCsv => read_registry_csv(alloc, path, body),
-        Operation::Own => {
-            empty(body)?;
-            Ok(Command::Applicant(ApplicantCommand::Own))
-        },
+        Operation::Own => without_body(Command::Applicant(ApplicantCommand::Own), body),
         Operation::OwnOne => read_own_one(alloc, path, body),
         Operation::Submit => read_submit(alloc, path, body),
+        Operation::Withdraw => read_withdraw(alloc, path, body),
+        Operation::Queue => without_body(Command::Expert(ExpertCommand::Queue), body),
+        Operation::Advise => read_advise(alloc, path, body),
+        Operation::AllRequests => without_body(Command::Clerk(ClerkCommand::AllRequests), body),
+        Operation::OneRequest => read_one_request(alloc, path, body),
+        Operation::AssignExpert => read_assign_expert(alloc, path, body),
+        Operation::Approve => read_approve(alloc, path, body),
+        Operation::Decline => read_decline(alloc, path, body),
         Operation::Define => read_define(alloc, path, body),
         Operation::Grant => read_grant(alloc, body),
         Operation::Revoke => read_revoke(alloc, body),
@@ -112,6 +114,15 @@ fn read_own_one(alloc: Global, path: &str, body: &[u8]) -> Result<Command, ReadF
     Ok(Command::Applicant(ApplicantCommand::OwnOne(reference)))
 }
 
+#[tactic(auto, unfolding(crate::specs::Asked::withdraw_of))]
+fn read_withdraw(alloc: Global, path: &str, body: &[u8]) -> Result<Command, ReadFault>
+    ensures { Gives result (withdraw_of path.now body.now) }
+{
+    empty(body)?;
+    let reference = word_at(alloc, path, 2, Item::Reference)?;
+    Ok(Command::Applicant(ApplicantCommand::Withdraw(reference)))
+}
+
 #[tactic(auto, unfolding(crate::specs::Asked::submit_of))]
 fn read_submit(alloc: Global, path: &str, body: &[u8]) -> Result<Command, ReadFault>
     ensures { Gives result (submit_of path.now body.now) }
@@ -120,6 +131,61 @@ fn read_submit(alloc: Global, path: &str, body: &[u8]) -> Result<Command, ReadFa
     let reference = word_at(alloc, path, 2, Item::Reference)?;
     let ask = asks::read_ask(alloc, &json)?;
     Ok(Command::Applicant(ApplicantCommand::Submit(reference, ask)))
+}
+
+#[tactic(auto, unfolding(crate::specs::Asked::advise_of))]
+fn read_advise(alloc: Global, path: &str, body: &[u8]) -> Result<Command, ReadFault>
+    ensures { Gives result (advise_of path.now body.now) }
+{
+    let json = json_read::object_of(alloc, body)?;
+    let account = word_at(alloc, path, 2, Item::Account)?;
+    let reference = word_at(alloc, path, 3, Item::Reference)?;
+    let advice = bodies::read_advice(alloc, &json)?;
+    json_read::only(&[Item::Verdict, Item::Text], &json)?;
+    Ok(Command::Expert(ExpertCommand::Advise(account, reference, advice)))
+}
+
+#[tactic(auto, unfolding(crate::specs::Asked::one_request_of))]
+fn read_one_request(alloc: Global, path: &str, body: &[u8]) -> Result<Command, ReadFault>
+    ensures { Gives result (one_request_of path.now body.now) }
+{
+    empty(body)?;
+    let account = word_at(alloc, path, 3, Item::Account)?;
+    let reference = word_at(alloc, path, 4, Item::Reference)?;
+    Ok(Command::Clerk(ClerkCommand::OneRequest(account, reference)))
+}
+
+#[tactic(auto, unfolding(crate::specs::Asked::assign_expert_of))]
+fn read_assign_expert(alloc: Global, path: &str, body: &[u8]) -> Result<Command, ReadFault>
+    ensures { Gives result (assign_expert_of path.now body.now) }
+{
+    empty(body)?;
+    let account = word_at(alloc, path, 3, Item::Account)?;
+    let reference = word_at(alloc, path, 4, Item::Reference)?;
+    let expert = word_at(alloc, path, 5, Item::Expert)?;
+    Ok(Command::Clerk(ClerkCommand::AssignExpert(account, reference, expert)))
+}
+
+#[tactic(auto, unfolding(crate::specs::Asked::approve_of))]
+fn read_approve(alloc: Global, path: &str, body: &[u8]) -> Result<Command, ReadFault>
+    ensures { Gives result (approve_of path.now body.now) }
+{
+    empty(body)?;
+    let account = word_at(alloc, path, 3, Item::Account)?;
+    let reference = word_at(alloc, path, 4, Item::Reference)?;
+    Ok(Command::Clerk(ClerkCommand::Approve(account, reference)))
+}
+
+#[tactic(auto, unfolding(crate::specs::Asked::decline_of))]
+fn read_decline(alloc: Global, path: &str, body: &[u8]) -> Result<Command, ReadFault>
+    ensures { Gives result (decline_of path.now body.now) }
+{
+    let json = json_read::object_of(alloc, body)?;
+    let account = word_at(alloc, path, 3, Item::Account)?;
+    let reference = word_at(alloc, path, 4, Item::Reference)?;
+    let reason = json_read::word(alloc, &json, Item::Reason)?;
+    json_read::only(&[Item::Reason], &json)?;
+    Ok(Command::Clerk(ClerkCommand::Decline(account, reference, reason)))
 }
 
 #[tactic(auto, unfolding(crate::specs::Asked::define_of))]
@@ -154,6 +220,13 @@ fn read_revoke(alloc: Global, body: &[u8]) -> Result<Command, ReadFault>
     let token = json_read::word(alloc, &json, Item::Token)?;
     json_read::only(&[Item::Token], &json)?;
     Ok(Command::Clerk(ClerkCommand::Revoke(token)))
+}
+
+fn without_body(command: Command, body: &[u8]) -> Result<Command, ReadFault>
+    ensures { Gives result (without_body command body.now) }
+{
+    empty(body)?;
+    Ok(command)
 }
 
 fn empty(body: &[u8]) -> Result<(), ReadFault>

@@ -4,7 +4,7 @@ ghost use Rattle.reg_wire.specs.Answer.{reply_body, answer_body};
 ghost use Rattle.reg_wire.specs.Body.{body_view, text_of, IsPlain, ReadsBack};
 
 use crate::answer::Answer;
-use crate::{csv_write, json_page, json_write, office_refusal};
+use crate::{csv_write, json_file, json_page, json_put, json_queue, json_write, office_refusal};
 use reg_core::page::Page;
 use reg_core::reply::Reply;
 use serde_json::Value;
@@ -61,7 +61,7 @@ fn reply_content(alloc: Global, reply: &Reply) -> Result<Content<'_>, AllocError
     ensures { IfOk result (λ c. body_view c ≡ reply_body reply.now) }
 {
     Ok(match reply {
-        Reply::Names(names) => Content::Json(json_page::names(alloc, names.as_slice())?),
+        Reply::Names(names) => Content::Json(json_put::texts(alloc, names.as_slice())?),
         Reply::Page(page) => Content::Json(json_page::page(alloc, page)?),
         Reply::Sheet(page) => Content::Csv(page),
         Reply::Made(request) | Reply::Row(request) => {
@@ -70,6 +70,11 @@ fn reply_content(alloc: Global, reply: &Reply) -> Result<Content<'_>, AllocError
         Reply::Rows(requests) => {
             Content::Json(json_write::requests(alloc, requests.as_slice())?)
         },
+        Reply::Item(row) => Content::Json(json_queue::row(alloc, row)?),
+        Reply::Items(rows) => Content::Json(json_queue::rows(alloc, rows.as_slice())?),
+        Reply::Desk(request) => Content::Json(json_write::desk(alloc, request)?),
+        Reply::Desks(requests) => { Content::Json(json_write::desks(alloc, requests.as_slice())?) },
+        Reply::Filed(file) => Content::Json(json_file::file(alloc, file)?),
         Reply::Defined(name) => Content::Json(json_page::defined(alloc, name)?),
         Reply::Granted(cap) => Content::Json(json_write::cap(alloc, cap)?),
         Reply::Revoked => Content::Json(json_write::revoked(alloc)?),

@@ -1,12 +1,13 @@
 //! Writes registries as CSV (RFC 4180 section 2), each record ended by a line feed.
-ghost use Rattle.std.specs.Prelude.{◌≡◌, ◌∷◌, [], map, option_map, unwrap_or, IfOk};
+ghost use Rattle.std.specs.Prelude.{◌≡◌, ◌∷◌, [], map, IfOk};
+ghost use Rattle.std.specs.String.{string_bytes};
 ghost use Rattle.csv.specs.Writing.{default_writer, row_text};
-ghost use Rattle.reg_ranges.specs.Words.{policy_word};
-ghost use Rattle.reg_wire.specs.Listing.{csv_text, header, row_fields, row_view, sheet_text};
+ghost use Rattle.reg_wire.specs.Listing.{assignee_text, expiry_text, first_text, header, policy_text, row_fields, row_view, sheet_text};
 
 use crate::listing::{self, SheetRow};
 use csv::WriterBuilder;
 use reg_core::page::Page;
+use reg_early::day::day_text;
 use reg_ranges::policy::Policy;
 use std::alloc::{AllocError, Global};
 
@@ -44,24 +45,32 @@ fn row_text(alloc: Global, row: &SheetRow<'_>) -> Result<Vec<u8>, AllocError>
     ensures { IfOk result (λ v. v.items ≡ row_text default_writer (row_fields (row_view row.now))) }
 {
     let values = format!(in alloc; "{}", row.values)?;
-    without_entry(
+    let first = first_text(alloc, row)?;
+    let expiry = expiry_text(alloc, row)?;
+    record_of(
         alloc,
         values.as_str(),
         row.description,
         row.status.word(),
         policy_word(row.policy),
+        first.as_str(),
+        expiry.as_str(),
+        assignee_text(row),
     )
 }
 
-// A record whose last three fields, which are an entry's, are empty.
-fn without_entry<'a>(
+// A record of the seven fields of a row.
+fn record_of<'a>(
     alloc: Global,
     values: &'a str,
     description: &'a str,
     status: &'a str,
     policy: &'a str,
+    first: &'a str,
+    expiry: &'a str,
+    assignee: &'a str,
 ) -> Result<Vec<u8>, AllocError>
-    ensures { IfOk result (λ v. v.items ≡ row_text default_writer (values.now ∷ description.now ∷ status.now ∷ policy.now ∷ [] ∷ [] ∷ [] ∷ [])) }
+    ensures { IfOk result (λ v. v.items ≡ row_text default_writer (values.now ∷ description.now ∷ status.now ∷ policy.now ∷ first.now ∷ expiry.now ∷ assignee.now ∷ [])) }
 {
     record(
         alloc,
@@ -70,16 +79,49 @@ fn without_entry<'a>(
             description.as_bytes(),
             status.as_bytes(),
             policy.as_bytes(),
-            b"".as_slice(),
-            b"".as_slice(),
-            b"".as_slice(),
+            first.as_bytes(),
+            expiry.as_bytes(),
+            assignee.as_bytes(),
         ],
     )
 }
 
+// The day on which the entry was approved; nothing where there is none.
+fn first_text(alloc: Global, row: &SheetRow<'_>) -> Result<String, AllocError>
+    ensures { IfOk result (λ text. string_bytes text ≡ first_text (row_view row.now).entry) }
+{
+    match row.entry {
+        Some(entry) => day_text(alloc, entry.term.first),
+        None => Ok(String::new(alloc)),
+    }
+}
+
+// The day from which the entry no longer stands; nothing where there is none.
+fn expiry_text(alloc: Global, row: &SheetRow<'_>) -> Result<String, AllocError>
+    ensures { IfOk result (λ text. string_bytes text ≡ expiry_text (row_view row.now).entry) }
+{
+    let Some(entry) = row.entry else {
+        return Ok(String::new(alloc));
+    };
+    match entry.term.expires {
+        Some(day) => day_text(alloc, day),
+        None => Ok(String::new(alloc)),
+    }
+}
+
+// Whose the entry is; nothing where there is none.
+fn assignee_text<'a>(row: &SheetRow<'a>) -> &'a str
+    ensures { result.now ≡ assignee_text (row_view row.now).entry }
+{
+    let Some(entry) = row.entry else {
+        return "";
+    };
+    entry.assignee.as_str()
+}
+
 // The word of a policy; nothing where there is none.
 fn policy_word(policy: Option<Policy>) -> &'static str
-    ensures { result.now ≡ unwrap_or (option_map policy_word policy) [] }
+    ensures { result.now ≡ policy_text policy }
 {
     match policy {
         Some(policy) => policy.word(),

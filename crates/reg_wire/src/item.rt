@@ -8,6 +8,7 @@ ghost use Rattle.reg_wire.specs.Item.{item_name};
 pub enum Item {
     Account,
     Contact,
+    Expert,
     /// A member that the body should not have.
     Extra,
     Kind,
@@ -17,15 +18,18 @@ pub enum Item {
     Minute,
     Name,
     Number,
+    Reason,
     Reference,
     Registry,
     Rfc,
     Specification,
     Stream,
+    Text,
     Token,
     Track,
     Until,
     Value,
+    Verdict,
 }
 
 impl Item {
@@ -36,6 +40,7 @@ impl Item {
         match self {
             Item::Account => "account",
             Item::Contact => "contact",
+            Item::Expert => "expert",
             Item::Extra => "extra",
             Item::Kind => "kind",
             Item::Label => "label",
@@ -44,15 +49,18 @@ impl Item {
             Item::Minute => "minute",
             Item::Name => "name",
             Item::Number => "number",
+            Item::Reason => "reason",
             Item::Reference => "reference",
             Item::Registry => "registry",
             Item::Rfc => "rfc",
             Item::Specification => "specification",
             Item::Stream => "stream",
+            Item::Text => "text",
             Item::Token => "token",
             Item::Track => "track",
             Item::Until => "until",
             Item::Value => "value",
+            Item::Verdict => "verdict",
         }
     }
 }

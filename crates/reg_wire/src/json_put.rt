@@ -1,10 +1,11 @@
-//! Puts texts and numbers into objects of JSON.
-ghost use Rattle.std.specs.Prelude.{◌≡◌, OnOk, option_map};
+//! Puts texts and numbers into objects and arrays of JSON.
+ghost use Rattle.std.specs.Prelude.{◌≡◌, IfOk, OnOk, option_map};
 ghost use Rattle.serde_json.specs.Data.{put as with_member, number, string, unsigned};
-ghost use Rattle.serde_json.specs.View.{members_view};
+ghost use Rattle.serde_json.specs.View.{view, members_view};
 ghost use Rattle.reg_wire.specs.Listed.{put_some};
+ghost use Rattle.reg_wire.specs.PageTree.{names_tree};
 
-use reg_core::text::Text;
+use reg_core::text::{Form, Text, Word};
 use serde_json::{Map, Value};
 use std::alloc::{AllocError, Global};
 
@@ -49,4 +50,15 @@ pub fn put_text_if(
         Some(text) => put_text(members, alloc, name, text.as_str()),
         None => Ok(()),
     }
+}
+
+/// An array of these texts, in their order.
+pub fn texts<F: Form>(alloc: Global, texts: &[Word<F>]) -> Result<Value, AllocError>
+    ensures { IfOk result (λ v. view v ≡ names_tree texts.now) }
+{
+    let mut items = Vec::new(alloc);
+    for text in texts {
+        items.push(Value::try_from_str(alloc, text.as_str())?)?;
+    }
+    Ok(Value::Array(items))
 }

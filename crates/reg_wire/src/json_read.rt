@@ -5,10 +5,11 @@ ghost use Rattle.std.specs.List.{list_all};
 ghost use Rattle.std.specs.String.{string_bytes};
 ghost use Rattle.serde_json.specs.View.{view};
 ghost use Rattle.serde_json.specs.Find.{as_object};
-ghost use Rattle.reg_wire.specs.Members.{Gives, GivesSeen, object_of, needed, optional, only, is_among, names_any, text_form, number_form, until_form, kind_form, kind_named};
+ghost use Rattle.reg_wire.specs.Members.{Gives, GivesSeen, object_of, needed, optional, only, is_among, names_any, text_form, number_form, until_form, kind_form, kind_named, verdict_form};
 
 use crate::item::Item;
 use crate::refusal::{ReadFault, WireRefusal};
+use reg_core::advice::Verdict;
 use reg_core::capability::{Kind, Until};
 use reg_core::text::{Form, Word};
 use serde_json::{Map, Value};
@@ -105,6 +106,19 @@ fn kind_named(word: &str) -> Option<Kind>
         "expert" => Some(Kind::Expert),
         "clerk" => Some(Kind::Clerk),
         _ => None,
+    }
+}
+
+/// The verdict in this member. `Field` with the item where it is missing or no verdict's word.
+pub fn verdict(object: &Value, item: Item) -> Result<Verdict, ReadFault>
+    ensures { Gives result (needed item verdict_form (view object.now)) }
+{
+    match object.get(item.name()).and_then(Value::as_str) {
+        Some(word) => match Verdict::read(word.as_bytes()) {
+            Some(verdict) => Ok(verdict),
+            None => Err(ReadFault::field(item)),
+        },
+        None => Err(ReadFault::field(item)),
     }
 }
 

@@ -1,43 +1,54 @@
 //! Builds the JSON of rows, capabilities and refusals. Members that are absent are not printed.
-ghost use Rattle.std.specs.Prelude.{◌≡◌, map, codes, IfOk, OnOk, option_map};
-ghost use Rattle.std.specs.BTreeMap.{BTreeMap};
+ghost use Rattle.std.specs.Prelude.{◌≡◌, codes, IfOk, OnOk, option_map};
+ghost use Rattle.std.specs.String.{string_bytes};
 ghost use Rattle.serde_json.specs.Data.{string};
 ghost use Rattle.serde_json.specs.View.{view, members_view};
-ghost use Rattle.reg_wire.specs.Tree.{request_tree, requests_tree, cap_tree, revoked_tree, error_tree, state_word, kind_word};
-ghost use Rattle.reg_wire.specs.Listed.{put_some};
+ghost use Rattle.reg_wire.specs.Tree.{request_tree, requests_tree, desk_tree, desks_tree, request_members, standing_members, given_if, given_text, reason_if, state_word, cap_tree, kind_word, revoked_tree, error_tree};
+ghost use Rattle.reg_wire.specs.Listed.{put_some, with_members};
 ghost use Rattle.reg_wire.specs.Detail.{detail_text};
 
 use crate::detail::Detail;
 use crate::json_ask;
 use crate::json_put::{Members, put_number, put_text};
 use reg_core::capability::{Cap, Kind};
-use reg_core::request::{Request, State};
+use reg_core::request::{Given, Request, State, StateWord};
 use serde_json::{Map, Value};
 use std::alloc::{AllocError, Global};
 
-/// An applicant's row: what it asks for, under which reference, and where it stands.
+/// A request as its applicant sees it: what it asks for, under which reference, and where it stands.
 pub fn request(alloc: Global, request: &Request) -> Result<Value, AllocError>
     ensures { IfOk result (λ v. view v ≡ request_tree request.now) }
 {
-    let mut members = Map::new(alloc);
-    put_text(&mut members, alloc, "state", state_word(request.state))?;
-    put_text(&mut members, alloc, "reference", request.reference.as_str())?;
-    serde_json::put(
-        &mut members,
-        alloc,
-        "ask",
-        json_ask::ask(alloc, &request.ask)?,
-    )?;
-    Ok(Value::Object(members))
+    Ok(Value::Object(own(alloc, request)?))
 }
 
-/// These rows, in their order.
+/// These requests as their applicant sees them, in their order.
 pub fn requests(alloc: Global, requests: &[Request]) -> Result<Value, AllocError>
     ensures { IfOk result (λ v. view v ≡ requests_tree requests.now) }
 {
     let mut items = Vec::new(alloc);
     for row in requests {
         items.push(request(alloc, row)?)?;
+    }
+    Ok(Value::Array(items))
+}
+
+/// A request as the desk sees it: also whose it is.
+pub fn desk(alloc: Global, request: &Request) -> Result<Value, AllocError>
+    ensures { IfOk result (λ v. view v ≡ desk_tree request.now) }
+{
+    let mut members = own(alloc, request)?;
+    put_text(&mut members, alloc, "account", request.account.as_str())?;
+    Ok(Value::Object(members))
+}
+
+/// These requests as the desk sees them, in their order.
+pub fn desks(alloc: Global, requests: &[Request]) -> Result<Value, AllocError>
+    ensures { IfOk result (λ v. view v ≡ desks_tree requests.now) }
+{
+    let mut items = Vec::new(alloc);
+    for row in requests {
+        items.push(desk(alloc, row)?)?;
     }
     Ok(Value::Array(items))
 }
@@ -72,11 +83,76 @@ pub fn error(alloc: Global, name: &str, detail: Option<Detail>) -> Result<Value,
     Ok(Value::Object(members))
 }
 
-fn state_word(state: State) -> &'static str
-    ensures { result.now ≡ state_word state }
+// The members of a request that its applicant sees.
+fn own(alloc: Global, request: &Request) -> Result<Members, AllocError>
+    ensures { IfOk result (λ m. members_view m.entries ≡ with_members (request_members request.now)) }
+{
+    let mut members = standing(alloc, request)?;
+    serde_json::put(
+        &mut members,
+        alloc,
+        "ask",
+        json_ask::ask(alloc, &request.ask)?,
+    )?;
+    Ok(members)
+}
+
+/// The members that tell a request's reference, and where it stands.
+pub fn standing(alloc: Global, request: &Request) -> Result<Members, AllocError>
+    ensures { IfOk result (λ m. members_view m.entries ≡ with_members (standing_members request.now)) }
+{
+    let mut members = Map::new(alloc);
+    put_text(
+        &mut members,
+        alloc,
+        "state",
+        state_word(request.state.word()),
+    )?;
+    put_text(&mut members, alloc, "reference", request.reference.as_str())?;
+    put_reason_if(&mut members, alloc, &request.state)?;
+    put_given_if(&mut members, alloc, &request.state)?;
+    Ok(members)
+}
+
+/// The bare word by which answers tell where a request stands.
+pub fn state_word(word: StateWord) -> &'static str
+    ensures { result.now ≡ state_word word }
+{
+    match word {
+        StateWord::Pending => "pending",
+        StateWord::Approved => "approved",
+        StateWord::Declined => "declined",
+        StateWord::Withdrawn => "withdrawn",
+    }
+}
+
+fn put_reason_if(members: &mut Members, alloc: Global, state: &State) -> Result<(), AllocError>
+    ensures { OnOk result (members_view members.new.entries ≡ put_some (codes "reason") (reason_if state.now) (members_view members.old.entries)) }
 {
     match state {
-        State::Pending => "pending",
+        State::Declined(reason) => put_text(members, alloc, "reason", reason.as_str()),
+        State::Pending | State::Approved(_) | State::Withdrawn => Ok(()),
+    }
+}
+
+fn put_given_if(members: &mut Members, alloc: Global, state: &State) -> Result<(), AllocError>
+    ensures { OnOk result (members_view members.new.entries ≡ put_some (codes "given") (given_if state.now) (members_view members.old.entries)) }
+{
+    match state {
+        State::Approved(given) => {
+            let text = given_text(alloc, *given)?;
+            put_text(members, alloc, "given", text.as_str())
+        },
+        State::Pending | State::Declined(_) | State::Withdrawn => Ok(()),
+    }
+}
+
+// A value that was given, in decimal.
+fn given_text(alloc: Global, given: Given) -> Result<String, AllocError>
+    ensures { IfOk result (λ t. string_bytes t ≡ given_text given) }
+{
+    match given {
+        Given::Value(value) => format!(in alloc; "{value}"),
     }
 }
 

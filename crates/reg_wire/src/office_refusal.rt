@@ -13,7 +13,14 @@ pub fn status(refusal: Refusal) -> u16
         Refusal::Token => 401,
         Refusal::Kind => 403,
         Refusal::Request | Refusal::Registry => 404,
-        Refusal::Ref | Refusal::Policy | Refusal::Own | Refusal::Exists => 409,
+        Refusal::Ref
+        | Refusal::Closed
+        | Refusal::Policy
+        | Refusal::Taken
+        | Refusal::Exhausted
+        | Refusal::Advice
+        | Refusal::Own
+        | Refusal::Exists => 409,
         Refusal::Range | Refusal::Evidence(_) => 422,
         Refusal::Clock => 503,
     }
@@ -29,10 +36,14 @@ pub fn name(refusal: Refusal) -> &'static str
         Refusal::Kind => "kind",
         Refusal::Ref => "ref",
         Refusal::Request => "request",
+        Refusal::Closed => "closed",
         Refusal::Registry => "registry",
         Refusal::Range => "range",
         Refusal::Policy => "policy",
         Refusal::Evidence(_) => "evidence",
+        Refusal::Taken => "taken",
+        Refusal::Exhausted => "exhausted",
+        Refusal::Advice => "advice",
         Refusal::Own => "own",
         Refusal::Exists => "exists",
     }
@@ -49,9 +60,13 @@ pub fn detail(refusal: Refusal) -> Option<Detail>
         | Refusal::Kind
         | Refusal::Ref
         | Refusal::Request
+        | Refusal::Closed
         | Refusal::Registry
         | Refusal::Range
         | Refusal::Policy
+        | Refusal::Taken
+        | Refusal::Exhausted
+        | Refusal::Advice
         | Refusal::Own
         | Refusal::Exists => None,
     }

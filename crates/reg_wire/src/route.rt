@@ -15,6 +15,14 @@ pub enum Operation {
     Own,
     OwnOne,
     Submit,
+    Withdraw,
+    Queue,
+    Advise,
+    AllRequests,
+    OneRequest,
+    AssignExpert,
+    Approve,
+    Decline,
     Define,
     Grant,
     Revoke,
@@ -69,7 +77,7 @@ const NONE: Methods = Methods {
 };
 
 // Each path, and what the methods do there.
-const ROWS: [(&str, Methods); 8] = [
+const ROWS: [(&str, Methods); 15] = [
     (
         "/registries",
         Methods {
@@ -103,6 +111,55 @@ const ROWS: [(&str, Methods); 8] = [
         Methods {
             get: Some(Operation::OwnOne),
             put: Some(Operation::Submit),
+            delete: Some(Operation::Withdraw),
+        },
+    ),
+    (
+        "/queue",
+        Methods {
+            get: Some(Operation::Queue),
+            ..NONE
+        },
+    ),
+    (
+        "/queue/{account}/{reference}",
+        Methods {
+            put: Some(Operation::Advise),
+            ..NONE
+        },
+    ),
+    (
+        "/desk/requests",
+        Methods {
+            get: Some(Operation::AllRequests),
+            ..NONE
+        },
+    ),
+    (
+        "/desk/requests/{account}/{reference}",
+        Methods {
+            get: Some(Operation::OneRequest),
+            ..NONE
+        },
+    ),
+    (
+        "/desk/experts/{account}/{reference}/{expert}",
+        Methods {
+            put: Some(Operation::AssignExpert),
+            ..NONE
+        },
+    ),
+    (
+        "/desk/approve/{account}/{reference}",
+        Methods {
+            put: Some(Operation::Approve),
+            ..NONE
+        },
+    ),
+    (
+        "/desk/decline/{account}/{reference}",
+        Methods {
+            put: Some(Operation::Decline),
             ..NONE
         },
     ),

@@ -4,15 +4,20 @@ ghost use Rattle.std.specs.List.{list_any};
 ghost use Rattle.std.specs.Option.{option_copied};
 ghost use Rattle.reg_ranges.specs.Requirements.{first_item, is_closed_policy, unmet};
 ghost use Rattle.reg_ranges.specs.Sameness.{same_treatment};
-ghost use Rattle.reg_core.specs.Allowance.{allowed_on, is_met, open_policy, policy_for, policy_in};
+ghost use Rattle.std.specs.List.Sorted.{IsStrictlyIncreasing};
+ghost use Rattle.reg_core.specs.Allowance.{allowed_on, is_met, is_reviewed as is_policy_reviewed, needs_advice as is_advice_needed, open_policy, policy_for, policy_in, policy_wanted, value_for as value_wanted};
+ghost use Rattle.reg_core.specs.Ground.{seen};
 
 use crate::ask::{Ask, Want};
+use crate::entry::Entry;
 use crate::refusal::Refusal;
+use crate::request::Given;
 use crate::text::Account;
 use reg_ranges::evidence::Evidence;
+use reg_ranges::free::least_free;
 use reg_ranges::policy::{Policy, Treatment};
 use reg_ranges::range::Range;
-use reg_ranges::requirements::missing;
+use reg_ranges::requirements::{missing, needs_expert};
 use reg_ranges::table::RangeTable;
 
 /// The published rows that an ask needs.
@@ -20,20 +25,60 @@ use reg_ranges::table::RangeTable;
 pub struct Ground<'a> {
     /// The ranges of the registry that the ask names, if there is one.
     pub table: Option<&'a RangeTable>,
+    /// The entry at the value that the ask names, if it names one and there is one.
+    pub entry: Option<&'a Entry>,
+    /// The values that have entries, ascending, where the ask wants the least.
+    pub taken: &'a [u32],
 }
 
-/// Whether an ask of an account would be given what it wants, or the first refusal that it meets:
-/// `Registry`, `Range`, `Policy`, then `Evidence` with its item. Other requests are not looked at, and
-/// no memory is taken.
-pub fn check_ask(_account: &Account, ask: &Ask, rows: Ground<'_>) -> Result<(), Refusal>
-    ensures { result ≡ allowed_on (record { table = option_copied rows.entry.table }) _account.now ask.now }
+/// What an ask of an account would be given now, or the first refusal that it meets: `Registry`,
+/// `Range`, `Policy`, `Evidence` with its item, then `Taken` or `Exhausted`. Other requests are not
+/// looked at, and no memory is taken.
+pub fn check_ask(_account: &Account, ask: &Ask, rows: Ground<'_>) -> Result<Given, Refusal>
+    requires { IsStrictlyIncreasing rows.taken.now }
+    ensures { result ≡ allowed_on (seen rows.entry) _account.now ask.now }
 {
     match ask {
         Ask::Code(code) => {
             let table = rows.table.ok_or(Refusal::Registry)?;
             let policy = policy_for(table, code.want)?;
-            check_evidence(policy, &code.evidence)
+            check_evidence(policy, &code.evidence)?;
+            let value = value_for(rows, table, code.want)?;
+            Ok(Given::Value(value))
         }
+    }
+}
+
+/// Whether an expert's favourable advice is needed for an ask (RFC 8126 sections 4.5 and 4.6).
+pub fn needs_advice(ask: &Ask, rows: Ground<'_>) -> bool
+    ensures { result ≡ is_advice_needed (seen rows.entry) ask.now }
+{
+    match ask {
+        Ask::Code(code) => is_reviewed(rows.table, code.want),
+    }
+}
+
+fn is_reviewed(table: Option<&RangeTable>, want: Want) -> bool
+    ensures { result ≡ is_policy_reviewed (policy_wanted (option_copied table.entry) want) }
+{
+    let Some(table) = table else {
+        return false;
+    };
+    match policy_for(table, want) {
+        Ok(policy) => needs_expert(policy),
+        Err(_) => false,
+    }
+}
+
+// The value that is wanted, where it has no entry.
+fn value_for(rows: Ground<'_>, table: &RangeTable, want: Want) -> Result<u32, Refusal>
+    requires { IsStrictlyIncreasing rows.taken.now }
+    ensures { result ≡ value_wanted (seen rows.entry) table.now want }
+{
+    match want {
+        Want::Value(_) if rows.entry.is_some() => Err(Refusal::Taken),
+        Want::Value(value) => Ok(value),
+        Want::Least(policy) => least_free(table, policy, rows.taken).ok_or(Refusal::Exhausted),
     }
 }
 

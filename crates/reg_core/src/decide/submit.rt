@@ -1,7 +1,9 @@
 //! An applicant files a request.
 ghost use Rattle.std.specs.Prelude.{option_map};
 ghost use Rattle.std.specs.Option.{option_copied};
+ghost use Rattle.std.specs.List.Sorted.{IsStrictlyIncreasing};
 ghost use Rattle.reg_core.specs.Allowance.{allowed_on};
+ghost use Rattle.reg_core.specs.Ground.{seen};
 ghost use Rattle.reg_core.specs.Request.{filing_of};
 ghost use Rattle.reg_core.specs.Rules.{Follows, submit_rule};
 
@@ -22,7 +24,8 @@ pub fn decide_submit(
     ask: &Ask,
     rows: Ground<'_>,
 ) -> Result<Decision, Deny>
-    ensures { let allowance = allowed_on (record { table = option_copied rows.entry.table }) account.now ask.now in
+    requires { IsStrictlyIncreasing rows.taken.now }
+    ensures { let allowance = allowed_on (seen rows.entry) account.now ask.now in
         Follows (submit_rule allowance (account.now, reference.now) ask.now (option_map filing_of (option_copied found.entry))) result }
 {
     match found {

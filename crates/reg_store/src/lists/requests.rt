@@ -1,12 +1,15 @@
 //! Requests by the accounts of their applicants, and then by reference.
-ghost use Rattle.std.specs.Prelude.{◌≡◌, map, IfOk, OnOk, OnErr, option_map};
+ghost use Rattle.std.specs.Prelude.{◌≡◌, ◌++◌, cond, ℕ, List, map, IfOk, OnOk, OnErr, option_map};
+ghost use Rattle.std.specs.BTreeMap as tree;
+ghost use Rattle.std.specs.BTreeMap.{IsOrdered, is_at};
 ghost use Rattle.std.specs.FinMap as fin;
-ghost use Rattle.reg_core.specs.Maps.{text_cmp, same_text, only_if, select};
+ghost use Rattle.reg_core.specs.Maps.{text_cmp, same_text, only_if, select, update};
 ghost use Rattle.reg_core.specs.Request.{request_row as request_at, request_rows as rows_shown};
+ghost use Rattle.reg_core.specs.World.{in_state};
 ghost use Rattle.reg_store.specs.Groups.{grouped, group_rows};
 
 use crate::groups::{group_in, put_row, row_in};
-use reg_core::request::{Filing, Request};
+use reg_core::request::{Filing, Request, State};
 use reg_core::rows::Rows;
 use reg_core::text::{Account, Ref};
 use std::alloc::{AllocError, Global};
@@ -37,25 +40,37 @@ pub fn own_rows(
 ) -> Result<Rows<Request>, AllocError>
     ensures { IfOk result (λ rows. rows ≡ rows_shown (select (λ name filing. only_if (same_text name.0 account.now) filing) (grouped text_cmp text_cmp requests.now))) }
 {
-    let rows = match group_in(requests, account) {
-        Some(group) => request_rows(alloc, account, group)?,
-        None => Vec::new(alloc),
-    };
+    let mut rows = Vec::new(alloc);
+    if let Some(group) = group_in(requests, account) {
+        push_rows(&mut rows, account, group)?;
+    }
     Ok(Rows::from_vec(rows))
 }
 
-fn request_rows(
-    alloc: Global,
-    account: &Account,
-    group: &BTreeMap<Ref, Filing>,
-) -> Result<Vec<Request>, AllocError>
-    ensures { IfOk result (λ rows. rows.items ≡ map (λ e. request_at e.0 e.1) (group_rows account.now group.now.entries)) }
+/// All requests, by account and then by reference.
+pub fn all_rows(alloc: Global, requests: &Requests) -> Result<Rows<Request>, AllocError>
+    ensures { IfOk result (λ rows. rows ≡ rows_shown (grouped text_cmp text_cmp requests.now)) }
 {
     let mut rows = Vec::new(alloc);
+    for (account, group) in requests {
+        push_rows(&mut rows, account, group)?;
+    }
+    Ok(Rows::from_vec(rows))
+}
+
+fn push_rows(
+    rows: &mut Vec<Request>,
+    account: &Account,
+    group: &BTreeMap<Ref, Filing>,
+) -> Result<(), AllocError>
+    ensures ok { OnOk result (rows.new.items ≡ rows.old.items ++ map (λ e. request_at e.0 e.1) (group_rows account.now group.now.entries)) }
+    ensures ordered { IsOrdered text_cmp group.now }
+{
+    let _rows = group.len();
     for (reference, filing) in group {
         rows.push(request_row(account, reference, filing)?)?;
     }
-    Ok(rows)
+    Ok(())
 }
 
 fn request_row(account: &Account, reference: &Ref, filing: &Filing) -> Result<Request, AllocError>
@@ -65,7 +80,7 @@ fn request_row(account: &Account, reference: &Ref, filing: &Filing) -> Result<Re
         account: account.copy()?,
         reference: reference.copy()?,
         ask: filing.ask.copy()?,
-        state: filing.state,
+        state: filing.state.copy()?,
     })
 }
 
@@ -81,4 +96,21 @@ pub fn put_filing(
     ensures err { OnErr result (grouped text_cmp text_cmp requests.new ≡ grouped text_cmp text_cmp requests.old) }
 {
     put_row(alloc, requests, account, reference, filing)
+}
+
+/// Puts the request of an account under a reference in a state, if it is there.
+pub fn set_state(requests: &mut Requests, account: &Account, reference: &Ref, state: State)
+    ensures { grouped text_cmp text_cmp requests.new ≡ update (grouped text_cmp text_cmp requests.old) (account.now, reference.now) (in_state state) }
+{
+    if let Some(group) = requests.get_mut(account) {
+        set_state_in(group, reference, state);
+    }
+}
+
+fn set_state_in(group: &mut BTreeMap<Ref, Filing>, reference: &Ref, state: State)
+    ensures { (b : List ℕ) → tree.get text_cmp group.new b ≡ cond (is_at (text_cmp reference.now) b) (option_map (in_state state) (tree.get text_cmp group.old reference.now)) (tree.get text_cmp group.old b) }
+{
+    if let Some(filing) = group.get_mut(reference) {
+        filing.state = state;
+    }
 }

@@ -1,13 +1,17 @@
 use super::*;
 use crate::answer::{Answer, body_of};
+use reg_core::ask::{Ask, CodeAsk, Want};
+use reg_core::file::File;
+use reg_core::queue::QueueRow;
 use reg_core::refusal::Refusal;
 use reg_core::reply::Reply;
-use reg_core::request::{Request, State};
+use reg_core::request::{Given, Request, State, StateWord};
 use reg_core::rows::Rows;
-use reg_core::text::Account;
+use reg_core::text::{Account, Name, Ref, Text};
+use reg_ranges::evidence::Evidence;
 use std::test::Fail;
 
-// The status and body that the bytes are answered with, as if each command was new and alice's own.
+// The status and body that the bytes are answered with, as if each ask was new and alice's own.
 fn answered(
     alloc: Global,
     routes: &Routes,
@@ -23,9 +27,6 @@ fn answered(
 }
 
 fn reply(alloc: Global, command: Command) -> Result<Reply, Fail> {
-    let Some(account) = Account::read(alloc, b"alice")? else {
-        return Err(Fail::from("account"));
-    };
     match command {
         Command::Public(PublicCommand::Registries) => Ok(Reply::Names(Rows::from_vec(Vec::new(
             alloc,
@@ -33,20 +34,123 @@ fn reply(alloc: Global, command: Command) -> Result<Reply, Fail> {
         Command::Public(PublicCommand::Registry(_) | PublicCommand::RegistryCsv(_)) => Ok(
             Reply::Refused(Refusal::Registry),
         ),
-        Command::Applicant(ApplicantCommand::Own) => Ok(Reply::Rows(Rows::from_vec(Vec::new(
-            alloc,
-        )))),
-        Command::Applicant(ApplicantCommand::OwnOne(_)) => Ok(Reply::Refused(Refusal::Request)),
-        Command::Applicant(ApplicantCommand::Submit(reference, ask)) => Ok(Reply::Made(Request {
+        Command::Applicant(command) => applicant_reply(alloc, command),
+        Command::Expert(command) => expert_reply(alloc, command),
+        Command::Clerk(command) => clerk_reply(alloc, command),
+    }
+}
+
+fn applicant_reply(alloc: Global, command: ApplicantCommand) -> Result<Reply, Fail> {
+    let Some(account) = Account::read(alloc, b"alice")? else {
+        return Err(Fail::from("account"));
+    };
+    match command {
+        ApplicantCommand::Own => Ok(Reply::Rows(Rows::from_vec(Vec::new(alloc)))),
+        ApplicantCommand::OwnOne(_) => Ok(Reply::Refused(Refusal::Request)),
+        ApplicantCommand::Submit(reference, ask) => Ok(Reply::Made(Request {
             account,
             reference,
             ask,
             state: State::Pending,
         })),
-        Command::Clerk(ClerkCommand::Define(name, _)) => Ok(Reply::Defined(name)),
-        Command::Clerk(ClerkCommand::Grant(_, cap)) => Ok(Reply::Granted(cap)),
-        Command::Clerk(ClerkCommand::Revoke(_)) => Ok(Reply::Revoked),
+        ApplicantCommand::Withdraw(reference) => Ok(Reply::Row(request(
+            alloc,
+            account,
+            reference,
+            State::Withdrawn,
+        )?)),
     }
+}
+
+fn expert_reply(alloc: Global, command: ExpertCommand) -> Result<Reply, Fail> {
+    match command {
+        ExpertCommand::Queue => Ok(Reply::Items(Rows::from_vec(Vec::new(alloc)))),
+        ExpertCommand::Advise(account, reference, advice) => Ok(Reply::Item(QueueRow {
+            account,
+            reference,
+            ask: ask(alloc)?,
+            word: StateWord::Pending,
+            advice: Some(advice),
+        })),
+    }
+}
+
+fn clerk_reply(alloc: Global, command: ClerkCommand) -> Result<Reply, Fail> {
+    match command {
+        ClerkCommand::AllRequests => Ok(Reply::Desks(Rows::from_vec(Vec::new(alloc)))),
+        ClerkCommand::OneRequest(account, reference) => Ok(Reply::Filed(file(
+            alloc, account, reference, None,
+        )?)),
+        ClerkCommand::AssignExpert(account, reference, expert) => Ok(Reply::Filed(file(
+            alloc,
+            account,
+            reference,
+            Some(expert),
+        )?)),
+        ClerkCommand::Approve(account, reference) => Ok(Reply::Desk(request(
+            alloc,
+            account,
+            reference,
+            State::Approved(Given::Value(7)),
+        )?)),
+        ClerkCommand::Decline(account, reference, reason) => Ok(Reply::Desk(request(
+            alloc,
+            account,
+            reference,
+            State::Declined(reason),
+        )?)),
+        ClerkCommand::Define(name, _) => Ok(Reply::Defined(name)),
+        ClerkCommand::Grant(_, cap) => Ok(Reply::Granted(cap)),
+        ClerkCommand::Revoke(_) => Ok(Reply::Revoked),
+    }
+}
+
+// The pending request of this name, with this expert.
+fn file(
+    alloc: Global,
+    account: Account,
+    reference: Ref,
+    expert: Option<Account>,
+) -> Result<File, Fail> {
+    let mut experts = Vec::new(alloc);
+    if let Some(expert) = expert {
+        experts.push(expert)?;
+    }
+    Ok(File {
+        request: request(alloc, account, reference, State::Pending)?,
+        experts: Rows::from_vec(experts),
+        advice: Rows::from_vec(Vec::new(alloc)),
+    })
+}
+
+// The request of this name, for the value 7 of the registry f.
+fn request(alloc: Global, account: Account, reference: Ref, state: State) -> Result<Request, Fail> {
+    Ok(Request {
+        account,
+        reference,
+        ask: ask(alloc)?,
+        state,
+    })
+}
+
+fn ask(alloc: Global) -> Result<Ask, Fail> {
+    let Some(registry) = Name::read(alloc, b"f")? else {
+        return Err(Fail::from("name"));
+    };
+    let Some(label) = Text::read(alloc, b"L")? else {
+        return Err(Fail::from("text"));
+    };
+    Ok(Ask::Code(CodeAsk {
+        registry,
+        want: Want::Value(7),
+        label,
+        evidence: Evidence {
+            contact: None,
+            spec: None,
+            rfc: None,
+            minute: None,
+        },
+    }))
 }
 
 // The first line that is answered otherwise than it says: each has a method, a path, a body, and the status
@@ -109,6 +213,119 @@ PUT|/desk/registries/f/0||422|{"error":"ranges","item":"header"}"#
 #[test]
 fn paths_and_methods(rt: HostRuntime) -> Result<(), Fail> {
     assert_eq!(rt; first_wrong(rt.alloc(), paths())?, None);
+    Ok(())
+}
+
+fn requests() -> &'static str {
+    r#"DELETE|/requests/a-1||200|{"ask":{"kind":"code","label":"L","registry":"f","value":7},"reference":"a-1","state":"withdrawn"}
+DELETE|/requests/UP||422|{"error":"field","item":"reference"}
+DELETE|/requests/a-1|{}|400|{"error":"body"}
+DELETE|/requests/UP|{}|400|{"error":"body"}
+DELETE|/requests||405|{"error":"method"}
+DELETE|/requests/a-1/||404|{"error":"route"}
+GET|/desk/requests||200|[]
+GET|/desk/requests|{}|400|{"error":"body"}
+PUT|/desk/requests||405|{"error":"method"}
+GET|/desk/requests/||404|{"error":"route"}
+GET|/desk/requests/bob||404|{"error":"route"}
+GET|/desk/requests/bob/b-1||200|{"account":"bob","advice":[],"ask":{"kind":"code","label":"L","registry":"f","value":7},"experts":[],"reference":"b-1","state":"pending"}
+GET|/desk/requests/UP/UP||422|{"error":"field","item":"account"}
+GET|/desk/requests/bob/UP||422|{"error":"field","item":"reference"}
+GET|/desk/requests/UP/b-1| |400|{"error":"body"}
+GET|/desk/requests//b-1||404|{"error":"route"}
+PUT|/desk/requests/bob/b-1||405|{"error":"method"}
+DELETE|/desk/requests/bob/b-1||405|{"error":"method"}"#
+}
+
+#[test]
+fn requests_by_name(rt: HostRuntime) -> Result<(), Fail> {
+    assert_eq!(rt; first_wrong(rt.alloc(), requests())?, None);
+    Ok(())
+}
+
+fn advice() -> &'static str {
+    r#"GET|/queue||200|[]
+GET|/queue|{}|400|{"error":"body"}
+PUT|/queue||405|{"error":"method"}
+GET|/queue/||404|{"error":"route"}
+GET|/queue/bob||404|{"error":"route"}
+PUT|/queue/bob/b-1|{"verdict":"for","text":"fine"}|200|{"account":"bob","advice":{"text":"fine","verdict":"for"},"ask":{"kind":"code","label":"L","registry":"f","value":7},"reference":"b-1","state":"pending"}
+PUT|/queue/bob/b-1|{"text":7,"verdict":"for","text":"\"no\"","verdict":"against"}|200|{"account":"bob","advice":{"text":"\"no\"","verdict":"against"},"ask":{"kind":"code","label":"L","registry":"f","value":7},"reference":"b-1","state":"pending"}
+PUT|/queue/bob/b-1|{}|422|{"error":"field","item":"verdict"}
+PUT|/queue/bob/b-1|{"text":"fine"}|422|{"error":"field","item":"verdict"}
+PUT|/queue/bob/b-1|{"verdict":"for"}|422|{"error":"field","item":"text"}
+PUT|/queue/bob/b-1|{"text":"","verdict":"For"}|422|{"error":"field","item":"verdict"}
+PUT|/queue/bob/b-1|{"text":"fine","verdict":"abstain"}|422|{"error":"field","item":"verdict"}
+PUT|/queue/bob/b-1|{"text":"fine","verdict":null}|422|{"error":"field","item":"verdict"}
+PUT|/queue/bob/b-1|{"text":null,"verdict":"for"}|422|{"error":"field","item":"text"}
+PUT|/queue/bob/b-1|{"text":"","verdict":"for","x":1}|422|{"error":"field","item":"text"}
+PUT|/queue/bob/b-1|{"text":"fine","verdict":"for","x":1}|422|{"error":"field","item":"extra"}
+PUT|/queue/bob/b-1|{"expert":"xan","text":"fine","verdict":"for"}|422|{"error":"field","item":"extra"}
+PUT|/queue/bob/b-1||400|{"error":"body"}
+PUT|/queue/bob/b-1|"for"|400|{"error":"body"}
+PUT|/queue/UP/UP|[]|400|{"error":"body"}
+PUT|/queue/UP/UP|{}|422|{"error":"field","item":"account"}
+PUT|/queue/bob/UP|{}|422|{"error":"field","item":"reference"}
+PUT|/queue/bob/|{}|404|{"error":"route"}
+PUT|/queue//b-1|{}|404|{"error":"route"}
+GET|/queue/bob/b-1||405|{"error":"method"}
+DELETE|/queue/bob/b-1||405|{"error":"method"}"#
+}
+
+#[test]
+fn advice_on_requests(rt: HostRuntime) -> Result<(), Fail> {
+    assert_eq!(rt; first_wrong(rt.alloc(), advice())?, None);
+    Ok(())
+}
+
+fn assignments() -> &'static str {
+    r#"PUT|/desk/experts/bob/b-1/xan||200|{"account":"bob","advice":[],"ask":{"kind":"code","label":"L","registry":"f","value":7},"experts":["xan"],"reference":"b-1","state":"pending"}
+PUT|/desk/experts/UP/UP/UP||422|{"error":"field","item":"account"}
+PUT|/desk/experts/bob/UP/UP||422|{"error":"field","item":"reference"}
+PUT|/desk/experts/bob/b-1/UP||422|{"error":"field","item":"expert"}
+PUT|/desk/experts/UP/b-1/xan|{}|400|{"error":"body"}
+PUT|/desk/experts/bob/b-1||404|{"error":"route"}
+PUT|/desk/experts/bob/b-1/||404|{"error":"route"}
+PUT|/desk/experts/bob//xan||404|{"error":"route"}
+PUT|/desk/experts/bob/b-1/xan/yve||404|{"error":"route"}
+GET|/desk/experts/bob/b-1/xan||405|{"error":"method"}
+DELETE|/desk/experts/bob/b-1/xan||405|{"error":"method"}"#
+}
+
+#[test]
+fn assignments_to_experts(rt: HostRuntime) -> Result<(), Fail> {
+    assert_eq!(rt; first_wrong(rt.alloc(), assignments())?, None);
+    Ok(())
+}
+
+fn rulings() -> &'static str {
+    r#"PUT|/desk/approve/bob/b-1||200|{"account":"bob","ask":{"kind":"code","label":"L","registry":"f","value":7},"given":"7","reference":"b-1","state":"approved"}
+PUT|/desk/approve/UP/UP||422|{"error":"field","item":"account"}
+PUT|/desk/approve/bob/UP||422|{"error":"field","item":"reference"}
+PUT|/desk/approve/UP/b-1|{}|400|{"error":"body"}
+PUT|/desk/approve/bob||404|{"error":"route"}
+PUT|/desk/approve/bob/||404|{"error":"route"}
+GET|/desk/approve/bob/b-1||405|{"error":"method"}
+DELETE|/desk/approve/bob/b-1||405|{"error":"method"}
+PUT|/desk/decline/bob/b-1|{"reason":"duplicate"}|200|{"account":"bob","ask":{"kind":"code","label":"L","registry":"f","value":7},"reason":"duplicate","reference":"b-1","state":"declined"}
+PUT|/desk/decline/bob/b-1|{"reason":7,"r\u0065ason":"\""}|200|{"account":"bob","ask":{"kind":"code","label":"L","registry":"f","value":7},"reason":"\"","reference":"b-1","state":"declined"}
+PUT|/desk/decline/bob/b-1|{}|422|{"error":"field","item":"reason"}
+PUT|/desk/decline/bob/b-1|{"x":1}|422|{"error":"field","item":"reason"}
+PUT|/desk/decline/bob/b-1|{"reason":null}|422|{"error":"field","item":"reason"}
+PUT|/desk/decline/bob/b-1|{"reason":""}|422|{"error":"field","item":"reason"}
+PUT|/desk/decline/bob/b-1|{"reason":"r","x":1}|422|{"error":"field","item":"extra"}
+PUT|/desk/decline/bob/b-1||400|{"error":"body"}
+PUT|/desk/decline/bob/b-1|"r"|400|{"error":"body"}
+PUT|/desk/decline/UP/UP|{}|422|{"error":"field","item":"account"}
+PUT|/desk/decline/bob/UP|{}|422|{"error":"field","item":"reference"}
+PUT|/desk/decline/UP/b-1||400|{"error":"body"}
+PUT|/desk/decline/bob|{"reason":"r"}|404|{"error":"route"}
+GET|/desk/decline/bob/b-1|{"reason":"r"}|405|{"error":"method"}"#
+}
+
+#[test]
+fn rulings_on_requests(rt: HostRuntime) -> Result<(), Fail> {
+    assert_eq!(rt; first_wrong(rt.alloc(), rulings())?, None);
     Ok(())
 }
 

@@ -3,7 +3,7 @@ use Rattle.std.specs.BTreeMap.{keys}
 use Rattle.std.specs.Map.Iter.{deref}
 use Rattle.std.proofs.lemmas.Map.Iter.{iter_end}
 use Rattle.reg_core.proofs.MapLaws.{text_keys}
-use Rattle.reg_store.proofs.Tables.{keys-table}
+use Rattle.reg_store.proofs.Listings.{keys-table}
 use Rattle.reg_store.proofs.lists.registries.names_in.Goals as goal
 
 pub returns : goal.returns

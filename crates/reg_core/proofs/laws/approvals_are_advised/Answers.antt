@@ -1,0 +1,5 @@
+use Rattle.reg_core.proofs.Approving.{approvals_advised}
+use Rattle.reg_core.proofs.laws.approvals_are_advised.Goals as goal
+
+pub returns : goal.returns
+returns c = approvals_advised

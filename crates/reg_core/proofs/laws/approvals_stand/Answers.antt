@@ -1,0 +1,5 @@
+use Rattle.reg_core.proofs.Later.{approvals_stand}
+use Rattle.reg_core.proofs.laws.approvals_stand.Goals as goal
+
+pub returns : goal.returns
+returns c = approvals_stand

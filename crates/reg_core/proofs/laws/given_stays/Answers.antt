@@ -1,0 +1,5 @@
+use Rattle.reg_core.proofs.Staying.{runs_stay}
+use Rattle.reg_core.proofs.laws.given_stays.Goals as goal
+
+pub returns : goal.returns
+returns c = runs_stay

@@ -1,0 +1,5 @@
+use Rattle.reg_core.proofs.Verdicts.{verdicts_read}
+use Rattle.reg_core.proofs.laws.verdicts_read_back.Goals as goal
+
+pub returns : goal.returns
+returns c = verdicts_read

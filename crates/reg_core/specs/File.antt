@@ -1,0 +1,36 @@
+-- Requests with their experts and all advice on them.
+use Rattle.std.specs.Prelude.{ℕ, Bool, ◌&&◌, List, map}
+use Rattle.std.specs.FinMap.{FinMap, entries}
+use Rattle.reg_core.specs.Advice.{is_advised}
+use Rattle.reg_core.specs.Maps.{same_text, only_if, select}
+use Rattle.reg_core.specs.Request.{request_row}
+use Rattle.reg_core.specs.World.{World, RequestName, Seat, seat_cmp}
+use Rattle.reg_core.specs.declared.advice.Advice.{Advice}
+use Rattle.reg_core.specs.declared.advice.Opinion.{Opinion}
+use Rattle.reg_core.specs.declared.file.File.{File}
+use Rattle.reg_core.specs.declared.request.Filing.{Filing}
+
+abbrev pub same_name : RequestName → RequestName → Bool
+same_name a b = same_text a.0 b.0 && same_text a.1 b.1
+
+-- the rows of one request
+abbrev pub seats_of : {X : Type 0} → RequestName → FinMap seat_cmp X → FinMap seat_cmp X
+seats_of name m = select (λ seat x. only_if (same_name seat.0 name) x) m
+
+-- the experts to whom a request is assigned, in order
+abbrev pub experts_of : World → RequestName → List (List ℕ)
+experts_of w name = map (λ e. e.0.1) (entries (seats_of name w.queue))
+
+abbrev pub opinion : Seat → Advice → Opinion
+opinion seat advice = record { expert = seat.1; advice = advice }
+
+-- all advice on a request, by expert
+abbrev pub opinions_of : World → RequestName → List Opinion
+opinions_of w name = map (λ e. opinion e.0 e.1) (entries (seats_of name w.advice))
+
+abbrev pub file : World → RequestName → Filing → File
+file w name filing = record { request = request_row name filing; experts = experts_of w name; advice = opinions_of w name }
+
+-- one of the request's experts is for it
+abbrev pub was_advised : World → RequestName → Bool
+was_advised w name = is_advised (experts_of w name) (opinions_of w name)

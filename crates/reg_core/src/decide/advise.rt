@@ -1,0 +1,39 @@
+//! An expert gives advice on a request.
+ghost use Rattle.reg_core.specs.Rules.{Follows, advise_rule, taken_rule};
+
+use crate::advice::Advice;
+use crate::change::Change;
+use crate::decide::{Decision, Deny};
+use crate::queue::QueueRow;
+use crate::refusal::Refusal;
+use crate::request::StateWord;
+use crate::text::Account;
+
+/// Decides an advice over the request as it is queued to the expert: the same advice again changes
+/// nothing; another one replaces it while the request is pending, and is refused as `Closed` after that.
+pub fn decide_advise(row: &QueueRow, expert: &Account, advice: &Advice) -> Result<Decision, Deny>
+    ensures { Follows (advise_rule (row.now.account, row.now.reference) expert.now advice.now row.now.advice row.now.word) result }
+{
+    match &row.advice {
+        Some(old) if old == advice => Ok(Decision::Same),
+        Some(_) | None => take_advice(row, expert, advice),
+    }
+}
+
+// The advice is taken while the request is pending.
+fn take_advice(row: &QueueRow, expert: &Account, advice: &Advice) -> Result<Decision, Deny>
+    ensures { Follows (taken_rule (row.now.account, row.now.reference) expert.now advice.now row.now.word) result }
+{
+    match row.word {
+        StateWord::Pending => {
+            let account = row.account.copy()?;
+            let reference = row.reference.copy()?;
+            let expert = expert.copy()?;
+            let advice = advice.copy()?;
+            Ok(Decision::Make(Change::Advise(account, reference, expert, advice)))
+        }
+        StateWord::Approved | StateWord::Declined | StateWord::Withdrawn => {
+            Err(Deny::Refused(Refusal::Closed))
+        }
+    }
+}

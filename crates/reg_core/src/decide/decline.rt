@@ -1,0 +1,25 @@
+//! A clerk declines a request.
+ghost use Rattle.reg_core.specs.Rules.{Follows, decline_rule};
+
+use crate::change::Change;
+use crate::decide::{Decision, Deny};
+use crate::refusal::Refusal;
+use crate::request::{Request, State};
+use crate::text::Text;
+
+/// Decides that a request is given nothing, for a reason: one that was declined for this reason stays so,
+/// and one that was decided otherwise or withdrawn is refused as `Closed`.
+pub fn decide_decline(request: &Request, reason: &Text) -> Result<Decision, Deny>
+    ensures { Follows (decline_rule (request.now.account, request.now.reference) reason.now request.now.state) result }
+{
+    match &request.state {
+        State::Declined(old) if old == reason => Ok(Decision::Same),
+        State::Pending => {
+            let account = request.account.copy()?;
+            let reference = request.reference.copy()?;
+            let state = State::Declined(reason.copy()?);
+            Ok(Decision::Make(Change::Close(account, reference, state)))
+        }
+        _ => Err(Deny::Refused(Refusal::Closed)),
+    }
+}

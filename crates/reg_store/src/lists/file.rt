@@ -1,0 +1,38 @@
+//! Requests with their experts and all advice on them.
+ghost use Rattle.std.specs.Prelude.{◌≡◌, IfOk, option_map};
+ghost use Rattle.std.specs.FinMap as fin;
+ghost use Rattle.reg_core.specs.File.{file};
+ghost use Rattle.reg_core.specs.Maps.{text_cmp};
+ghost use Rattle.reg_store.specs.Groups.{grouped};
+ghost use Rattle.reg_store.specs.Reviews.{reviewed};
+
+use crate::lists::opinions::{Opinions, opinions_in};
+use crate::lists::requests::{Requests, request_in};
+use crate::lists::seats::Seats;
+use reg_core::file::File;
+use reg_core::text::{Account, Ref};
+use std::alloc::{AllocError, Global};
+
+/// The request of an account under a reference, with its experts and all advice on it.
+pub fn file_in(
+    alloc: Global,
+    requests: &Requests,
+    seats: &Seats,
+    opinions: &Opinions,
+    account: &Account,
+    reference: &Ref,
+) -> Result<Option<File>, AllocError>
+    ensures { IfOk result (λ found. found ≡ option_map (file (reviewed requests.now seats.now.panels opinions.now) (account.now, reference.now)) (fin.get (grouped text_cmp text_cmp requests.now) (account.now, reference.now))) }
+{
+    match request_in(requests, account, reference)? {
+        Some(request) => {
+            let name = (account.copy()?, reference.copy()?);
+            Ok(Some(File {
+                request,
+                experts: seats.experts(alloc, &name)?,
+                advice: opinions_in(alloc, opinions, &name)?,
+            }))
+        }
+        None => Ok(None),
+    }
+}
