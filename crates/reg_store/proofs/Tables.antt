@@ -10,7 +10,7 @@ use Rattle.reg_core.specs.declared.capability.Cap.{Cap}
 use Rattle.reg_core.specs.WellKept.{WellKept}
 use Rattle.reg_core.specs.World.{Seat, name_cmp, seat_cmp}
 use Rattle.reg_store.specs.Kept.{kept, Places, Requests, Opinions}
-use Rattle.reg_store.specs.Seats.{Panels, seated}
+use Rattle.reg_store.specs.Panels.{Panels, seated}
 use Rattle.std.specs.Map.{lookup, keys_of}
 use Rattle.std.specs.List.{AllByRecursion}
 use Rattle.std.specs.List.Sorted.{IsStrictlySortedBy}
@@ -226,6 +226,15 @@ pub on_err : {T E : Type 0} {P Q : Type 0} (r : Result T E) → (P → Q) → On
 on_err (Ok x) f p = tt
 on_err (Err e) f p = f p
 
+pub on_either : {T E : Type 0} {A B C D G : Type 0} (r : Result T E) → OnOk r A → OnOk r B → OnErr r C → OnErr r D → (A → B → G) → (C → D → G) → G
+on_either (Ok x) a b c d f g = f a b
+on_either (Err e) a b c d f g = g c d
+
+-- what holds of a value as it was made, and as it was, holds of it at either outcome
+pub either_way : {T E W : Type 0} (P : W → Type 0) (r : Result T E) (new made old : W) → OnOk r (new ≡ made) → OnErr r (new ≡ old) → P made → P old → P new
+either_way P (Ok x) new made old is kept p q = subst P (sym is) p
+either_way P (Err e) new made old is kept p q = subst P (sym kept) q
+
 pub any_err : {T E : Type 0} {P : Type 0} (r : Result T E) → P → OnErr r P
 any_err (Ok x) p = tt
 any_err (Err e) p = p
@@ -237,7 +246,7 @@ if_ok (Err e) f p = tt
 -- ---- The empty office
 
 -- a map without entries has no row
-no_row : {K X : Type 0} (R : K → K → Ordering) (m : BTreeMap K X) → m.entries ≡ [] → (q : K) → tree.get R m q ≡ None
+pub no_row : {K X : Type 0} (R : K → K → Ordering) (m : BTreeMap K X) → m.entries ≡ [] → (q : K) → tree.get R m q ≡ None
 no_row R m e q = ap (lookup (is_at (R q))) e
 
 -- what is not there is not a row
@@ -249,7 +258,7 @@ get-no_rows : {X : Type 0} (m : BTreeMap (List ℕ) X) → m.entries ≡ [] → 
 get-no_rows m none q = get-table text_keys m q ∙ no_row text_cmp m none q
 
 -- a map of maps without groups has no row
-get-no_groups : {A B V : Type 0} {P : A → A → Ordering} {Q : B → B → Ordering} → IsKeyOrder P → IsKeyOrder Q → (m : BTreeMap A (BTreeMap B V)) → IsOrdered P m → m.entries ≡ [] → (q : A × B) → get (grouped P Q m) q ≡ None
+pub get-no_groups : {A B V : Type 0} {P : A → A → Ordering} {Q : B → B → Ordering} → IsKeyOrder P → IsKeyOrder Q → (m : BTreeMap A (BTreeMap B V)) → IsOrdered P m → m.entries ≡ [] → (q : A × B) → get (grouped P Q m) q ≡ None
 get-no_groups {P = P} {Q = Q} o p m h none q = get-grouped o p m h q ∙ ap (option_and_then (λ group. tree.get Q group q.1)) (no_row P m none q.0)
 
 -- so a set has no such key

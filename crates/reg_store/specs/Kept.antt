@@ -10,7 +10,7 @@ use Rattle.reg_core.specs.declared.capability.Cap.{Cap}
 use Rattle.reg_core.specs.declared.entry.Assignment.{Assignment}
 use Rattle.reg_core.specs.declared.request.Filing.{Filing}
 use Rattle.reg_store.specs.Groups.{table, grouped}
-use Rattle.reg_store.specs.Seats.{Panels, seated}
+use Rattle.reg_store.specs.Panels.{Panels, seated}
 
 -- entries by registry, and then by value
 abbrev pub Places : Type 0

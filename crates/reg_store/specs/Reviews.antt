@@ -8,7 +8,7 @@ use Rattle.reg_core.specs.World.{World, RequestName, name_cmp, empty_world}
 use Rattle.reg_core.specs.declared.queue.QueueRow.{QueueRow}
 use Rattle.reg_store.specs.Groups.{grouped}
 use Rattle.reg_store.specs.Kept.{Requests, Opinions}
-use Rattle.reg_store.specs.Seats.{Panels, seated}
+use Rattle.reg_store.specs.Panels.{Panels, seated}
 
 -- the world of these requests, experts and advice alone
 abbrev pub reviewed : Requests → Panels → Opinions → World

@@ -5,50 +5,47 @@ ghost use Rattle.reg_core.specs.World.{empty_world};
 ghost use Rattle.reg_store.specs.Kept.{kept};
 
 mod caps;
+mod desks;
 mod entries;
 mod file;
 mod opinions;
-mod queue;
+mod panels;
 mod registries;
 mod requests;
-mod seats;
+mod reviews;
 
 use crate::keeper::{Fault, Keeper};
 use caps::{Caps, cap_in, put_cap, take_cap};
 use entries::{Entries, entries_in, entry_in, put_entry};
-use file::file_in;
-use opinions::{Opinions, put_advice};
-use queue::{queue_rows, queued_in};
 use reg_core::capability::Cap;
 use reg_core::change::Change;
 use reg_core::entry::Entry;
 use reg_core::file::File;
 use reg_core::queue::QueueRow;
-use reg_core::request::{Filing, Given, Request, State};
+use reg_core::request::{Given, Request, State};
 use reg_core::rows::Rows;
 use reg_core::text::{Account, Digest, Name, Ref};
 use reg_ranges::table::RangeTable;
 use registries::{Registries, names_in, put_table, table_in};
-use requests::{Requests, all_rows, own_rows, put_filing, request_in, set_state};
-use seats::Seats;
+use requests::{all_rows, own_rows, request_in};
+use reviews::Reviews;
 use std::alloc::Global;
 use std::collections::BTreeMap;
 
 /// The content of an office in memory: capabilities by digest, registries by name, entries by registry and
-/// value, requests by account and reference, their experts by request and, once more, by expert, and advice by
-/// request and expert. A row by its key and a change take O(log n), whatever else is held; a registry's ranges,
-/// its entries, an account's own requests and a request's file O(log n + rows); an expert's queue
-/// O((1 + rows) log n); the names of all registries and all requests O(rows).
+/// value, requests by account and reference, their experts and the advice on them by request, and, once more, by
+/// expert, what is assigned to each as the expert sees it. A row by its key and a change take O(log n), whatever
+/// else is held, but a change of a request's state O((1 + experts) log n), for the experts of that request; a
+/// registry's ranges, its entries, an account's own requests, a request's file and an expert's queue
+/// O(log n + rows); the names of all registries and all requests O(rows).
 #[derive(Drop)]
 pub struct ListKeeper {
     alloc: Global,
     caps: Caps,
     registries: Registries,
     entries: Entries,
-    requests: Requests,
-    seats: Seats,
-    opinions: Opinions,
-    ghost well: { WellKept (kept caps registries entries requests seats.panels opinions) },
+    reviews: Reviews,
+    ghost well: { WellKept (kept caps registries entries reviews.requests reviews.panels reviews.opinions) },
 }
 
 impl ListKeeper {
@@ -63,9 +60,7 @@ impl ListKeeper {
             caps: BTreeMap::new(alloc),
             registries: BTreeMap::new(alloc),
             entries: BTreeMap::new(alloc),
-            requests: BTreeMap::new(alloc),
-            seats: Seats::new(alloc),
-            opinions: BTreeMap::new(alloc),
+            reviews: Reviews::new(alloc),
         }
     }
 }
@@ -107,36 +102,23 @@ impl Keeper for ListKeeper {
     }
 
     fn own(&mut self, account: &Account) -> Result<Rows<Request>, Fault> {
-        Ok(own_rows(self.alloc, &self.requests, account)?)
+        Ok(own_rows(self.alloc, self.reviews.requests(), account)?)
     }
 
     fn own_one(&mut self, account: &Account, reference: &Ref) -> Result<Option<Request>, Fault> {
-        Ok(request_in(&self.requests, account, reference)?)
+        Ok(request_in(self.reviews.requests(), account, reference)?)
     }
 
     fn all(&mut self) -> Result<Rows<Request>, Fault> {
-        Ok(all_rows(self.alloc, &self.requests)?)
+        Ok(all_rows(self.alloc, self.reviews.requests())?)
     }
 
     fn file(&mut self, account: &Account, reference: &Ref) -> Result<Option<File>, Fault> {
-        Ok(file_in(
-            self.alloc,
-            &self.requests,
-            &self.seats,
-            &self.opinions,
-            account,
-            reference,
-        )?)
+        Ok(self.reviews.file(self.alloc, account, reference)?)
     }
 
     fn queue(&mut self, expert: &Account) -> Result<Rows<QueueRow>, Fault> {
-        Ok(queue_rows(
-            self.alloc,
-            &self.requests,
-            &self.seats,
-            &self.opinions,
-            expert,
-        )?)
+        Ok(self.reviews.queue(self.alloc, expert)?)
     }
 
     fn queue_one(
@@ -145,14 +127,7 @@ impl Keeper for ListKeeper {
         account: &Account,
         reference: &Ref,
     ) -> Result<Option<QueueRow>, Fault> {
-        Ok(queued_in(
-            &self.requests,
-            &self.seats,
-            &self.opinions,
-            expert,
-            account,
-            reference,
-        )?)
+        Ok(self.reviews.queued(expert, account, reference)?)
     }
 
     fn apply(&mut self, change: Change) -> Result<(), Fault> {
@@ -161,26 +136,23 @@ impl Keeper for ListKeeper {
             Change::Revoke(digest) => take_cap(&mut self.caps, &digest),
             Change::Define(name, table) => put_table(&mut self.registries, name, table)?,
             Change::Submit(account, reference, ask) => {
-                let filing = Filing {
-                    ask,
-                    state: State::Pending,
-                };
-                put_filing(self.alloc, &mut self.requests, account, reference, filing)?;
+                self.reviews.submit(self.alloc, account, reference, ask)?;
             }
             Change::Close(account, reference, state) => {
-                set_state(&mut self.requests, &account, &reference, state);
+                self.reviews.set_state(account, reference, state);
             }
             Change::Assign(account, reference, expert) => {
-                self.seats.assign(self.alloc, (account, reference), expert)?;
+                let name = (account, reference);
+                self.reviews.assign(self.alloc, name, expert)?;
             }
             Change::Advise(account, reference, expert, advice) => {
                 let name = (account, reference);
-                put_advice(self.alloc, &mut self.opinions, name, expert, advice)?;
+                self.reviews.advise(self.alloc, name, expert, advice)?;
             }
             Change::GiveValue(account, reference, entry) => {
                 let given = State::Approved(Given::Value(entry.value));
                 put_entry(self.alloc, &mut self.entries, entry)?;
-                set_state(&mut self.requests, &account, &reference, given);
+                self.reviews.set_state(account, reference, given);
             }
         }
         Ok(())

@@ -7,8 +7,8 @@ ghost use Rattle.reg_store.specs.Groups.{grouped};
 ghost use Rattle.reg_store.specs.Reviews.{reviewed};
 
 use crate::lists::opinions::{Opinions, opinions_in};
+use crate::lists::panels::{Panels, experts_in};
 use crate::lists::requests::{Requests, request_in};
-use crate::lists::seats::Seats;
 use reg_core::file::File;
 use reg_core::text::{Account, Ref};
 use std::alloc::{AllocError, Global};
@@ -17,19 +17,19 @@ use std::alloc::{AllocError, Global};
 pub fn file_in(
     alloc: Global,
     requests: &Requests,
-    seats: &Seats,
+    panels: &Panels,
     opinions: &Opinions,
     account: &Account,
     reference: &Ref,
 ) -> Result<Option<File>, AllocError>
-    ensures { IfOk result (λ found. found ≡ option_map (file (reviewed requests.now seats.now.panels opinions.now) (account.now, reference.now)) (fin.get (grouped text_cmp text_cmp requests.now) (account.now, reference.now))) }
+    ensures { IfOk result (λ found. found ≡ option_map (file (reviewed requests.now panels.now opinions.now) (account.now, reference.now)) (fin.get (grouped text_cmp text_cmp requests.now) (account.now, reference.now))) }
 {
     match request_in(requests, account, reference)? {
         Some(request) => {
             let name = (account.copy()?, reference.copy()?);
             Ok(Some(File {
                 request,
-                experts: seats.experts(alloc, &name)?,
+                experts: experts_in(alloc, panels, &name)?,
                 advice: opinions_in(alloc, opinions, &name)?,
             }))
         }

@@ -7,7 +7,7 @@ ghost use Rattle.reg_core.specs.World.{name_cmp};
 ghost use Rattle.reg_store.specs.Groups.{grouped, group_rows};
 
 use crate::groups::{group_in, put_row, row_in};
-use crate::lists::seats::RequestName;
+use crate::lists::requests::RequestName;
 use reg_core::advice::{Advice, Opinion};
 use reg_core::rows::Rows;
 use reg_core::text::Account;

@@ -15,8 +15,18 @@ use reg_core::text::{Account, Ref};
 use std::alloc::{AllocError, Global};
 use std::collections::BTreeMap;
 
+/// The name of a request: its applicant's account, and the applicant's reference.
+pub type RequestName = (Account, Ref);
+
 /// Requests by account, and then by reference.
 pub type Requests = BTreeMap<Account, BTreeMap<Ref, Filing>>;
+
+/// An equal name.
+pub fn copy_name(name: &RequestName) -> Result<RequestName, AllocError>
+    ensures { IfOk result (λ copy. copy ≡ name.now) }
+{
+    Ok((name.0.copy()?, name.1.copy()?))
+}
 
 /// The request of an account under a reference.
 pub fn request_in(

@@ -11,9 +11,9 @@ use Rattle.reg_store.proofs.lists.file.file_in.Goals as goal
 pub returns-in_ok-opinions_in-in-Some : goal.returns-in_ok-opinions_in-in-Some
 returns-in_ok-opinions_in-in-Some c =
     let name : RequestName = (c.args.account.now, c.args.reference.now) in
-    let w : World = reviewed c.args.requests.now c.args.seats.now.panels c.args.opinions.now in
+    let w : World = reviewed c.args.requests.now c.args.panels.now c.args.opinions.now in
     let copied : ◌≡◌ {A = RequestName} (c.in_ok-copy-in-Some.field-0, c.in_ok-copy-in-Some-2.field-0) name = λ i. (c.in_ok-copy-in-Some.ensures.equal i, c.in_ok-copy-in-Some-2.ensures.equal i) in
     let there : option_map (request_row name) (get w.requests name) ≡ Some c.in-Some.request = sym c.in_ok-request.ensures ∙ c.in-Some.is in
-    let experts : experts_of w name ≡ c.in_ok-experts-in-Some.field-0 = sym (c.in_ok-experts-in-Some.ensures ∙ ap (experts_of w) copied) in
+    let experts : experts_of w name ≡ c.in_ok-experts_in-in-Some.field-0 = sym (c.in_ok-experts_in-in-Some.ensures ∙ ap (experts_of w) copied) in
     let advice : opinions_of w name ≡ c.in_ok-opinions_in-in-Some.field-0 = sym (c.in_ok-opinions_in-in-Some.ensures ∙ ap (opinions_of w) copied) in
     sym (file-there w name (get w.requests name) c.in-Some.request there ∙ (λ i. Some (record { request = c.in-Some.request; experts = experts i; advice = advice i })))
