@@ -1,4 +1,5 @@
 pub mod AdviceShape
+pub mod AlikeLines
 pub mod AnswerLines
 pub mod AskShape
 pub mod AskText

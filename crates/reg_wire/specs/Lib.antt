@@ -27,3 +27,4 @@ pub mod Held
 pub mod Served
 pub mod Event
 pub mod ScriptLaws
+pub mod PrivacyLaws
