@@ -1,4 +1,4 @@
--- The text of a block reads as the block.
+-- The texts of prefixes and of blocks read as these.
 use Rattle.std.proofs.Common.{◌≡◌, ℕ, zero, suc, ◌/◌, ◌%◌, ◌^◌, ◌<◌, Bool, true, ◌&&◌, [], ◌∷◌, length, refl, ◌∙◌, length-append, arith}
 use Rattle.std.specs.Prelude.{Some, IsTrue}
 use Rattle.std.specs.List.{list_all}
@@ -14,7 +14,7 @@ use Rattle.reg_blocks.specs.declared.size.Size.TheVariants.{MaL, MaM, MaS}
 use Rattle.reg_blocks.specs.Size.{digit_count, size_of_digits}
 use Rattle.reg_blocks.specs.Pool.{is_pool_prefix}
 use Rattle.reg_blocks.specs.Block.{SizedPrefix, is_block, make_block}
-use Rattle.reg_blocks.specs.Digits.{hex_digits, hex_value_of, read_block, block_text}
+use Rattle.reg_blocks.specs.Digits.{hex_digits, hex_value_of, read_prefix, prefix_text, read_block, block_text}
 
 glyph_value : (n : ℕ) → n < 16 → digit_value (digit_glyph true n) ≡ n
 glyph_value n h = grind (arith, nat_tests)
@@ -62,6 +62,9 @@ own_size MaS = refl
 
 value_of_text : (count n : ℕ) → n < 16 ^ count → hex_value_of (hex_digits count n) ≡ Some n
 value_of_text count n h = rw (digits_only count n, value_back count n h) refl
+
+pub read_prefix-prefix_text : (prefix : ℕ) → prefix < 2 ^ 24 → read_prefix (prefix_text prefix) ≡ Some prefix
+read_prefix-prefix_text prefix h = rw (digits_length 6 prefix) (value_of_text 6 prefix h)
 
 made : (block : SizedPrefix) → is_block block ≡ true → make_block block.size block.prefix ≡ Some block
 made block h = rw h refl

@@ -1,13 +1,13 @@
 //! Blocks of EUI-48 addresses.
-ghost use Rattle.std.specs.Prelude.{◌≡◌, ◌<◌, ◌≤◌, ◌^◌, ◌↔◌, length, string_bytes, true, Some, IsTrue, IfOk};
+ghost use Rattle.std.specs.Prelude.{◌≡◌, ◌<◌, ◌^◌, ◌↔◌, string_bytes, Some, IsTrue, IfOk};
 ghost use Rattle.std.proofs.Common.{rules};
 ghost use Rattle.std.specs.Cmp.{partial_order_from_own_ties};
 ghost use Rattle.std.specs.Cmp.Rules.{comparing};
 ghost use Rattle.std.specs.Ordering.{as_partial_cmp};
-ghost use Rattle.std.specs.Fmt.{digit_glyph};
 ghost use Rattle.reg_blocks.specs.Block.{first_address, last_address, is_block, make_block, Clash, ends_meet, block_cmp};
-ghost use Rattle.reg_blocks.specs.Digits.{hex_value_of, read_block, block_text};
+ghost use Rattle.reg_blocks.specs.Digits.{read_block, block_text};
 
+use crate::digits::{hex_text, hex_value};
 use crate::pool::is_pool_prefix;
 use crate::size::Size;
 use std::alloc::{AllocError, Global};
@@ -101,41 +101,8 @@ impl Block {
         ensures digits { IfOk result (λ text. string_bytes text ≡ block_text self.now) }
         ensures back { IfOk result (λ text. read_block (string_bytes text) ≡ Some self.now) }
     {
-        let count = self.size.digit_count();
-        let mut text = String::with_capacity(alloc, count)?;
-        let mut left = count;
-        while left > 0 {
-            left -= 1;
-            text.push(upper_digit((self.prefix >> (4 * left)) % 16))?;
-        }
-        Ok(text)
+        hex_text(alloc, self.size.digit_count(), self.prefix)
     }
-}
-
-/// The number that hexadecimal digits of either case write, or none where one of them is no such digit.
-fn hex_value(digits: &[u8]) -> Option<u64>
-    requires { length digits.now ≤ 9 }
-    ensures { result ≡ hex_value_of digits.now }
-{
-    let mut value = 0;
-    for digit in digits {
-        value = value * 16 + u64::from(char::from(*digit).to_digit(16)?);
-    }
-    Some(value)
-}
-
-/// The upper-case hexadecimal digit of a number below 16.
-fn upper_digit(n: u64) -> char
-    requires { n < 16 }
-    ensures value { result ≡ digit_glyph true n }
-    ensures ascii { result < 128 }
-{
-    let digit = n as u8;
-    char::from(if digit < 10 {
-        b'0' + digit
-    } else {
-        b'A' + (digit - 10)
-    })
 }
 
 impl Ord for Block {

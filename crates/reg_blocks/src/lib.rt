@@ -3,9 +3,11 @@
 #![tactic(auto)]
 
 pub mod block;
+mod digits;
 pub mod due;
 pub mod laws;
 pub mod pool;
+pub mod prefix;
 pub mod size;
 #[cfg(test)]
 mod tests;

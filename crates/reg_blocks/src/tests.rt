@@ -1,8 +1,8 @@
 use crate::block::Block;
 use crate::due::{ascends, least_free};
-use crate::laws;
 use crate::pool::{Add, Pool, is_pool_prefix};
 use crate::size::Size;
+use crate::{laws, prefix};
 use std::cmp::Ordering;
 use std::process::Abort;
 use std::test::Fail;
@@ -41,6 +41,28 @@ fn ends_and_digits_of_a_block(rt: HostRuntime) -> Result<(), Fail> {
         assert_eq!(rt; Block::read(digits.as_bytes()), None, "{digits}");
     }
     assert_eq!(rt; Block::make(Size::MaL, 0x100_0000), None);
+    Ok(())
+}
+
+#[test]
+fn digits_of_a_prefix(rt: HostRuntime) -> Result<(), Fail> {
+    for (digits, want) in [
+        ("001A2B", Some(0x00_1A2B)),
+        ("001a2b", Some(0x00_1A2B)),
+        ("FFFFFF", Some(0xFF_FFFF)),
+        ("021A2B", Some(0x02_1A2B)),
+        ("000000", Some(0)),
+        ("01A2B", None),
+        ("001A2B0", None),
+        ("001A2G", None),
+        ("+01A2B", None),
+        ("", None),
+    ] {
+        assert_eq!(rt; prefix::read(digits.as_bytes()), want, "{digits}");
+    }
+    assert_eq!(rt; prefix::text(rt.alloc(), 0x00_1A2B)?.as_str(), "001A2B");
+    assert_eq!(rt; prefix::text(rt.alloc(), 0)?.as_str(), "000000");
+    assert_eq!(rt; prefix::text(rt.alloc(), 0x300_1A2B)?.as_str(), "001A2B");
     Ok(())
 }
 

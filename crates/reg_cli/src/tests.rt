@@ -9,6 +9,7 @@ mod decisions;
 mod devices;
 mod experts;
 mod floods;
+mod pool;
 mod refusals;
 mod registers;
 mod transcript;

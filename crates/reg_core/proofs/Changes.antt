@@ -6,6 +6,7 @@ use Rattle.std.specs.Cmp.Derive.{both_true}
 use Rattle.std.specs.FinMap.{FinMap, get, insert, contains_key}
 use Rattle.std.specs.Ordering.{eq_by_cmp}
 use Rattle.std.proofs.lemmas.Bool.Decides.{nat_tests}
+use Rattle.reg_blocks.specs.Pool.{is_pool_prefix}
 use Rattle.reg_ranges.specs.Tables.{Table}
 use Rattle.reg_ranges.specs.Texts.{is_text}
 use Rattle.reg_core.specs.Advice.{has_advice_form}
@@ -21,7 +22,7 @@ use Rattle.reg_core.specs.declared.ask.Ask.{Ask}
 use Rattle.reg_core.specs.declared.ask.Ask.TheVariants.{Code}
 use Rattle.reg_core.specs.declared.ask.CodeAsk.{CodeAsk}
 use Rattle.reg_core.specs.declared.capability.Cap.{Cap}
-use Rattle.reg_core.specs.declared.change.Change.TheVariants.{Grant, Revoke, Define, Submit, Close, Assign, Advise, GiveValue}
+use Rattle.reg_core.specs.declared.change.Change.TheVariants.{Grant, Revoke, Define, AddPool, Submit, Close, Assign, Advise, GiveValue}
 use Rattle.reg_core.specs.declared.entry.Assignment.{Assignment}
 use Rattle.reg_core.specs.declared.request.Filing.{Filing}
 use Rattle.reg_core.specs.declared.request.Given.TheVariants.{Value}
@@ -29,7 +30,7 @@ use Rattle.reg_core.specs.declared.request.State.{State}
 use Rattle.reg_core.specs.declared.request.State.TheVariants.{Pending, Approved, Declined, Withdrawn}
 use Rattle.reg_core.proofs.Awards.{IsFree}
 use Rattle.reg_core.proofs.KeySets.{each_key, still_in, still_at}
-use Rattle.reg_core.proofs.MapLaws.{text_keys, name_keys, place_keys, seat_keys, tied, get-at_insert, get-inserted, insert_keeps, remove_keeps, update_keeps}
+use Rattle.reg_core.proofs.MapLaws.{number_keys, text_keys, name_keys, place_keys, seat_keys, tied, get-at_insert, get-inserted, insert_keeps, remove_keeps, update_keeps}
 use Rattle.reg_core.proofs.Sameness.{same_text-itself}
 
 -- ---- Capabilities and registries
@@ -48,6 +49,7 @@ can_grant w digest cap kept form free = (
     queued = kept.queued;
     advice = kept.advice;
     advised = kept.advised;
+    pool = kept.pool;
   },
 )
 
@@ -65,6 +67,7 @@ can_revoke w digest kept = (
     queued = kept.queued;
     advice = kept.advice;
     advised = kept.advised;
+    pool = kept.pool;
   },
 )
 
@@ -83,6 +86,7 @@ can_define w name table kept form free = (
     queued = kept.queued;
     advice = kept.advice;
     advised = kept.advised;
+    pool = kept.pool;
   },
 )
   where
@@ -97,6 +101,26 @@ can_define w name table kept form free = (
     opened place a found false t =
         ap (λ o. is_open_at o place.1) (get-at_insert text_keys w.registries name table place.0 ∙ ap (λ b. cond b (Some table) (get w.registries place.0)) t)
         ∙ kept.open_values place a found
+
+-- ---- The pool
+
+pub can_add_pool : (w : World) (prefix : ℕ) → WellKept w → is_pool_prefix prefix ≡ true → contains_key w.pool prefix ≡ false → CanApply w (AddPool prefix)
+can_add_pool w prefix kept form free = (
+  free,
+  record {
+    caps = kept.caps;
+    registries = kept.registries;
+    entries = kept.entries;
+    open_values = kept.open_values;
+    requests = kept.requests;
+    given = kept.given;
+    queue = kept.queue;
+    queued = kept.queued;
+    advice = kept.advice;
+    advised = kept.advised;
+    pool = each_key number_keys w.pool prefix (λ prefix. is_pool_prefix prefix ≡ true) tt kept.pool form;
+  },
+)
 
 -- ---- Requests
 
@@ -115,6 +139,7 @@ can_submit w name ask kept form free = (
     queued = λ seat there. still_in name_keys w.requests name (pending ask) seat.0 (kept.queued seat there);
     advice = kept.advice;
     advised = kept.advised;
+    pool = kept.pool;
   },
 )
 
@@ -154,6 +179,7 @@ can_close w name filing state kept found nothing form = (
     queued = λ seat there. still_at name_keys w.requests name (in_state state) seat.0 (kept.queued seat there);
     advice = kept.advice;
     advised = kept.advised;
+    pool = kept.pool;
   },
 )
 
@@ -174,6 +200,7 @@ can_assign w name filing expert kept found form other free = (
     queued = each_key seat_keys w.queue (name, expert) (λ seat. IsSome (get w.requests seat.0)) tt kept.queued (ap is_some found);
     advice = kept.advice;
     advised = λ seat advice is. still_in seat_keys w.queue (name, expert) tt seat (kept.advised seat advice is);
+    pool = kept.pool;
   },
 )
 
@@ -192,6 +219,7 @@ can_advise w name expert advice kept assigned form = (
     queued = kept.queued;
     advice = insert_keeps seat_keys (λ seat advice. has_advice_form advice ≡ true) w.advice (name, expert) advice kept.advice form;
     advised = insert_keeps seat_keys (λ seat advice. contains_key w.queue seat ≡ true) w.advice (name, expert) advice kept.advised assigned;
+    pool = kept.pool;
   },
 )
 
@@ -250,5 +278,6 @@ can_give w name filing ask today v kept found asks free day =
         queued = λ seat there. still_at name_keys w.requests name (in_state state) seat.0 (kept.queued seat there);
         advice = kept.advice;
         advised = kept.advised;
+        pool = kept.pool;
       },
     )

@@ -2,6 +2,7 @@
 use Rattle.std.proofs.Common.{◌≡◌, ℕ, Bool, true, false, ◌&&◌, List, refl, ap}
 use Rattle.std.proofs.lemmas.Slice.Eq.{bytes_eq-Decides}
 use Rattle.std.specs.Prelude.{Option, Some, None, Result, Ok, Err, is_some, not, if◌then◌else◌}
+use Rattle.reg_blocks.specs.Pool.{is_pool_prefix}
 use Rattle.reg_ranges.specs.Sameness.{same_table}
 use Rattle.reg_ranges.specs.Tables.{Table}
 use Rattle.reg_core.specs.Allowance.{Ground, allowed_on, needs_advice}
@@ -10,17 +11,17 @@ use Rattle.reg_core.specs.Laws.{IsApproved}
 use Rattle.reg_core.specs.Ask.{same_ask}
 use Rattle.reg_core.specs.Capability.{same_cap}
 use Rattle.reg_core.specs.Maps.{same_text}
-use Rattle.reg_core.specs.Rules.{withdraw_rule, decline_rule, assign_rule, taken_rule, advise_rule, award, give_rule, approve_rule, define_rule, grant_rule, revoke_rule, submit_rule}
+use Rattle.reg_core.specs.Rules.{withdraw_rule, decline_rule, assign_rule, taken_rule, advise_rule, award, give_rule, approve_rule, define_rule, pool_rule, grant_rule, revoke_rule, submit_rule}
 use Rattle.reg_core.specs.World.{RequestName}
 use Rattle.reg_core.specs.declared.advice.Advice.{Advice as AdviceOf}
 use Rattle.reg_core.specs.declared.ask.Ask.{Ask}
 use Rattle.reg_core.specs.declared.capability.Cap.{Cap}
 use Rattle.reg_core.specs.declared.change.Change.{Change}
-use Rattle.reg_core.specs.declared.change.Change.TheVariants.{Grant, Revoke, Define, Submit, Close, Assign, Advise}
+use Rattle.reg_core.specs.declared.change.Change.TheVariants.{Grant, Revoke, Define, AddPool, Submit, Close, Assign, Advise}
 use Rattle.reg_core.specs.declared.decide.Decision.{Decision}
 use Rattle.reg_core.specs.declared.decide.Decision.TheVariants.{Make, Same}
 use Rattle.reg_core.specs.declared.refusal.Refusal.{Refusal}
-use Rattle.reg_core.specs.declared.refusal.Refusal.TheVariants.{Ref, Closed, Own, Exists}
+use Rattle.reg_core.specs.declared.refusal.Refusal.TheVariants.{Ref, Closed, Own, Exists, Bits}
 use Rattle.reg_core.specs.declared.request.Filing.{Filing}
 use Rattle.reg_core.specs.declared.request.Given.{Given}
 use Rattle.reg_core.specs.declared.request.State.{State}
@@ -46,6 +47,29 @@ define_there None name table h = absurd (cc)
 define_there (Some old) name table h =
     by_test (λ r. r ≡ Ok Same → Some old ≡ Some table) (same_table old table) (Ok Same) (Err Exists)
     (λ same h. ap Some (same_table-is old table same)) (λ other h. absurd (cc)) h
+
+-- ---- Prefixes of the pool
+
+is_clear : (b : Bool) → not b ≡ false → b ≡ true
+is_clear true h = refl
+is_clear false h = absurd (cc)
+
+-- one is added only where it is not, and may be in a pool
+pub pool_made : (there : Bool) (prefix : ℕ) (change : Change) → pool_rule there prefix ≡ Ok (Make change)
+    → (there ≡ false) × (is_pool_prefix prefix ≡ true) × (AddPool prefix ≡ change)
+pool_made there prefix change =
+    let P : Result Decision Refusal → Type 0 = λ r. r ≡ Ok (Make change) → (there ≡ false) × (is_pool_prefix prefix ≡ true) × (AddPool prefix ≡ change) in
+    by_test P (not (is_pool_prefix prefix)) (Err Bits) (if there then Ok Same else Ok (Make (AddPool prefix)))
+    (λ bits h. absurd (cc))
+    (λ clear. by_test P there (Ok Same) (Ok (Make (AddPool prefix))) (λ old h. absurd (cc)) (λ new h. (new, is_clear (is_pool_prefix prefix) clear, cc)))
+
+-- it is there already only where it may be in a pool
+pub pool_there : (there : Bool) (prefix : ℕ) → pool_rule there prefix ≡ Ok Same → (there ≡ true) × (is_pool_prefix prefix ≡ true)
+pool_there there prefix =
+    let P : Result Decision Refusal → Type 0 = λ r. r ≡ Ok Same → (there ≡ true) × (is_pool_prefix prefix ≡ true) in
+    by_test P (not (is_pool_prefix prefix)) (Err Bits) (if there then Ok Same else Ok (Make (AddPool prefix)))
+    (λ bits h. absurd (cc))
+    (λ clear. by_test P there (Ok Same) (Ok (Make (AddPool prefix))) (λ old h. (old, is_clear (is_pool_prefix prefix) clear)) (λ new h. absurd (cc)))
 
 -- ---- Grants
 

@@ -12,7 +12,7 @@ use Rattle.reg_core.specs.Laws.{HasRow, WasDone, AnswersAreDone, IsItem}
 use Rattle.reg_core.specs.Maps.{update}
 use Rattle.reg_core.specs.Queue.{queue_row, with_advice}
 use Rattle.reg_core.specs.Request.{request_row, after}
-use Rattle.reg_core.specs.Rules.{withdraw_rule, decline_rule, assign_rule, advise_rule, award, approve_rule, define_rule, grant_rule, revoke_rule, submit_rule}
+use Rattle.reg_core.specs.Rules.{withdraw_rule, decline_rule, assign_rule, advise_rule, award, approve_rule, define_rule, pool_rule, grant_rule, revoke_rule, submit_rule}
 use Rattle.reg_core.specs.Step.{clerk_answer}
 use Rattle.reg_core.specs.View.{Queued, published, personal, requests_of, queue_of}
 use Rattle.reg_core.specs.World.{World, RequestName, in_state, applied, applied_if, pending}
@@ -26,9 +26,9 @@ use Rattle.reg_core.specs.declared.command.ApplicantCommand.TheVariants.{Own, Ow
 use Rattle.reg_core.specs.declared.command.ExpertCommand.{ExpertCommand}
 use Rattle.reg_core.specs.declared.command.ExpertCommand.TheVariants.{Queue, Advise}
 use Rattle.reg_core.specs.declared.command.ClerkCommand.{ClerkCommand}
-use Rattle.reg_core.specs.declared.command.ClerkCommand.TheVariants.{AllRequests, OneRequest, AssignExpert, Approve, Decline, Define, Grant, Revoke}
+use Rattle.reg_core.specs.declared.command.ClerkCommand.TheVariants.{AllRequests, OneRequest, AssignExpert, Approve, Decline, Define, AddPool, Grant, Revoke}
 use Rattle.reg_core.specs.declared.command.PublicCommand.{PublicCommand}
-use Rattle.reg_core.specs.declared.command.PublicCommand.TheVariants.{Registries, Registry, RegistryCsv}
+use Rattle.reg_core.specs.declared.command.PublicCommand.TheVariants.{Registries, Registry, RegistryCsv, PoolList}
 use Rattle.reg_core.specs.declared.decide.Decision.{Decision}
 use Rattle.reg_core.specs.declared.decide.Decision.TheVariants.{Make, Same}
 use Rattle.reg_core.specs.declared.refusal.Refusal.{Refusal}
@@ -40,8 +40,8 @@ use Rattle.reg_core.specs.declared.request.Given.{Given}
 use Rattle.reg_core.specs.declared.request.Given.TheVariants.{Value}
 use Rattle.reg_core.specs.declared.request.State.{State}
 use Rattle.reg_core.specs.declared.request.State.TheVariants.{Approved, Declined, Withdrawn}
-use Rattle.reg_core.proofs.MapLaws.{text_keys, name_keys, seat_keys, get-inserted, get-updated, get-removed, All-entries}
-use Rattle.reg_core.proofs.Deciding.{withdraw_made, withdraw_there, decline_made, decline_there, assign_made, assign_there, advise_made, advise_there, approve_made, approve_there, define_made, define_there, grant_made, grant_there, revoke_made, revoke_there, submit_made, submit_there}
+use Rattle.reg_core.proofs.MapLaws.{number_keys, text_keys, name_keys, seat_keys, get-inserted, get-updated, get-removed, All-entries}
+use Rattle.reg_core.proofs.Deciding.{withdraw_made, withdraw_there, decline_made, decline_there, assign_made, assign_there, advise_made, advise_there, approve_made, approve_there, define_made, define_there, pool_made, pool_there, grant_made, grant_there, revoke_made, revoke_there, submit_made, submit_there}
 use Rattle.reg_core.proofs.Answering.{answer_to_by}
 use Rattle.reg_core.proofs.KeySets.{is_inserted}
 use Rattle.reg_core.proofs.Queues.{IsQueued, queued_found}
@@ -94,6 +94,7 @@ module _ (digest_of : List ℕ → List ℕ) (w : World) where
   public_answer_done today Registries = refl
   public_answer_done today (Registry name) = registry_done today name (get w.registries name) refl
   public_answer_done today (RegistryCsv name) = sheet_done today name (get w.registries name) refl
+  public_answer_done today PoolList = refl
 
   award_done : (today : ℕ) (account reference : List ℕ) (filing : Filing) (ask : Ask) (given : Given) → get w.requests (account, reference) ≡ Some filing
       → let change = award (account, reference) ask today given in
@@ -155,6 +156,13 @@ module _ (digest_of : List ℕ → List ℕ) (w : World) where
       (λ change made.
       subst (λ change. WasDone digest_of (applied w change) today (Clerk (Define name table)) (reply.Defined name)) (define_made (get w.registries name) name table change made).1
       (refl, get-inserted text_keys w.registries name table))
+  clerk_answer_done in_use today (AddPool prefix) =
+      let there = contains_key w.pool prefix in
+      answered_done today (Clerk (AddPool prefix)) (pool_rule there prefix) (reply.Pooled prefix) (reply.Pooled prefix)
+      (λ same. (refl, (pool_there there prefix same).0))
+      (λ change made.
+      subst (λ change. WasDone digest_of (applied w change) today (Clerk (AddPool prefix)) (reply.Pooled prefix)) (pool_made there prefix change made).2
+      (refl, is_inserted number_keys w.pool prefix tt))
   clerk_answer_done in_use today (Grant token cap) =
       let digest = digest_of token in
       answered_done today (Clerk (Grant token cap)) (grant_rule (get w.caps digest) digest cap) (reply.Granted cap) (reply.Granted cap)

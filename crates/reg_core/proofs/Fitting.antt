@@ -8,7 +8,7 @@ use Rattle.reg_core.specs.Advice.{has_advice_form}
 use Rattle.reg_core.specs.Allowance.{allowed, ground_of}
 use Rattle.reg_core.specs.Entry.{has_day_form}
 use Rattle.reg_core.specs.Names.{is_name}
-use Rattle.reg_core.specs.Rules.{withdraw_rule, decline_rule, assign_rule, advise_rule, award, approve_rule, define_rule, grant_rule, revoke_rule, submit_rule}
+use Rattle.reg_core.specs.Rules.{withdraw_rule, decline_rule, assign_rule, advise_rule, award, approve_rule, define_rule, pool_rule, grant_rule, revoke_rule, submit_rule}
 use Rattle.reg_core.specs.View.{Queued, published}
 use Rattle.reg_core.specs.WellKept.{WellKept, CanApply, has_grant_form, has_registry_form, has_request_form}
 use Rattle.reg_core.specs.World.{World, RequestName, pending}
@@ -23,8 +23,8 @@ use Rattle.reg_core.specs.declared.request.Filing.{Filing}
 use Rattle.reg_core.specs.declared.request.Given.{Given}
 use Rattle.reg_core.specs.declared.request.State.TheVariants.{Declined, Withdrawn}
 use Rattle.reg_core.proofs.Awards.{allowed_code}
-use Rattle.reg_core.proofs.Changes.{can_grant, can_revoke, can_define, can_submit, can_close, can_assign, can_advise, can_give}
-use Rattle.reg_core.proofs.Deciding.{withdraw_made, decline_made, assign_made, advise_made, approve_made, define_made, grant_made, revoke_made, submit_made}
+use Rattle.reg_core.proofs.Changes.{can_grant, can_revoke, can_define, can_add_pool, can_submit, can_close, can_assign, can_advise, can_give}
+use Rattle.reg_core.proofs.Deciding.{withdraw_made, decline_made, assign_made, advise_made, approve_made, define_made, pool_made, grant_made, revoke_made, submit_made}
 use Rattle.reg_core.proofs.Queues.{IsQueued}
 
 -- a definition that is to be made fits the world that has this registry, or none, under the name
@@ -33,6 +33,13 @@ pub define_fits : (w : World) (name : List ℕ) (table : Table) (change : Change
 define_fits w name table change kept form made =
     let decided = define_made (get w.registries name) name table change made in
     subst (CanApply w) decided.1 (can_define w name table kept form decided.0)
+
+-- a prefix that is to be added fits the world that has it, or has it not
+pub pool_fits : (w : World) (prefix : ℕ) (change : Change) → WellKept w
+    → pool_rule (contains_key w.pool prefix) prefix ≡ Ok (Make change) → CanApply w change
+pool_fits w prefix change kept made =
+    let decided = pool_made (contains_key w.pool prefix) prefix change made in
+    subst (CanApply w) decided.2 (can_add_pool w prefix kept decided.1 decided.0)
 
 -- a grant that is to be made fits the world that has this capability, or none, at the digest
 pub grant_fits : (w : World) (digest : List ℕ) (cap : Cap) (change : Change) → WellKept w → has_grant_form digest cap ≡ true

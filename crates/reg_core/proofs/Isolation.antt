@@ -23,7 +23,7 @@ use Rattle.reg_core.specs.declared.capability.Cap.{Cap}
 use Rattle.reg_core.specs.declared.capability.Kind.{Kind}
 use Rattle.reg_core.specs.declared.capability.Kind.TheVariants.{Applicant, Expert, Clerk}
 use Rattle.reg_core.specs.declared.change.Change.{Change}
-use Rattle.reg_core.specs.declared.change.Change.TheVariants.{Grant, Revoke, Define, Submit, Close, Assign, Advise, GiveValue}
+use Rattle.reg_core.specs.declared.change.Change.TheVariants.{Grant, Revoke, Define, AddPool, Submit, Close, Assign, Advise, GiveValue}
 use Rattle.reg_core.specs.declared.command.Command.{Command}
 use Rattle.reg_core.specs.declared.command.Command.TheVariants as command
 use Rattle.reg_core.specs.declared.command.ApplicantCommand.{ApplicantCommand}
@@ -31,7 +31,7 @@ use Rattle.reg_core.specs.declared.command.ApplicantCommand.TheVariants.{Own, Ow
 use Rattle.reg_core.specs.declared.command.ExpertCommand.{ExpertCommand}
 use Rattle.reg_core.specs.declared.command.ExpertCommand.TheVariants.{Queue, Advise as AdviseIt}
 use Rattle.reg_core.specs.declared.command.PublicCommand.{PublicCommand}
-use Rattle.reg_core.specs.declared.command.PublicCommand.TheVariants.{Registries, Registry, RegistryCsv}
+use Rattle.reg_core.specs.declared.command.PublicCommand.TheVariants.{Registries, Registry, RegistryCsv, PoolList}
 use Rattle.reg_core.specs.declared.decide.Decision.TheVariants.{Same}
 use Rattle.reg_core.specs.declared.refusal.Refusal.{Refusal}
 use Rattle.reg_core.specs.declared.refusal.Refusal.TheVariants as no
@@ -55,6 +55,7 @@ IsOwn account my (Submit of reference ask) = of ≡ account
 IsOwn account my (Grant digest cap) = ⊥
 IsOwn account my (Revoke digest) = ⊥
 IsOwn account my (Define name table) = ⊥
+IsOwn account my (AddPool prefix) = ⊥
 IsOwn account my (Close of reference state) = of ≡ account
 IsOwn account my (Assign of reference expert) = ⊥
 IsOwn account my (Advise of reference expert advice) = expert ≡ account
@@ -134,6 +135,7 @@ answer-own w caller moment command =
     public_leaves today Registries = tt
     public_leaves today (Registry name) = tt
     public_leaves today (RegistryCsv name) = tt
+    public_leaves today PoolList = tt
 
 -- ---- What two worlds share after such a change
 
@@ -169,6 +171,7 @@ module _ (account : List ℕ) (w v : World) (alike : ShowAlike account w v) wher
   own_shows_alike my (Grant digest cap) kept_w kept_v own = absurd own
   own_shows_alike my (Revoke digest) kept_w kept_v own = absurd own
   own_shows_alike my (Define name table) kept_w kept_v own = absurd own
+  own_shows_alike my (AddPool prefix) kept_w kept_v own = absurd own
   own_shows_alike my (Close of reference state) kept_w kept_v own =
       let name : List ℕ × List ℕ = (of, reference) in
       let requests = select-update_same name_keys _ w.requests v.requests name (in_state state) (same_own of reference own) requests_alike in
@@ -193,6 +196,7 @@ own_leaves_caps w account my (Submit of reference ask) own caller = refl
 own_leaves_caps w account my (Grant digest cap) own caller = absurd own
 own_leaves_caps w account my (Revoke digest) own caller = absurd own
 own_leaves_caps w account my (Define name table) own caller = absurd own
+own_leaves_caps w account my (AddPool prefix) own caller = absurd own
 own_leaves_caps w account my (Close of reference state) own caller = refl
 own_leaves_caps w account my (Assign of reference expert) own caller = absurd own
 own_leaves_caps w account my (Advise of reference expert advice) own caller = refl

@@ -4,6 +4,7 @@ use Rattle.std.specs.Prelude.{Option, Some, None, Result, Ok, Err, nat_le, IfSom
 use Rattle.std.specs.Cmp.{first_so, second_so}
 use Rattle.std.specs.Cmp.Derive.{both_true}
 use Rattle.std.specs.FinMap.{get, contains_key, get-empty}
+use Rattle.std.specs.Ordering.{nat_cmp}
 use Rattle.reg_core.specs.Allowance.{allowed, ground_of}
 use Rattle.reg_core.specs.Entry.{has_day_form}
 use Rattle.reg_early.specs.Moment.{is_in_clock, utc_day}
@@ -20,7 +21,7 @@ use Rattle.reg_core.specs.Command.{has_applicant_form, has_expert_form, has_cler
 use Rattle.reg_core.specs.Laws.{GivesDigests, ChangesFit, RunsKeepWell, FirstWorldsAreWellKept, clerk_cap}
 use Rattle.reg_core.specs.Maps.{text_cmp}
 use Rattle.reg_core.specs.Names.{is_name, is_token, is_digest}
-use Rattle.reg_core.specs.Rules.{withdraw_rule, decline_rule, assign_rule, advise_rule, approve_rule, define_rule, grant_rule, revoke_rule, submit_rule}
+use Rattle.reg_core.specs.Rules.{withdraw_rule, decline_rule, assign_rule, advise_rule, approve_rule, define_rule, pool_rule, grant_rule, revoke_rule, submit_rule}
 use Rattle.reg_core.specs.Run.{Event, have_forms, step_of}
 use Rattle.reg_core.specs.Step.{clerk_answer, answer_to}
 use Rattle.reg_core.specs.View.{published, personal, requests_of, queue_of, cap_at}
@@ -36,9 +37,9 @@ use Rattle.reg_core.specs.declared.command.ApplicantCommand.TheVariants.{Own, Ow
 use Rattle.reg_core.specs.declared.command.ExpertCommand.{ExpertCommand}
 use Rattle.reg_core.specs.declared.command.ExpertCommand.TheVariants.{Queue, Advise}
 use Rattle.reg_core.specs.declared.command.ClerkCommand.{ClerkCommand}
-use Rattle.reg_core.specs.declared.command.ClerkCommand.TheVariants.{AllRequests, OneRequest, AssignExpert, Approve, Decline, Define, Grant, Revoke}
+use Rattle.reg_core.specs.declared.command.ClerkCommand.TheVariants.{AllRequests, OneRequest, AssignExpert, Approve, Decline, Define, AddPool, Grant, Revoke}
 use Rattle.reg_core.specs.declared.command.PublicCommand.{PublicCommand}
-use Rattle.reg_core.specs.declared.command.PublicCommand.TheVariants.{Registries, Registry, RegistryCsv}
+use Rattle.reg_core.specs.declared.command.PublicCommand.TheVariants.{Registries, Registry, RegistryCsv, PoolList}
 use Rattle.reg_core.specs.declared.decide.Decision.{Decision}
 use Rattle.reg_core.specs.declared.decide.Decision.TheVariants.{Make, Same}
 use Rattle.reg_core.specs.declared.refusal.Refusal.{Refusal}
@@ -46,7 +47,7 @@ use Rattle.reg_core.specs.declared.reply.Reply.{Reply}
 use Rattle.reg_core.specs.declared.request.Filing.{Filing}
 use Rattle.reg_core.proofs.Answering.{answer_to_by}
 use Rattle.reg_core.proofs.Changes.{can_grant}
-use Rattle.reg_core.proofs.Fitting.{withdraw_fits, decline_fits, assign_fits, advise_fits, approve_fits, define_fits, grant_fits, revoke_fits, submit_fits}
+use Rattle.reg_core.proofs.Fitting.{withdraw_fits, decline_fits, assign_fits, advise_fits, approve_fits, define_fits, pool_fits, grant_fits, revoke_fits, submit_fits}
 use Rattle.reg_core.proofs.Queues.{queued_found}
 use Rattle.reg_core.proofs.Stepping.{own_request, own_row_found}
 
@@ -96,6 +97,8 @@ module _ (digest_of : List ℕ → List ℕ) (digests : GivesDigests digest_of) 
       (λ change made. decline_fits w (account, reference) filing reason change kept found (second_so (is_name account && is_name reference) (is_text reason) form) made))
   clerk_answer_fits in_use today (Define name table) day form =
       answered_fits w (define_rule (get w.registries name) name table) _ _ (λ change made. define_fits w name table change kept form made)
+  clerk_answer_fits in_use today (AddPool prefix) day form =
+      answered_fits w (pool_rule (contains_key w.pool prefix) prefix) _ _ (λ change made. pool_fits w prefix change kept made)
   clerk_answer_fits in_use today (Grant token cap) day form =
       let digest_form = digests token (first_so (is_token token) (has_cap_form cap) form) in
       let grant_form = both_true digest_form (second_so (is_token token) (has_cap_form cap) form) in
@@ -139,6 +142,7 @@ module _ (digest_of : List ℕ → List ℕ) (digests : GivesDigests digest_of) 
   public_answer_fits today Registries form = tt
   public_answer_fits today (Registry name) form = tt
   public_answer_fits today (RegistryCsv name) form = tt
+  public_answer_fits today PoolList form = tt
 
   known_account : (caller : Option (List ℕ)) (cap : Cap) → cap_at w caller ≡ Some cap → is_name cap.account ≡ true
   known_account None cap found = absurd (cc)
@@ -186,6 +190,7 @@ empty_kept = record {
   queued = λ seat there. let none : get empty_world.queue seat ≡ None = get-empty seat_cmp seat in absurd (cc);
   advice = λ seat advice found. let none : get empty_world.advice seat ≡ None = get-empty seat_cmp seat in absurd (cc);
   advised = λ seat advice found. let none : get empty_world.advice seat ≡ None = get-empty seat_cmp seat in absurd (cc);
+  pool = λ prefix there. let none : get empty_world.pool prefix ≡ None = get-empty nat_cmp prefix in absurd (cc);
 }
 
 pub first_worlds_kept : FirstWorldsAreWellKept

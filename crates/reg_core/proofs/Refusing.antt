@@ -9,7 +9,7 @@ use Rattle.reg_core.specs.File.{file, was_advised}
 use Rattle.reg_core.specs.Laws.{is_refused, RefusalsChangeNothing}
 use Rattle.reg_core.specs.Queue.{with_advice}
 use Rattle.reg_core.specs.Request.{request_row, after}
-use Rattle.reg_core.specs.Rules.{withdraw_rule, decline_rule, assign_rule, advise_rule, approve_rule, define_rule, grant_rule, revoke_rule, submit_rule}
+use Rattle.reg_core.specs.Rules.{withdraw_rule, decline_rule, assign_rule, advise_rule, approve_rule, define_rule, pool_rule, grant_rule, revoke_rule, submit_rule}
 use Rattle.reg_core.specs.Step.{clerk_answer}
 use Rattle.reg_core.specs.View.{Published, Personal, published, personal}
 use Rattle.reg_core.specs.World.{World, applied_if, pending}
@@ -18,9 +18,9 @@ use Rattle.reg_core.specs.declared.command.ApplicantCommand.TheVariants.{Own, Ow
 use Rattle.reg_core.specs.declared.command.ExpertCommand.{ExpertCommand}
 use Rattle.reg_core.specs.declared.command.ExpertCommand.TheVariants.{Queue, Advise}
 use Rattle.reg_core.specs.declared.command.ClerkCommand.{ClerkCommand}
-use Rattle.reg_core.specs.declared.command.ClerkCommand.TheVariants.{AllRequests, OneRequest, AssignExpert, Approve, Decline, Define, Grant, Revoke}
+use Rattle.reg_core.specs.declared.command.ClerkCommand.TheVariants.{AllRequests, OneRequest, AssignExpert, Approve, Decline, Define, AddPool, Grant, Revoke}
 use Rattle.reg_core.specs.declared.command.PublicCommand.{PublicCommand}
-use Rattle.reg_core.specs.declared.command.PublicCommand.TheVariants.{Registries, Registry, RegistryCsv}
+use Rattle.reg_core.specs.declared.command.PublicCommand.TheVariants.{Registries, Registry, RegistryCsv, PoolList}
 use Rattle.reg_core.specs.declared.decide.Decision.{Decision}
 use Rattle.reg_core.specs.declared.decide.Decision.TheVariants.{Make, Same}
 use Rattle.reg_core.specs.declared.refusal.Refusal.{Refusal}
@@ -54,6 +54,7 @@ module _ (w : World) where
   public_answer_leaves today Registries = λ refusal is. refl
   public_answer_leaves today (Registry name) = λ refusal is. refl
   public_answer_leaves today (RegistryCsv name) = λ refusal is. refl
+  public_answer_leaves today PoolList = λ refusal is. refl
 
   -- a line for each of a clerk's commands
   clerk_answer_leaves : (digest_of : List ℕ → List ℕ) (in_use : List ℕ) (today : ℕ) (command : ClerkCommand) → LeavesIfRefused (clerk_answer digest_of w in_use today command)
@@ -71,6 +72,8 @@ module _ (w : World) where
       (λ filing. stated_leaves (decline_rule (account, reference) reason filing.state) (desk_row (account, reference)) filing (λ f. refl))
   clerk_answer_leaves digest_of in_use today (Define name table) =
       answered_leaves (define_rule (get w.registries name) name table) (reply.Defined name) (reply.Defined name) refl
+  clerk_answer_leaves digest_of in_use today (AddPool prefix) =
+      answered_leaves (pool_rule (contains_key w.pool prefix) prefix) (reply.Pooled prefix) (reply.Pooled prefix) refl
   clerk_answer_leaves digest_of in_use today (Grant token cap) =
       answered_leaves (grant_rule (get w.caps (digest_of token)) (digest_of token) cap) (reply.Granted cap) (reply.Granted cap) refl
   clerk_answer_leaves digest_of in_use today (Revoke token) =

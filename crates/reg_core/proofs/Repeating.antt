@@ -25,9 +25,9 @@ use Rattle.reg_core.specs.declared.command.ApplicantCommand.TheVariants.{Own, Ow
 use Rattle.reg_core.specs.declared.command.ExpertCommand.{ExpertCommand}
 use Rattle.reg_core.specs.declared.command.ExpertCommand.TheVariants.{Queue, Advise}
 use Rattle.reg_core.specs.declared.command.ClerkCommand.{ClerkCommand}
-use Rattle.reg_core.specs.declared.command.ClerkCommand.TheVariants.{AllRequests, OneRequest, AssignExpert, Approve, Decline, Define, Grant, Revoke}
+use Rattle.reg_core.specs.declared.command.ClerkCommand.TheVariants.{AllRequests, OneRequest, AssignExpert, Approve, Decline, Define, AddPool, Grant, Revoke}
 use Rattle.reg_core.specs.declared.command.PublicCommand.{PublicCommand}
-use Rattle.reg_core.specs.declared.command.PublicCommand.TheVariants.{Registries, Registry, RegistryCsv}
+use Rattle.reg_core.specs.declared.command.PublicCommand.TheVariants.{Registries, Registry, RegistryCsv, PoolList}
 use Rattle.reg_core.specs.declared.reply.Reply.{Reply}
 use Rattle.reg_core.specs.declared.reply.Reply.TheVariants as reply
 use Rattle.reg_core.specs.declared.request.Filing.{Filing}
@@ -61,6 +61,7 @@ module _ (digest_of : List ℕ → List ℕ) where
   public_again w caller moment Registries now there = rw now (reply.Names (keys w.registries), refl, refl)
   public_again w caller moment (Registry name) now there = rw now (page_again w name (get w.registries name) (utc_day moment) there)
   public_again w caller moment (RegistryCsv name) now there = rw now (sheet_again w name (get w.registries name) (utc_day moment) there)
+  public_again w caller moment PoolList now there = rw now (reply.Pool (keys w.pool), refl, refl)
 
   pub own_again : (w : World) (caller : Option (List ℕ)) (moment : ℕ) (command : ApplicantCommand) (cap : Cap) → is_in_clock moment ≡ true
       → Serves (cap_at w caller) kind.Applicant cap → nat_le cap.until moment ≡ false → OwnStands digest_of w cap.account command
@@ -106,6 +107,8 @@ module _ (digest_of : List ℕ → List ℕ) where
       rw (now, serves.found_it, serves.has_kind, early, stands.1, stands.2, same_text-itself reason) (desk_row (account, reference) (in_state (Declined reason) stands.0), refl, refl)
   clerk_again w digest moment (Define name table) cap now serves early stands =
       (reply.Defined name, rw (now, serves.found_it, serves.has_kind, early, stands, same_table-itself table) refl, refl)
+  clerk_again w digest moment (AddPool prefix) cap now serves early stands =
+      (reply.Pooled prefix, rw (now, serves.found_it, serves.has_kind, early, stands.0, stands.1) refl, refl)
   clerk_again w digest moment (Grant token granted) cap now serves early stands =
       (reply.Granted granted, rw (now, serves.found_it, serves.has_kind, early, stands, same_cap-itself granted) refl, refl)
   clerk_again w digest moment (Revoke token) cap now serves early stands =

@@ -2,6 +2,7 @@
 use Rattle.std.proofs.Common.{◌≡◌, ℕ, true, false, List, refl, ap, subst, ◌∙◌}
 use Rattle.std.specs.Prelude.{Option, Some, None, Result, Ok, Err, IsSome, is_some, option_map}
 use Rattle.std.specs.FinMap.{get, contains_key}
+use Rattle.reg_blocks.specs.Pool.{is_pool_prefix}
 use Rattle.reg_ranges.specs.Tables.{Table}
 use Rattle.reg_core.specs.Allowance.{allowed, ground_of}
 use Rattle.reg_early.specs.Moment.{utc_day}
@@ -11,7 +12,7 @@ use Rattle.reg_core.specs.Queue.{with_advice}
 use Rattle.reg_core.specs.Laws.{is_refused, IsApproved}
 use Rattle.reg_core.specs.Maps.{same_text, update}
 use Rattle.reg_core.specs.Request.{request_row}
-use Rattle.reg_core.specs.Rules.{withdraw_rule, decline_rule, assign_rule, advise_rule, award, approve_rule, define_rule, grant_rule, revoke_rule, submit_rule}
+use Rattle.reg_core.specs.Rules.{withdraw_rule, decline_rule, assign_rule, advise_rule, award, approve_rule, define_rule, pool_rule, grant_rule, revoke_rule, submit_rule}
 use Rattle.reg_core.specs.Step.{clerk_answer, answer_to}
 use Rattle.reg_core.specs.View.{Queued, published, personal, requests_of, queue_of, cap_at}
 use Rattle.reg_core.specs.World.{World, RequestName, in_state, applied, applied_if, pending}
@@ -26,9 +27,9 @@ use Rattle.reg_core.specs.declared.command.ApplicantCommand.TheVariants.{Own, Ow
 use Rattle.reg_core.specs.declared.command.ExpertCommand.{ExpertCommand}
 use Rattle.reg_core.specs.declared.command.ExpertCommand.TheVariants.{Queue, Advise}
 use Rattle.reg_core.specs.declared.command.ClerkCommand.{ClerkCommand}
-use Rattle.reg_core.specs.declared.command.ClerkCommand.TheVariants.{AllRequests, OneRequest, AssignExpert, Approve, Decline, Define, Grant, Revoke}
+use Rattle.reg_core.specs.declared.command.ClerkCommand.TheVariants.{AllRequests, OneRequest, AssignExpert, Approve, Decline, Define, AddPool, Grant, Revoke}
 use Rattle.reg_core.specs.declared.command.PublicCommand.{PublicCommand}
-use Rattle.reg_core.specs.declared.command.PublicCommand.TheVariants.{Registries, Registry, RegistryCsv}
+use Rattle.reg_core.specs.declared.command.PublicCommand.TheVariants.{Registries, Registry, RegistryCsv, PoolList}
 use Rattle.reg_core.specs.declared.decide.Decision.{Decision}
 use Rattle.reg_core.specs.declared.decide.Decision.TheVariants.{Make, Same}
 use Rattle.reg_core.specs.declared.refusal.Refusal.{Refusal}
@@ -40,8 +41,8 @@ use Rattle.reg_core.specs.declared.request.Given.{Given}
 use Rattle.reg_core.specs.declared.request.Given.TheVariants.{Value}
 use Rattle.reg_core.specs.declared.request.State.{State}
 use Rattle.reg_core.specs.declared.request.State.TheVariants.{Approved, Declined, Withdrawn}
-use Rattle.reg_core.proofs.MapLaws.{text_keys, name_keys, seat_keys, get-inserted, get-updated, get-removed}
-use Rattle.reg_core.proofs.Deciding.{withdraw_made, withdraw_there, decline_made, decline_there, assign_made, assign_there, advise_made, advise_there, approve_made, approve_there, define_made, define_there, grant_made, grant_there, revoke_other, revoke_made, revoke_there, submit_made, submit_there}
+use Rattle.reg_core.proofs.MapLaws.{number_keys, text_keys, name_keys, seat_keys, get-inserted, get-updated, get-removed}
+use Rattle.reg_core.proofs.Deciding.{withdraw_made, withdraw_there, decline_made, decline_there, assign_made, assign_there, advise_made, advise_there, approve_made, approve_there, define_made, define_there, pool_made, pool_there, grant_made, grant_there, revoke_other, revoke_made, revoke_there, submit_made, submit_there}
 use Rattle.reg_core.proofs.Answering.{Serves, answer_to_by}
 use Rattle.reg_core.proofs.KeySets.{is_inserted}
 use Rattle.reg_core.proofs.Queues.{queued_found}
@@ -69,6 +70,7 @@ module _ (digest_of : List ℕ → List ℕ) where
   ClerkStands w in_use (Approve account reference) = (filing : Filing) × (get w.requests (account, reference) ≡ Some filing) × IsApproved filing.state
   ClerkStands w in_use (Decline account reference reason) = (filing : Filing) × (get w.requests (account, reference) ≡ Some filing) × (filing.state ≡ Declined reason)
   ClerkStands w in_use (Define name table) = get w.registries name ≡ Some table
+  ClerkStands w in_use (AddPool prefix) = (contains_key w.pool prefix ≡ true) × (is_pool_prefix prefix ≡ true)
   ClerkStands w in_use (Grant token cap) = get w.caps (digest_of token) ≡ Some cap
   ClerkStands w in_use (Revoke token) = (same_text in_use (digest_of token) ≡ false) × (get w.caps (digest_of token) ≡ None)
 
@@ -149,6 +151,13 @@ module _ (digest_of : List ℕ → List ℕ) where
         (λ change made.
         subst (λ change. ClerkStands (applied w change) in_use (Define name table)) (define_made (get w.registries name) name table change made).1
         (get-inserted text_keys w.registries name table))
+    clerk_answer_stands in_use today (AddPool prefix) =
+        let there = contains_key w.pool prefix in
+        answered_stands (λ v. ClerkStands v in_use (AddPool prefix)) (pool_rule there prefix) (reply.Pooled prefix) (reply.Pooled prefix)
+        (λ same. pool_there there prefix same)
+        (λ change made.
+        let by = pool_made there prefix change made in
+        subst (λ change. ClerkStands (applied w change) in_use (AddPool prefix)) by.2 (is_inserted number_keys w.pool prefix tt, by.1))
     clerk_answer_stands in_use today (Grant token cap) =
         let digest = digest_of token in
         answered_stands (λ v. ClerkStands v in_use (Grant token cap)) (grant_rule (get w.caps digest) digest cap) (reply.Granted cap) (reply.Granted cap)
@@ -218,6 +227,7 @@ module _ (digest_of : List ℕ → List ℕ) where
   IsAnswered w Registries = Unit {0}
   IsAnswered w (Registry name) = IsSome (get w.registries name)
   IsAnswered w (RegistryCsv name) = IsSome (get w.registries name)
+  IsAnswered w PoolList = Unit {0}
 
   page_answered : (w : World) (name : List ℕ) (found : Option Table) (today : ℕ) → is_refused (page_reply (published w) name found today) ≡ false → IsSome found
   page_answered w name None today accepted = absurd (cc)
@@ -243,6 +253,7 @@ module _ (digest_of : List ℕ → List ℕ) where
   public_stands w caller today Registries accepted = (refl, tt)
   public_stands w caller today (Registry name) accepted = (refl, page_answered w name (get w.registries name) today accepted)
   public_stands w caller today (RegistryCsv name) accepted = (refl, sheet_answered w name (get w.registries name) today accepted)
+  public_stands w caller today PoolList accepted = (refl, tt)
 
   pub accepted_stands : (w : World) (caller : Option (List ℕ)) (moment : ℕ) (command : Command) → Accepted w caller command (answer_to digest_of w caller moment command)
   accepted_stands w caller moment command =

@@ -16,7 +16,7 @@ use Rattle.reg_core.specs.File.{was_advised}
 use Rattle.reg_core.specs.Laws.{GivesDigests, GivenStays, Stays, StillGiven, StillStands, StillAsks}
 use Rattle.reg_core.specs.Maps.{text_cmp, update}
 use Rattle.reg_core.specs.Queue.{with_advice}
-use Rattle.reg_core.specs.Rules.{withdraw_rule, decline_rule, assign_rule, advise_rule, award, approve_rule, define_rule, grant_rule, revoke_rule, submit_rule}
+use Rattle.reg_core.specs.Rules.{withdraw_rule, decline_rule, assign_rule, advise_rule, award, approve_rule, define_rule, pool_rule, grant_rule, revoke_rule, submit_rule}
 use Rattle.reg_core.specs.Run.{Event, have_forms, step_of, world_after}
 use Rattle.reg_core.specs.Step.{clerk_answer}
 use Rattle.reg_core.specs.View.{published, personal, requests_of, queue_of}
@@ -26,7 +26,7 @@ use Rattle.reg_core.specs.declared.advice.Advice.{Advice}
 use Rattle.reg_core.specs.declared.ask.Ask.{Ask}
 use Rattle.reg_core.specs.declared.ask.Ask.TheVariants.{Code}
 use Rattle.reg_core.specs.declared.change.Change.{Change}
-use Rattle.reg_core.specs.declared.change.Change.TheVariants.{Define, Submit as SubmitIt, Close, GiveValue}
+use Rattle.reg_core.specs.declared.change.Change.TheVariants.{Define, AddPool, Submit as SubmitIt, Close, GiveValue}
 use Rattle.reg_core.specs.declared.command.ApplicantCommand.{ApplicantCommand}
 use Rattle.reg_core.specs.declared.command.ApplicantCommand.TheVariants.{Own, OwnOne, Submit, Withdraw}
 use Rattle.reg_core.specs.declared.command.ExpertCommand.{ExpertCommand}
@@ -34,7 +34,7 @@ use Rattle.reg_core.specs.declared.command.ExpertCommand.TheVariants.{Queue, Adv
 use Rattle.reg_core.specs.declared.command.ClerkCommand.{ClerkCommand}
 use Rattle.reg_core.specs.declared.command.ClerkCommand.TheVariants as clerk
 use Rattle.reg_core.specs.declared.command.PublicCommand.{PublicCommand}
-use Rattle.reg_core.specs.declared.command.PublicCommand.TheVariants.{Registries, Registry, RegistryCsv}
+use Rattle.reg_core.specs.declared.command.PublicCommand.TheVariants.{Registries, Registry, RegistryCsv, PoolList}
 use Rattle.reg_core.specs.declared.decide.Decision.{Decision}
 use Rattle.reg_core.specs.declared.decide.Decision.TheVariants.{Make, Same}
 use Rattle.reg_core.specs.declared.capability.Cap.{Cap}
@@ -49,9 +49,10 @@ use Rattle.reg_core.specs.declared.request.State.{State}
 use Rattle.reg_core.specs.declared.request.State.TheVariants.{Pending, Approved, Declined, Withdrawn}
 use Rattle.reg_core.proofs.Answering.{answer_to_by}
 use Rattle.reg_core.proofs.Awards.{allowed_code}
-use Rattle.reg_core.proofs.Deciding.{withdraw_made, decline_made, assign_made, advise_made, approve_made, define_made, grant_made, revoke_made, submit_made}
+use Rattle.reg_core.proofs.Deciding.{withdraw_made, decline_made, assign_made, advise_made, approve_made, define_made, pool_made, grant_made, revoke_made, submit_made}
 use Rattle.reg_core.proofs.Keeping.{step_keeps_well}
-use Rattle.reg_core.proofs.MapLaws.{IsKeyOrder, text_keys, name_keys, place_keys, tied, get-at_insert, get-update}
+use Rattle.reg_core.proofs.KeySets.{still_in}
+use Rattle.reg_core.proofs.MapLaws.{IsKeyOrder, number_keys, text_keys, name_keys, place_keys, tied, get-at_insert, get-update}
 use Rattle.reg_core.proofs.Stepping.{own_request, own_row_found}
 
 -- ---- Nothing goes away
@@ -73,6 +74,7 @@ stays_itself w = record {
   registries = λ name table is. is;
   entries = λ place a is. given_itself a (get w.entries place) is;
   requests = λ name filing is. asks_itself filing (get w.requests name) is;
+  pool = λ prefix there. there;
 }
 
 -- ---- What stays goes on to stay
@@ -104,6 +106,7 @@ stays_on w v u first then = record {
   registries = λ name table is. then.registries name table (first.registries name table is);
   entries = λ place a is. given_on a (get v.entries place) (get u.entries place) (first.entries place a is) (λ b at. then.entries place b at);
   requests = λ name filing is. asks_on filing (get v.requests name) (get u.requests name) (first.requests name filing is) (λ b at. then.requests name b at);
+  pool = λ prefix there. then.pool prefix (first.pool prefix there);
 }
 
 -- ---- One change
@@ -124,6 +127,7 @@ registers_stay w caps queue advice = record {
   registries = λ name table is. is;
   entries = λ place a is. given_itself a (get w.entries place) is;
   requests = λ name filing is. asks_itself filing (get w.requests name) is;
+  pool = λ prefix there. there;
 }
 
 define_stays : (w : World) (name : List ℕ) (table : Table) → get w.registries name ≡ None → Stays w (applied w (Define name table))
@@ -131,6 +135,15 @@ define_stays w name table free = record {
   registries = stays_there text_keys w.registries name table free;
   entries = λ place a is. given_itself a (get w.entries place) is;
   requests = λ name filing is. asks_itself filing (get w.requests name) is;
+  pool = λ prefix there. there;
+}
+
+pool_stays : (w : World) (prefix : ℕ) → Stays w (applied w (AddPool prefix))
+pool_stays w prefix = record {
+  registries = λ name table is. is;
+  entries = λ place a is. given_itself a (get w.entries place) is;
+  requests = λ name filing is. asks_itself filing (get w.requests name) is;
+  pool = still_in number_keys w.pool prefix tt;
 }
 
 submit_stays : (w : World) (name : RequestName) (ask : Ask) → get w.requests name ≡ None → Stays w (applied w (SubmitIt name.0 name.1 ask))
@@ -138,6 +151,7 @@ submit_stays w name ask free = record {
   registries = λ name table is. is;
   entries = λ place a is. given_itself a (get w.entries place) is;
   requests = λ other filing is. asks_itself filing _ (stays_there name_keys w.requests name (pending ask) free other filing is);
+  pool = λ prefix there. there;
 }
 
 -- a pending request may go into any state
@@ -162,6 +176,7 @@ close_stays w name filing state found is_pending = record {
   registries = λ name table is. is;
   entries = λ place a is. given_itself a (get w.entries place) is;
   requests = state_stays w name filing state found is_pending;
+  pool = λ prefix there. there;
 }
 
 give_stays : (w : World) (name : RequestName) (filing : Filing) (registry : List ℕ) (v : ℕ) (entry : Entry) → get w.requests name ≡ Some filing → filing.state ≡ Pending
@@ -171,6 +186,7 @@ give_stays w name filing registry v entry found is_pending at_registry at_value 
   entries = λ place a is. given_itself a _
       (stays_there place_keys w.entries (entry.registry, entry.value) (assignment_in entry) (ap (get w.entries) (λ i. (at_registry i, at_value i)) ∙ free) place a is);
   requests = state_stays w name filing (Approved (Value entry.value)) found is_pending;
+  pool = λ prefix there. there;
 }
 
 -- ---- Each answer
@@ -199,6 +215,7 @@ module _ (w : World) where
   public_keeps today Registries = stays_itself w
   public_keeps today (Registry name) = stays_itself w
   public_keeps today (RegistryCsv name) = stays_itself w
+  public_keeps today PoolList = stays_itself w
 
   award_keeps : WellKept w → (name : RequestName) (filing : Filing) (ask : Ask) (today : ℕ) (given : Given) → get w.requests name ≡ Some filing → filing.state ≡ Pending
       → allowed (published w) name.0 ask ≡ Ok given → Stays w (applied w (award name ask today given))
@@ -233,6 +250,9 @@ module _ (w : World) where
       answered_keeps (define_rule (get w.registries name) name table) _ _ (λ change made.
       let by = define_made (get w.registries name) name table change made in
       subst (λ change. Stays w (applied w change)) by.1 (define_stays w name table by.0))
+  clerk_keeps kept digest_of in_use today (clerk.AddPool prefix) =
+      answered_keeps (pool_rule (contains_key w.pool prefix) prefix) _ _ (λ change made.
+      subst (λ change. Stays w (applied w change)) (pool_made (contains_key w.pool prefix) prefix change made).2 (pool_stays w prefix))
   clerk_keeps kept digest_of in_use today (clerk.Grant token cap) =
       answered_keeps (grant_rule (get w.caps (digest_of token)) (digest_of token) cap) _ _ (λ change made.
       subst (λ change. Stays w (applied w change)) (grant_made (get w.caps (digest_of token)) (digest_of token) cap change made).1 (registers_stay w (insert w.caps (digest_of token) cap) w.queue w.advice))

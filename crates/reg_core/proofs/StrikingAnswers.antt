@@ -2,7 +2,7 @@
 use Rattle.std.proofs.Common.{◌≡◌, ℕ, Bool, true, false, ◌||◌, not, List, map, refl, ap}
 use Rattle.std.specs.Prelude.{Some, Result, Ok, Err, is_some, if◌then◌else◌}
 use Rattle.std.specs.Cmp.{first_so}
-use Rattle.std.specs.FinMap.{get, entries}
+use Rattle.std.specs.FinMap.{get, contains_key, entries}
 use Rattle.reg_core.specs.Advice.{is_advised}
 use Rattle.reg_core.specs.Allowance.{allowed, ground_of}
 use Rattle.reg_core.specs.Answer.{Answer, replied, refused, answered, stated, for_request, own_row, desk_row, row_reply, submit, if_admitted, own_answer, advise, expert_answer}
@@ -10,7 +10,7 @@ use Rattle.reg_core.specs.File.{experts_of, opinion, opinions_of}
 use Rattle.reg_core.specs.Maps.{same_text}
 use Rattle.reg_core.specs.Queue.{queue_row, queue_rows}
 use Rattle.reg_core.specs.Request.{request_row, request_rows}
-use Rattle.reg_core.specs.Rules.{assign_rule, approve_rule, decline_rule, withdraw_rule, define_rule, grant_rule, revoke_rule}
+use Rattle.reg_core.specs.Rules.{assign_rule, approve_rule, decline_rule, withdraw_rule, define_rule, pool_rule, grant_rule, revoke_rule}
 use Rattle.reg_core.specs.Step.{clerk_answer}
 use Rattle.reg_core.specs.Striking.{is_others, applicant_lists, expert_lists, clerk_lists, seen_of}
 use Rattle.reg_core.specs.Unseen.{applicant_about, expert_about, clerk_about, is_outside, speaks_for, is_hidden}
@@ -22,7 +22,7 @@ use Rattle.reg_core.specs.declared.command.ApplicantCommand.TheVariants.{Own, Ow
 use Rattle.reg_core.specs.declared.command.ExpertCommand.{ExpertCommand}
 use Rattle.reg_core.specs.declared.command.ExpertCommand.TheVariants.{Queue, Advise}
 use Rattle.reg_core.specs.declared.command.ClerkCommand.{ClerkCommand}
-use Rattle.reg_core.specs.declared.command.ClerkCommand.TheVariants.{AllRequests, OneRequest, AssignExpert, Approve, Decline, Define, Grant, Revoke}
+use Rattle.reg_core.specs.declared.command.ClerkCommand.TheVariants.{AllRequests, OneRequest, AssignExpert, Approve, Decline, Define, AddPool, Grant, Revoke}
 use Rattle.reg_core.specs.declared.queue.QueueRow.{QueueRow}
 use Rattle.reg_core.specs.declared.refusal.Refusal.{Refusal}
 use Rattle.reg_core.specs.declared.reply.Reply.TheVariants as reply
@@ -151,6 +151,8 @@ module _ (account : List ℕ) (hidden : RequestName → Bool) (w v : World) (un 
       same_whole _ _ (λ i. for_request (un.agree.requests name h i) (λ filing. stated (decline_rule name reason filing.state) (desk_row name) filing))
   clerk_same digest_of in_use today (Define name table) h =
       same_whole _ _ (ap (λ m. answered (define_rule (get m name) name table) (reply.Defined name) (reply.Defined name)) un.agree.registries)
+  clerk_same digest_of in_use today (AddPool prefix) h =
+      same_whole _ _ (ap (λ m. answered (pool_rule (contains_key m prefix) prefix) (reply.Pooled prefix) (reply.Pooled prefix)) un.agree.pool)
   clerk_same digest_of in_use today (Grant token cap) h =
       same_whole _ _ (ap (λ m. answered (grant_rule (get m (digest_of token)) (digest_of token) cap) (reply.Granted cap) (reply.Granted cap)) un.agree.caps)
   clerk_same digest_of in_use today (Revoke token) h =

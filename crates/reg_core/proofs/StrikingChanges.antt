@@ -21,9 +21,9 @@ use Rattle.reg_core.specs.declared.command.ApplicantCommand.TheVariants.{Own, Ow
 use Rattle.reg_core.specs.declared.command.ExpertCommand.{ExpertCommand}
 use Rattle.reg_core.specs.declared.command.ExpertCommand.TheVariants.{Queue, Advise}
 use Rattle.reg_core.specs.declared.command.ClerkCommand.{ClerkCommand}
-use Rattle.reg_core.specs.declared.command.ClerkCommand.TheVariants.{AllRequests, OneRequest, AssignExpert, Approve, Decline, Define, Grant, Revoke}
+use Rattle.reg_core.specs.declared.command.ClerkCommand.TheVariants.{AllRequests, OneRequest, AssignExpert, Approve, Decline, Define, AddPool, Grant, Revoke}
 use Rattle.reg_core.specs.declared.command.PublicCommand.{PublicCommand}
-use Rattle.reg_core.specs.declared.command.PublicCommand.TheVariants.{Registries, Registry, RegistryCsv}
+use Rattle.reg_core.specs.declared.command.PublicCommand.TheVariants.{Registries, Registry, RegistryCsv, PoolList}
 use Rattle.reg_core.specs.declared.decide.Decision.{Decision}
 use Rattle.reg_core.specs.declared.decide.Decision.TheVariants.{Make, Same}
 use Rattle.reg_core.specs.declared.refusal.Refusal.{Refusal}
@@ -69,6 +69,7 @@ module _ (name : RequestName) where
   public-of p today Registries e = tt
   public-of p today (Registry registry) e = tt
   public-of p today (RegistryCsv registry) e = tt
+  public-of p today PoolList e = tt
 
   own-of : (p : Published) (cap : Cap) (my : Personal) (given : ApplicantCommand) → applicant_about (Some cap) given ≡ Some name → IfSome (own_answer p cap.account my given).change (IsOf name)
   own-of p cap my Own e = tt
@@ -114,6 +115,7 @@ module _ (name : RequestName) where
       stated-of name (decline_rule its reason filing.state) (desk_row its) filing (λ change made.
       subst (IsOf name) (decline_made its reason filing.state change made).1 (some_is its name e)))
   clerk-of digest_of w in_use today (Define registry table) e = absurd (cc)
+  clerk-of digest_of w in_use today (AddPool prefix) e = absurd (cc)
   clerk-of digest_of w in_use today (Grant token cap) e = absurd (cc)
   clerk-of digest_of w in_use today (Revoke token) e = absurd (cc)
 

@@ -21,7 +21,7 @@ pub record Unaware (account : List ℕ) (hidden : RequestName → Bool) (w v : W
 
 module _ {hidden : RequestName → Bool} {w v : World} (a : Agree hidden w v) where
   pub published_same : published w ≡ published v
-  published_same = λ i. record { registries = a.registries i; entries = a.entries i }
+  published_same = λ i. record { registries = a.registries i; entries = a.entries i; pool = a.pool i }
 
   pub caps_same : (caller : Option (List ℕ)) → cap_at w caller ≡ cap_at v caller
   caps_same caller = ap (λ m. option_and_then (get m) caller) a.caps

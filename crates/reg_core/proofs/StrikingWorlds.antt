@@ -9,7 +9,7 @@ use Rattle.reg_core.specs.Maps.{same_text}
 use Rattle.reg_core.specs.Unseen.{shows, shows_if}
 use Rattle.reg_core.specs.World.{World, RequestName, Seat, seat_cmp, in_state, pending, applied, applied_if}
 use Rattle.reg_core.specs.declared.change.Change.{Change}
-use Rattle.reg_core.specs.declared.change.Change.TheVariants.{Grant, Revoke, Define, Submit, Close, Assign, Advise, GiveValue}
+use Rattle.reg_core.specs.declared.change.Change.TheVariants.{Grant, Revoke, Define, AddPool, Submit, Close, Assign, Advise, GiveValue}
 use Rattle.reg_core.specs.declared.request.State.TheVariants.{Approved}
 use Rattle.reg_core.specs.declared.request.Given.TheVariants.{Value}
 use Rattle.reg_core.proofs.Files.{same_name-itself}
@@ -28,9 +28,10 @@ pub record Agree (hidden : RequestName → Bool) (w v : World) : Type 0 where
   pub requests : AgreeBut hidden w.requests v.requests
   pub queue : AgreeBut (at_seat hidden) w.queue v.queue
   pub advice : AgreeBut (at_seat hidden) w.advice v.advice
+  pub pool : w.pool ≡ v.pool
 
 pub agree_itself : (hidden : RequestName → Bool) (w : World) → Agree hidden w w
-agree_itself hidden w = record { caps = refl; registries = refl; entries = refl; requests = λ name h. refl; queue = λ seat h. refl; advice = λ seat h. refl }
+agree_itself hidden w = record { caps = refl; registries = refl; entries = refl; requests = λ name h. refl; queue = λ seat h. refl; advice = λ seat h. refl; pool = refl }
 
 -- ---- The same change of both
 
@@ -38,27 +39,29 @@ module _ (hidden : RequestName → Bool) (w v : World) (a : Agree hidden w v) wh
   -- a line for each change
   agree-applied : (change : Change) → Agree hidden (applied w change) (applied v change)
   agree-applied (Grant digest cap) =
-      record { caps = ap (λ m. insert m digest cap) a.caps; registries = a.registries; entries = a.entries; requests = a.requests; queue = a.queue; advice = a.advice }
+      record { caps = ap (λ m. insert m digest cap) a.caps; registries = a.registries; entries = a.entries; requests = a.requests; queue = a.queue; advice = a.advice; pool = a.pool }
   agree-applied (Revoke digest) =
-      record { caps = ap (λ m. remove m digest) a.caps; registries = a.registries; entries = a.entries; requests = a.requests; queue = a.queue; advice = a.advice }
+      record { caps = ap (λ m. remove m digest) a.caps; registries = a.registries; entries = a.entries; requests = a.requests; queue = a.queue; advice = a.advice; pool = a.pool }
   agree-applied (Define name table) =
-      record { caps = a.caps; registries = ap (λ m. insert m name table) a.registries; entries = a.entries; requests = a.requests; queue = a.queue; advice = a.advice }
+      record { caps = a.caps; registries = ap (λ m. insert m name table) a.registries; entries = a.entries; requests = a.requests; queue = a.queue; advice = a.advice; pool = a.pool }
+  agree-applied (AddPool prefix) =
+      record { caps = a.caps; registries = a.registries; entries = a.entries; requests = a.requests; queue = a.queue; advice = a.advice; pool = ap (λ m. insert m prefix tt) a.pool }
   agree-applied (Submit account reference ask) =
       let requests = both-insert name_keys hidden w.requests v.requests a.requests (account, reference) (pending ask) in
-      record { caps = a.caps; registries = a.registries; entries = a.entries; requests = requests; queue = a.queue; advice = a.advice }
+      record { caps = a.caps; registries = a.registries; entries = a.entries; requests = requests; queue = a.queue; advice = a.advice; pool = a.pool }
   agree-applied (Close account reference state) =
       let requests = both-update name_keys hidden w.requests v.requests a.requests (account, reference) (in_state state) in
-      record { caps = a.caps; registries = a.registries; entries = a.entries; requests = requests; queue = a.queue; advice = a.advice }
+      record { caps = a.caps; registries = a.registries; entries = a.entries; requests = requests; queue = a.queue; advice = a.advice; pool = a.pool }
   agree-applied (Assign account reference expert) =
       let queue = both-insert seat_keys (at_seat hidden) w.queue v.queue a.queue ((account, reference), expert) tt in
-      record { caps = a.caps; registries = a.registries; entries = a.entries; requests = a.requests; queue = queue; advice = a.advice }
+      record { caps = a.caps; registries = a.registries; entries = a.entries; requests = a.requests; queue = queue; advice = a.advice; pool = a.pool }
   agree-applied (Advise account reference expert advice) =
       let advice = both-insert seat_keys (at_seat hidden) w.advice v.advice a.advice ((account, reference), expert) advice in
-      record { caps = a.caps; registries = a.registries; entries = a.entries; requests = a.requests; queue = a.queue; advice = advice }
+      record { caps = a.caps; registries = a.registries; entries = a.entries; requests = a.requests; queue = a.queue; advice = advice; pool = a.pool }
   agree-applied (GiveValue account reference entry) =
       let entries = ap (λ m. insert m (entry.registry, entry.value) (assignment_in entry)) a.entries in
       let requests = both-update name_keys hidden w.requests v.requests a.requests (account, reference) (in_state (Approved (Value entry.value))) in
-      record { caps = a.caps; registries = a.registries; entries = entries; requests = requests; queue = a.queue; advice = a.advice }
+      record { caps = a.caps; registries = a.registries; entries = entries; requests = requests; queue = a.queue; advice = a.advice; pool = a.pool }
 
   pub agree_if : (change : Option Change) → Agree hidden (applied_if w change) (applied_if v change)
   agree_if None = a
@@ -71,6 +74,7 @@ abbrev pub IsOf : RequestName → Change → Type 0
 IsOf name (Grant digest cap) = ⊥
 IsOf name (Revoke digest) = ⊥
 IsOf name (Define registry table) = ⊥
+IsOf name (AddPool prefix) = ⊥
 IsOf name (Submit account reference ask) = (account, reference) ≡ name
 IsOf name (Close account reference state) = (account, reference) ≡ name
 IsOf name (Assign account reference expert) = (account, reference) ≡ name
@@ -83,18 +87,19 @@ module _ (account : List ℕ) (hidden : RequestName → Bool) (w v : World) (a :
   agree-hidden (Grant digest cap) of quiet = absurd of
   agree-hidden (Revoke digest) of quiet = absurd of
   agree-hidden (Define registry table) of quiet = absurd of
+  agree-hidden (AddPool prefix) of quiet = absurd of
   agree-hidden (Submit applicant reference ask) of quiet =
       let requests = one-insert name_keys hidden w.requests v.requests a.requests (applicant, reference) (pending ask) (ap hidden of ∙ is_hidden) in
-      record { caps = a.caps; registries = a.registries; entries = a.entries; requests = requests; queue = a.queue; advice = a.advice }
+      record { caps = a.caps; registries = a.registries; entries = a.entries; requests = requests; queue = a.queue; advice = a.advice; pool = a.pool }
   agree-hidden (Close applicant reference state) of quiet =
       let requests = one-update name_keys hidden w.requests v.requests a.requests (applicant, reference) (in_state state) (ap hidden of ∙ is_hidden) in
-      record { caps = a.caps; registries = a.registries; entries = a.entries; requests = requests; queue = a.queue; advice = a.advice }
+      record { caps = a.caps; registries = a.registries; entries = a.entries; requests = requests; queue = a.queue; advice = a.advice; pool = a.pool }
   agree-hidden (Assign applicant reference expert) of quiet =
       let queue = one-insert seat_keys (at_seat hidden) w.queue v.queue a.queue ((applicant, reference), expert) tt (ap hidden of ∙ is_hidden) in
-      record { caps = a.caps; registries = a.registries; entries = a.entries; requests = a.requests; queue = queue; advice = a.advice }
+      record { caps = a.caps; registries = a.registries; entries = a.entries; requests = a.requests; queue = queue; advice = a.advice; pool = a.pool }
   agree-hidden (Advise applicant reference expert advice) of quiet =
       let advice = one-insert seat_keys (at_seat hidden) w.advice v.advice a.advice ((applicant, reference), expert) advice (ap hidden of ∙ is_hidden) in
-      record { caps = a.caps; registries = a.registries; entries = a.entries; requests = a.requests; queue = a.queue; advice = advice }
+      record { caps = a.caps; registries = a.registries; entries = a.entries; requests = a.requests; queue = a.queue; advice = advice; pool = a.pool }
   agree-hidden (GiveValue applicant reference entry) of quiet = clash_of (same_name (applicant, reference) name) (ap (λ n. same_name n name) of ∙ same_name-itself name) quiet
 
   pub agree_hidden_if : (change : Option Change) → IfSome change (IsOf name) → shows_if account name change ≡ false → Agree hidden (applied_if w change) v
@@ -130,6 +135,7 @@ module _ (account : List ℕ) (hidden : RequestName → Bool) (w : World) (none 
   no_seat-applied (Grant digest cap) quiet = none
   no_seat-applied (Revoke digest) quiet = none
   no_seat-applied (Define name table) quiet = none
+  no_seat-applied (AddPool prefix) quiet = none
   no_seat-applied (Submit applicant reference ask) quiet = none
   no_seat-applied (Close applicant reference state) quiet = none
   no_seat-applied (Assign applicant reference expert) quiet = no_seat-assign applicant reference expert quiet

@@ -2,7 +2,8 @@
 use Rattle.std.proofs.Common.{◌≡◌, ℕ, true, false, List, [], ◌∷◌, refl, sym, ap, ◌∙◌, length, arith}
 use Rattle.std.specs.Prelude.{Option, Some, None, codes, filter_map}
 use Rattle.std.specs.FinMap as map
-use Rattle.std.specs.FinMap.{get, entries, get-insert, get-empty, len-entries, len-empty}
+use Rattle.std.specs.FinMap.{get, entries, entries-insert, put, get-insert, get-empty, len-entries, len-empty}
+use Rattle.std.specs.Ordering.{nat_cmp}
 use Rattle.reg_early.specs.Moment.{is_in_clock}
 use Rattle.reg_core.specs.Laws.{clerk_cap, founded_world}
 use Rattle.reg_core.specs.Maps.{text_cmp, keyed, same_text, only_if}
@@ -16,11 +17,12 @@ use Rattle.reg_core.specs.declared.change.Change.TheVariants as change
 use Rattle.reg_core.specs.declared.command.Command.{Command}
 use Rattle.reg_core.specs.declared.command.Command.TheVariants.{Public, Applicant, Expert, Clerk}
 use Rattle.reg_core.specs.declared.command.ApplicantCommand.TheVariants.{Own}
-use Rattle.reg_core.specs.declared.command.ClerkCommand.TheVariants.{Grant, Revoke}
+use Rattle.reg_core.specs.declared.command.ClerkCommand.TheVariants.{AddPool, Grant, Revoke}
+use Rattle.reg_core.specs.declared.command.PublicCommand.TheVariants.{PoolList}
 use Rattle.reg_core.specs.declared.refusal.Refusal.TheVariants as no
-use Rattle.reg_core.specs.declared.reply.Reply.TheVariants.{Rows, Granted, Refused}
+use Rattle.reg_core.specs.declared.reply.Reply.TheVariants.{Rows, Pool, Pooled, Granted, Refused}
 use Rattle.reg_core.specs.declared.request.Filing.{Filing}
-use Rattle.reg_core.proofs.MapLaws.{name_keys, text_keys, get-inserted, entries-select}
+use Rattle.reg_core.proofs.MapLaws.{number_keys, name_keys, text_keys, get-inserted, entries-select}
 
 abbrev clerk : List ℕ
 clerk = codes "clerk-token-00001"
@@ -110,6 +112,69 @@ closed w caller (Applicant command) = refl
 closed w caller (Expert command) = refl
 closed w None (Clerk command) = refl
 closed w (Some digest) (Clerk command) = refl
+
+-- ---- The pool
+
+-- 00-1A-2B, and FC-00-00 after it
+abbrev low : ℕ
+low = 0x00_1A2B
+
+abbrev high : ℕ
+high = 0xFC_0000
+
+-- the office after a prefix is added, and after one that is lower
+abbrev pooled : World
+pooled = applied office (change.AddPool high)
+
+abbrev both_pooled : World
+both_pooled = applied pooled (change.AddPool low)
+
+no_prefix : (prefix : ℕ) → get office.pool prefix ≡ None
+no_prefix prefix = get-empty nat_cmp prefix
+
+pooled-high : get pooled.pool high ≡ Some tt
+pooled-high = get-inserted number_keys office.pool high tt
+
+pooled-low : get pooled.pool low ≡ None
+pooled-low = get-insert number_keys.total office.pool high tt low ∙ no_prefix low
+
+no_prefixes : entries office.pool ≡ []
+no_prefixes = none_long (entries office.pool) (sym (len-entries office.pool) ∙ len-empty nat_cmp (Unit {0}))
+
+high_alone : entries pooled.pool ≡ (high, tt) ∷ []
+high_alone = entries-insert number_keys.total office.pool high tt ∙ ap (put nat_cmp high tt) no_prefixes
+
+low_and_high : entries both_pooled.pool ≡ (low, tt) ∷ (high, tt) ∷ []
+low_and_high = entries-insert number_keys.total pooled.pool low tt ∙ ap (put nat_cmp low tt) high_alone
+
+empty_pool : taken office None 1700000000 (Public PoolList) ≡ record { reply = Pool []; world = office }
+empty_pool = rw no_prefixes refl
+
+first_prefix : taken office (Some clerk) 1700000000 (Clerk (AddPool high)) ≡ record { reply = Pooled high; world = pooled }
+first_prefix = rw (office-clerk, no_prefix high) refl
+
+same_prefix : taken pooled (Some clerk) 1700000000 (Clerk (AddPool high)) ≡ record { reply = Pooled high; world = pooled }
+same_prefix = rw (office-clerk, pooled-high) refl
+
+lower_prefix : taken pooled (Some clerk) 1700000000 (Clerk (AddPool low)) ≡ record { reply = Pooled low; world = both_pooled }
+lower_prefix = rw (office-clerk, pooled-low) refl
+
+-- anybody is shown them ascending
+full_pool : taken both_pooled None 1700000000 (Public PoolList) ≡ record { reply = Pool (low ∷ high ∷ []); world = both_pooled }
+full_pool = rw low_and_high refl
+
+-- 01-1A-2B has the I/G bit, 02-1A-2B the U/L bit, and 2^24 is no 24-bit number
+group_prefix : taken office (Some clerk) 1700000000 (Clerk (AddPool 0x01_1A2B)) ≡ record { reply = Refused no.Bits; world = office }
+group_prefix = rw office-clerk refl
+
+local_prefix : taken office (Some clerk) 1700000000 (Clerk (AddPool 0x02_1A2B)) ≡ record { reply = Refused no.Bits; world = office }
+local_prefix = rw office-clerk refl
+
+long_prefix : taken office (Some clerk) 1700000000 (Clerk (AddPool 0x100_0000)) ≡ record { reply = Refused no.Bits; world = office }
+long_prefix = rw office-clerk refl
+
+prefix_by_an_applicant : taken granted (Some alice) 1700000000 (Clerk (AddPool low)) ≡ record { reply = Refused no.Kind; world = granted }
+prefix_by_an_applicant = rw granted-alice refl
 
 -- ---- The three lines of a new office in turn
 

@@ -24,7 +24,7 @@ use Rattle.reg_core.specs.declared.command.ApplicantCommand.TheVariants.{Own, Ow
 use Rattle.reg_core.specs.declared.command.ExpertCommand.{ExpertCommand}
 use Rattle.reg_core.specs.declared.command.ExpertCommand.TheVariants.{Queue, Advise}
 use Rattle.reg_core.specs.declared.command.PublicCommand.{PublicCommand}
-use Rattle.reg_core.specs.declared.command.PublicCommand.TheVariants.{Registries, Registry, RegistryCsv}
+use Rattle.reg_core.specs.declared.command.PublicCommand.TheVariants.{Registries, Registry, RegistryCsv, PoolList}
 use Rattle.reg_core.specs.declared.decide.Decision.{Decision}
 use Rattle.reg_core.specs.declared.decide.Decision.TheVariants.{Make, Same}
 use Rattle.reg_core.specs.declared.refusal.Refusal.{Refusal}
@@ -92,6 +92,7 @@ abbrev pub public_answer : Published → ℕ → PublicCommand → Answer
 public_answer p today Registries = replied (reply.Names (keys p.registries))
 public_answer p today (Registry name) = replied (page_reply p name (get p.registries name) today)
 public_answer p today (RegistryCsv name) = replied (sheet_reply p name (get p.registries name) today)
+public_answer p today PoolList = replied (reply.Pool (keys p.pool))
 
 -- ---- Admission
 

@@ -11,13 +11,13 @@ use Rattle.reg_core.specs.declared.capability.Kind.TheVariants as kind
 use Rattle.reg_core.specs.declared.command.Command.{Command}
 use Rattle.reg_core.specs.declared.command.Command.TheVariants.{Public, Applicant, Expert, Clerk}
 use Rattle.reg_core.specs.declared.command.PublicCommand.{PublicCommand}
-use Rattle.reg_core.specs.declared.command.PublicCommand.TheVariants.{Registries, Registry, RegistryCsv}
+use Rattle.reg_core.specs.declared.command.PublicCommand.TheVariants.{Registries, Registry, RegistryCsv, PoolList}
 use Rattle.reg_core.specs.declared.command.ApplicantCommand.{ApplicantCommand}
 use Rattle.reg_core.specs.declared.command.ApplicantCommand.TheVariants.{Own, OwnOne, Submit, Withdraw}
 use Rattle.reg_core.specs.declared.command.ExpertCommand.{ExpertCommand}
 use Rattle.reg_core.specs.declared.command.ExpertCommand.TheVariants.{Queue, Advise}
 use Rattle.reg_core.specs.declared.command.ClerkCommand.{ClerkCommand}
-use Rattle.reg_core.specs.declared.command.ClerkCommand.TheVariants.{AllRequests, OneRequest, AssignExpert, Approve, Decline, Define, Grant, Revoke}
+use Rattle.reg_core.specs.declared.command.ClerkCommand.TheVariants.{AllRequests, OneRequest, AssignExpert, Approve, Decline, Define, AddPool, Grant, Revoke}
 
 -- the kind of capability that a command needs; none where it is anybody's
 abbrev pub kind_of : Command → Option Kind
@@ -32,6 +32,7 @@ abbrev pub has_public_form : PublicCommand → Bool
 has_public_form Registries = true
 has_public_form (Registry name) = is_name name
 has_public_form (RegistryCsv name) = is_name name
+has_public_form PoolList = true
 
 abbrev pub has_applicant_form : ApplicantCommand → Bool
 has_applicant_form Own = true
@@ -43,6 +44,7 @@ abbrev pub has_expert_form : ExpertCommand → Bool
 has_expert_form Queue = true
 has_expert_form (Advise account reference advice) = is_name account && is_name reference && has_advice_form advice
 
+-- whether a number may be in the pool is no matter of form: the rule decides it
 abbrev pub has_clerk_form : ClerkCommand → Bool
 has_clerk_form AllRequests = true
 has_clerk_form (OneRequest account reference) = is_name account && is_name reference
@@ -50,6 +52,7 @@ has_clerk_form (AssignExpert account reference expert) = is_name account && is_n
 has_clerk_form (Approve account reference) = is_name account && is_name reference
 has_clerk_form (Decline account reference reason) = is_name account && is_name reference && is_text reason
 has_clerk_form (Define name table) = is_name name && has_table_form table
+has_clerk_form (AddPool prefix) = true
 has_clerk_form (Grant token cap) = is_token token && has_cap_form cap
 has_clerk_form (Revoke token) = is_token token
 

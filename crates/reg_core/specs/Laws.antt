@@ -29,14 +29,14 @@ use Rattle.reg_core.specs.declared.command.Command.{Command}
 use Rattle.reg_core.specs.declared.command.Command.TheVariants.{Public, Applicant, Expert, Clerk}
 use Rattle.reg_core.specs.declared.command.ApplicantCommand.TheVariants.{Own, OwnOne, Submit, Withdraw}
 use Rattle.reg_core.specs.declared.command.ExpertCommand.TheVariants.{Queue, Advise}
-use Rattle.reg_core.specs.declared.command.ClerkCommand.TheVariants.{AllRequests, OneRequest, AssignExpert, Approve, Decline, Define, Grant, Revoke}
-use Rattle.reg_core.specs.declared.command.PublicCommand.TheVariants.{Registries, Registry, RegistryCsv}
+use Rattle.reg_core.specs.declared.command.ClerkCommand.TheVariants.{AllRequests, OneRequest, AssignExpert, Approve, Decline, Define, AddPool, Grant, Revoke}
+use Rattle.reg_core.specs.declared.command.PublicCommand.TheVariants.{Registries, Registry, RegistryCsv, PoolList}
 use Rattle.reg_core.specs.declared.file.File.{File}
 use Rattle.reg_core.specs.declared.page.Page.{Page as PageOf}
 use Rattle.reg_core.specs.declared.queue.QueueRow.{QueueRow}
 use Rattle.reg_core.specs.declared.refusal.Refusal.{Refusal}
 use Rattle.reg_core.specs.declared.reply.Reply.{Reply}
-use Rattle.reg_core.specs.declared.reply.Reply.TheVariants.{Names, Page, Sheet, Made, Row, Rows, Item, Items, Desk, Desks, Filed, Defined, Granted, Revoked, Refused}
+use Rattle.reg_core.specs.declared.reply.Reply.TheVariants.{Names, Page, Sheet, Pool, Made, Row, Rows, Item, Items, Desk, Desks, Filed, Defined, Pooled, Granted, Revoked, Refused}
 use Rattle.reg_core.specs.declared.entry.Assignment.{Assignment}
 use Rattle.reg_core.specs.declared.request.Filing.{Filing}
 use Rattle.reg_core.specs.declared.request.Given.{Given}
@@ -115,6 +115,7 @@ WasDone digest_of w today command (Refused refusal) = Unit {0}
 WasDone digest_of w today (Public Registries) (Names names) = names ≡ keys w.registries
 WasDone digest_of w today (Public (Registry name)) (Page page) = Shows w name today page
 WasDone digest_of w today (Public (RegistryCsv name)) (Sheet page) = Shows w name today page
+WasDone digest_of w today (Public PoolList) (Pool prefixes) = prefixes ≡ keys w.pool
 WasDone digest_of w today (Applicant Own) (Rows rows) = All (HasRow w) rows
 WasDone digest_of w today (Applicant (OwnOne reference)) (Row row) = (row.reference ≡ reference) × HasRow w row
 WasDone digest_of w today (Applicant (Submit reference ask)) (Made row) = (row.reference ≡ reference) × (row.ask ≡ ask) × HasRow w row
@@ -130,6 +131,7 @@ WasDone digest_of w today (Clerk (AssignExpert account reference expert)) (Desk 
 WasDone digest_of w today (Clerk (Approve account reference)) (Desk row) = IsApproved row.state × IsRow w account reference row
 WasDone digest_of w today (Clerk (Decline account reference reason)) (Desk row) = (row.state ≡ Declined reason) × IsRow w account reference row
 WasDone digest_of w today (Clerk (Define name table)) (Defined given) = (given ≡ name) × (get w.registries name ≡ Some table)
+WasDone digest_of w today (Clerk (AddPool prefix)) (Pooled given) = (given ≡ prefix) × (contains_key w.pool prefix ≡ true)
 WasDone digest_of w today (Clerk (Grant token cap)) (Granted given) = (given ≡ cap) × (get w.caps (digest_of token) ≡ Some cap)
 WasDone digest_of w today (Clerk (Revoke token)) Revoked = get w.caps (digest_of token) ≡ None
 WasDone digest_of w today command reply = ⊥
@@ -173,6 +175,7 @@ is_refused (Refused refusal) = true
 is_refused (Names names) = false
 is_refused (Page page) = false
 is_refused (Sheet page) = false
+is_refused (Pool prefixes) = false
 is_refused (Made row) = false
 is_refused (Row row) = false
 is_refused (Rows rows) = false
@@ -182,6 +185,7 @@ is_refused (Desk row) = false
 is_refused (Desks rows) = false
 is_refused (Filed file) = false
 is_refused (Defined name) = false
+is_refused (Pooled prefix) = false
 is_refused (Granted cap) = false
 is_refused Revoked = false
 
@@ -226,11 +230,12 @@ abbrev pub StillAsks : Filing → Option Filing → Type 0
 StillAsks filing None = ⊥
 StillAsks filing (Some now) = (now.ask ≡ filing.ask) × StillStands filing.state now.state
 
--- no registry, entry or request goes away, and each keeps what it is
+-- no registry, entry, request or prefix of the pool goes away, and each keeps what it is
 pub record Stays (w v : World) : Type 0 where
   pub registries : (name : List ℕ) (table : Table) → get w.registries name ≡ Some table → get v.registries name ≡ Some table
   pub entries : (place : Place) (a : Assignment) → get w.entries place ≡ Some a → StillGiven a (get v.entries place)
   pub requests : (name : RequestName) (filing : Filing) → get w.requests name ≡ Some filing → StillAsks filing (get v.requests name)
+  pub pool : (prefix : ℕ) → contains_key w.pool prefix ≡ true → contains_key v.pool prefix ≡ true
 
 -- what a well kept world has stays in every run
 abbrev pub GivenStays : (List ℕ → List ℕ) → Type 0

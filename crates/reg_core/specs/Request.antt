@@ -4,7 +4,7 @@ use Rattle.std.specs.FinMap.{FinMap, entries}
 use Rattle.reg_ranges.specs.Texts.{is_text}
 use Rattle.reg_core.specs.World.{RequestName, name_cmp, in_state}
 use Rattle.reg_core.specs.declared.change.Change.{Change}
-use Rattle.reg_core.specs.declared.change.Change.TheVariants.{Grant, Revoke, Define, Submit, Close, Assign, Advise, GiveValue}
+use Rattle.reg_core.specs.declared.change.Change.TheVariants.{Grant, Revoke, Define, AddPool, Submit, Close, Assign, Advise, GiveValue}
 use Rattle.reg_core.specs.declared.request.Filing.{Filing}
 use Rattle.reg_core.specs.declared.request.Given.{Given}
 use Rattle.reg_core.specs.declared.request.Given.TheVariants.{Value}
@@ -54,6 +54,7 @@ abbrev pub state_by : Change → Option State
 state_by (Grant digest cap) = None
 state_by (Revoke digest) = None
 state_by (Define name table) = None
+state_by (AddPool prefix) = None
 state_by (Submit account reference ask) = Some Pending
 state_by (Close account reference state) = Some state
 state_by (Assign account reference expert) = None

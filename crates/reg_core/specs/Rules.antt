@@ -1,5 +1,6 @@
 -- The rule by which each command is decided, over just the rows that it needs.
 use Rattle.std.specs.Prelude.{◌≡◌, ℕ, Bool, true, false, ◌&&◌, not, List, Option, Some, None, Result, Ok, Err, is_some, if◌then◌else◌, MatchResult}
+use Rattle.reg_blocks.specs.Pool.{is_pool_prefix}
 use Rattle.reg_ranges.specs.Sameness.{same_table}
 use Rattle.reg_ranges.specs.Tables.{Table}
 use Rattle.reg_core.specs.Advice.{is_given}
@@ -14,13 +15,13 @@ use Rattle.reg_core.specs.declared.ask.Ask.{Ask}
 use Rattle.reg_core.specs.declared.ask.Ask.TheVariants.{Code}
 use Rattle.reg_core.specs.declared.capability.Cap.{Cap}
 use Rattle.reg_core.specs.declared.change.Change.{Change}
-use Rattle.reg_core.specs.declared.change.Change.TheVariants.{Grant, Revoke, Define, Submit, Close, Assign, Advise, GiveValue}
+use Rattle.reg_core.specs.declared.change.Change.TheVariants.{Grant, Revoke, Define, AddPool, Submit, Close, Assign, Advise, GiveValue}
 use Rattle.reg_core.specs.declared.decide.Decision.{Decision}
 use Rattle.reg_core.specs.declared.decide.Decision.TheVariants.{Make, Same}
 use Rattle.reg_core.specs.declared.decide.Deny.{Deny}
 use Rattle.reg_core.specs.declared.decide.Deny.TheVariants.{Refused, Memory}
 use Rattle.reg_core.specs.declared.refusal.Refusal.{Refusal}
-use Rattle.reg_core.specs.declared.refusal.Refusal.TheVariants.{Ref, Closed, Advice, Own, Exists}
+use Rattle.reg_core.specs.declared.refusal.Refusal.TheVariants.{Ref, Closed, Advice, Own, Exists, Bits}
 use Rattle.reg_core.specs.declared.request.Filing.{Filing}
 use Rattle.reg_core.specs.declared.request.Given.{Given}
 use Rattle.reg_core.specs.declared.request.Given.TheVariants.{Value}
@@ -88,6 +89,13 @@ approve_rule rows advised name ask today Withdrawn = Err Closed
 abbrev pub define_rule : Option Table → List ℕ → Table → Result Decision Refusal
 define_rule None name table = Ok (Make (Define name table))
 define_rule (Some old) name table = if same_table old table then Ok Same else Err Exists
+
+-- a prefix is added to the pool once, if it may be in one
+abbrev pub pool_rule : Bool → ℕ → Result Decision Refusal
+pool_rule there prefix =
+    if not (is_pool_prefix prefix) then Err Bits
+    else if there then Ok Same
+    else Ok (Make (AddPool prefix))
 
 abbrev pub grant_rule : Option Cap → List ℕ → Cap → Result Decision Refusal
 grant_rule None digest cap = Ok (Make (Grant digest cap))

@@ -3,7 +3,7 @@ use Rattle.std.specs.Prelude.{ℕ, Bool, false, ◌&&◌, nat_lt, List, Option, 
 use Rattle.std.specs.FinMap.{get, contains_key}
 use Rattle.reg_core.specs.Answer.{Answer, replied, answered, stated, for_request, desk_row, answer}
 use Rattle.reg_core.specs.Capability.{same_kind}
-use Rattle.reg_core.specs.Rules.{assign_rule, approve_rule, decline_rule, define_rule, grant_rule, revoke_rule}
+use Rattle.reg_core.specs.Rules.{assign_rule, approve_rule, decline_rule, define_rule, pool_rule, grant_rule, revoke_rule}
 use Rattle.reg_core.specs.View.{published, view_of}
 use Rattle.reg_early.specs.Moment.{is_in_clock, utc_day}
 use Rattle.reg_core.specs.Allowance.{ground_of}
@@ -15,7 +15,7 @@ use Rattle.reg_core.specs.declared.capability.Kind.TheVariants.{Clerk}
 use Rattle.reg_core.specs.declared.command.Command.{Command}
 use Rattle.reg_core.specs.declared.command.Command.TheVariants as command
 use Rattle.reg_core.specs.declared.command.ClerkCommand.{ClerkCommand}
-use Rattle.reg_core.specs.declared.command.ClerkCommand.TheVariants.{AllRequests, OneRequest, AssignExpert, Approve, Decline, Define, Grant, Revoke}
+use Rattle.reg_core.specs.declared.command.ClerkCommand.TheVariants.{AllRequests, OneRequest, AssignExpert, Approve, Decline, Define, AddPool, Grant, Revoke}
 use Rattle.reg_core.specs.declared.reply.Reply.{Reply}
 use Rattle.reg_core.specs.declared.reply.Reply.TheVariants as reply
 
@@ -53,6 +53,8 @@ module _ (digest_of : List ℕ → List ℕ) where
       stated (decline_rule (account, reference) reason filing.state) (desk_row (account, reference)) filing)
   clerk_answer w in_use today (Define name table) =
       answered (define_rule (get w.registries name) name table) (reply.Defined name) (reply.Defined name)
+  clerk_answer w in_use today (AddPool prefix) =
+      answered (pool_rule (contains_key w.pool prefix) prefix) (reply.Pooled prefix) (reply.Pooled prefix)
   clerk_answer w in_use today (Grant token cap) =
       answered (grant_rule (get w.caps (digest_of token)) (digest_of token) cap) (reply.Granted cap) (reply.Granted cap)
   clerk_answer w in_use today (Revoke token) =

@@ -14,9 +14,9 @@ use Rattle.reg_core.specs.declared.command.ApplicantCommand.TheVariants.{Own, Ow
 use Rattle.reg_core.specs.declared.command.ExpertCommand.{ExpertCommand}
 use Rattle.reg_core.specs.declared.command.ExpertCommand.TheVariants.{Queue, Advise}
 use Rattle.reg_core.specs.declared.command.ClerkCommand.{ClerkCommand}
-use Rattle.reg_core.specs.declared.command.ClerkCommand.TheVariants.{AllRequests, OneRequest, AssignExpert, Approve, Decline, Define, Grant, Revoke}
+use Rattle.reg_core.specs.declared.command.ClerkCommand.TheVariants.{AllRequests, OneRequest, AssignExpert, Approve, Decline, Define, AddPool, Grant, Revoke}
 use Rattle.reg_core.specs.declared.command.PublicCommand.{PublicCommand}
-use Rattle.reg_core.specs.declared.command.PublicCommand.TheVariants.{Registries, Registry, RegistryCsv}
+use Rattle.reg_core.specs.declared.command.PublicCommand.TheVariants.{Registries, Registry, RegistryCsv, PoolList}
 use Rattle.reg_core.specs.declared.queue.QueueRow.{QueueRow}
 use Rattle.reg_core.specs.declared.reply.Reply.{Reply}
 use Rattle.reg_core.specs.declared.reply.Reply.TheVariants as reply
@@ -44,6 +44,7 @@ abbrev pub public_lists : PublicCommand → Bool
 public_lists Registries = false
 public_lists (Registry name) = false
 public_lists (RegistryCsv name) = false
+public_lists PoolList = false
 
 abbrev pub applicant_lists : Bool → ApplicantCommand → Bool
 applicant_lists others Own = others
@@ -62,6 +63,7 @@ clerk_lists (AssignExpert account reference expert) = false
 clerk_lists (Approve account reference) = false
 clerk_lists (Decline account reference reason) = false
 clerk_lists (Define name table) = false
+clerk_lists (AddPool prefix) = false
 clerk_lists (Grant token cap) = false
 clerk_lists (Revoke token) = false
 
@@ -84,6 +86,7 @@ abbrev pub seen_of : (RequestName → Bool) → Reply → Reply
 seen_of unseen (reply.Names names) = reply.Names names
 seen_of unseen (reply.Page page) = reply.Page page
 seen_of unseen (reply.Sheet page) = reply.Sheet page
+seen_of unseen (reply.Pool prefixes) = reply.Pool prefixes
 seen_of unseen (reply.Made row) = reply.Made row
 seen_of unseen (reply.Row row) = reply.Row row
 seen_of unseen (reply.Rows rows) = reply.Rows (seen_requests unseen rows)
@@ -93,6 +96,7 @@ seen_of unseen (reply.Desk row) = reply.Desk row
 seen_of unseen (reply.Desks rows) = reply.Desks (seen_requests unseen rows)
 seen_of unseen (reply.Filed file) = reply.Filed file
 seen_of unseen (reply.Defined name) = reply.Defined name
+seen_of unseen (reply.Pooled prefix) = reply.Pooled prefix
 seen_of unseen (reply.Granted cap) = reply.Granted cap
 seen_of unseen reply.Revoked = reply.Revoked
 seen_of unseen (reply.Refused refusal) = reply.Refused refusal

@@ -20,9 +20,9 @@ use Rattle.reg_core.specs.declared.command.ApplicantCommand.TheVariants.{Own, Ow
 use Rattle.reg_core.specs.declared.command.ExpertCommand.{ExpertCommand}
 use Rattle.reg_core.specs.declared.command.ExpertCommand.TheVariants.{Queue, Advise}
 use Rattle.reg_core.specs.declared.command.ClerkCommand.{ClerkCommand}
-use Rattle.reg_core.specs.declared.command.ClerkCommand.TheVariants.{AllRequests, OneRequest, AssignExpert, Approve, Decline, Define, Grant, Revoke}
+use Rattle.reg_core.specs.declared.command.ClerkCommand.TheVariants.{AllRequests, OneRequest, AssignExpert, Approve, Decline, Define, AddPool, Grant, Revoke}
 use Rattle.reg_core.specs.declared.command.PublicCommand.{PublicCommand}
-use Rattle.reg_core.specs.declared.command.PublicCommand.TheVariants.{Registries, Registry, RegistryCsv}
+use Rattle.reg_core.specs.declared.command.PublicCommand.TheVariants.{Registries, Registry, RegistryCsv, PoolList}
 use Rattle.reg_core.specs.declared.reply.Reply.{Reply}
 
 -- ---- The stages of a run
@@ -60,6 +60,7 @@ abbrev pub public_about : PublicCommand → Option RequestName
 public_about Registries = None
 public_about (Registry name) = None
 public_about (RegistryCsv name) = None
+public_about PoolList = None
 
 abbrev pub applicant_about : Option Cap → ApplicantCommand → Option RequestName
 applicant_about found Own = None
@@ -78,6 +79,7 @@ clerk_about (AssignExpert account reference expert) = Some (account, reference)
 clerk_about (Approve account reference) = Some (account, reference)
 clerk_about (Decline account reference reason) = Some (account, reference)
 clerk_about (Define name table) = None
+clerk_about (AddPool prefix) = None
 clerk_about (Grant token cap) = None
 clerk_about (Revoke token) = None
 
@@ -98,6 +100,7 @@ abbrev pub shows : List ℕ → RequestName → Change → Bool
 shows account name (change.Grant digest cap) = false
 shows account name (change.Revoke digest) = false
 shows account name (change.Define registry table) = false
+shows account name (change.AddPool prefix) = false
 shows account name (change.Submit applicant reference ask) = false
 shows account name (change.Close applicant reference state) = false
 shows account name (change.Assign applicant reference expert) = same_name (applicant, reference) name && same_text expert account

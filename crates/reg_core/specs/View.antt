@@ -1,6 +1,8 @@
 -- What is published, and what one caller sees.
 use Rattle.std.specs.Prelude.{ℕ, List, Option, option_map, option_and_then}
 use Rattle.std.specs.FinMap.{FinMap, get, contains_key}
+use Rattle.std.specs.FinSet.{FinSet}
+use Rattle.std.specs.Ordering.{nat_cmp}
 use Rattle.reg_ranges.specs.Tables.{Table}
 use Rattle.reg_core.specs.Maps.{text_cmp, same_text, only_if, select}
 use Rattle.reg_core.specs.Request.{word_of}
@@ -12,13 +14,14 @@ use Rattle.reg_core.specs.declared.capability.Cap.{Cap}
 use Rattle.reg_core.specs.declared.request.Filing.{Filing}
 use Rattle.reg_core.specs.declared.request.StateWord.{StateWord}
 
--- the published registers: the ranges of each registry, and its entries
+-- the published registers: the ranges of each registry, and its entries; and the prefixes of the pool
 pub record Published : Type 0 where
   pub registries : FinMap text_cmp Table
   pub entries : FinMap place_cmp Assignment
+  pub pool : FinSet nat_cmp
 
 abbrev pub published : World → Published
-published w = record { registries = w.registries; entries = w.entries }
+published w = record { registries = w.registries; entries = w.entries; pool = w.pool }
 
 -- a registry's entries
 abbrev pub entries_of : List ℕ → FinMap place_cmp Assignment → FinMap place_cmp Assignment

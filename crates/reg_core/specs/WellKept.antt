@@ -1,6 +1,7 @@
 -- What holds of every world that an office keeps, and the changes that fit it.
 use Rattle.std.specs.Prelude.{◌≡◌, ◌^◌, Bool, true, false, ◌&&◌, not, nat_lt, List, ℕ, Option, Some, None, IsSome, is_ok}
 use Rattle.std.specs.FinMap.{FinMap, get, contains_key}
+use Rattle.reg_blocks.specs.Pool.{is_pool_prefix}
 use Rattle.reg_ranges.specs.Tables.{Table, treatment_of}
 use Rattle.reg_core.specs.Advice.{has_advice_form}
 use Rattle.reg_core.specs.Ask.{has_ask_form}
@@ -15,7 +16,7 @@ use Rattle.reg_core.specs.World.{World, RequestName, Place, place_cmp, Seat, app
 use Rattle.reg_core.specs.declared.advice.Advice.{Advice}
 use Rattle.reg_core.specs.declared.capability.Cap.{Cap}
 use Rattle.reg_core.specs.declared.change.Change.{Change}
-use Rattle.reg_core.specs.declared.change.Change.TheVariants.{Grant, Revoke, Define, Submit, Close, Assign, Advise, GiveValue}
+use Rattle.reg_core.specs.declared.change.Change.TheVariants.{Grant, Revoke, Define, AddPool, Submit, Close, Assign, Advise, GiveValue}
 use Rattle.reg_core.specs.declared.request.Filing.{Filing}
 use Rattle.reg_core.specs.declared.ask.Ask.{Ask}
 use Rattle.reg_core.specs.declared.ask.Ask.TheVariants.{Code}
@@ -59,7 +60,8 @@ stands_in entries account ask Withdrawn = true
 
 -- every text and number has its form, the ranges of each registry are a partition of its values, each entry
 -- has a value that is assigned one by one, and each approved request its entry; only requests that are there are
--- assigned to experts, none to its applicant, and advice is by experts to whom the request is assigned
+-- assigned to experts, none to its applicant, and advice is by experts to whom the request is assigned; every number of
+-- the pool is a prefix that may be in one
 pub record WellKept (w : World) : Type 0 where
   pub caps : (digest : List ℕ) (cap : Cap) → get w.caps digest ≡ Some cap → has_grant_form digest cap ≡ true
   pub registries : (name : List ℕ) (table : Table) → get w.registries name ≡ Some table → has_registry_form name table ≡ true
@@ -71,12 +73,14 @@ pub record WellKept (w : World) : Type 0 where
   pub queued : (seat : Seat) → contains_key w.queue seat ≡ true → IsSome (get w.requests seat.0)
   pub advice : (seat : Seat) (advice : Advice) → get w.advice seat ≡ Some advice → has_advice_form advice ≡ true
   pub advised : (seat : Seat) (advice : Advice) → get w.advice seat ≡ Some advice → contains_key w.queue seat ≡ true
+  pub pool : (prefix : ℕ) → contains_key w.pool prefix ≡ true → is_pool_prefix prefix ≡ true
 
--- a capability, a registry, a request or an assignment that the change adds is not there, and a request that it closes or gives something is
+-- a capability, a registry, a prefix, a request or an assignment that the change adds is not there, and a request that it closes or gives something is
 abbrev pub IsNew : World → Change → Type 0
 IsNew w (Grant digest cap) = get w.caps digest ≡ None
 IsNew w (Revoke digest) = Unit {0}
 IsNew w (Define name table) = get w.registries name ≡ None
+IsNew w (AddPool prefix) = contains_key w.pool prefix ≡ false
 IsNew w (Submit account reference ask) = get w.requests (account, reference) ≡ None
 IsNew w (Close account reference state) = IsSome (get w.requests (account, reference))
 IsNew w (Assign account reference expert) = contains_key w.queue ((account, reference), expert) ≡ false

@@ -12,7 +12,7 @@ use Rattle.reg_core.specs.declared.advice.Advice.{Advice}
 use Rattle.reg_core.specs.declared.ask.Ask.{Ask}
 use Rattle.reg_core.specs.declared.capability.Cap.{Cap}
 use Rattle.reg_core.specs.declared.change.Change.{Change}
-use Rattle.reg_core.specs.declared.change.Change.TheVariants.{Grant, Revoke, Define, Submit, Close, Assign, Advise, GiveValue}
+use Rattle.reg_core.specs.declared.change.Change.TheVariants.{Grant, Revoke, Define, AddPool, Submit, Close, Assign, Advise, GiveValue}
 use Rattle.reg_core.specs.declared.request.Filing.{Filing}
 use Rattle.reg_core.specs.declared.request.State.{State}
 use Rattle.reg_core.specs.declared.request.State.TheVariants.{Pending, Approved}
@@ -41,7 +41,7 @@ abbrev pub seat_cmp : Seat → Seat → Ordering
 seat_cmp = pair_cmp name_cmp text_cmp
 
 -- capabilities by the digests of their tokens, registries by their names, entries by registry and value, requests by their names;
--- which request is assigned to which expert, and the advice that each gave
+-- which request is assigned to which expert, and the advice that each gave; the prefixes that blocks are cut from
 pub record World : Type 0 where
   pub caps : FinMap text_cmp Cap
   pub registries : FinMap text_cmp Table
@@ -49,9 +49,10 @@ pub record World : Type 0 where
   pub requests : FinMap name_cmp Filing
   pub queue : FinSet seat_cmp
   pub advice : FinMap seat_cmp Advice
+  pub pool : FinSet nat_cmp
 
 abbrev pub empty_world : World
-empty_world = record { caps = map.empty; registries = map.empty; entries = map.empty; requests = map.empty; queue = map.empty; advice = map.empty }
+empty_world = record { caps = map.empty; registries = map.empty; entries = map.empty; requests = map.empty; queue = map.empty; advice = map.empty; pool = map.empty }
 
 -- a request that waits for the office
 abbrev pub pending : Ask → Filing
@@ -69,6 +70,7 @@ abbrev pub applied : World → Change → World
 applied w (Grant digest cap) = record w { caps = insert w.caps digest cap }
 applied w (Revoke digest) = record w { caps = remove w.caps digest }
 applied w (Define name table) = record w { registries = insert w.registries name table }
+applied w (AddPool prefix) = record w { pool = insert w.pool prefix tt }
 applied w (Submit account reference ask) = record w { requests = insert w.requests (account, reference) (pending ask) }
 applied w (Close account reference state) = with_state w (account, reference) state
 applied w (Assign account reference expert) = record w { queue = insert w.queue ((account, reference), expert) tt }

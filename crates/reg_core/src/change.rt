@@ -16,6 +16,8 @@ pub enum Change {
     Revoke(Digest),
     /// Adds a registry.
     Define(Name, RangeTable),
+    /// Adds a prefix to the pool.
+    AddPool(u32),
     /// Adds a pending request.
     Submit(Account, Ref, Ask),
     /// Closes a request, which is given nothing: declined or withdrawn.

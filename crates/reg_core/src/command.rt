@@ -27,6 +27,8 @@ pub enum PublicCommand {
     Registry(Name),
     /// Lists a registry as a table.
     RegistryCsv(Name),
+    /// Lists the prefixes that blocks are cut from.
+    PoolList,
 }
 
 /// What an applicant may ask, of its own account.
@@ -66,6 +68,8 @@ pub enum ClerkCommand {
     Decline(Account, Ref, Text),
     /// Opens a registry with its largest value and its ranges.
     Define(Name, RangeTable),
+    /// Adds a prefix of 24 bits to the pool.
+    AddPool(u32),
     /// Gives a token a capability.
     Grant(Token, Cap),
     /// Takes a token's capability away.

@@ -52,7 +52,7 @@ pub fn approvals_are_advised()
 
 /// What was given stays: in every run from a well kept world an entry keeps its label, its assignee and
 /// its first day, a registry its ranges, a request its ask and, once it is not pending, its state; and none
-/// of them goes away.
+/// of them goes away, nor does a prefix of the pool.
 pub fn given_stays()
     ensures { (digest_of : List ℕ → List ℕ) → GivesDigests digest_of → GivenStays digest_of }
 {}

@@ -37,4 +37,6 @@ pub enum Refusal {
     Own,
     /// Something else is there already.
     Exists,
+    /// The prefix is no 24-bit number, or its I/G or U/L bit is set (IEEE Std 802-2014, clause 8).
+    Bits,
 }

@@ -10,6 +10,7 @@ use crate::refusal::Refusal;
 use crate::request::Request;
 use crate::rows::Rows;
 use crate::text::Name;
+use reg_blocks::pool::Pool;
 
 /// What the office answers to a command.
 #[derive(Drop)]
@@ -20,6 +21,8 @@ pub enum Reply {
     Page(Page),
     /// A registry as a table.
     Sheet(Page),
+    /// The prefixes of the pool, ascending.
+    Pool(Pool),
     /// A request was made.
     Made(Request),
     /// A request of the caller's.
@@ -38,6 +41,8 @@ pub enum Reply {
     Filed(File),
     /// The registry of this name is there as it was defined.
     Defined(Name),
+    /// The prefix is in the pool.
+    Pooled(u32),
     /// The capability that a token now has.
     Granted(Cap),
     /// The token has no capability now.

@@ -4,13 +4,13 @@ use Rattle.std.specs.Prelude.{Option, Some, None, option_map}
 use Rattle.std.specs.FinMap.{get, contains_key}
 use Rattle.reg_ranges.specs.Tables.{Table}
 use Rattle.reg_core.specs.Allowance.{Ground, allowed, ground_of}
-use Rattle.reg_core.specs.Answer.{refused, replied, for_request, stated, row_reply}
+use Rattle.reg_core.specs.Answer.{answered, refused, replied, for_request, stated, row_reply}
 use Rattle.reg_core.specs.Capability.{has_cap_form}
 use Rattle.reg_core.specs.Entry.{has_day_form}
 use Rattle.reg_core.specs.File.{file, experts_of, opinions_of}
 use Rattle.reg_core.specs.Names.{is_digest, is_name}
 use Rattle.reg_core.specs.Request.{filing_of, request_row, is_pending}
-use Rattle.reg_core.specs.Rules.{Follows, approve_rule, assign_rule, decline_rule, define_rule, grant_rule, revoke_rule, submit_rule, withdraw_rule}
+use Rattle.reg_core.specs.Rules.{Follows, approve_rule, assign_rule, decline_rule, define_rule, grant_rule, pool_rule, revoke_rule, submit_rule, withdraw_rule}
 use Rattle.reg_core.specs.View.{published}
 use Rattle.reg_core.specs.WellKept.{WellKept, CanApply, has_registry_form, has_request_form}
 use Rattle.reg_core.specs.World.{World, RequestName, applied_if, pending}
@@ -24,15 +24,15 @@ use Rattle.reg_core.specs.declared.decide.Deny.TheVariants.{Refused}
 use Rattle.reg_core.specs.declared.file.File.{File}
 use Rattle.reg_core.specs.declared.refusal.Refusal.{Refusal}
 use Rattle.reg_core.specs.declared.reply.Reply.{Reply}
-use Rattle.reg_core.specs.declared.reply.Reply.TheVariants.{Made}
+use Rattle.reg_core.specs.declared.reply.Reply.TheVariants.{Made, Pooled}
 use Rattle.reg_core.specs.declared.request.Filing.{Filing}
 use Rattle.reg_core.specs.declared.request.Given.{Given}
 use Rattle.reg_core.specs.declared.request.Request.{Request}
 use Rattle.reg_core.specs.declared.request.State.{State}
 use Rattle.reg_core.specs.declared.request.State.TheVariants.{Pending, Approved, Declined, Withdrawn}
 use Rattle.reg_ranges.specs.Texts.{is_text}
-use Rattle.reg_core.proofs.Fitting.{approve_fits, assign_fits, decline_fits, define_fits, grant_fits, revoke_fits, submit_fits, withdraw_fits}
-use Rattle.reg_office.specs.Acts.{decided_about, submission}
+use Rattle.reg_core.proofs.Fitting.{approve_fits, assign_fits, decline_fits, define_fits, grant_fits, pool_fits, revoke_fits, submit_fits, withdraw_fits}
+use Rattle.reg_office.specs.Acts.{decided_about, pooling, submission}
 use Rattle.reg_office.specs.Decisions.{CanMake, change_of, filing_by, made_by, row_by}
 use Rattle.reg_office.specs.Rows.{row_or_refused}
 
@@ -205,13 +205,30 @@ approve_read rows shown advised name ask today (Approved given) same = refl
 approve_read rows shown advised name ask today (Declined reason) same = refl
 approve_read rows shown advised name ask today Withdrawn same = refl
 
--- ---- Definitions
+-- ---- What is published
 
 pub define_carried : (w : World) (name : List ℕ) (table : Table) (found : Option Table) (decision : Decision) → found ≡ get w.registries name → WellKept w
     → has_registry_form name table ≡ true → Follows (define_rule found name table) (Ok decision) → CanMake w decision
 define_carried w name table found Same is kept form follows = tt
 define_carried w name table found (Make change) is kept form follows =
     define_fits w name table change kept form (ap (λ o. define_rule o name table) (sym is) ∙ decided (define_rule found name table) (Make change) follows)
+
+pub pool_carried : (w : World) (has : Bool) (prefix : ℕ) (decision : Decision) → has ≡ contains_key w.pool prefix → WellKept w
+    → pool_rule has prefix ≡ Ok decision → CanMake w decision
+pool_carried w has prefix Same is kept decides = tt
+pool_carried w has prefix (Make change) is kept decides = pool_fits w prefix change kept (ap (λ b. pool_rule b prefix) (sym is) ∙ decides)
+
+-- the change of a decision is that of its answer
+change_answered : (decision : Decision) (reply : Reply) → change_of decision ≡ (answered (Ok decision) reply reply).change
+change_answered Same reply = refl
+change_answered (Make change) reply = refl
+
+pub pool_made : (w v : World) (has : Bool) (prefix : ℕ) (decision : Decision) → v ≡ w → has ≡ contains_key w.pool prefix
+    → pool_rule has prefix ≡ Ok decision → made_by v decision ≡ applied_if w (pooling w prefix).change
+pool_made w v has prefix decision same is decides =
+    let rule : Ok decision ≡ pool_rule (contains_key w.pool prefix) prefix = sym decides ∙ ap (λ b. pool_rule b prefix) is in
+    ap (λ w. made_by w decision) same ∙ ap (applied_if w) (change_answered decision (Pooled prefix))
+    ∙ ap (λ r. applied_if w (answered r (Pooled prefix) (Pooled prefix)).change) rule
 
 -- ---- Grants and revocations
 

@@ -15,7 +15,7 @@ use Rattle.reg_core.specs.declared.capability.Cap.{Cap}
 use Rattle.reg_core.specs.declared.command.ApplicantCommand.{ApplicantCommand}
 use Rattle.reg_core.specs.declared.command.ApplicantCommand.TheVariants.{Own, OwnOne, Submit, Withdraw}
 use Rattle.reg_core.specs.declared.command.ClerkCommand.{ClerkCommand}
-use Rattle.reg_core.specs.declared.command.ClerkCommand.TheVariants.{AllRequests, OneRequest, AssignExpert, Approve, Decline, Define, Grant, Revoke}
+use Rattle.reg_core.specs.declared.command.ClerkCommand.TheVariants.{AllRequests, OneRequest, AssignExpert, Approve, Decline, Define, AddPool, Grant, Revoke}
 use Rattle.reg_core.specs.declared.command.ExpertCommand.{ExpertCommand}
 use Rattle.reg_core.specs.declared.command.ExpertCommand.TheVariants.{Queue, Advise}
 use Rattle.reg_core.specs.declared.command.PublicCommand.{PublicCommand}
@@ -108,6 +108,10 @@ declining w account reference reason = clerk_act w [] 0 (Decline account referen
 -- a registry that is opened, whatever the token in use and the day
 abbrev pub defining : World → List ℕ → Table → Answer
 defining w name table = clerk_act w [] 0 (Define name table)
+
+-- a prefix that is added to the pool, whatever the token in use and the day
+abbrev pub pooling : World → ℕ → Answer
+pooling w prefix = clerk_act w [] 0 (AddPool prefix)
 
 -- a capability that a token is given, whatever the token in use and the day
 abbrev pub granting : World → List ℕ → Cap → Answer

@@ -88,6 +88,7 @@ fn state_after(change: &Change, state: State) -> Result<State, AllocError>
         Change::Grant(_, _)
         | Change::Revoke(_)
         | Change::Define(_, _)
+        | Change::AddPool(_)
         | Change::Assign(_, _, _)
         | Change::Advise(_, _, _, _) => Ok(state),
     }

@@ -1,22 +1,20 @@
-//! What a clerk may do, once admitted: registries and capabilities here, requests at the desk.
+//! What a clerk may do, once admitted: capabilities here, requests at the desk, and what is published at the registers.
 ghost use Rattle.std.specs.Prelude.{◌≡◌, IfOk, IfErr, OnOk, OnErr};
 ghost use Rattle.reg_core.specs.World.{applied_if};
 ghost use Rattle.reg_store.specs.Keeper.{MayFault};
-ghost use Rattle.reg_office.specs.Acts.{clerk_act, defining, granting, revoking};
+ghost use Rattle.reg_office.specs.Acts.{clerk_act, granting, revoking};
 ghost use Rattle.reg_office.specs.Rows.{granted_or_refused};
 
 use crate::carrying::carry_out;
-use crate::desk;
 use crate::digest::digest_of;
+use crate::{desk, registers};
 use reg_core::capability::Cap;
 use reg_core::command::ClerkCommand;
-use reg_core::decide::{Deny, decide_define, decide_grant, decide_revoke};
-use reg_core::page::see_table;
+use reg_core::decide::{Deny, decide_grant, decide_revoke};
 use reg_core::refusal::Refusal;
 use reg_core::reply::Reply;
-use reg_core::text::{Digest, Name, Token};
+use reg_core::text::{Digest, Token};
 use reg_early::day::Day;
-use reg_ranges::table::RangeTable;
 use reg_store::keeper::{Fault, Keeper};
 use std::alloc::Global;
 
@@ -46,30 +44,10 @@ pub fn perform<K: Keeper>(
         ClerkCommand::Decline(account, reference, reason) => {
             desk::decline(keeper, account, reference, reason)
         }
-        ClerkCommand::Define(name, table) => define(keeper, name, table),
+        ClerkCommand::Define(name, table) => registers::define(keeper, name, table),
+        ClerkCommand::AddPool(prefix) => registers::add_pool(keeper, *prefix),
         ClerkCommand::Grant(token, cap) => grant(alloc, keeper, token, cap),
         ClerkCommand::Revoke(token) => revoke(alloc, keeper, in_use, token),
-    }
-}
-
-// A registry.
-fn define<K: Keeper>(keeper: &mut K, name: &Name, table: &RangeTable) -> Result<Reply, Fault>
-    ensures reply { K.Holds keeper.new → IfOk result (λ r. r ≡ (defining (K.world keeper.old) name.now table.now).reply) }
-    ensures made { K.Holds keeper.new → OnOk result (K.world keeper.new ≡ applied_if (K.world keeper.old) (defining (K.world keeper.old) name.now table.now).change) }
-    ensures kept { K.Holds keeper.new → OnErr result (K.world keeper.new ≡ K.world keeper.old) }
-    ensures held { K.Holds keeper.new → K.Holds keeper.old }
-    ensures fault { IfErr result (MayFault K.FAILS) }
-{
-    let found = keeper.ranges(name)?;
-    match decide_define(found.as_ref(), name, table) {
-        Ok(decision) => {
-            see_table(table);
-            let reply = Reply::Defined(name.copy()?);
-            carry_out(keeper, decision)?;
-            Ok(reply)
-        }
-        Err(Deny::Refused(refusal)) => Ok(Reply::Refused(refusal)),
-        Err(Deny::Memory) => Err(Fault::Memory),
     }
 }
 

@@ -61,7 +61,7 @@ pub fn approvals_are_advised()
 
 /// What was given stays: in every run from a well kept office an entry keeps its label, its assignee and
 /// its first day, a registry its ranges, a request its ask and, once it is not pending, its state; and none
-/// of them goes away.
+/// of them goes away, nor does a prefix of the pool.
 pub fn given_stays()
     ensures { GivenStays token_digest }
 {

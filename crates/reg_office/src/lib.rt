@@ -13,6 +13,7 @@ mod ground;
 pub mod laws;
 mod office;
 mod public;
+mod registers;
 
 pub use found::FoundFault;
 pub use office::Office;

@@ -2,7 +2,7 @@
 ghost use Rattle.std.specs.Prelude.{◌≡◌, map, IfOk, IfErr};
 ghost use Rattle.reg_core.specs.Page.{page_entries};
 ghost use Rattle.reg_core.specs.View.{published};
-ghost use Rattle.reg_core.specs.declared.command.PublicCommand.TheVariants.{Registries, Registry, RegistryCsv};
+ghost use Rattle.reg_core.specs.declared.command.PublicCommand.TheVariants.{Registries, Registry, RegistryCsv, PoolList};
 ghost use Rattle.reg_store.specs.Keeper.{MayFault};
 ghost use Rattle.reg_office.specs.Acts.{public_act};
 ghost use Rattle.reg_office.specs.Pages.{page_on, shown_on};
@@ -34,6 +34,7 @@ pub fn perform<K: Keeper>(
         PublicCommand::Registries => list_registries(keeper),
         PublicCommand::Registry(name) => show_registry(alloc, keeper, today, name),
         PublicCommand::RegistryCsv(name) => show_sheet(alloc, keeper, today, name),
+        PublicCommand::PoolList => list_pool(keeper),
     }
 }
 
@@ -81,6 +82,16 @@ fn show_sheet<K: Keeper>(
         Some(page) => Ok(Reply::Sheet(page)),
         None => Ok(Reply::Refused(Refusal::Registry)),
     }
+}
+
+// The prefixes of the pool.
+fn list_pool<K: Keeper>(keeper: &mut K) -> Result<Reply, Fault>
+    ensures reply { K.Holds keeper.new → IfOk result (λ r. r ≡ (public_act (K.world keeper.old) 0 PoolList).reply) }
+    ensures same { K.Holds keeper.new → K.world keeper.new ≡ K.world keeper.old }
+    ensures held { K.Holds keeper.new → K.Holds keeper.old }
+    ensures fault { IfErr result (MayFault K.FAILS) }
+{
+    Ok(Reply::Pool(keeper.pool()?))
 }
 
 // The registry of this name as it is on a day, if there is one.

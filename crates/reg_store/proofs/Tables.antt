@@ -11,12 +11,13 @@ use Rattle.reg_core.specs.WellKept.{WellKept}
 use Rattle.reg_core.specs.World.{Seat, name_cmp, seat_cmp}
 use Rattle.reg_store.specs.Kept.{kept, Places, Requests, Opinions}
 use Rattle.reg_store.specs.Panels.{Panels, seated}
+use Rattle.reg_store.specs.Pool.{pooled}
 use Rattle.std.specs.Map.{lookup, keys_of}
 use Rattle.std.specs.List.{AllByRecursion}
 use Rattle.std.specs.List.Sorted.{IsStrictlySortedBy}
 use Rattle.std.specs.BTreeMap as tree
 use Rattle.std.specs.BTreeMap.{BTreeMap, is_at, IsOrdered}
-use Rattle.std.specs.FinMap.{get, contains_key, insert, remove, find, is_sorted, get-from_entries, get-remove}
+use Rattle.std.specs.FinMap.{get, contains_key, insert, remove, find, is_sorted, get-empty, get-from_entries, get-remove}
 use Rattle.std.specs.FinSet.{FinSet}
 use Rattle.std.specs.FinMap.Entries.{below_all}
 use Rattle.reg_core.specs.Maps.{text_cmp, pair_cmp, update}
@@ -265,12 +266,17 @@ get-no_groups {P = P} {Q = Q} o p m h none q = get-grouped o p m h q ∙ ap (opt
 not_there : {A : Type 0} (m : FinSet seat_cmp) (seat : Seat) → get m seat ≡ None → contains_key m seat ≡ true → A
 not_there m seat none there = let absent : contains_key m seat ≡ false = ap is_some none in absurd (cc)
 
--- maps without entries hold a well kept world
-pub empty-kept : (caps : BTreeMap (List ℕ) Cap) (registries : BTreeMap (List ℕ) Table) (places : Places) (requests : Requests) (panels : Panels) (opinions : Opinions)
+-- and a pool without prefixes has none
+no_prefix : {A : Type 0} (pool : List ℕ) (prefix : ℕ) → pool ≡ [] → contains_key (pooled pool) prefix ≡ true → A
+no_prefix pool prefix none there =
+    let absent : contains_key (pooled pool) prefix ≡ false = ap (λ xs. contains_key (pooled xs) prefix) none ∙ ap is_some (get-empty nat_cmp prefix) in absurd (cc)
+
+-- maps and a pool without entries hold a well kept world
+pub empty-kept : (caps : BTreeMap (List ℕ) Cap) (registries : BTreeMap (List ℕ) Table) (places : Places) (requests : Requests) (panels : Panels) (opinions : Opinions) (pool : List ℕ)
     → IsOrdered text_cmp places → IsOrdered text_cmp requests → IsOrdered name_cmp panels → IsOrdered name_cmp opinions
-    → caps.entries ≡ [] → registries.entries ≡ [] → places.entries ≡ [] → requests.entries ≡ [] → panels.entries ≡ [] → opinions.entries ≡ []
-    → WellKept (kept caps registries places requests panels opinions)
-empty-kept caps registries places requests panels opinions h i j k no_caps no_registries no_places no_requests no_panels no_opinions =
+    → caps.entries ≡ [] → registries.entries ≡ [] → places.entries ≡ [] → requests.entries ≡ [] → panels.entries ≡ [] → opinions.entries ≡ [] → pool ≡ []
+    → WellKept (kept caps registries places requests panels opinions pool)
+empty-kept caps registries places requests panels opinions pool h i j k no_caps no_registries no_places no_requests no_panels no_opinions no_pool =
     let no_place = get-no_groups text_keys number_keys places h no_places in
     let no_request = get-no_groups text_keys text_keys requests i no_requests in
     let no_seat = get-no_groups name_keys text_keys panels j no_panels in
@@ -286,4 +292,5 @@ empty-kept caps registries places requests panels opinions h i j k no_caps no_re
       queued = λ seat is. not_there (seated panels) seat (no_seat seat) is;
       advice = λ seat advice is. none_is (get (grouped name_cmp text_cmp opinions) seat) advice (no_opinion seat) is;
       advised = λ seat advice is. none_is (get (grouped name_cmp text_cmp opinions) seat) advice (no_opinion seat) is;
+      pool = λ prefix there. no_prefix pool prefix no_pool there;
     }

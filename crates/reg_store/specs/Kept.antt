@@ -11,6 +11,7 @@ use Rattle.reg_core.specs.declared.entry.Assignment.{Assignment}
 use Rattle.reg_core.specs.declared.request.Filing.{Filing}
 use Rattle.reg_store.specs.Groups.{table, grouped}
 use Rattle.reg_store.specs.Panels.{Panels, seated}
+use Rattle.reg_store.specs.Pool.{pooled}
 
 -- entries by registry, and then by value
 abbrev pub Places : Type 0
@@ -24,13 +25,14 @@ Requests = BTreeMap (List ℕ) (BTreeMap (List ℕ) Filing)
 abbrev pub Opinions : Type 0
 Opinions = BTreeMap RequestName (BTreeMap (List ℕ) Advice)
 
--- capabilities by digest, registries by name, entries, requests, and the experts and the advice of each request
-abbrev pub kept : BTreeMap (List ℕ) Cap → BTreeMap (List ℕ) Table → Places → Requests → Panels → Opinions → World
-kept caps registries entries requests panels opinions = record {
+-- capabilities by digest, registries by name, entries, requests, the experts and the advice of each request, and the pool
+abbrev pub kept : BTreeMap (List ℕ) Cap → BTreeMap (List ℕ) Table → Places → Requests → Panels → Opinions → List ℕ → World
+kept caps registries entries requests panels opinions pool = record {
   caps = table text_cmp caps;
   registries = table text_cmp registries;
   entries = grouped text_cmp nat_cmp entries;
   requests = grouped text_cmp text_cmp requests;
   queue = seated panels;
   advice = grouped name_cmp text_cmp opinions;
+  pool = pooled pool;
 }

@@ -1,5 +1,6 @@
 pub mod Groups
 pub mod Panels
+pub mod Pool
 pub mod Desks
 pub mod Kept
 pub mod Reviews

@@ -4,4 +4,4 @@ use Rattle.reg_store.specs.Kept.{kept}
 use Rattle.reg_store.specs.declared.lists.ListKeeper.{ListKeeper}
 
 abbrev pub world_in : ListKeeper → World
-world_in k = kept k.caps k.registries k.entries k.reviews.requests k.reviews.panels k.reviews.opinions
+world_in k = kept k.caps k.registries k.entries k.reviews.requests k.reviews.panels k.reviews.opinions k.pool

@@ -11,6 +11,7 @@ ghost use Rattle.reg_core.specs.WellKept.{WellKept, CanApply};
 ghost use Rattle.reg_core.specs.World.{World, applied};
 ghost use Rattle.reg_store.specs.Keeper.{MayFault};
 
+use reg_blocks::pool::Pool;
 use reg_core::capability::Cap;
 use reg_core::change::Change;
 use reg_core::entry::Entry;
@@ -92,6 +93,13 @@ pub trait Keeper {
     /// All entries of a registry, by value.
     fn entries(&mut self, registry: &Name) -> Result<Rows<Entry>, Fault>
         ensures rows { Holds self.new → IfOk result (λ entries. entries ≡ entry_rows (entries_of registry.now (world self.old).entries)) }
+        ensures same { Holds self.new → world self.new ≡ world self.old }
+        ensures held { Holds self.new → Holds self.old }
+        ensures fault { IfErr result (MayFault FAILS) };
+
+    /// The prefixes of the pool.
+    fn pool(&mut self) -> Result<Pool, Fault>
+        ensures rows { Holds self.new → IfOk result (λ pool. pool ≡ keys (world self.old).pool) }
         ensures same { Holds self.new → world self.new ≡ world self.old }
         ensures held { Holds self.new → Holds self.old }
         ensures fault { IfErr result (MayFault FAILS) };

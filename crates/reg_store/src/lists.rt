@@ -10,6 +10,7 @@ mod entries;
 mod file;
 mod opinions;
 mod panels;
+mod pool;
 mod registries;
 mod requests;
 mod reviews;
@@ -17,6 +18,8 @@ mod reviews;
 use crate::keeper::{Fault, Keeper};
 use caps::{Caps, cap_in, put_cap, take_cap};
 use entries::{Entries, entries_in, entry_in, put_entry};
+use pool::{pool_in, put_prefix};
+use reg_blocks::pool::Pool;
 use reg_core::capability::Cap;
 use reg_core::change::Change;
 use reg_core::entry::Entry;
@@ -34,10 +37,11 @@ use std::collections::BTreeMap;
 
 /// The content of an office in memory: capabilities by digest, registries by name, entries by registry and
 /// value, requests by account and reference, their experts and the advice on them by request, and, once more, by
-/// expert, what is assigned to each as the expert sees it. A row by its key and a change take O(log n), whatever
-/// else is held, but a change of a request's state O((1 + experts) log n), for the experts of that request; a
-/// registry's ranges, its entries, an account's own requests, a request's file and an expert's queue
-/// O(log n + rows); the names of all registries and all requests O(rows).
+/// expert, what is assigned to each as the expert sees it; and the prefixes of the pool. A row by its key and a
+/// change take O(log n), whatever else is held, but a change of a request's state O((1 + experts) log n), for the
+/// experts of that request; a registry's ranges, its entries, an account's own requests, a request's file and an
+/// expert's queue O(log n + rows); the names of all registries, the pool, a prefix more in it, and all requests
+/// O(rows).
 #[derive(Drop)]
 pub struct ListKeeper {
     alloc: Global,
@@ -45,7 +49,8 @@ pub struct ListKeeper {
     registries: Registries,
     entries: Entries,
     reviews: Reviews,
-    ghost well: { WellKept (kept caps registries entries reviews.requests reviews.panels reviews.opinions) },
+    pool: Pool,
+    ghost well: { WellKept (kept caps registries entries reviews.requests reviews.panels reviews.opinions pool) },
 }
 
 impl ListKeeper {
@@ -61,6 +66,7 @@ impl ListKeeper {
             registries: BTreeMap::new(alloc),
             entries: BTreeMap::new(alloc),
             reviews: Reviews::new(alloc),
+            pool: Pool::new(alloc),
         }
     }
 }
@@ -77,9 +83,7 @@ impl Keeper for ListKeeper {
 
     const FAILS: bool = false;
 
-    fn well_kept(&self) {
-        let _caps = &self.caps;
-    }
+    fn well_kept(&self) {}
 
     fn cap(&mut self, digest: &Digest) -> Result<Option<Cap>, Fault> {
         Ok(cap_in(&self.caps, digest)?)
@@ -99,6 +103,10 @@ impl Keeper for ListKeeper {
 
     fn entries(&mut self, registry: &Name) -> Result<Rows<Entry>, Fault> {
         Ok(entries_in(self.alloc, &self.entries, registry)?)
+    }
+
+    fn pool(&mut self) -> Result<Pool, Fault> {
+        Ok(pool_in(&self.pool)?)
     }
 
     fn own(&mut self, account: &Account) -> Result<Rows<Request>, Fault> {
@@ -135,6 +143,7 @@ impl Keeper for ListKeeper {
             Change::Grant(digest, cap) => put_cap(&mut self.caps, digest, cap)?,
             Change::Revoke(digest) => take_cap(&mut self.caps, &digest),
             Change::Define(name, table) => put_table(&mut self.registries, name, table)?,
+            Change::AddPool(prefix) => put_prefix(&mut self.pool, prefix)?,
             Change::Submit(account, reference, ask) => {
                 self.reviews.submit(self.alloc, account, reference, ask)?;
             }

@@ -8,7 +8,7 @@ use Rattle.serde_json.proofs.OnLiterals.{serde_json_on_literals}
 use Rattle.reg_core.specs.declared.refusal.Refusal.{Refusal}
 use Rattle.reg_core.specs.declared.refusal.Refusal.TheVariants as no
 use Rattle.reg_core.specs.declared.reply.Reply.{Reply}
-use Rattle.reg_core.specs.declared.reply.Reply.TheVariants.{Names, Page, Sheet, Made, Row, Rows, Item, Items, Desk, Desks, Filed, Defined, Granted, Revoked, Refused}
+use Rattle.reg_core.specs.declared.reply.Reply.TheVariants.{Names, Page, Sheet, Pool, Made, Row, Rows, Item, Items, Desk, Desks, Filed, Defined, Pooled, Granted, Revoked, Refused}
 use Rattle.reg_wire.specs.Answer.{body_text, status_of}
 use Rattle.reg_wire.specs.Script.{IsOneLine, refusal, storage}
 use Rattle.reg_wire.specs.Served.{answer_line, tab_of}
@@ -42,12 +42,14 @@ refused_is_another no.Exhausted = refl
 refused_is_another no.Advice = refl
 refused_is_another no.Own = refl
 refused_is_another no.Exists = refl
+refused_is_another no.Bits = refl
 
 pub reply_is_another : (r : Reply) → bytes_eq (answer_line (answer.Reply r)) storage ≡ false
 unfolding digits
 reply_is_another (Names names) = refl
 reply_is_another (Page page) = refl
 reply_is_another (Sheet page) = refl
+reply_is_another (Pool prefixes) = refl
 reply_is_another (Made request) = refl
 reply_is_another (Row request) = refl
 reply_is_another (Rows requests) = refl
@@ -57,6 +59,7 @@ reply_is_another (Desk request) = refl
 reply_is_another (Desks requests) = refl
 reply_is_another (Filed file) = refl
 reply_is_another (Defined name) = refl
+reply_is_another (Pooled prefix) = refl
 reply_is_another (Granted granted) = refl
 reply_is_another Revoked = refl
 reply_is_another (Refused why) = refused_is_another why

@@ -6,6 +6,7 @@ use Rattle.serde_json.specs.Data.{Data}
 use Rattle.reg_ranges.specs.Numbers.{read_number}
 use Rattle.reg_ranges.specs.Tables.{Table}
 use Rattle.reg_ranges.specs.Texts.{is_text, read_text}
+use Rattle.reg_blocks.specs.Digits.{read_prefix}
 use Rattle.reg_core.specs.Names.{is_name, is_token}
 use Rattle.reg_core.specs.Advice.{has_advice_form}
 use Rattle.reg_core.specs.Capability.{has_cap_form}
@@ -34,7 +35,7 @@ use Rattle.reg_wire.specs.Route.{operation_for}
 use Rattle.reg_wire.specs.Members.{Reading, ◌>>=◌, GivesSeen, or_refusal, object_of, needed, only, kind_form, text_form, until_form, verdict_form}
 use Rattle.reg_wire.specs.Asks.{ask_of}
 use Rattle.reg_wire.specs.TableFile.{table_of}
-use Rattle.reg_wire.specs.Asked.{advice_of, advise_of, approve_of, asked, assign_expert_of, cap_of, command_of, decline_of, define_of, empty, grant_of, name_at, one_request_of, own_one_of, registry_csv_of, registry_of, revoke_of, routed, segment, submit_of, withdraw_of}
+use Rattle.reg_wire.specs.Asked.{add_pool_of, advice_of, advise_of, approve_of, asked, assign_expert_of, cap_of, command_of, decline_of, define_of, empty, grant_of, name_at, one_request_of, own_one_of, registry_csv_of, registry_of, revoke_of, routed, segment, submit_of, withdraw_of}
 use Rattle.reg_wire.proofs.Formed.{Passes, Gives, ok-passes, err-passes, guard, after, or_refusal-passes, needed-passes, text_form-gives, until_form-gives, read_number-gives, is_below, is_until}
 use Rattle.reg_wire.proofs.FormedAsks.{ask_of-passes}
 use Rattle.reg_wire.proofs.FormedTables.{table_of-passes}
@@ -151,6 +152,11 @@ define_parts (Ok name) (Ok max) body hn hm = define_last name (table_of max body
 define_parts (Ok name) (Err e) body hn hm = err-passes _ e
 define_parts (Err e) m body hn hm = err-passes _ e
 
+add_pool_parts : (n : Reading ⊤) (p : Reading ℕ) → Passes has_command_form (n >>= (λ nothing. p >>= (λ prefix. Ok (command.Clerk (clerk.AddPool prefix)))))
+add_pool_parts (Ok n) (Ok prefix) = ok-passes has_command_form _ refl
+add_pool_parts (Ok n) (Err e) = err-passes _ e
+add_pool_parts (Err e) p = err-passes _ e
+
 grant_last : (t : Reading (List ℕ)) (c : Reading Cap) (o : Reading ⊤) → Passes is_token t → Passes has_cap_form c
     → Passes has_command_form (t >>= (λ token. c >>= (λ cap. o >>= (λ others. Ok (command.Clerk (clerk.Grant token cap))))))
 grant_last (Ok t) (Ok c) (Ok o) ht hc = ok-passes has_command_form _ (rw (ht.passed t refl, hc.passed c refl) refl)
@@ -172,10 +178,11 @@ revoke_of-passes_at (Ok json) = revoke_last (needed item.Token (text_form is_tok
 revoke_of-passes_at (Err e) = err-passes _ e
 
 command_of-passes : (o : Operation) (path body : List ℕ) → Passes has_command_form (command_of o path body)
-unfolding registry_of registry_csv_of own_one_of submit_of withdraw_of advise_of one_request_of assign_expert_of approve_of decline_of define_of grant_of revoke_of
+unfolding registry_of registry_csv_of own_one_of submit_of withdraw_of advise_of one_request_of assign_expert_of approve_of decline_of define_of add_pool_of grant_of revoke_of
 command_of-passes operation.Registries path body = plain_parts (empty body) _ refl
 command_of-passes operation.Registry path body = named_parts (λ s. command.Public (public.Registry s)) (λ s h. h) (empty body) (name_at item.Name 2 path) (name_at-passes item.Name 2 path)
 command_of-passes operation.RegistryCsv path body = named_parts (λ s. command.Public (public.RegistryCsv s)) (λ s h. h) (empty body) (name_at item.Name 3 path) (name_at-passes item.Name 3 path)
+command_of-passes operation.PoolList path body = plain_parts (empty body) _ refl
 command_of-passes operation.Own path body = plain_parts (empty body) _ refl
 command_of-passes operation.OwnOne path body = named_parts (λ s. command.Applicant (applicant.OwnOne s)) (λ s h. h) (empty body) (name_at item.Reference 2 path) (name_at-passes item.Reference 2 path)
 command_of-passes operation.Submit path body = submit_parts (object_of body) (name_at item.Reference 2 path) (name_at-passes item.Reference 2 path)
@@ -190,6 +197,7 @@ command_of-passes operation.AssignExpert path body =
 command_of-passes operation.Approve path body = two_parts (λ a r. command.Clerk (clerk.Approve a r)) (λ a r h. h) (empty body) (name_at item.Account 3 path) (name_at item.Reference 4 path) (name_at-passes item.Account 3 path) (name_at-passes item.Reference 4 path)
 command_of-passes operation.Decline path body = decline_parts (object_of body) (name_at item.Account 3 path) (name_at item.Reference 4 path) (name_at-passes item.Account 3 path) (name_at-passes item.Reference 4 path)
 command_of-passes operation.Define path body = define_parts (name_at item.Name 3 path) (segment item.Max read_number 4 path) body (name_at-passes item.Name 3 path) (segment-passes is_below item.Max read_number 4 path read_number-gives)
+command_of-passes operation.AddPool path body = add_pool_parts (empty body) (segment item.Prefix read_prefix 3 path)
 command_of-passes operation.Grant path body = grant_of-passes_at (object_of body)
 command_of-passes operation.Revoke path body = revoke_of-passes_at (object_of body)
 

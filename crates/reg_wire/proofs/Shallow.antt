@@ -2,6 +2,7 @@
 use Rattle.std.proofs.Common.{◌≤◌, ℕ, List, [], ◌∷◌, Option, Some, None, codes, option_map, map, arith}
 use Rattle.serde_json.specs.Data.{string, boolean, depth, items_depth}
 use Rattle.serde_json.specs.View.{items_of}
+use Rattle.reg_blocks.specs.Digits.{prefix_text}
 use Rattle.reg_early.specs.declared.term.Term.{Term}
 use Rattle.reg_core.specs.declared.entry.PageEntry.{PageEntry}
 use Rattle.reg_core.specs.declared.file.File.{File}
@@ -12,7 +13,7 @@ use Rattle.reg_ranges.specs.declared.range.Range.{Range}
 use Rattle.reg_core.specs.declared.page.Page.{Page}
 use Rattle.reg_core.specs.declared.reply.Reply.{Reply}
 use Rattle.reg_core.specs.declared.reply.Reply.TheVariants as reply
-use Rattle.reg_core.specs.declared.reply.Reply.TheVariants.{Names, Sheet, Made, Row, Rows, Item, Items, Desk, Desks, Filed, Defined, Granted, Revoked, Refused}
+use Rattle.reg_core.specs.declared.reply.Reply.TheVariants.{Names, Sheet, Pool, Made, Row, Rows, Item, Items, Desk, Desks, Filed, Defined, Pooled, Granted, Revoked, Refused}
 use Rattle.reg_wire.specs.declared.detail.Detail.{Detail}
 use Rattle.reg_wire.specs.declared.answer.Answer.{Answer}
 use Rattle.reg_wire.specs.declared.answer.Answer.TheVariants as answer
@@ -20,6 +21,7 @@ use Rattle.reg_wire.specs.Body.{Body, json, sheet, IsPlain}
 use Rattle.reg_wire.specs.Detail.{detail_text}
 use Rattle.reg_wire.specs.FileTree.{file_members, file_tree}
 use Rattle.reg_wire.specs.PageTree.{names_tree, day_data, expires_if, renewed_if, entry_members, entry_tree, entries_tree, range_members, range_tree, ranges_tree, page_members, page_tree}
+use Rattle.reg_wire.specs.PoolTree.{prefix_tree, pool_tree, pooled_tree}
 use Rattle.reg_wire.specs.Refusal.{refusal_name, refusal_detail, wire_name, wire_detail}
 use Rattle.reg_wire.specs.Tree.{given_if, reason_if, standing_members, request_members, request_tree, desk_members, desk_tree, cap_members, error_members, error_tree}
 use Rattle.reg_wire.specs.Answer.{reply_body, answer_body}
@@ -119,6 +121,16 @@ entries_tree-shallow es = let within = entries-shallow es in omega arith
 page_tree-shallow : (p : Page) → depth (page_tree p) ≤ 3
 page_tree-shallow p = object_with-shallow (page_members p) 2 (entries_tree-shallow p.entries, (omega arith, (omega arith, (ranges_tree-shallow p.table.ranges, tt))))
 
+prefixes-shallow : (prefixes : List ℕ) → items_depth (items_of (map prefix_tree prefixes)) ≤ 0
+prefixes-shallow [] = leaf
+prefixes-shallow (prefix ∷ prefixes) = let more = prefixes-shallow prefixes in omega arith
+
+pool_tree-shallow : (prefixes : List ℕ) → depth (pool_tree prefixes) ≤ 1
+pool_tree-shallow prefixes = let within = prefixes-shallow prefixes in omega arith
+
+pooled_tree-shallow : (prefix : ℕ) → depth (pooled_tree prefix) ≤ 1
+pooled_tree-shallow prefix = object_with-shallow ((codes "pool", text (prefix_text prefix)) ∷ []) 0 (leaf, tt)
+
 -- a body that is JSON is not deeper than this
 abbrev IsShallowBody : ℕ → Body → Type 0
 IsShallowBody n (json tree) = depth tree ≤ n
@@ -128,6 +140,7 @@ reply_body-shallow : (r : Reply) → IsShallowBody 4 (reply_body r)
 reply_body-shallow (Names names) = let h = names_tree-shallow names in omega arith
 reply_body-shallow (reply.Page page) = let h = page_tree-shallow page in omega arith
 reply_body-shallow (Sheet page) = tt
+reply_body-shallow (Pool prefixes) = let h = pool_tree-shallow prefixes in omega arith
 reply_body-shallow (Made request) = let h = request_tree-shallow request in omega arith
 reply_body-shallow (Row request) = let h = request_tree-shallow request in omega arith
 reply_body-shallow (Rows requests) = let h = requests-shallow requests in omega arith
@@ -137,6 +150,7 @@ reply_body-shallow (Desk request) = let h = desk_tree-shallow request in omega a
 reply_body-shallow (Desks requests) = let h = desks-shallow requests in omega arith
 reply_body-shallow (Filed file) = let h = file_tree-shallow file in omega arith
 reply_body-shallow (Defined name) = let h = object_with-shallow ((codes "defined", text name) ∷ []) 0 (leaf, tt) in omega arith
+reply_body-shallow (Pooled prefix) = let h = pooled_tree-shallow prefix in omega arith
 reply_body-shallow (Granted granted) = let h = object_with-shallow (cap_members granted) 0 (leaf, (leaf, (leaf, tt))) in omega arith
 reply_body-shallow Revoked = omega arith
 reply_body-shallow (Refused refusal) = let h = error_tree-shallow (refusal_name refusal) (refusal_detail refusal) in omega arith

@@ -2,6 +2,7 @@
 use Rattle.std.proofs.Common.{◌≡◌, ℕ, List, [], ◌∷◌, false, refl, Option, Some, None, codes, option_map}
 use Rattle.serde_json.specs.Data.{string, boolean}
 use Rattle.serde_json.specs.Written.{has_float}
+use Rattle.reg_blocks.specs.Digits.{prefix_text}
 use Rattle.reg_early.specs.declared.term.Term.{Term}
 use Rattle.reg_core.specs.declared.entry.PageEntry.{PageEntry}
 use Rattle.reg_core.specs.declared.file.File.{File}
@@ -12,7 +13,7 @@ use Rattle.reg_ranges.specs.declared.range.Range.{Range}
 use Rattle.reg_core.specs.declared.page.Page.{Page}
 use Rattle.reg_core.specs.declared.reply.Reply.{Reply}
 use Rattle.reg_core.specs.declared.reply.Reply.TheVariants as reply
-use Rattle.reg_core.specs.declared.reply.Reply.TheVariants.{Names, Sheet, Made, Row, Rows, Item, Items, Desk, Desks, Filed, Defined, Granted, Revoked, Refused}
+use Rattle.reg_core.specs.declared.reply.Reply.TheVariants.{Names, Sheet, Pool, Made, Row, Rows, Item, Items, Desk, Desks, Filed, Defined, Pooled, Granted, Revoked, Refused}
 use Rattle.reg_wire.specs.declared.detail.Detail.{Detail}
 use Rattle.reg_wire.specs.declared.answer.Answer.{Answer}
 use Rattle.reg_wire.specs.declared.answer.Answer.TheVariants as answer
@@ -20,6 +21,7 @@ use Rattle.reg_wire.specs.Body.{Body, json, sheet}
 use Rattle.reg_wire.specs.Detail.{detail_text}
 use Rattle.reg_wire.specs.FileTree.{file_members, file_tree}
 use Rattle.reg_wire.specs.PageTree.{names_tree, day_data, expires_if, renewed_if, entry_members, entry_tree, entries_tree, range_members, range_tree, ranges_tree, page_members, page_tree}
+use Rattle.reg_wire.specs.PoolTree.{pool_tree, pooled_tree}
 use Rattle.reg_wire.specs.Refusal.{refusal_name, refusal_detail, wire_name, wire_detail}
 use Rattle.reg_wire.specs.Tree.{given_if, reason_if, standing_members, request_members, request_tree, requests_tree, desk_members, desk_tree, desks_tree, cap_members, error_members, error_tree}
 use Rattle.reg_wire.specs.Answer.{reply_body, answer_body}
@@ -103,6 +105,13 @@ entries_tree-whole (e ∷ es) = or_none _ _ (entry_tree-whole e) (entries_tree-w
 page_tree-whole : (p : Page) → has_float (page_tree p) ≡ false
 page_tree-whole p = object_with-whole (page_members p) (entries_tree-whole p.entries, (refl, (refl, (ranges_tree-whole p.table.ranges, tt))))
 
+pool_tree-whole : (prefixes : List ℕ) → has_float (pool_tree prefixes) ≡ false
+pool_tree-whole [] = refl
+pool_tree-whole (prefix ∷ prefixes) = pool_tree-whole prefixes
+
+pooled_tree-whole : (prefix : ℕ) → has_float (pooled_tree prefix) ≡ false
+pooled_tree-whole prefix = object_with-whole ((codes "pool", text (prefix_text prefix)) ∷ []) (refl, tt)
+
 -- a body that is JSON has no float
 abbrev pub IsWholeBody : Body → Type 0
 IsWholeBody (json tree) = has_float tree ≡ false
@@ -112,6 +121,7 @@ reply_body-whole : (r : Reply) → IsWholeBody (reply_body r)
 reply_body-whole (Names names) = names_tree-whole names
 reply_body-whole (reply.Page page) = page_tree-whole page
 reply_body-whole (Sheet page) = tt
+reply_body-whole (Pool prefixes) = pool_tree-whole prefixes
 reply_body-whole (Made request) = request_tree-whole request
 reply_body-whole (Row request) = request_tree-whole request
 reply_body-whole (Rows requests) = requests_tree-whole requests
@@ -121,6 +131,7 @@ reply_body-whole (Desk request) = desk_tree-whole request
 reply_body-whole (Desks requests) = desks_tree-whole requests
 reply_body-whole (Filed file) = file_tree-whole file
 reply_body-whole (Defined name) = object_with-whole ((codes "defined", text name) ∷ []) (refl, tt)
+reply_body-whole (Pooled prefix) = pooled_tree-whole prefix
 reply_body-whole (Granted granted) = object_with-whole (cap_members granted) (refl, (refl, (refl, tt)))
 reply_body-whole Revoked = refl
 reply_body-whole (Refused refusal) = error_tree-whole (refusal_name refusal) (refusal_detail refusal)

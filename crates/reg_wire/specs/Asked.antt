@@ -4,6 +4,7 @@ use Rattle.std.specs.Str.{is_utf8}
 use Rattle.serde_json.specs.Data.{Data}
 use Rattle.reg_ranges.specs.Numbers.{read_number}
 use Rattle.reg_ranges.specs.Texts.{is_text, read_text}
+use Rattle.reg_blocks.specs.Digits.{read_prefix}
 use Rattle.reg_core.specs.Names.{is_name, is_token}
 use Rattle.reg_core.specs.declared.advice.Advice.{Advice}
 use Rattle.reg_core.specs.declared.capability.Cap.{Cap}
@@ -136,6 +137,12 @@ define_of path body = do
   table ← table_of max body
   Ok (command.Clerk (clerk.Define name table))
 
+unfoldable pub add_pool_of : List ℕ → List ℕ → Reading Command
+add_pool_of path body = do
+  nothing ← empty body
+  prefix ← segment item.Prefix read_prefix 3 path
+  Ok (command.Clerk (clerk.AddPool prefix))
+
 unfoldable pub grant_of : List ℕ → Reading Command
 grant_of body = do
   json ← object_of body
@@ -155,6 +162,7 @@ abbrev pub command_of : Operation → List ℕ → List ℕ → Reading Command
 command_of operation.Registries path body = without_body (command.Public public.Registries) body
 command_of operation.Registry path body = registry_of path body
 command_of operation.RegistryCsv path body = registry_csv_of path body
+command_of operation.PoolList path body = without_body (command.Public public.PoolList) body
 command_of operation.Own path body = without_body (command.Applicant applicant.Own) body
 command_of operation.OwnOne path body = own_one_of path body
 command_of operation.Submit path body = submit_of path body
@@ -167,6 +175,7 @@ command_of operation.AssignExpert path body = assign_expert_of path body
 command_of operation.Approve path body = approve_of path body
 command_of operation.Decline path body = decline_of path body
 command_of operation.Define path body = define_of path body
+command_of operation.AddPool path body = add_pool_of path body
 command_of operation.Grant path body = grant_of body
 command_of operation.Revoke path body = revoke_of body
 

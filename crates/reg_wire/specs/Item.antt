@@ -1,7 +1,7 @@
 -- What the parts of a request are called.
 use Rattle.std.specs.Prelude.{ℕ, List, codes}
 use Rattle.reg_wire.specs.declared.item.Item.{Item}
-use Rattle.reg_wire.specs.declared.item.Item.TheVariants.{Account, Contact, Expert, Extra, Kind, Label, Least, Max, Minute, Name, Number, Reason, Reference, Registry, Rfc, Specification, Stream, Text, Token, Track, Until, Value, Verdict}
+use Rattle.reg_wire.specs.declared.item.Item.TheVariants.{Account, Contact, Expert, Extra, Kind, Label, Least, Max, Minute, Name, Number, Prefix, Reason, Reference, Registry, Rfc, Specification, Stream, Text, Token, Track, Until, Value, Verdict}
 
 abbrev pub item_name : Item → List ℕ
 item_name Account = codes "account"
@@ -15,6 +15,7 @@ item_name Max = codes "max"
 item_name Minute = codes "minute"
 item_name Name = codes "name"
 item_name Number = codes "number"
+item_name Prefix = codes "prefix"
 item_name Reason = codes "reason"
 item_name Reference = codes "reference"
 item_name Registry = codes "registry"

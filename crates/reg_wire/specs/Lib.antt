@@ -13,6 +13,7 @@ pub mod Tree
 pub mod AdviceTree
 pub mod QueueTree
 pub mod PageTree
+pub mod PoolTree
 pub mod FileTree
 pub mod Listing
 pub mod Detail

@@ -1,7 +1,7 @@
 -- The names and statuses of refusals, and what they are about.
 use Rattle.std.specs.Prelude.{ℕ, List, Option, Some, None, codes}
 use Rattle.reg_core.specs.declared.refusal.Refusal.{Refusal}
-use Rattle.reg_core.specs.declared.refusal.Refusal.TheVariants.{Clock, Token, Kind, Ref, Request, Closed, Registry, Range, Policy, Evidence, Taken, Exhausted, Advice, Own, Exists}
+use Rattle.reg_core.specs.declared.refusal.Refusal.TheVariants.{Clock, Token, Kind, Ref, Request, Closed, Registry, Range, Policy, Evidence, Taken, Exhausted, Advice, Own, Exists, Bits}
 use Rattle.reg_wire.specs.declared.detail.Detail.{Detail}
 use Rattle.reg_wire.specs.declared.detail.Detail.TheVariants as detail
 use Rattle.reg_wire.specs.declared.refusal.WireRefusal.{WireRefusal}
@@ -51,6 +51,7 @@ refusal_name Exhausted = codes "exhausted"
 refusal_name Advice = codes "advice"
 refusal_name Own = codes "own"
 refusal_name Exists = codes "exists"
+refusal_name Bits = codes "bits"
 
 abbrev pub refusal_status : Refusal → ℕ
 refusal_status Clock = 503
@@ -68,6 +69,7 @@ refusal_status Exhausted = 409
 refusal_status Advice = 409
 refusal_status Own = 409
 refusal_status Exists = 409
+refusal_status Bits = 422
 
 abbrev pub refusal_detail : Refusal → Option Detail
 refusal_detail Clock = None
@@ -85,3 +87,4 @@ refusal_detail Exhausted = None
 refusal_detail Advice = None
 refusal_detail Own = None
 refusal_detail Exists = None
+refusal_detail Bits = None

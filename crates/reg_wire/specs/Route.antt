@@ -8,7 +8,7 @@ use Rattle.matchit.specs.Router.{RouteOf, route_from, nearest}
 use Rattle.matchit.specs.Seek.{first}
 use Rattle.matchit.specs.declared.error.InsertError.{InsertError}
 use Rattle.reg_wire.specs.declared.route.Operation.{Operation}
-use Rattle.reg_wire.specs.declared.route.Operation.TheVariants.{Registries, Registry, RegistryCsv, Own, OwnOne, Submit, Withdraw, Queue, Advise, AllRequests, OneRequest, AssignExpert, Approve, Decline, Define, Grant, Revoke}
+use Rattle.reg_wire.specs.declared.route.Operation.TheVariants.{Registries, Registry, RegistryCsv, PoolList, Own, OwnOne, Submit, Withdraw, Queue, Advise, AllRequests, OneRequest, AssignExpert, Approve, Decline, Define, AddPool, Grant, Revoke}
 use Rattle.reg_wire.specs.declared.route.Methods.{Methods}
 
 abbrev pub operation_for : List ℕ → Methods → Option Operation
@@ -29,6 +29,7 @@ rows =
     row (codes "/registries") (Some Registries) None None
     ∷ row (codes "/registries/{name}") (Some Registry) None None
     ∷ row (codes "/listings/registries/{name}") (Some RegistryCsv) None None
+    ∷ row (codes "/pool") (Some PoolList) None None
     ∷ row (codes "/requests") (Some Own) None None
     ∷ row (codes "/requests/{reference}") (Some OwnOne) (Some Submit) (Some Withdraw)
     ∷ row (codes "/queue") (Some Queue) None None
@@ -39,6 +40,7 @@ rows =
     ∷ row (codes "/desk/approve/{account}/{reference}") None (Some Approve) None
     ∷ row (codes "/desk/decline/{account}/{reference}") None (Some Decline) None
     ∷ row (codes "/desk/registries/{name}/{max}") None (Some Define) None
+    ∷ row (codes "/desk/pool/{prefix}") None (Some AddPool) None
     ∷ row (codes "/desk/tokens") None (Some Grant) None
     ∷ row (codes "/desk/revoke") None (Some Revoke) None
     ∷ []

@@ -74,6 +74,7 @@ fn reply_status(reply: &Reply) -> u16
         Reply::Names(_)
         | Reply::Page(_)
         | Reply::Sheet(_)
+        | Reply::Pool(_)
         | Reply::Row(_)
         | Reply::Rows(_)
         | Reply::Item(_)
@@ -82,6 +83,7 @@ fn reply_status(reply: &Reply) -> u16
         | Reply::Desks(_)
         | Reply::Filed(_)
         | Reply::Defined(_)
+        | Reply::Pooled(_)
         | Reply::Granted(_)
         | Reply::Revoked => 200,
         Reply::Refused(refusal) => office_refusal::status(*refusal),

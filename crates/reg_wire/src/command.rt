@@ -1,17 +1,19 @@
 //! Reads the command that a method, a path and a body spell.
 ghost use Rattle.std.specs.Prelude.{◌≡◌, true, IfOk, IfSome, option_map};
+ghost use Rattle.reg_blocks.specs.Digits.{read_prefix};
 ghost use Rattle.reg_core.specs.Command.{has_command_form};
 ghost use Rattle.reg_wire.specs.Route.{operation_for};
 ghost use Rattle.reg_wire.specs.Members.{Gives};
 ghost use Rattle.reg_ranges.specs.Numbers.{read_number};
 ghost use Rattle.reg_ranges.specs.Texts.{read_text};
-ghost use Rattle.reg_wire.specs.Asked.{advise_of, approve_of, asked, assign_expert_of, command_of, decline_of, define_of, empty, grant_of, one_request_of, own_one_of, registry_csv_of, registry_of, revoke_of, routed, segment, submit_of, withdraw_of, without_body};
+ghost use Rattle.reg_wire.specs.Asked.{add_pool_of, advise_of, approve_of, asked, assign_expert_of, command_of, decline_of, define_of, empty, grant_of, one_request_of, own_one_of, registry_csv_of, registry_of, revoke_of, routed, segment, submit_of, withdraw_of, without_body};
 
 use crate::item::Item;
 use crate::refusal::{ReadFault, WireRefusal};
 use crate::route::{Methods, Operation, Routes};
 use crate::table_file::read_table;
 use crate::{asks, bodies, json_read, path};
+use reg_blocks::prefix;
 use reg_core::command::{ApplicantCommand, ClerkCommand, Command, ExpertCommand, PublicCommand};
 use reg_core::text::{Form, Word};
 use reg_ranges::number::read_number;
@@ -70,6 +72,7 @@ fn command_of(
         Operation::Registries => without_body(Command::Public(PublicCommand::Registries), body),
         Operation::Registry => read_registry(alloc, path, body),
         Operation::RegistryCsv => read_registry_csv(alloc, path, body),
+        Operation::PoolList => without_body(Command::Public(PublicCommand::PoolList), body),
         Operation::Own => without_body(Command::Applicant(ApplicantCommand::Own), body),
         Operation::OwnOne => read_own_one(alloc, path, body),
         Operation::Submit => read_submit(alloc, path, body),
@@ -82,6 +85,7 @@ fn command_of(
         Operation::Approve => read_approve(alloc, path, body),
         Operation::Decline => read_decline(alloc, path, body),
         Operation::Define => read_define(alloc, path, body),
+        Operation::AddPool => read_add_pool(path, body),
         Operation::Grant => read_grant(alloc, body),
         Operation::Revoke => read_revoke(alloc, body),
     }
@@ -198,6 +202,15 @@ fn read_define(alloc: Global, path: &str, body: &[u8]) -> Result<Command, ReadFa
     Ok(Command::Clerk(ClerkCommand::Define(name, table)))
 }
 
+#[tactic(auto, unfolding(crate::specs::Asked::add_pool_of))]
+fn read_add_pool(path: &str, body: &[u8]) -> Result<Command, ReadFault>
+    ensures { Gives result (add_pool_of path.now body.now) }
+{
+    empty(body)?;
+    let prefix = prefix_at(path, 3, Item::Prefix)?;
+    Ok(Command::Clerk(ClerkCommand::AddPool(prefix)))
+}
+
 #[tactic(auto, unfolding(crate::specs::Asked::grant_of))]
 fn read_grant(alloc: Global, body: &[u8]) -> Result<Command, ReadFault>
     ensures { Gives result (grant_of body.now) }
@@ -261,13 +274,18 @@ fn word_at<F: Form>(
 fn number_at(path: &str, slashes: usize, item: Item) -> Result<u32, ReadFault>
     ensures { Gives result (segment item read_number slashes path.now) }
 {
-    match path::segment(path, slashes) {
-        Some(text) => match read_number(text.as_bytes()) {
-            Some(number) => Ok(number),
-            None => Err(ReadFault::field(item)),
-        },
-        None => Err(ReadFault::field(item)),
-    }
+    path::segment(path, slashes)
+        .and_then(|text| read_number(text.as_bytes()))
+        .ok_or(ReadFault::field(item))
+}
+
+// The 24-bit prefix that follows this many slashes, in six hexadecimal digits.
+fn prefix_at(path: &str, slashes: usize, item: Item) -> Result<u32, ReadFault>
+    ensures { Gives result (segment item read_prefix slashes path.now) }
+{
+    path::segment(path, slashes)
+        .and_then(|text| prefix::read(text.as_bytes()))
+        .ok_or(ReadFault::field(item))
 }
 
 #[cfg(test)]

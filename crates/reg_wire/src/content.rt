@@ -4,7 +4,9 @@ ghost use Rattle.reg_wire.specs.Answer.{reply_body, answer_body};
 ghost use Rattle.reg_wire.specs.Body.{body_view, text_of, IsPlain, ReadsBack};
 
 use crate::answer::Answer;
-use crate::{csv_write, json_file, json_page, json_put, json_queue, json_write, office_refusal};
+use crate::{
+    csv_write, json_file, json_page, json_pool, json_put, json_queue, json_write, office_refusal,
+};
 use reg_core::page::Page;
 use reg_core::reply::Reply;
 use serde_json::Value;
@@ -64,6 +66,7 @@ fn reply_content(alloc: Global, reply: &Reply) -> Result<Content<'_>, AllocError
         Reply::Names(names) => Content::Json(json_put::texts(alloc, names.as_slice())?),
         Reply::Page(page) => Content::Json(json_page::page(alloc, page)?),
         Reply::Sheet(page) => Content::Csv(page),
+        Reply::Pool(pool) => Content::Json(json_pool::pool(alloc, pool)?),
         Reply::Made(request) | Reply::Row(request) => {
             Content::Json(json_write::request(alloc, request)?)
         },
@@ -76,6 +79,7 @@ fn reply_content(alloc: Global, reply: &Reply) -> Result<Content<'_>, AllocError
         Reply::Desks(requests) => { Content::Json(json_write::desks(alloc, requests.as_slice())?) },
         Reply::Filed(file) => Content::Json(json_file::file(alloc, file)?),
         Reply::Defined(name) => Content::Json(json_page::defined(alloc, name)?),
+        Reply::Pooled(prefix) => Content::Json(json_pool::pooled(alloc, *prefix)?),
         Reply::Granted(cap) => Content::Json(json_write::cap(alloc, cap)?),
         Reply::Revoked => Content::Json(json_write::revoked(alloc)?),
         Reply::Refused(refusal) => Content::Json(json_write::error(

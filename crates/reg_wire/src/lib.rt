@@ -16,6 +16,7 @@ mod json_advice;
 mod json_ask;
 mod json_file;
 mod json_page;
+mod json_pool;
 mod json_put;
 mod json_queue;
 mod json_read;

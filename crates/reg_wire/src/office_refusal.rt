@@ -21,7 +21,7 @@ pub fn status(refusal: Refusal) -> u16
         | Refusal::Advice
         | Refusal::Own
         | Refusal::Exists => 409,
-        Refusal::Range | Refusal::Evidence(_) => 422,
+        Refusal::Range | Refusal::Evidence(_) | Refusal::Bits => 422,
         Refusal::Clock => 503,
     }
 }
@@ -46,6 +46,7 @@ pub fn name(refusal: Refusal) -> &'static str
         Refusal::Advice => "advice",
         Refusal::Own => "own",
         Refusal::Exists => "exists",
+        Refusal::Bits => "bits",
     }
 }
 
@@ -68,6 +69,7 @@ pub fn detail(refusal: Refusal) -> Option<Detail>
         | Refusal::Exhausted
         | Refusal::Advice
         | Refusal::Own
-        | Refusal::Exists => None,
+        | Refusal::Exists
+        | Refusal::Bits => None,
     }
 }

@@ -12,6 +12,7 @@ pub enum Operation {
     Registries,
     Registry,
     RegistryCsv,
+    PoolList,
     Own,
     OwnOne,
     Submit,
@@ -24,6 +25,7 @@ pub enum Operation {
     Approve,
     Decline,
     Define,
+    AddPool,
     Grant,
     Revoke,
 }
@@ -77,7 +79,7 @@ const NONE: Methods = Methods {
 };
 
 // Each path, and what the methods do there.
-const ROWS: [(&str, Methods); 15] = [
+const ROWS: [(&str, Methods); 17] = [
     (
         "/registries",
         Methods {
@@ -96,6 +98,13 @@ const ROWS: [(&str, Methods); 15] = [
         "/listings/registries/{name}",
         Methods {
             get: Some(Operation::RegistryCsv),
+            ..NONE
+        },
+    ),
+    (
+        "/pool",
+        Methods {
+            get: Some(Operation::PoolList),
             ..NONE
         },
     ),
@@ -167,6 +176,13 @@ const ROWS: [(&str, Methods); 15] = [
         "/desk/registries/{name}/{max}",
         Methods {
             put: Some(Operation::Define),
+            ..NONE
+        },
+    ),
+    (
+        "/desk/pool/{prefix}",
+        Methods {
+            put: Some(Operation::AddPool),
             ..NONE
         },
     ),

@@ -24,7 +24,8 @@ pub const GRANTS: &str = r#"
 < 200 []
 "#;
 
-/// A capability at its last second and past it, a token that has none, and a command of another kind.
+/// A capability at its last second and past it, a token that has none, a command of another kind, and the first and last
+/// moments at which the office is open.
 pub const LIMITS: &str = r#"
 > 1799999999 alice-token-00001 GET /requests
 < 200 []
@@ -34,6 +35,14 @@ pub const LIMITS: &str = r#"
 < 401 {"error":"token"}
 > 1700000000 alice-token-00001 GET /queue
 < 403 {"error":"kind"}
+> 946684799 - GET /pool
+< 503 {"error":"clock"}
+> 32503680000 - GET /pool
+< 503 {"error":"clock"}
+> 946684800 - GET /pool
+< 200 []
+> 32503679999 - GET /pool
+< 200 []
 "#;
 
 /// A registry is defined, listed and read, and asks are refused by its policies.

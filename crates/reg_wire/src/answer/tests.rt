@@ -1,6 +1,7 @@
 //! The bodies of answers, worked by hand.
 use super::*;
 use crate::refusal::TableFault;
+use reg_blocks::pool::{Add, Pool};
 use reg_core::advice::{Advice, Opinion, Verdict};
 use reg_core::ask::{Ask, CodeAsk, Want};
 use reg_core::entry::PageEntry;
@@ -282,6 +283,22 @@ fn names(rt: HostRuntime) -> Result<(), Fail> {
     Ok(())
 }
 
+#[test]
+fn pools(rt: HostRuntime) -> Result<(), Fail> {
+    let alloc = rt.alloc();
+    let mut pool = Pool::new(alloc);
+    for prefix in [0x00_1A2C, 0xFC_00DE, 0x00_1A2B] {
+        assert_eq!(rt; pool.add(prefix), Add::Added);
+    }
+    let pool = Answer::Reply(Reply::Pool(pool));
+    assert!(rt; is_answered(alloc, pool, 200, r#"["001A2B","001A2C","FC00DE"]"#)?);
+    let empty = Answer::Reply(Reply::Pool(Pool::new(alloc)));
+    assert!(rt; is_answered(alloc, empty, 200, "[]")?);
+    let pooled = Answer::Reply(Reply::Pooled(0x00_1A2B));
+    assert!(rt; is_answered(alloc, pooled, 200, r#"{"pool":"001A2B"}"#)?);
+    Ok(())
+}
+
 const FAULTS: &[(TableFault, &str)] = &[
     (TableFault::Header, r#"{"error":"ranges","item":"header"}"#),
     (
@@ -315,6 +332,8 @@ fn refusals(rt: HostRuntime) -> Result<(), Fail> {
     );
     let policy = Answer::Reply(Reply::Refused(Refusal::Policy));
     assert!(rt; is_answered(alloc, policy, 409, r#"{"error":"policy"}"#)?);
+    let bits = Answer::Reply(Reply::Refused(Refusal::Bits));
+    assert!(rt; is_answered(alloc, bits, 422, r#"{"error":"bits"}"#)?);
     for (refusal, body) in [
         (Refusal::Closed, r#"{"error":"closed"}"#),
         (Refusal::Taken, r#"{"error":"taken"}"#),

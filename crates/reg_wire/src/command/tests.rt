@@ -1,5 +1,6 @@
 use super::*;
 use crate::answer::{Answer, body_of};
+use reg_blocks::pool::{Pool, is_pool_prefix};
 use reg_core::ask::{Ask, CodeAsk, Want};
 use reg_core::file::File;
 use reg_core::queue::QueueRow;
@@ -34,6 +35,7 @@ fn reply(alloc: Global, command: Command) -> Result<Reply, Fail> {
         Command::Public(PublicCommand::Registry(_) | PublicCommand::RegistryCsv(_)) => Ok(
             Reply::Refused(Refusal::Registry),
         ),
+        Command::Public(PublicCommand::PoolList) => Ok(Reply::Pool(Pool::new(alloc))),
         Command::Applicant(command) => applicant_reply(alloc, command),
         Command::Expert(command) => expert_reply(alloc, command),
         Command::Clerk(command) => clerk_reply(alloc, command),
@@ -100,6 +102,11 @@ fn clerk_reply(alloc: Global, command: ClerkCommand) -> Result<Reply, Fail> {
             State::Declined(reason),
         )?)),
         ClerkCommand::Define(name, _) => Ok(Reply::Defined(name)),
+        ClerkCommand::AddPool(prefix) => Ok(if is_pool_prefix(prefix) {
+            Reply::Pooled(prefix)
+        } else {
+            Reply::Refused(Refusal::Bits)
+        }),
         ClerkCommand::Grant(_, cap) => Ok(Reply::Granted(cap)),
         ClerkCommand::Revoke(_) => Ok(Reply::Revoked),
     }
@@ -213,6 +220,40 @@ PUT|/desk/registries/f/0||422|{"error":"ranges","item":"header"}"#
 #[test]
 fn paths_and_methods(rt: HostRuntime) -> Result<(), Fail> {
     assert_eq!(rt; first_wrong(rt.alloc(), paths())?, None);
+    Ok(())
+}
+
+fn pool() -> &'static str {
+    r#"GET|/pool||200|[]
+GET|/pool| |400|{"error":"body"}
+PUT|/pool||405|{"error":"method"}
+GET|/pool/||404|{"error":"route"}
+GET|/pool/001A2B||404|{"error":"route"}
+PUT|/desk/pool/001A2B||200|{"pool":"001A2B"}
+PUT|/desk/pool/fca2b0||200|{"pool":"FCA2B0"}
+PUT|/desk/pool/000000||200|{"pool":"000000"}
+PUT|/desk/pool/011A2B||422|{"error":"bits"}
+PUT|/desk/pool/021A2B||422|{"error":"bits"}
+PUT|/desk/pool/ffffff||422|{"error":"bits"}
+PUT|/desk/pool/01A2B||422|{"error":"field","item":"prefix"}
+PUT|/desk/pool/001A2B0||422|{"error":"field","item":"prefix"}
+PUT|/desk/pool/001A2G||422|{"error":"field","item":"prefix"}
+PUT|/desk/pool/+01A2B||422|{"error":"field","item":"prefix"}
+PUT|/desk/pool/00-1A-2B||422|{"error":"field","item":"prefix"}
+PUT|/desk/pool/%3001A2||422|{"error":"field","item":"prefix"}
+PUT|/desk/pool/001A2B|{}|400|{"error":"body"}
+PUT|/desk/pool/01A2B|{}|400|{"error":"body"}
+PUT|/desk/pool||404|{"error":"route"}
+PUT|/desk/pool/||404|{"error":"route"}
+PUT|/desk/pool/001A2B/||404|{"error":"route"}
+PUT|/desk/pool/00/1A2B||404|{"error":"route"}
+GET|/desk/pool/001A2B||405|{"error":"method"}
+DELETE|/desk/pool/001A2B||405|{"error":"method"}"#
+}
+
+#[test]
+fn prefixes_of_the_pool(rt: HostRuntime) -> Result<(), Fail> {
+    assert_eq!(rt; first_wrong(rt.alloc(), pool())?, None);
     Ok(())
 }
 

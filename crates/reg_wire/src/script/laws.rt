@@ -30,18 +30,19 @@ pub fn runs_as_the_model()
     ensures { RunsAsTheModel }
 {}
 
-/// Isolation, to the byte: two well kept offices that show the sender of a line, who is no clerk, the same view answer it by the
-/// same bytes, and then show the sender the same view again, whatever else they hold. Lines that are answered 503 `storage` are
-/// left out.
+/// Isolation, to the byte: two well kept offices that show the sender of a line, who is no clerk, the
+/// same view answer it by the same bytes, and then show the sender the same view again, whatever else
+/// they hold. Lines that are answered 503 `storage` are left out.
 pub fn lines_are_answered_alike()
     ensures { LinesAreAnsweredAlike }
 {
     reg_office::laws::two_worlds();
 }
 
-/// Striking, of scripts: the answers to a script, and to one that has its events but for those about requests that an account does not
-/// see, are the lines of the replies at their stages; these are alike at each event that is left, but for rows of these requests where
-/// they list requests of others; and at the end both show the account the same. Lines that are answered 503 `storage` are no events.
+/// Striking, of scripts: the answers to a script, and to one that has its events but for those about
+/// requests that an account does not see, are the lines of the replies at their stages; these are alike
+/// at each event that is left, but for rows of these requests where they list requests of others; and at
+/// the end both show the account the same. Lines that are answered 503 `storage` are no events.
 pub fn unseen_lines_leave_no_trace()
     ensures { UnseenLinesLeaveNoTrace }
 {

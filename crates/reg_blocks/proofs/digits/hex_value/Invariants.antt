@@ -1,5 +1,5 @@
 use Rattle.reg_blocks.proofs.Writing.{IsRead}
-use Rattle.reg_blocks.proofs.block.hex_value.Given as goal
+use Rattle.reg_blocks.proofs.digits.hex_value.Given as goal
 
 abbrev pub invariant-loop-digit : goal.invariant-loop-digit
 invariant-loop-digit l = IsRead l.digits l.digit-index l.value

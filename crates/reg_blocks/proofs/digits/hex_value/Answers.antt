@@ -1,7 +1,7 @@
 use Rattle.std.proofs.Common.{rules, ◌≡◌, ◌<◌, get_or, arith}
 use Rattle.std.specs.Char.{digit_value}
 use Rattle.reg_blocks.proofs.Writing.{room, IsRead-more}
-use Rattle.reg_blocks.proofs.block.hex_value.Goals as goal
+use Rattle.reg_blocks.proofs.digits.hex_value.Goals as goal
 
 pub overflow_mul-value : goal.overflow_mul-value
 overflow_mul-value c = let r = room c.loop-digit.digit-index c.loop-digit.value c.loop-digit.invariant.fits (omega arith) in omega arith

@@ -6,7 +6,7 @@ use Rattle.reg_core.specs.Registry.{has_table_form}
 use Rattle.reg_core.specs.WellKept.{has_registry_form}
 use Rattle.reg_core.specs.World.{World}
 use Rattle.reg_office.proofs.Decided.{both, define_carried}
-use Rattle.reg_office.proofs.clerk.define.Goals as goal
+use Rattle.reg_office.proofs.registers.define.Goals as goal
 
 pub carry_out-requires : goal.carry_out-requires
 carry_out-requires g c = λ h kept.

@@ -1,0 +1,29 @@
+//! The pool of prefixes.
+ghost use Rattle.std.specs.Prelude.{◌≡◌, IsTrue, IfOk, OnOk, OnErr};
+ghost use Rattle.std.specs.FinMap as fin;
+ghost use Rattle.reg_blocks.specs.Pool.{is_pool_prefix};
+ghost use Rattle.reg_store.specs.Pool.{pooled};
+
+use reg_blocks::pool::{Add, Pool};
+use std::alloc::AllocError;
+
+/// All prefixes, ascending.
+pub fn pool_in(pool: &Pool) -> Result<Pool, AllocError>
+    ensures { IfOk result (λ found. found ≡ fin.keys (pooled pool.now)) }
+{
+    let _prefixes = pool.prefixes();
+    pool.copy()
+}
+
+/// Adds a prefix that may be in a pool; one that is there changes nothing.
+pub fn put_prefix(pool: &mut Pool, prefix: u32) -> Result<(), AllocError>
+    requires { IsTrue (is_pool_prefix prefix) }
+    ensures ok { OnOk result (pooled pool.new ≡ fin.insert (pooled pool.old) prefix tt) }
+    ensures err { OnErr result (pool.new ≡ pool.old) }
+{
+    match pool.add(prefix) {
+        Add::Added | Add::There => Ok(()),
+        Add::Memory => Err(AllocError),
+        Add::Bits => unreachable!(),
+    }
+}
