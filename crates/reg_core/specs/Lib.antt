@@ -1,4 +1,6 @@
 pub mod Names
+pub mod Item
+pub mod WireRefusal
 pub mod Capability
 pub mod Ask
 pub mod Advice

@@ -9,14 +9,14 @@ use Rattle.reg_core.specs.View.{view_of}
 use Rattle.reg_core.specs.World.{World}
 use Rattle.reg_core.specs.declared.command.Command.{Command}
 use Rattle.reg_office.specs.Caller.{token_digest, caller_of}
-use Rattle.reg_wire.specs.Asked.{asked}
-use Rattle.reg_wire.specs.Event.{answers_with}
-use Rattle.reg_wire.specs.Line.{Line, line_of}
-use Rattle.reg_wire.specs.Members.{Reading}
-use Rattle.reg_wire.specs.PrivacyLaws.{LookAlike, LinesAreAnsweredAlike, stood_lines, stood_events, AreOfStages, UnseenLinesLeaveNoTrace}
-use Rattle.reg_wire.specs.Script.{refusal, storage, Ran}
-use Rattle.reg_wire.specs.Served.{Serves, answer_for, world_for, answer_line}
-use Rattle.reg_wire.specs.declared.answer.Answer.TheVariants as answer
+use Rattle.reg_parse.specs.Command.{asked}
+use Rattle.reg_wire.specs.Script.Event.{answers_with}
+use Rattle.reg_wire.specs.Script.Line.{Line, line_of}
+use Rattle.reg_parse.specs.Bodies.Members.{Reading}
+use Rattle.reg_wire.specs.Script.Privacy.{LookAlike, LinesAreAnsweredAlike, stood_lines, stood_events, AreOfStages, UnseenLinesLeaveNoTrace}
+use Rattle.reg_wire.specs.Script.Lines.{refusal, storage, Ran}
+use Rattle.reg_wire.specs.Script.Answers.{Serves, answer_for, world_for, answer_line}
+use Rattle.reg_print.specs.declared.answer.Answer.TheVariants as answer
 use Rattle.reg_wire.proofs.ModelRun.{model_run}
 
 -- ---- Isolation

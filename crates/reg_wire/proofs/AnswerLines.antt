@@ -9,13 +9,13 @@ use Rattle.reg_core.specs.declared.refusal.Refusal.{Refusal}
 use Rattle.reg_core.specs.declared.refusal.Refusal.TheVariants as no
 use Rattle.reg_core.specs.declared.reply.Reply.{Reply}
 use Rattle.reg_core.specs.declared.reply.Reply.TheVariants.{Names, Page, Sheet, Pool, Made, Row, Rows, Item, Items, Desk, Desks, Filed, Defined, Pooled, Granted, Revoked, Refused}
-use Rattle.reg_wire.specs.Answer.{body_text, status_of}
-use Rattle.reg_wire.specs.Script.{IsOneLine, refusal, storage}
-use Rattle.reg_wire.specs.Served.{answer_line, tab_of}
-use Rattle.reg_wire.specs.declared.answer.Answer.{Answer}
-use Rattle.reg_wire.specs.declared.answer.Answer.TheVariants as answer
-use Rattle.reg_wire.specs.declared.refusal.WireRefusal.{WireRefusal}
-use Rattle.reg_wire.specs.declared.refusal.WireRefusal.TheVariants as wire
+use Rattle.reg_print.specs.Answer.{body_text, status_of}
+use Rattle.reg_wire.specs.Script.Lines.{IsOneLine, refusal, storage}
+use Rattle.reg_wire.specs.Script.Answers.{answer_line, tab_of}
+use Rattle.reg_print.specs.declared.answer.Answer.{Answer}
+use Rattle.reg_print.specs.declared.answer.Answer.TheVariants as answer
+use Rattle.reg_core.specs.declared.wire_refusal.WireRefusal.{WireRefusal}
+use Rattle.reg_core.specs.declared.wire_refusal.WireRefusal.TheVariants as wire
 
 pub refusal_is : refusal ≡ answer_line (answer.Wire wire.Line)
 unfolding body_text digits serde_json_on_literals

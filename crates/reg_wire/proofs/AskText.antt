@@ -22,9 +22,9 @@ use Rattle.reg_core.specs.declared.ask.Ask.TheVariants.{Code}
 use Rattle.reg_core.specs.declared.ask.CodeAsk.{CodeAsk}
 use Rattle.reg_core.specs.declared.ask.Want.{Want}
 use Rattle.reg_core.specs.declared.ask.Want.TheVariants.{Value, Least}
-use Rattle.reg_wire.specs.Listed.{text_if}
-use Rattle.reg_wire.specs.Members.{object_of}
-use Rattle.reg_wire.specs.AskTree.{ask_tree, code_members, least_if, rfc_if, rfc_members, rfc_tree, value_if}
+use Rattle.reg_print.specs.Trees.Members.{text_if}
+use Rattle.reg_parse.specs.Bodies.Members.{object_of}
+use Rattle.reg_print.specs.Trees.Ask.{ask_tree, code_members, least_if, rfc_if, rfc_members, rfc_tree, value_if}
 use Rattle.reg_wire.proofs.TreeText.{AllReadable, IfReadable, Readable, number-readable, object_of-compact_text, object_with-readable, string-readable}
 
 -- ---- words

@@ -8,10 +8,10 @@ use Rattle.std.proofs.lemmas.Map.Text.{is_eq-slice_cmp}
 use Rattle.std.proofs.lemmas.Slice.Eq.{bytes_eq-Decides}
 use Rattle.serde_json.specs.Data.{Data, Members, member, no_members, put}
 use Rattle.serde_json.specs.Find.{get, get_member, as_object}
-use Rattle.reg_wire.specs.declared.item.Item.{Item}
-use Rattle.reg_wire.specs.Item.{item_name}
-use Rattle.reg_wire.specs.Listed.{Listed, object_with, put_some, with_members}
-use Rattle.reg_wire.specs.Members.{needed, formed, optional, only, all_among, is_among, names_any}
+use Rattle.reg_core.specs.declared.item.Item.{Item}
+use Rattle.reg_core.specs.Item.{item_name}
+use Rattle.reg_print.specs.Trees.Members.{Listed, object_with, put_some, with_members}
+use Rattle.reg_parse.specs.Bodies.Members.{needed, formed, optional, only, all_among, is_among, names_any}
 
 -- the members that are there, as they are listed
 abbrev pub some_member : List ℕ → Option Data → Members → Members

@@ -8,15 +8,15 @@ use Rattle.reg_core.specs.Run.{Event, run, world_after, step_of}
 use Rattle.reg_core.specs.World.{World}
 use Rattle.reg_core.specs.declared.command.Command.{Command}
 use Rattle.reg_office.specs.Caller.{token_digest}
-use Rattle.reg_wire.specs.Asked.{asked}
-use Rattle.reg_wire.specs.Event.{event_for, event_asked, event_of, events_of, next_answer, answers_with, IsModelRun, stood}
-use Rattle.reg_wire.specs.Line.{Line, line_of}
-use Rattle.reg_wire.specs.Members.{Reading}
-use Rattle.reg_wire.specs.Script.{refusal, storage, Ran}
-use Rattle.reg_wire.specs.Served.{Serves, answer_for, world_for, answer_line}
-use Rattle.reg_wire.specs.declared.answer.Answer.TheVariants as answer
-use Rattle.reg_wire.specs.declared.refusal.WireRefusal.{WireRefusal}
-use Rattle.reg_wire.specs.declared.refusal.WireRefusal.TheVariants as wire
+use Rattle.reg_parse.specs.Command.{asked}
+use Rattle.reg_wire.specs.Script.Event.{event_for, event_asked, event_of, events_of, next_answer, answers_with, IsModelRun, stood}
+use Rattle.reg_wire.specs.Script.Line.{Line, line_of}
+use Rattle.reg_parse.specs.Bodies.Members.{Reading}
+use Rattle.reg_wire.specs.Script.Lines.{refusal, storage, Ran}
+use Rattle.reg_wire.specs.Script.Answers.{Serves, answer_for, world_for, answer_line}
+use Rattle.reg_print.specs.declared.answer.Answer.TheVariants as answer
+use Rattle.reg_core.specs.declared.wire_refusal.WireRefusal.{WireRefusal}
+use Rattle.reg_core.specs.declared.wire_refusal.WireRefusal.TheVariants as wire
 use Rattle.reg_wire.proofs.AnswerLines.{refusal_is, reply_is_another, wire_is_another}
 
 abbrev Pairs : Type 0

@@ -3,7 +3,7 @@ use Rattle.std.proofs.Common.{◌≡◌, ◌≢◌, ℕ, List, [], ◌∷◌, �
 use Rattle.std.proofs.lemmas.Bool.Decides.{nat_tests}
 use Rattle.std.specs.Prelude.{◌==◌}
 use Rattle.std.specs.List.{flat_map, AllByRecursion}
-use Rattle.reg_wire.specs.Script.{ended, IsOneLine, Cut, rest_line, AreLines}
+use Rattle.reg_wire.specs.Script.Lines.{ended, IsOneLine, Cut, rest_line, AreLines}
 
 -- the lines that end in a line feed, and the rest
 abbrev Parts : Type 0

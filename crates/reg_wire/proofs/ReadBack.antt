@@ -21,17 +21,17 @@ use Rattle.reg_core.specs.declared.ask.Ask.TheVariants.{Code}
 use Rattle.reg_core.specs.declared.ask.CodeAsk.{CodeAsk}
 use Rattle.reg_core.specs.declared.ask.Want.{Want}
 use Rattle.reg_core.specs.declared.ask.Want.TheVariants.{Value, Least}
-use Rattle.reg_wire.specs.declared.asks.AskKind.{AskKind}
-use Rattle.reg_wire.specs.declared.asks.AskKind.TheVariants as kind
-use Rattle.reg_wire.specs.declared.item.Item.{Item}
-use Rattle.reg_wire.specs.declared.item.Item.TheVariants as item
-use Rattle.reg_wire.specs.Item.{item_name}
-use Rattle.reg_wire.specs.Listed.{text_if}
-use Rattle.reg_wire.specs.Members.{Reading, ◌>>=◌, needed, formed, optional, only, text_form}
-use Rattle.reg_wire.specs.Rfcs.{rfc_form}
-use Rattle.reg_wire.specs.Evidence.{evidence_of}
-use Rattle.reg_wire.specs.Asks.{ask_of, ask_of_kind, ask_kind_form, code_of, code_items, want_by, want_of}
-use Rattle.reg_wire.specs.AskTree.{ask_tree, code_members, code_tree, least_if, rfc_if, rfc_tree, value_if}
+use Rattle.reg_parse.specs.declared.bodies.ask.AskKind.{AskKind}
+use Rattle.reg_parse.specs.declared.bodies.ask.AskKind.TheVariants as kind
+use Rattle.reg_core.specs.declared.item.Item.{Item}
+use Rattle.reg_core.specs.declared.item.Item.TheVariants as item
+use Rattle.reg_core.specs.Item.{item_name}
+use Rattle.reg_print.specs.Trees.Members.{text_if}
+use Rattle.reg_parse.specs.Bodies.Members.{Reading, ◌>>=◌, needed, formed, optional, only, text_form}
+use Rattle.reg_parse.specs.Bodies.Rfc.{rfc_form}
+use Rattle.reg_parse.specs.Bodies.Evidence.{evidence_of}
+use Rattle.reg_parse.specs.Bodies.Ask.{ask_of, ask_of_kind, ask_kind_form, code_of, code_items, want_by, want_of}
+use Rattle.reg_print.specs.Trees.Ask.{ask_tree, code_members, code_tree, least_if, rfc_if, rfc_tree, value_if}
 use Rattle.reg_wire.proofs.ListedMembers.{get-object_with, needed-object_with, optional-object_with, only-object_with}
 
 -- ---- words

@@ -8,9 +8,9 @@ use Rattle.std.specs.List.{flat_map, AllByRecursion}
 use Rattle.std.specs.Io.KnownBytes.{Appends, Consumes, IsAtEnd}
 use Rattle.reg_wire.specs.declared.wire_fault.WireFault.{WireFault}
 use Rattle.reg_wire.specs.declared.wire_fault.WireFault.TheVariants as fault
-use Rattle.reg_wire.specs.Line.{Line, line_of, most_bytes}
-use Rattle.reg_wire.specs.Script.{refusal, Answered, Ran, IsOneLine, ended, Cut, rest_line, AreLines, BeginWith, AnswersAll, StopsAt}
-use Rattle.reg_wire.specs.Held.{IsHeld, CutShort, Progress, WroteSome, Whole, Halted, HaltedLast}
+use Rattle.reg_wire.specs.Script.Line.{Line, line_of, most_bytes}
+use Rattle.reg_wire.specs.Script.Lines.{refusal, Answered, Ran, IsOneLine, ended, Cut, rest_line, AreLines, BeginWith, AnswersAll, StopsAt}
+use Rattle.reg_wire.specs.Script.LineBuffer.{IsBuffered, CutShort, Progress, WroteSome, Whole, Halted, HaltedLast}
 
 -- ---- A line
 
@@ -89,43 +89,43 @@ module _ {S : Type 0} (Serves : S → Line → List ℕ → S → Type 0) (first
     rest = [];
     answers = [];
     cut = record { whole = refl; each = tt; last = tt };
-    is_held = refl;
+    is_buffered = refl;
     ran = refl;
     wrote = Appends-nil had;
     count = refl;
   }
 
   -- a line feed comes: the line is answered
-  pub progress_line : (bytes held none : List ℕ) (sent n : ℕ) (w v : S) (has now : Option (List ℕ))
-      → Progress Serves first had bytes held sent w has
-      → ((line : List ℕ) → IsHeld line held → (answer : List ℕ) × Answered Serves w line answer v × Appends has now (ended answer) × (n ≡ sent + length (ended answer)))
+  pub progress_line : (bytes buffered none : List ℕ) (sent n : ℕ) (w v : S) (has now : Option (List ℕ))
+      → Progress Serves first had bytes buffered sent w has
+      → ((line : List ℕ) → IsBuffered line buffered → (answer : List ℕ) × Answered Serves w line answer v × Appends has now (ended answer) × (n ≡ sent + length (ended answer)))
       → none ≡ []
       → Progress Serves first had (bytes ++ 10 ∷ []) none n v now
-  progress_line bytes held none sent n w v has now p h empty =
-      let got = h p.rest p.is_held in
+  progress_line bytes buffered none sent n w v has now p h empty =
+      let got = h p.rest p.is_buffered in
       record {
         lines = p.lines ++ p.rest ∷ [];
         rest = [];
         answers = p.answers ++ got.0 ∷ [];
         cut = cut_line bytes p.lines p.rest p.cut;
-        is_held = empty;
+        is_buffered = empty;
         ran = ran_more Serves p.lines p.rest first p.answers got.0 w v p.ran got.1;
         wrote = rw (ended_more p.answers got.0) (Appends-trans had has now _ _ p.wrote got.2);
         count = rw (ended_more p.answers got.0) (omega (arith, got.3, p.count, length-append (flat_map ended p.answers) (ended got.0)));
       }
 
   -- another byte comes
-  pub progress_byte : (bytes held longer : List ℕ) (sent : ℕ) (w : S) (has : Option (List ℕ)) (b : ℕ)
+  pub progress_byte : (bytes buffered longer : List ℕ) (sent : ℕ) (w : S) (has : Option (List ℕ)) (b : ℕ)
       → b ≢ 10
-      → Progress Serves first had bytes held sent w has
-      → ((line : List ℕ) → IsHeld line held → IsHeld (line ++ b ∷ []) longer)
+      → Progress Serves first had bytes buffered sent w has
+      → ((line : List ℕ) → IsBuffered line buffered → IsBuffered (line ++ b ∷ []) longer)
       → Progress Serves first had (bytes ++ b ∷ []) longer sent w has
-  progress_byte bytes held longer sent w has b other p h = record {
+  progress_byte bytes buffered longer sent w has b other p h = record {
     lines = p.lines;
     rest = p.rest ++ b ∷ [];
     answers = p.answers;
     cut = cut_byte bytes p.lines p.rest b other p.cut;
-    is_held = h p.rest p.is_held;
+    is_buffered = h p.rest p.is_buffered;
     ran = p.ran;
     wrote = p.wrote;
     count = p.count;
@@ -134,12 +134,12 @@ module _ {S : Type 0} (Serves : S → Line → List ℕ → S → Type 0) (first
   -- ---- Faults
 
   -- an answer was cut short
-  pub halted_line : (why : WireFault) (bytes held : List ℕ) (sent : ℕ) (w v : S) (has now : Option (List ℕ))
-      → Progress Serves first had bytes held sent w has
-      → ((line : List ℕ) → IsHeld line held → (answer : List ℕ) × Answered Serves w line answer v × CutShort why sent answer has now)
+  pub halted_line : (why : WireFault) (bytes buffered : List ℕ) (sent : ℕ) (w v : S) (has now : Option (List ℕ))
+      → Progress Serves first had bytes buffered sent w has
+      → ((line : List ℕ) → IsBuffered line buffered → (answer : List ℕ) × Answered Serves w line answer v × CutShort why sent answer has now)
       → Halted Serves why first had (bytes ++ 10 ∷ []) v now
-  halted_line why bytes held sent w v has now p h =
-      let got = h p.rest p.is_held in
+  halted_line why bytes buffered sent w v has now p h =
+      let got = h p.rest p.is_buffered in
       let cut = cut_line bytes p.lines p.rest p.cut in
       record {
         lines = p.lines ++ p.rest ∷ [];
@@ -150,9 +150,9 @@ module _ {S : Type 0} (Serves : S → Line → List ℕ → S → Type 0) (first
       }
 
   -- memory for the line ran out
-  pub halted_memory : (bytes held more : List ℕ) (sent : ℕ) (w : S) (has : Option (List ℕ))
-      → Progress Serves first had bytes held sent w has → Halted Serves fault.Memory first had (bytes ++ more) w has
-  halted_memory bytes held more sent w has p = record {
+  pub halted_memory : (bytes buffered more : List ℕ) (sent : ℕ) (w : S) (has : Option (List ℕ))
+      → Progress Serves first had bytes buffered sent w has → Halted Serves fault.Memory first had (bytes ++ more) w has
+  halted_memory bytes buffered more sent w has p = record {
     lines = p.lines;
     answers = p.answers;
     begins = begins bytes p.lines p.rest more p.cut;
@@ -177,14 +177,14 @@ module _ {S : Type 0} (Serves : S → Line → List ℕ → S → Type 0) (first
   nil_of [] h = refl
   nil_of (x ∷ xs) h = absurd (omega arith)
 
-  none_held : (n : ℕ) (rest held : List ℕ) → held ≡ take (n + 1) rest → length held ≡ 0 → rest ≡ []
-  none_held n [] held h none = refl
-  none_held n (x ∷ rest) held h none = let size = ap length h in absurd (omega (arith, length-take (n + 1) (x ∷ rest)))
+  none_buffered : (n : ℕ) (rest buffered : List ℕ) → buffered ≡ take (n + 1) rest → length buffered ≡ 0 → rest ≡ []
+  none_buffered n [] buffered h none = refl
+  none_buffered n (x ∷ rest) buffered h none = let size = ap length h in absurd (omega (arith, length-take (n + 1) (x ∷ rest)))
 
-  pub whole_empty : (bytes held : List ℕ) (sent : ℕ) (w : S) (has : Option (List ℕ))
-      → length held ≡ 0 → Progress Serves first had bytes held sent w has → Whole Serves first had bytes w has
-  whole_empty bytes held sent w has none p =
-      let empty : p.rest ≡ [] = none_held most_bytes p.rest held p.is_held none in
+  pub whole_empty : (bytes buffered : List ℕ) (sent : ℕ) (w : S) (has : Option (List ℕ))
+      → length buffered ≡ 0 → Progress Serves first had bytes buffered sent w has → Whole Serves first had bytes w has
+  whole_empty bytes buffered sent w has none p =
+      let empty : p.rest ≡ [] = none_buffered most_bytes p.rest buffered p.is_buffered none in
       record {
         lines = p.lines;
         answers = p.answers;
@@ -197,40 +197,40 @@ module _ {S : Type 0} (Serves : S → Line → List ℕ → S → Type 0) (first
   some_rest [] h = absurd (omega arith)
   some_rest (b ∷ bs) h = refl
 
-  some_held : (n : ℕ) (rest held : List ℕ) → held ≡ take n rest → length held ≢ 0 → 0 < length rest
-  some_held n rest held h some = omega (arith, ap length h, length-take n rest)
+  some_buffered : (n : ℕ) (rest buffered : List ℕ) → buffered ≡ take n rest → length buffered ≢ 0 → 0 < length rest
+  some_buffered n rest buffered h some = omega (arith, ap length h, length-take n rest)
 
-  last_line : (bytes held : List ℕ) (sent : ℕ) (w : S) (has : Option (List ℕ)) → length held ≢ 0 → (p : Progress Serves first had bytes held sent w has)
+  last_line : (bytes buffered : List ℕ) (sent : ℕ) (w : S) (has : Option (List ℕ)) → length buffered ≢ 0 → (p : Progress Serves first had bytes buffered sent w has)
       → AreLines bytes (p.lines ++ p.rest ∷ [])
-  last_line bytes held sent w has some p =
-      (p.lines, p.rest, p.cut, ap (λ t. p.lines ++ t) (sym (some_rest p.rest (some_held (most_bytes + 1) p.rest held p.is_held some))))
+  last_line bytes buffered sent w has some p =
+      (p.lines, p.rest, p.cut, ap (λ t. p.lines ++ t) (sym (some_rest p.rest (some_buffered (most_bytes + 1) p.rest buffered p.is_buffered some))))
 
-  pub whole_line : (bytes held : List ℕ) (sent n : ℕ) (w v : S) (has now : Option (List ℕ))
-      → length held ≢ 0
-      → Progress Serves first had bytes held sent w has
-      → ((line : List ℕ) → IsHeld line held → (answer : List ℕ) × Answered Serves w line answer v × Appends has now (ended answer) × (n ≡ sent + length (ended answer)))
+  pub whole_line : (bytes buffered : List ℕ) (sent n : ℕ) (w v : S) (has now : Option (List ℕ))
+      → length buffered ≢ 0
+      → Progress Serves first had bytes buffered sent w has
+      → ((line : List ℕ) → IsBuffered line buffered → (answer : List ℕ) × Answered Serves w line answer v × Appends has now (ended answer) × (n ≡ sent + length (ended answer)))
       → Whole Serves first had bytes v now
-  whole_line bytes held sent n w v has now some p h =
-      let got = h p.rest p.is_held in
+  whole_line bytes buffered sent n w v has now some p h =
+      let got = h p.rest p.is_buffered in
       record {
         lines = p.lines ++ p.rest ∷ [];
         answers = p.answers ++ got.0 ∷ [];
-        cut = last_line bytes held sent w has some p;
+        cut = last_line bytes buffered sent w has some p;
         ran = ran_more Serves p.lines p.rest first p.answers got.0 w v p.ran got.1;
         wrote = rw (ended_more p.answers got.0) (Appends-trans had has now _ _ p.wrote got.2);
       }
 
-  pub halted_last : (why : WireFault) (bytes held : List ℕ) (sent : ℕ) (w v : S) (has now : Option (List ℕ))
-      → length held ≢ 0
-      → Progress Serves first had bytes held sent w has
-      → ((line : List ℕ) → IsHeld line held → (answer : List ℕ) × Answered Serves w line answer v × CutShort why sent answer has now)
+  pub halted_last : (why : WireFault) (bytes buffered : List ℕ) (sent : ℕ) (w v : S) (has now : Option (List ℕ))
+      → length buffered ≢ 0
+      → Progress Serves first had bytes buffered sent w has
+      → ((line : List ℕ) → IsBuffered line buffered → (answer : List ℕ) × Answered Serves w line answer v × CutShort why sent answer has now)
       → HaltedLast Serves why first had bytes v now
-  halted_last why bytes held sent w v has now some p h =
-      let got = h p.rest p.is_held in
+  halted_last why bytes buffered sent w v has now some p h =
+      let got = h p.rest p.is_buffered in
       record {
         lines = p.lines ++ p.rest ∷ [];
         answers = p.answers ++ got.0 ∷ [];
-        cut = last_line bytes held sent w has some p;
+        cut = last_line bytes buffered sent w has some p;
         ran = ran_more Serves p.lines p.rest first p.answers got.0 w v p.ran got.1;
         wrote = wrote_short why p.answers got.0 sent had has now p.wrote p.count got.2;
       }
@@ -250,9 +250,9 @@ module _ {S : Type 0} (Serves : S → Line → List ℕ → S → Type 0) (first
     wrote = h.wrote;
   }
 
-  pub stops_reading : (bytes held : List ℕ) (sent : ℕ) (w : S) (unread left has : Option (List ℕ))
-      → Consumes unread left bytes → Progress Serves first had bytes held sent w has → StopsAt Serves fault.Read first w unread left had has
-  stops_reading bytes held sent w unread left has got p = record {
+  pub stops_reading : (bytes buffered : List ℕ) (sent : ℕ) (w : S) (unread left has : Option (List ℕ))
+      → Consumes unread left bytes → Progress Serves first had bytes buffered sent w has → StopsAt Serves fault.Read first w unread left had has
+  stops_reading bytes buffered sent w unread left has got p = record {
     bytes = bytes;
     lines = p.lines;
     answers = p.answers;

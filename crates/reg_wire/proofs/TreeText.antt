@@ -22,8 +22,8 @@ use Rattle.serde_json.specs.Read.{read, of_json, of_members, max_depth}
 use Rattle.serde_json.specs.Written.{outline, members_outline, compact_text, items_text, members_text, comma_if}
 use Rattle.serde_json.proofs.Numbers.{number_of-decimal}
 use Rattle.serde_json.proofs.Texts.{print-outline}
-use Rattle.reg_wire.specs.Listed.{Listed, object_with}
-use Rattle.reg_wire.specs.Members.{object_of}
+use Rattle.reg_print.specs.Trees.Members.{Listed, object_with}
+use Rattle.reg_parse.specs.Bodies.Members.{object_of}
 use Rattle.reg_wire.proofs.ListedMembers.{as_listed, ascends, is_before, some_member, with_members-as_listed}
 
 -- what JSON's outline reads as is what its text reads as

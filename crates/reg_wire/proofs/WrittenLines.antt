@@ -7,8 +7,8 @@ use Rattle.std.proofs.lemmas.Option.{same_Some, none-some}
 use Rattle.std.specs.Prelude.{◌==◌, ◌⊎◌, nat_lt, position, unwrap_or, if◌then◌else◌}
 use Rattle.std.specs.Fmt.{decimal}
 use Rattle.std.specs.List.{AllByRecursion, position_or_len}
-use Rattle.reg_wire.specs.Line.{Line, ◌>>=◌, is_space, field_before, first_field, path_before, path_and_body, moment_of, token_of, line_feed_of, fields_of, line_of, most_bytes}
-use Rattle.reg_wire.specs.ScriptLaws.{IsField, after_path, written, IsWritten}
+use Rattle.reg_wire.specs.Script.Line.{Line, ◌>>=◌, is_space, field_before, first_field, path_before, path_and_body, moment_of, token_of, line_feed_of, fields_of, line_of, most_bytes}
+use Rattle.reg_wire.specs.Script.Laws.{IsField, after_path, written, IsWritten}
 use Rattle.reg_wire.proofs.Moments.{moment_reads, moment_is, decimal_field}
 
 abbrev HasNoSpace : List ℕ → Type 0

@@ -1,17 +1,20 @@
 //! A script: its lines are answered in turn.
 ghost use Rattle.std.specs.Prelude.{◌≡◌, OnOk, IfErr};
-ghost use Rattle.reg_wire.specs.Script.{AnswersAll, StopsAt};
-ghost use Rattle.reg_wire.specs.Served.{Serves};
+ghost use Rattle.reg_wire.specs.Script.Lines.{AnswersAll, StopsAt};
+ghost use Rattle.reg_wire.specs.Script.Answers.{Serves};
 
 pub mod laws;
+mod line;
+mod line_buffer;
 mod lines;
 mod office;
 mod responder;
+mod sending;
 
-use crate::route::Routes;
 use crate::wire_fault::WireFault;
 use lines::respond_all;
 use reg_office::Office;
+use reg_parse::route::Routes;
 use reg_store::keeper::Keeper;
 use std::alloc::Global;
 use std::io::{Read, Write};
@@ -35,7 +38,7 @@ pub fn run<K: Keeper, R: Read, W: Write>(
     reader: &mut R,
     writer: &mut W,
 ) -> Result<(), WireFault>
-    ensures held { K.Holds office.new → K.Holds office.old }
+    ensures premise { K.Holds office.new → K.Holds office.old }
     ensures ok { K.Holds office.new → OnOk result (AnswersAll Serves (K.world office.old) (K.world office.new)
         (R.remaining reader.old) (R.remaining reader.new) (W.contents writer.old) (W.contents writer.new)) }
     ensures err { K.Holds office.new → IfErr result (λ fault. StopsAt Serves fault (K.world office.old) (K.world office.new)

@@ -1,6 +1,6 @@
 //! Laws of scripts, over their definitions.
-ghost use Rattle.reg_wire.specs.PrivacyLaws.{LinesAreAnsweredAlike, UnseenLinesLeaveNoTrace};
-ghost use Rattle.reg_wire.specs.ScriptLaws.{LinesAreRead, IsCutOneWay, AnswersAreLines, AreAnswers, RunsAsTheModel};
+ghost use Rattle.reg_wire.specs.Script.Privacy.{LinesAreAnsweredAlike, UnseenLinesLeaveNoTrace};
+ghost use Rattle.reg_wire.specs.Script.Laws.{LinesAreRead, IsCutOneWay, AnswersAreLines, AreAnswers, RunsAsTheModel};
 
 /// A line is read as it is written: `moment token METHOD path body`, with one space between. Other bytes are
 /// no line.

@@ -1,12 +1,12 @@
 //! The lines of a script, answered in turn by any responder.
 ghost use Rattle.std.specs.Prelude.{◌≡◌, ◌+◌, ◌++◌, ◌∷◌, [], List, ℕ, Option, OnOk, IfOk, IfErr, length};
 ghost use Rattle.std.specs.Io.KnownBytes.{Appends};
-ghost use Rattle.reg_wire.specs.Script.{ended, Answered, AnswersAll, StopsAt};
-ghost use Rattle.reg_wire.specs.Held.{IsHeld, CutShort, Progress, Whole, Halted, HaltedLast};
+ghost use Rattle.reg_wire.specs.Script.Lines.{ended, Answered, AnswersAll, StopsAt};
+ghost use Rattle.reg_wire.specs.Script.LineBuffer.{IsBuffered, CutShort, Progress, Whole, Halted, HaltedLast};
 
-use crate::held::Held;
+use crate::script::line_buffer::LineBuffer;
 use crate::script::responder::{Responder, Unanswered};
-use crate::sending::send_answer;
+use crate::script::sending::send_answer;
 use crate::wire_fault::WireFault;
 use std::alloc::Global;
 use std::io::{Read, Write};
@@ -21,13 +21,13 @@ pub(crate) fn respond_all<A: Responder, R: Read, W: Write>(
     reader: &mut R,
     writer: &mut W,
 ) -> Result<(), WireFault>
-    ensures held { A.Holds responder.new → A.Holds responder.old }
+    ensures premise { A.Holds responder.new → A.Holds responder.old }
     ensures ok { A.Holds responder.new → OnOk result (AnswersAll A.Serves responder.old responder.new
         (R.remaining reader.old) (R.remaining reader.new) (W.contents writer.old) (W.contents writer.new)) }
     ensures err { A.Holds responder.new → IfErr result (λ fault. StopsAt A.Serves fault responder.old responder.new
         (R.remaining reader.old) (R.remaining reader.new) (W.contents writer.old) (W.contents writer.new)) }
 {
-    let mut held = Held::new(alloc);
+    let mut buffer = LineBuffer::new(alloc);
     let mut buf = [0u8; 4096];
     let mut sent = 0;
     for _ in 0..MOST_READS {
@@ -35,32 +35,32 @@ pub(crate) fn respond_all<A: Responder, R: Read, W: Write>(
             return Err(WireFault::Read);
         };
         if count == 0 {
-            return finish(alloc, responder, routes, writer, &held, sent);
+            return finish(alloc, responder, routes, writer, &buffer, sent);
         }
         let piece = &buf[..count];
-        sent = take_piece(alloc, responder, routes, writer, &mut held, sent, piece)?;
+        sent = take_piece(alloc, responder, routes, writer, &mut buffer, sent, piece)?;
     }
     Err(WireFault::Read)
 }
 
-// Answers the line that is held; gives how many bytes went out by now.
+// Answers the line that was read; gives how many bytes went out by now.
 fn answer_line<A: Responder, W: Write>(
     alloc: Global,
     responder: &mut A,
     routes: &A::Routes,
     writer: &mut W,
-    held: &Held,
+    buffer: &LineBuffer,
     sent: usize,
 ) -> Result<usize, WireFault>
-    ensures held { A.Holds responder.new → A.Holds responder.old }
-    ensures ok { A.Holds responder.new → IfOk result (λ n. (line : List ℕ) → IsHeld line held.now
+    ensures premise { A.Holds responder.new → A.Holds responder.old }
+    ensures ok { A.Holds responder.new → IfOk result (λ n. (line : List ℕ) → IsBuffered line buffer.now
         → (answer : List ℕ) × Answered A.Serves responder.old line answer responder.new
         × Appends (W.contents writer.old) (W.contents writer.new) (ended answer) × (n ≡ sent + length (ended answer))) }
-    ensures err { A.Holds responder.new → IfErr result (λ fault. (line : List ℕ) → IsHeld line held.now
+    ensures err { A.Holds responder.new → IfErr result (λ fault. (line : List ℕ) → IsBuffered line buffer.now
         → (answer : List ℕ) × Answered A.Serves responder.old line answer responder.new
         × CutShort fault sent answer (W.contents writer.old) (W.contents writer.new)) }
 {
-    let Some(line) = held.line() else {
+    let Some(line) = buffer.line() else {
         return send_answer(writer, b"400 {\"error\":\"line\"}", sent);
     };
     match responder.respond(alloc, routes, &line) {
@@ -76,24 +76,24 @@ fn take_byte<A: Responder, W: Write>(
     responder: &mut A,
     routes: &A::Routes,
     writer: &mut W,
-    held: &mut Held,
+    buffer: &mut LineBuffer,
     sent: usize,
     byte: u8,
 ) -> Result<usize, WireFault>
-    ensures held { A.Holds responder.new → A.Holds responder.old }
+    ensures premise { A.Holds responder.new → A.Holds responder.old }
     ensures ok { A.Holds responder.new → IfOk result (λ n. (first : A) (had : Option (List ℕ)) (bytes : List ℕ)
-        → Progress A.Serves first had bytes held.old sent responder.old (W.contents writer.old)
-        → Progress A.Serves first had (bytes ++ byte ∷ []) held.new n responder.new (W.contents writer.new)) }
+        → Progress A.Serves first had bytes buffer.old sent responder.old (W.contents writer.old)
+        → Progress A.Serves first had (bytes ++ byte ∷ []) buffer.new n responder.new (W.contents writer.new)) }
     ensures err { A.Holds responder.new → IfErr result (λ fault. (first : A) (had : Option (List ℕ)) (bytes : List ℕ)
-        → Progress A.Serves first had bytes held.old sent responder.old (W.contents writer.old)
+        → Progress A.Serves first had bytes buffer.old sent responder.old (W.contents writer.old)
         → Halted A.Serves fault first had (bytes ++ byte ∷ []) responder.new (W.contents writer.new)) }
 {
     if byte != b'\n' {
-        held.push(byte)?;
+        buffer.push(byte)?;
         return Ok(sent);
     }
-    let sent = answer_line(alloc, responder, routes, writer, held, sent)?;
-    held.clear();
+    let sent = answer_line(alloc, responder, routes, writer, buffer, sent)?;
+    buffer.clear();
     Ok(sent)
 }
 
@@ -103,21 +103,21 @@ fn take_piece<A: Responder, W: Write>(
     responder: &mut A,
     routes: &A::Routes,
     writer: &mut W,
-    held: &mut Held,
+    buffer: &mut LineBuffer,
     sent: usize,
     piece: &[u8],
 ) -> Result<usize, WireFault>
-    ensures held { A.Holds responder.new → A.Holds responder.old }
+    ensures premise { A.Holds responder.new → A.Holds responder.old }
     ensures ok { A.Holds responder.new → IfOk result (λ n. (first : A) (had : Option (List ℕ)) (bytes : List ℕ)
-        → Progress A.Serves first had bytes held.old sent responder.old (W.contents writer.old)
-        → Progress A.Serves first had (bytes ++ piece.now) held.new n responder.new (W.contents writer.new)) }
+        → Progress A.Serves first had bytes buffer.old sent responder.old (W.contents writer.old)
+        → Progress A.Serves first had (bytes ++ piece.now) buffer.new n responder.new (W.contents writer.new)) }
     ensures err { A.Holds responder.new → IfErr result (λ fault. (first : A) (had : Option (List ℕ)) (bytes : List ℕ)
-        → Progress A.Serves first had bytes held.old sent responder.old (W.contents writer.old)
+        → Progress A.Serves first had bytes buffer.old sent responder.old (W.contents writer.old)
         → Halted A.Serves fault first had (bytes ++ piece.now) responder.new (W.contents writer.new)) }
 {
     let mut total = sent;
     for byte in piece {
-        total = take_byte(alloc, responder, routes, writer, held, total, *byte)?;
+        total = take_byte(alloc, responder, routes, writer, buffer, total, *byte)?;
     }
     Ok(total)
 }
@@ -128,20 +128,20 @@ fn finish<A: Responder, W: Write>(
     responder: &mut A,
     routes: &A::Routes,
     writer: &mut W,
-    held: &Held,
+    buffer: &LineBuffer,
     sent: usize,
 ) -> Result<(), WireFault>
-    ensures held { A.Holds responder.new → A.Holds responder.old }
+    ensures premise { A.Holds responder.new → A.Holds responder.old }
     ensures ok { A.Holds responder.new → OnOk result ((first : A) (had : Option (List ℕ)) (bytes : List ℕ)
-        → Progress A.Serves first had bytes held.now sent responder.old (W.contents writer.old)
+        → Progress A.Serves first had bytes buffer.now sent responder.old (W.contents writer.old)
         → Whole A.Serves first had bytes responder.new (W.contents writer.new)) }
     ensures err { A.Holds responder.new → IfErr result (λ fault. (first : A) (had : Option (List ℕ)) (bytes : List ℕ)
-        → Progress A.Serves first had bytes held.now sent responder.old (W.contents writer.old)
+        → Progress A.Serves first had bytes buffer.now sent responder.old (W.contents writer.old)
         → HaltedLast A.Serves fault first had bytes responder.new (W.contents writer.new)) }
 {
-    if held.is_empty() {
+    if buffer.is_empty() {
         return Ok(());
     }
-    answer_line(alloc, responder, routes, writer, held, sent)?;
+    answer_line(alloc, responder, routes, writer, buffer, sent)?;
     Ok(())
 }

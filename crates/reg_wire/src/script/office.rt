@@ -1,18 +1,18 @@
 //! The office as the responder of a script.
 ghost use Rattle.std.specs.Prelude.{◌≡◌, map, IfOk, OnOk, OnErr};
 ghost use Rattle.reg_office.specs.Caller.{step_by};
-ghost use Rattle.reg_wire.specs.Line.{asked_by, line_feed_of as line_feed};
-ghost use Rattle.reg_wire.specs.Served.{Serves, line_answer, line_world, answer_line, tab_of as tab};
+ghost use Rattle.reg_wire.specs.Script.Line.{asked_by, line_feed_of as line_feed};
+ghost use Rattle.reg_wire.specs.Script.Answers.{Serves, line_answer, line_world, answer_line, tab_of as tab};
 
-use crate::answer::{Answer, body_of};
-use crate::command::read_command;
-use crate::line::Line;
-use crate::refusal::ReadFault;
-use crate::route::Routes;
+use crate::script::line::Line;
 use crate::script::responder::{Responder, Unanswered};
 use reg_core::command::Command;
 use reg_core::reply::Reply;
+use reg_core::wire_refusal::ReadFault;
 use reg_office::Office;
+use reg_parse::command::read_command;
+use reg_parse::route::Routes;
+use reg_print::answer::{Answer, body_of};
 use reg_store::keeper::{Fault, Keeper};
 use std::alloc::{AllocError, Global};
 
@@ -46,7 +46,7 @@ fn answer_to<K: Keeper>(
     routes: &Routes,
     line: &Line<'_>,
 ) -> Result<Answer, Fault>
-    ensures held { K.Holds office.new → K.Holds office.old }
+    ensures premise { K.Holds office.new → K.Holds office.old }
     ensures answer { K.Holds office.new → IfOk result (λ a. a ≡ line_answer (K.world office.old) (asked_by line.now)) }
     ensures world { K.Holds office.new → OnOk result (K.world office.new ≡ line_world (K.world office.old) (asked_by line.now)) }
     ensures kept { K.Holds office.new → OnErr result (K.world office.new ≡ K.world office.old) }
@@ -64,7 +64,7 @@ fn handle<K: Keeper>(
     line: &Line<'_>,
     command: Command,
 ) -> Result<Reply, Fault>
-    ensures held { K.Holds office.new → K.Holds office.old }
+    ensures premise { K.Holds office.new → K.Holds office.old }
     ensures reply { K.Holds office.new → IfOk result (λ r. r ≡ (step_by (K.world office.old) (asked_by line.now).token line.now.moment command).reply) }
     ensures world { K.Holds office.new → OnOk result (K.world office.new ≡ (step_by (K.world office.old) (asked_by line.now).token line.now.moment command).world) }
     ensures kept { K.Holds office.new → OnErr result (K.world office.new ≡ K.world office.old) }

@@ -1,9 +1,9 @@
 //! What answers the lines of a script.
 ghost use Rattle.std.specs.Prelude.{◌≡◌, List, ℕ, IfOk, IfErr};
-ghost use Rattle.reg_wire.specs.Line.{Line as Asked, asked_by};
-ghost use Rattle.reg_wire.specs.Held.{Unserved};
+ghost use Rattle.reg_wire.specs.Script.Line.{Line as Asked, asked_by};
+ghost use Rattle.reg_wire.specs.Script.LineBuffer.{Unserved};
 
-use crate::line::Line;
+use crate::script::line::Line;
 use std::alloc::Global;
 
 /// Why a line has no answer.
@@ -33,7 +33,7 @@ pub(crate) trait Responder {
         routes: &Self::Routes,
         line: &Line<'_>,
     ) -> Result<Vec<u8>, Unanswered>
-        ensures held { Holds self.new → Holds self.old }
+        ensures premise { Holds self.new → Holds self.old }
         ensures ok { Holds self.new → IfOk result (λ answer. Serves self.old (asked_by line.now) answer.items self.new) }
         ensures err { Holds self.new → IfErr result (λ why. Unserved Serves self.old (asked_by line.now) why self.new) };
 }

@@ -1,4 +1,4 @@
-use crate::line::Line;
+use crate::script::line::Line;
 use crate::script::lines::respond_all;
 use crate::script::responder::{Responder, Unanswered};
 use crate::script::run;

@@ -1,5 +1,5 @@
 use Rattle.std.proofs.lemmas.Result.{IfOk-weaker, IfErr-weaker, err_from_is_err_and}
-use Rattle.reg_wire.specs.Served.{Serves}
+use Rattle.reg_wire.specs.Script.Answers.{Serves}
 use Rattle.reg_wire.proofs.Runs.{all_seen, stop_seen, stops_before}
 use Rattle.reg_wire.proofs.script.run.Goals as goal
 

@@ -1,6 +1,6 @@
 use Rattle.std.proofs.Common.{refl, inl}
-use Rattle.reg_wire.specs.Line.{asked_by}
-use Rattle.reg_wire.specs.Served.{answer_line, line_answer}
+use Rattle.reg_wire.specs.Script.Line.{asked_by}
+use Rattle.reg_wire.specs.Script.Answers.{answer_line, line_answer}
 use Rattle.reg_wire.proofs.script.office.OfficeResponder.respond.Goals as goal
 
 pub returns-in-Err-line_of-clause-err : goal.returns-in-Err-line_of-clause-err

@@ -1,0 +1,68 @@
+//! The parts of a request that a refusal can name.
+ghost use Rattle.std.specs.Prelude.{◌≡◌};
+ghost use Rattle.reg_core.specs.Item.{item_name};
+
+/// A part of a request: a segment of its path or a member of its body. `Number`, `Stream` and `Track` are the
+/// members of an RFC; a fault in one of them is a fault of `Rfc`.
+#[derive(Clone, Copy, Debug, PartialEq, Eq)]
+pub enum Item {
+    Account,
+    Contact,
+    Expert,
+    /// A member that the body should not have.
+    Extra,
+    Kind,
+    Label,
+    Least,
+    Max,
+    Minute,
+    Name,
+    Number,
+    Prefix,
+    Reason,
+    Reference,
+    Registry,
+    Rfc,
+    Specification,
+    Stream,
+    Text,
+    Token,
+    Track,
+    Until,
+    Value,
+    Verdict,
+}
+
+impl Item {
+    /// Its name, which is that of the member or the segment too.
+    pub fn name(self) -> &'static str
+        ensures { result.now ≡ item_name self }
+    {
+        match self {
+            Item::Account => "account",
+            Item::Contact => "contact",
+            Item::Expert => "expert",
+            Item::Extra => "extra",
+            Item::Kind => "kind",
+            Item::Label => "label",
+            Item::Least => "least",
+            Item::Max => "max",
+            Item::Minute => "minute",
+            Item::Name => "name",
+            Item::Number => "number",
+            Item::Prefix => "prefix",
+            Item::Reason => "reason",
+            Item::Reference => "reference",
+            Item::Registry => "registry",
+            Item::Rfc => "rfc",
+            Item::Specification => "specification",
+            Item::Stream => "stream",
+            Item::Text => "text",
+            Item::Token => "token",
+            Item::Track => "track",
+            Item::Until => "until",
+            Item::Value => "value",
+            Item::Verdict => "verdict",
+        }
+    }
+}

@@ -1,0 +1,7 @@
+-- What the members of JSON bodies say.
+pub mod Members
+pub mod Rfc
+pub mod Evidence
+pub mod Ask
+pub mod Advice
+pub mod Capability

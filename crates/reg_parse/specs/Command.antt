@@ -1,0 +1,172 @@
+-- The command that a method, a path and a body spell, or the first refusal.
+use Rattle.std.specs.Prelude.{ℕ, ◌==◌, ◌&&◌, List, [], ◌∷◌, length, not, Option, None, Ok, Err, slice_get, if◌then◌else◌, option_and_then, ⊤}
+use Rattle.std.specs.Str.{is_utf8}
+use Rattle.reg_ranges.specs.Numbers.{read_number}
+use Rattle.reg_ranges.specs.Texts.{is_text, read_text}
+use Rattle.reg_blocks.specs.Digits.{read_prefix}
+use Rattle.reg_core.specs.Names.{is_name, is_token}
+use Rattle.reg_core.specs.declared.command.Command.{Command}
+use Rattle.reg_core.specs.declared.command.Command.TheVariants as command
+use Rattle.reg_core.specs.declared.command.PublicCommand.TheVariants as public
+use Rattle.reg_core.specs.declared.command.ApplicantCommand.TheVariants as applicant
+use Rattle.reg_core.specs.declared.command.ExpertCommand.TheVariants as expert
+use Rattle.reg_core.specs.declared.command.ClerkCommand.TheVariants as clerk
+use Rattle.reg_core.specs.declared.item.Item.{Item}
+use Rattle.reg_core.specs.declared.item.Item.TheVariants as item
+use Rattle.reg_core.specs.declared.wire_refusal.WireRefusal.TheVariants.{Route, Method, Body, Field}
+use Rattle.reg_parse.specs.declared.route.Operation.{Operation}
+use Rattle.reg_parse.specs.declared.route.Operation.TheVariants as operation
+use Rattle.reg_parse.specs.declared.route.Methods.{Methods}
+use Rattle.reg_parse.specs.Bodies.Members.{Reading, ◌>>=◌, or_refusal, object_of, needed, only, text_form}
+use Rattle.reg_parse.specs.Bodies.Advice.{advice_of}
+use Rattle.reg_parse.specs.Bodies.Ask.{ask_of}
+use Rattle.reg_parse.specs.Bodies.Capability.{cap_of}
+use Rattle.reg_parse.specs.RangeFile.{table_of}
+use Rattle.reg_parse.specs.Route.{methods_at, operation_for}
+use Rattle.reg_parse.specs.Path.{segments, has_empty_segment}
+
+abbrev pub empty : List ℕ → Reading ⊤
+empty body = if length body == 0 then Ok tt else Err Body
+
+-- a command that has no body
+abbrev pub without_body : Command → List ℕ → Reading Command
+without_body spelled body = do
+  nothing ← empty body
+  Ok spelled
+
+-- the segment that follows this many slashes, in its form
+abbrev pub segment : {A : Type 0} → Item → (List ℕ → Option A) → ℕ → List ℕ → Reading A
+segment part form slashes path = or_refusal (Field part) (option_and_then form (slice_get (segments path) slashes))
+
+abbrev pub name_at : Item → ℕ → List ℕ → Reading (List ℕ)
+name_at part slashes path = segment part (read_text is_name) slashes path
+
+unfoldable pub registry_of : List ℕ → List ℕ → Reading Command
+registry_of path body = do
+  nothing ← empty body
+  name ← name_at item.Name 2 path
+  Ok (command.Public (public.Registry name))
+
+unfoldable pub registry_csv_of : List ℕ → List ℕ → Reading Command
+registry_csv_of path body = do
+  nothing ← empty body
+  name ← name_at item.Name 3 path
+  Ok (command.Public (public.RegistryCsv name))
+
+unfoldable pub own_one_of : List ℕ → List ℕ → Reading Command
+own_one_of path body = do
+  nothing ← empty body
+  reference ← name_at item.Reference 2 path
+  Ok (command.Applicant (applicant.OwnOne reference))
+
+unfoldable pub withdraw_of : List ℕ → List ℕ → Reading Command
+withdraw_of path body = do
+  nothing ← empty body
+  reference ← name_at item.Reference 2 path
+  Ok (command.Applicant (applicant.Withdraw reference))
+
+unfoldable pub submit_of : List ℕ → List ℕ → Reading Command
+submit_of path body = do
+  json ← object_of body
+  reference ← name_at item.Reference 2 path
+  asked ← ask_of json
+  Ok (command.Applicant (applicant.Submit reference asked))
+
+unfoldable pub advise_of : List ℕ → List ℕ → Reading Command
+advise_of path body = do
+  json ← object_of body
+  account ← name_at item.Account 2 path
+  reference ← name_at item.Reference 3 path
+  advice ← advice_of json
+  others ← only (item.Verdict ∷ item.Text ∷ []) json
+  Ok (command.Expert (expert.Advise account reference advice))
+
+unfoldable pub one_request_of : List ℕ → List ℕ → Reading Command
+one_request_of path body = do
+  nothing ← empty body
+  account ← name_at item.Account 3 path
+  reference ← name_at item.Reference 4 path
+  Ok (command.Clerk (clerk.OneRequest account reference))
+
+unfoldable pub assign_expert_of : List ℕ → List ℕ → Reading Command
+assign_expert_of path body = do
+  nothing ← empty body
+  account ← name_at item.Account 3 path
+  reference ← name_at item.Reference 4 path
+  adviser ← name_at item.Expert 5 path
+  Ok (command.Clerk (clerk.AssignExpert account reference adviser))
+
+unfoldable pub approve_of : List ℕ → List ℕ → Reading Command
+approve_of path body = do
+  nothing ← empty body
+  account ← name_at item.Account 3 path
+  reference ← name_at item.Reference 4 path
+  Ok (command.Clerk (clerk.Approve account reference))
+
+unfoldable pub decline_of : List ℕ → List ℕ → Reading Command
+decline_of path body = do
+  json ← object_of body
+  account ← name_at item.Account 3 path
+  reference ← name_at item.Reference 4 path
+  reason ← needed item.Reason (text_form is_text) json
+  others ← only (item.Reason ∷ []) json
+  Ok (command.Clerk (clerk.Decline account reference reason))
+
+unfoldable pub define_of : List ℕ → List ℕ → Reading Command
+define_of path body = do
+  name ← name_at item.Name 3 path
+  max ← segment item.Max read_number 4 path
+  table ← table_of max body
+  Ok (command.Clerk (clerk.Define name table))
+
+unfoldable pub add_pool_of : List ℕ → List ℕ → Reading Command
+add_pool_of path body = do
+  nothing ← empty body
+  prefix ← segment item.Prefix read_prefix 3 path
+  Ok (command.Clerk (clerk.AddPool prefix))
+
+unfoldable pub grant_of : List ℕ → Reading Command
+grant_of body = do
+  json ← object_of body
+  token ← needed item.Token (text_form is_token) json
+  cap ← cap_of json
+  others ← only (item.Token ∷ item.Account ∷ item.Kind ∷ item.Until ∷ []) json
+  Ok (command.Clerk (clerk.Grant token cap))
+
+unfoldable pub revoke_of : List ℕ → Reading Command
+revoke_of body = do
+  json ← object_of body
+  token ← needed item.Token (text_form is_token) json
+  others ← only (item.Token ∷ []) json
+  Ok (command.Clerk (clerk.Revoke token))
+
+abbrev pub command_of : Operation → List ℕ → List ℕ → Reading Command
+command_of operation.Registries path body = without_body (command.Public public.Registries) body
+command_of operation.Registry path body = registry_of path body
+command_of operation.RegistryCsv path body = registry_csv_of path body
+command_of operation.PoolList path body = without_body (command.Public public.PoolList) body
+command_of operation.Own path body = without_body (command.Applicant applicant.Own) body
+command_of operation.OwnOne path body = own_one_of path body
+command_of operation.Submit path body = submit_of path body
+command_of operation.Withdraw path body = withdraw_of path body
+command_of operation.Queue path body = without_body (command.Expert expert.Queue) body
+command_of operation.Advise path body = advise_of path body
+command_of operation.AllRequests path body = without_body (command.Clerk clerk.AllRequests) body
+command_of operation.OneRequest path body = one_request_of path body
+command_of operation.AssignExpert path body = assign_expert_of path body
+command_of operation.Approve path body = approve_of path body
+command_of operation.Decline path body = decline_of path body
+command_of operation.Define path body = define_of path body
+command_of operation.AddPool path body = add_pool_of path body
+command_of operation.Grant path body = grant_of body
+command_of operation.Revoke path body = revoke_of body
+
+-- what the methods do at a path that is UTF-8 and has no empty segment
+abbrev pub routed : List ℕ → Option Methods
+routed path = if is_utf8 path && not (has_empty_segment path) then methods_at path else None
+
+unfoldable pub asked : List ℕ → List ℕ → List ℕ → Reading Command
+asked method path body = do
+  methods ← or_refusal Route (routed path)
+  operation ← or_refusal Method (operation_for method methods)
+  command_of operation path body

@@ -1,0 +1,6 @@
+pub mod Bodies
+pub mod RangeFile
+pub mod Path
+pub mod Route
+pub mod Command
+pub mod Laws

@@ -1,0 +1,80 @@
+-- The routes, as `matchit` finds them.
+use Rattle.std.specs.Prelude.{ℕ, List, [], ◌∷◌, Option, Some, None, Result, Ok, Err, codes, option_map, if◌then◌else◌, Bool, true, false, ◌&&◌, is_none}
+use Rattle.std.specs.Str.{bytes_eq}
+use Rattle.matchit.specs.Rows.{RowsOf}
+use Rattle.matchit.specs.Order.{placed}
+use Rattle.matchit.specs.Route.{Scan, parse_route}
+use Rattle.matchit.specs.Router.{RouteOf, route_from, nearest}
+use Rattle.matchit.specs.Seek.{first}
+use Rattle.matchit.specs.declared.error.InsertError.{InsertError}
+use Rattle.reg_parse.specs.declared.route.Operation.{Operation}
+use Rattle.reg_parse.specs.declared.route.Operation.TheVariants.{Registries, Registry, RegistryCsv, PoolList, Own, OwnOne, Submit, Withdraw, Queue, Advise, AllRequests, OneRequest, AssignExpert, Approve, Decline, Define, AddPool, Grant, Revoke}
+use Rattle.reg_parse.specs.declared.route.Methods.{Methods}
+
+abbrev pub operation_for : List ℕ → Methods → Option Operation
+operation_for method at =
+    if bytes_eq method (codes "GET") then at.get
+    else (if bytes_eq method (codes "PUT") then at.put
+    else (if bytes_eq method (codes "DELETE") then at.delete else None))
+
+-- a path, and what GET, PUT and DELETE do there
+abbrev pub Row : Type 0
+Row = List ℕ × Methods
+
+abbrev pub row : List ℕ → Option Operation → Option Operation → Option Operation → Row
+row path get put delete = (path, record { get = get; put = put; delete = delete })
+
+abbrev pub rows : List Row
+rows =
+    row (codes "/registries") (Some Registries) None None
+    ∷ row (codes "/registries/{name}") (Some Registry) None None
+    ∷ row (codes "/listings/registries/{name}") (Some RegistryCsv) None None
+    ∷ row (codes "/pool") (Some PoolList) None None
+    ∷ row (codes "/requests") (Some Own) None None
+    ∷ row (codes "/requests/{reference}") (Some OwnOne) (Some Submit) (Some Withdraw)
+    ∷ row (codes "/queue") (Some Queue) None None
+    ∷ row (codes "/queue/{account}/{reference}") None (Some Advise) None
+    ∷ row (codes "/desk/requests") (Some AllRequests) None None
+    ∷ row (codes "/desk/requests/{account}/{reference}") (Some OneRequest) None None
+    ∷ row (codes "/desk/experts/{account}/{reference}/{expert}") None (Some AssignExpert) None
+    ∷ row (codes "/desk/approve/{account}/{reference}") None (Some Approve) None
+    ∷ row (codes "/desk/decline/{account}/{reference}") None (Some Decline) None
+    ∷ row (codes "/desk/registries/{name}/{max}") None (Some Define) None
+    ∷ row (codes "/desk/pool/{prefix}") None (Some AddPool) None
+    ∷ row (codes "/desk/tokens") None (Some Grant) None
+    ∷ row (codes "/desk/revoke") None (Some Revoke) None
+    ∷ []
+
+-- what a router keeps of them
+abbrev pub Table : Type 0
+Table = RowsOf (RouteOf Methods)
+
+abbrev pub with_scan : Result Scan InsertError → Methods → Table → Table
+with_scan (Ok scan) methods table = placed (scan.pattern, route_from scan methods) table
+with_scan (Err error) methods table = table
+
+unfoldable pub with_row : Row → Table → Table
+with_row r table = with_scan (parse_route r.0) r.1 table
+
+abbrev pub with_rows : List Row → Table → Table
+with_rows [] table = table
+with_rows (r ∷ more) table = with_rows more (with_row r table)
+
+-- a path conflicts with none of the table
+abbrev pub scan_fits : Result Scan InsertError → Table → Bool
+scan_fits (Ok scan) table = is_none (nearest scan.pattern table)
+scan_fits (Err error) table = false
+
+unfoldable pub fits : Row → Table → Bool
+fits r table = scan_fits (parse_route r.0) table
+
+abbrev pub all_fit : List Row → Table → Bool
+all_fit [] table = true
+all_fit (r ∷ more) table = fits r table && all_fit more (with_row r table)
+
+unfoldable pub routes : Table
+routes = with_rows rows []
+
+-- what the methods do at a path, if it has a route
+unfoldable pub methods_at : List ℕ → Option Methods
+methods_at path = option_map (λ found. found.value) (first routes path)

@@ -1,0 +1,156 @@
+//! Reads the members of a JSON object (RFC 8259 section 4). Where a name stands twice, the last one counts.
+ghost use Rattle.std.specs.Prelude.{◌≡◌};
+ghost use Rattle.std.specs.BTreeMap.{keys};
+ghost use Rattle.std.specs.List.{list_all};
+ghost use Rattle.std.specs.String.{string_bytes};
+ghost use Rattle.serde_json.specs.View.{view};
+ghost use Rattle.serde_json.specs.Find.{as_object};
+ghost use Rattle.reg_parse.specs.Bodies.Members.{Gives, GivesSeen, object_of, needed, optional, only, is_among, names_any, text_form, number_form, until_form, kind_form, kind_named, verdict_form};
+
+use reg_core::advice::Verdict;
+use reg_core::capability::{Kind, Until};
+use reg_core::item::Item;
+use reg_core::text::{Form, Word};
+use reg_core::wire_refusal::{ReadFault, WireRefusal};
+use serde_json::{Map, Value};
+use std::alloc::Global;
+
+/// The one JSON object that the bytes are. `Body` where they are none: not UTF-8, no JSON text, nested
+/// more than 127 deep, or another value than an object.
+pub fn object_of(alloc: Global, body: &[u8]) -> Result<Value, ReadFault>
+    ensures { GivesSeen view result (object_of body.now) }
+{
+    match Value::from_slice(alloc, body) {
+        Ok(value) => if value.is_object() {
+            Ok(value)
+        } else {
+            Err(ReadFault::Refused(WireRefusal::Body))
+        },
+        Err(error) => if error.is_memory() {
+            Err(ReadFault::Memory)
+        } else {
+            Err(ReadFault::Refused(WireRefusal::Body))
+        },
+    }
+}
+
+/// The text of this member. `Field` with the item where it is missing or has not the form.
+pub fn word<F: Form>(alloc: Global, object: &Value, item: Item) -> Result<Word<F>, ReadFault>
+    ensures { Gives result (needed item (text_form F.fits) (view object.now)) }
+{
+    match object.get(item.name()).and_then(Value::as_str) {
+        Some(text) => match Word::read(alloc, text.as_bytes())? {
+            Some(word) => Ok(word),
+            None => Err(ReadFault::field(item)),
+        },
+        None => Err(ReadFault::field(item)),
+    }
+}
+
+/// The text of this member, or none where it is missing. `Field` with the item where it has not the form.
+pub fn word_if_there<F: Form>(
+    alloc: Global,
+    object: &Value,
+    item: Item,
+) -> Result<Option<Word<F>>, ReadFault>
+    ensures { Gives result (optional item (text_form F.fits) (view object.now)) }
+{
+    if object.get(item.name()).is_none() {
+        return Ok(None);
+    }
+    Ok(Some(word(alloc, object, item)?))
+}
+
+/// The whole number that this is, 0 to 4294967295, written with digits alone.
+pub fn number(json: &Value) -> Option<u32>
+    ensures { result ≡ number_form (view json.now) }
+{
+    match json.as_u64() {
+        Some(n) => u32::try_from(n).ok(),
+        None => None,
+    }
+}
+
+/// The end of a capability in this member, a whole number of 0 to 32503680000 written with digits alone.
+/// `Field` with the item where it is missing or no such number.
+pub fn until(object: &Value, item: Item) -> Result<Until, ReadFault>
+    ensures { Gives result (needed item until_form (view object.now)) }
+{
+    match object.get(item.name()).and_then(Value::as_u64) {
+        Some(seconds) => match Until::from_seconds(seconds) {
+            Some(until) => Ok(until),
+            None => Err(ReadFault::field(item)),
+        },
+        None => Err(ReadFault::field(item)),
+    }
+}
+
+/// The kind of capability in this member. `Field` with the item where it is missing or no kind's word.
+pub fn kind(object: &Value, item: Item) -> Result<Kind, ReadFault>
+    ensures { Gives result (needed item kind_form (view object.now)) }
+{
+    match object.get(item.name()).and_then(Value::as_str) {
+        Some(word) => match kind_named(word) {
+            Some(kind) => Ok(kind),
+            None => Err(ReadFault::field(item)),
+        },
+        None => Err(ReadFault::field(item)),
+    }
+}
+
+fn kind_named(word: &str) -> Option<Kind>
+    ensures { result ≡ kind_named word.now }
+{
+    match word {
+        "applicant" => Some(Kind::Applicant),
+        "expert" => Some(Kind::Expert),
+        "clerk" => Some(Kind::Clerk),
+        _ => None,
+    }
+}
+
+/// The verdict in this member. `Field` with the item where it is missing or no verdict's word.
+pub fn verdict(object: &Value, item: Item) -> Result<Verdict, ReadFault>
+    ensures { Gives result (needed item verdict_form (view object.now)) }
+{
+    match object.get(item.name()).and_then(Value::as_str) {
+        Some(word) => match Verdict::read(word.as_bytes()) {
+            Some(verdict) => Ok(verdict),
+            None => Err(ReadFault::field(item)),
+        },
+        None => Err(ReadFault::field(item)),
+    }
+}
+
+/// That the object has no other members than these; else `Field` with `extra`.
+pub fn only(items: &[Item], object: &Value) -> Result<(), ReadFault>
+    ensures { Gives result (only items.now (view object.now)) }
+{
+    if has_only(items, object) {
+        Ok(())
+    } else {
+        Err(ReadFault::field(Item::Extra))
+    }
+}
+
+/// Whether it has no other members than these.
+pub fn has_only(items: &[Item], object: &Value) -> bool
+    ensures { result ≡ is_among items.now (as_object (view object.now)) }
+{
+    match object.as_object() {
+        Some(members) => are_among(items, members),
+        None => true,
+    }
+}
+
+fn are_among(items: &[Item], members: &Map<String, Value>) -> bool
+    ensures { result ≡ list_all (λ key. names_any items.now (string_bytes key)) (keys members.now) }
+{
+    members.keys().all(|key| names_any(items, key.as_str()))
+}
+
+fn names_any(items: &[Item], name: &str) -> bool
+    ensures { result ≡ names_any items.now name.now }
+{
+    items.iter().any(|item| name == item.name())
+}

@@ -1,0 +1,290 @@
+//! Reads the command that a method, a path and a body spell.
+ghost use Rattle.std.specs.Prelude.{◌≡◌, true, IfOk, IfSome, option_map};
+ghost use Rattle.reg_blocks.specs.Digits.{read_prefix};
+ghost use Rattle.reg_core.specs.Command.{has_command_form};
+ghost use Rattle.reg_parse.specs.Route.{operation_for};
+ghost use Rattle.reg_parse.specs.Bodies.Members.{Gives};
+ghost use Rattle.reg_ranges.specs.Numbers.{read_number};
+ghost use Rattle.reg_ranges.specs.Texts.{read_text};
+ghost use Rattle.reg_parse.specs.Command.{add_pool_of, advise_of, approve_of, asked, assign_expert_of, command_of, decline_of, define_of, empty, grant_of, one_request_of, own_one_of, registry_csv_of, registry_of, revoke_of, routed, segment, submit_of, withdraw_of, without_body};
+
+use crate::bodies::{advice, ask, capability, members};
+use crate::path;
+use crate::range_file::read_table;
+use crate::route::{Methods, Operation, Routes};
+use reg_blocks::prefix;
+use reg_core::command::{ApplicantCommand, ClerkCommand, Command, ExpertCommand, PublicCommand};
+use reg_core::item::Item;
+use reg_core::text::{Form, Word};
+use reg_core::wire_refusal::{ReadFault, WireRefusal};
+use reg_ranges::number::read_number;
+use std::alloc::Global;
+
+/// The command that these bytes spell. What is wrong with them is looked for in this order: `Route`,
+/// `Method`, `Body`, then `Field` of the segments of the path from left to right, of the members of the
+/// body, and of a member too many, and `Ranges`. `Memory` comes only where there was none for the reading.
+#[tactic(auto, unfolding(crate::specs::Command::asked))]
+pub fn read_command(
+    alloc: Global,
+    routes: &Routes,
+    method: &[u8],
+    path: &[u8],
+    body: &[u8],
+) -> Result<Command, ReadFault>
+    ensures spelled { Gives result (asked method.now path.now body.now) }
+    ensures form { IfOk result (λ command. has_command_form command ≡ true) }
+
+    // A path or a method that is refused takes no memory.
+    ensures no_route { routed path.now ≡ None → result ≡ Err (ReadFault.Refused WireRefusal.Route) }
+    ensures no_method { IfSome (routed path.now) (λ methods. operation_for method.now methods ≡ None → result ≡ Err (ReadFault.Refused WireRefusal.Method)) }
+{
+    let Some((path, methods)) = routed(routes, path) else {
+        return Err(ReadFault::Refused(WireRefusal::Route));
+    };
+    match methods.operation(method) {
+        Some(operation) => command_of(alloc, operation, path, body),
+        None => Err(ReadFault::Refused(WireRefusal::Method)),
+    }
+}
+
+// The path as a text, and what the methods do there.
+fn routed<'p>(routes: &Routes, path: &'p [u8]) -> Option<(&'p str, Methods)>
+    ensures methods { option_map (λ r. r.1) result ≡ routed path.now }
+    ensures same_path { IfSome result (λ r. r.0.now ≡ path.now) }
+{
+    let Ok(path) = str::from_utf8(path) else {
+        return None;
+    };
+    if path::has_empty_segment(path) {
+        return None;
+    }
+    Some((path, routes.at(path)?))
+}
+
+fn command_of(
+    alloc: Global,
+    operation: Operation,
+    path: &str,
+    body: &[u8],
+) -> Result<Command, ReadFault>
+    ensures { Gives result (command_of operation path.now body.now) }
+{
+    match operation {
+        Operation::Registries => without_body(Command::Public(PublicCommand::Registries), body),
+        Operation::Registry => read_registry(alloc, path, body),
+        Operation::RegistryCsv => read_registry_csv(alloc, path, body),
+        Operation::PoolList => without_body(Command::Public(PublicCommand::PoolList), body),
+        Operation::Own => without_body(Command::Applicant(ApplicantCommand::Own), body),
+        Operation::OwnOne => read_own_one(alloc, path, body),
+        Operation::Submit => read_submit(alloc, path, body),
+        Operation::Withdraw => read_withdraw(alloc, path, body),
+        Operation::Queue => without_body(Command::Expert(ExpertCommand::Queue), body),
+        Operation::Advise => read_advise(alloc, path, body),
+        Operation::AllRequests => without_body(Command::Clerk(ClerkCommand::AllRequests), body),
+        Operation::OneRequest => read_one_request(alloc, path, body),
+        Operation::AssignExpert => read_assign_expert(alloc, path, body),
+        Operation::Approve => read_approve(alloc, path, body),
+        Operation::Decline => read_decline(alloc, path, body),
+        Operation::Define => read_define(alloc, path, body),
+        Operation::AddPool => read_add_pool(path, body),
+        Operation::Grant => read_grant(alloc, body),
+        Operation::Revoke => read_revoke(alloc, body),
+    }
+}
+
+#[tactic(auto, unfolding(crate::specs::Command::registry_of))]
+fn read_registry(alloc: Global, path: &str, body: &[u8]) -> Result<Command, ReadFault>
+    ensures { Gives result (registry_of path.now body.now) }
+{
+    empty(body)?;
+    let name = word_at(alloc, path, 2, Item::Name)?;
+    Ok(Command::Public(PublicCommand::Registry(name)))
+}
+
+#[tactic(auto, unfolding(crate::specs::Command::registry_csv_of))]
+fn read_registry_csv(alloc: Global, path: &str, body: &[u8]) -> Result<Command, ReadFault>
+    ensures { Gives result (registry_csv_of path.now body.now) }
+{
+    empty(body)?;
+    let name = word_at(alloc, path, 3, Item::Name)?;
+    Ok(Command::Public(PublicCommand::RegistryCsv(name)))
+}
+
+#[tactic(auto, unfolding(crate::specs::Command::own_one_of))]
+fn read_own_one(alloc: Global, path: &str, body: &[u8]) -> Result<Command, ReadFault>
+    ensures { Gives result (own_one_of path.now body.now) }
+{
+    empty(body)?;
+    let reference = word_at(alloc, path, 2, Item::Reference)?;
+    Ok(Command::Applicant(ApplicantCommand::OwnOne(reference)))
+}
+
+#[tactic(auto, unfolding(crate::specs::Command::withdraw_of))]
+fn read_withdraw(alloc: Global, path: &str, body: &[u8]) -> Result<Command, ReadFault>
+    ensures { Gives result (withdraw_of path.now body.now) }
+{
+    empty(body)?;
+    let reference = word_at(alloc, path, 2, Item::Reference)?;
+    Ok(Command::Applicant(ApplicantCommand::Withdraw(reference)))
+}
+
+#[tactic(auto, unfolding(crate::specs::Command::submit_of))]
+fn read_submit(alloc: Global, path: &str, body: &[u8]) -> Result<Command, ReadFault>
+    ensures { Gives result (submit_of path.now body.now) }
+{
+    let json = members::object_of(alloc, body)?;
+    let reference = word_at(alloc, path, 2, Item::Reference)?;
+    let ask = ask::read_ask(alloc, &json)?;
+    Ok(Command::Applicant(ApplicantCommand::Submit(reference, ask)))
+}
+
+#[tactic(auto, unfolding(crate::specs::Command::advise_of))]
+fn read_advise(alloc: Global, path: &str, body: &[u8]) -> Result<Command, ReadFault>
+    ensures { Gives result (advise_of path.now body.now) }
+{
+    let json = members::object_of(alloc, body)?;
+    let account = word_at(alloc, path, 2, Item::Account)?;
+    let reference = word_at(alloc, path, 3, Item::Reference)?;
+    let advice = advice::read_advice(alloc, &json)?;
+    members::only(&[Item::Verdict, Item::Text], &json)?;
+    Ok(Command::Expert(ExpertCommand::Advise(account, reference, advice)))
+}
+
+#[tactic(auto, unfolding(crate::specs::Command::one_request_of))]
+fn read_one_request(alloc: Global, path: &str, body: &[u8]) -> Result<Command, ReadFault>
+    ensures { Gives result (one_request_of path.now body.now) }
+{
+    empty(body)?;
+    let account = word_at(alloc, path, 3, Item::Account)?;
+    let reference = word_at(alloc, path, 4, Item::Reference)?;
+    Ok(Command::Clerk(ClerkCommand::OneRequest(account, reference)))
+}
+
+#[tactic(auto, unfolding(crate::specs::Command::assign_expert_of))]
+fn read_assign_expert(alloc: Global, path: &str, body: &[u8]) -> Result<Command, ReadFault>
+    ensures { Gives result (assign_expert_of path.now body.now) }
+{
+    empty(body)?;
+    let account = word_at(alloc, path, 3, Item::Account)?;
+    let reference = word_at(alloc, path, 4, Item::Reference)?;
+    let expert = word_at(alloc, path, 5, Item::Expert)?;
+    Ok(Command::Clerk(ClerkCommand::AssignExpert(account, reference, expert)))
+}
+
+#[tactic(auto, unfolding(crate::specs::Command::approve_of))]
+fn read_approve(alloc: Global, path: &str, body: &[u8]) -> Result<Command, ReadFault>
+    ensures { Gives result (approve_of path.now body.now) }
+{
+    empty(body)?;
+    let account = word_at(alloc, path, 3, Item::Account)?;
+    let reference = word_at(alloc, path, 4, Item::Reference)?;
+    Ok(Command::Clerk(ClerkCommand::Approve(account, reference)))
+}
+
+#[tactic(auto, unfolding(crate::specs::Command::decline_of))]
+fn read_decline(alloc: Global, path: &str, body: &[u8]) -> Result<Command, ReadFault>
+    ensures { Gives result (decline_of path.now body.now) }
+{
+    let json = members::object_of(alloc, body)?;
+    let account = word_at(alloc, path, 3, Item::Account)?;
+    let reference = word_at(alloc, path, 4, Item::Reference)?;
+    let reason = members::word(alloc, &json, Item::Reason)?;
+    members::only(&[Item::Reason], &json)?;
+    Ok(Command::Clerk(ClerkCommand::Decline(account, reference, reason)))
+}
+
+#[tactic(auto, unfolding(crate::specs::Command::define_of))]
+fn read_define(alloc: Global, path: &str, body: &[u8]) -> Result<Command, ReadFault>
+    ensures { Gives result (define_of path.now body.now) }
+{
+    let name = word_at(alloc, path, 3, Item::Name)?;
+    let max = number_at(path, 4, Item::Max)?;
+    let table = read_table(alloc, max, body)?;
+    Ok(Command::Clerk(ClerkCommand::Define(name, table)))
+}
+
+#[tactic(auto, unfolding(crate::specs::Command::add_pool_of))]
+fn read_add_pool(path: &str, body: &[u8]) -> Result<Command, ReadFault>
+    ensures { Gives result (add_pool_of path.now body.now) }
+{
+    empty(body)?;
+    let prefix = prefix_at(path, 3, Item::Prefix)?;
+    Ok(Command::Clerk(ClerkCommand::AddPool(prefix)))
+}
+
+#[tactic(auto, unfolding(crate::specs::Command::grant_of))]
+fn read_grant(alloc: Global, body: &[u8]) -> Result<Command, ReadFault>
+    ensures { Gives result (grant_of body.now) }
+{
+    let json = members::object_of(alloc, body)?;
+    let token = members::word(alloc, &json, Item::Token)?;
+    let cap = capability::read_cap(alloc, &json)?;
+    members::only(
+        &[Item::Token, Item::Account, Item::Kind, Item::Until],
+        &json,
+    )?;
+    Ok(Command::Clerk(ClerkCommand::Grant(token, cap)))
+}
+
+#[tactic(auto, unfolding(crate::specs::Command::revoke_of))]
+fn read_revoke(alloc: Global, body: &[u8]) -> Result<Command, ReadFault>
+    ensures { Gives result (revoke_of body.now) }
+{
+    let json = members::object_of(alloc, body)?;
+    let token = members::word(alloc, &json, Item::Token)?;
+    members::only(&[Item::Token], &json)?;
+    Ok(Command::Clerk(ClerkCommand::Revoke(token)))
+}
+
+fn without_body(command: Command, body: &[u8]) -> Result<Command, ReadFault>
+    ensures { Gives result (without_body command body.now) }
+{
+    empty(body)?;
+    Ok(command)
+}
+
+fn empty(body: &[u8]) -> Result<(), ReadFault>
+    ensures { Gives result (empty body.now) }
+{
+    if body.is_empty() {
+        Ok(())
+    } else {
+        Err(ReadFault::Refused(WireRefusal::Body))
+    }
+}
+
+// The segment that follows this many slashes, in its form.
+fn word_at<F: Form>(
+    alloc: Global,
+    path: &str,
+    slashes: usize,
+    item: Item,
+) -> Result<Word<F>, ReadFault>
+    ensures { Gives result (segment item (read_text F.fits) slashes path.now) }
+{
+    match path::segment(path, slashes) {
+        Some(text) => match Word::read(alloc, text.as_bytes())? {
+            Some(word) => Ok(word),
+            None => Err(ReadFault::field(item)),
+        },
+        None => Err(ReadFault::field(item)),
+    }
+}
+
+// The number of 0 to 4294967295 that follows this many slashes, in decimal without leading zeros.
+fn number_at(path: &str, slashes: usize, item: Item) -> Result<u32, ReadFault>
+    ensures { Gives result (segment item read_number slashes path.now) }
+{
+    path::segment(path, slashes)
+        .and_then(|text| read_number(text.as_bytes()))
+        .ok_or(ReadFault::field(item))
+}
+
+// The 24-bit prefix that follows this many slashes, in six hexadecimal digits.
+fn prefix_at(path: &str, slashes: usize, item: Item) -> Result<u32, ReadFault>
+    ensures { Gives result (segment item read_prefix slashes path.now) }
+{
+    path::segment(path, slashes)
+        .and_then(|text| prefix::read(text.as_bytes()))
+        .ok_or(ReadFault::field(item))
+}

@@ -1,0 +1,243 @@
+//! The routes: which command a method and a path name.
+ghost use Rattle.std.specs.Prelude.{◌≡◌, true, OnOk, map};
+ghost use Rattle.reg_parse.specs.Route.{with_row, with_rows, fits, all_fit, operation_for, methods_at};
+
+use matchit::{InsertError, Router};
+use std::alloc::{AllocError, Global};
+use std::marker::Model;
+
+/// Which command is meant, without what it is about.
+#[derive(Clone, Copy, Debug, PartialEq, Eq)]
+pub enum Operation {
+    Registries,
+    Registry,
+    RegistryCsv,
+    PoolList,
+    Own,
+    OwnOne,
+    Submit,
+    Withdraw,
+    Queue,
+    Advise,
+    AllRequests,
+    OneRequest,
+    AssignExpert,
+    Approve,
+    Decline,
+    Define,
+    AddPool,
+    Grant,
+    Revoke,
+}
+
+/// What GET, PUT and DELETE (RFC 9110 section 9.3) do at a path.
+#[derive(Clone, Copy, Debug, PartialEq, Eq)]
+pub struct Methods {
+    pub get: Option<Operation>,
+    pub put: Option<Operation>,
+    pub delete: Option<Operation>,
+}
+
+impl Methods {
+    /// What this method does here, if it does anything. Methods are compared exactly.
+    pub fn operation(&self, method: &[u8]) -> Option<Operation>
+        ensures { result ≡ operation_for method.now self.now }
+    {
+        if method == b"GET".as_slice() {
+            self.get
+        } else if method == b"PUT".as_slice() {
+            self.put
+        } else if method == b"DELETE".as_slice() {
+            self.delete
+        } else {
+            None
+        }
+    }
+}
+
+/// The routes of all commands.
+#[derive(Drop)]
+pub struct Routes {
+    router: Router<Methods>,
+}
+
+impl Model for Routes {
+    ghost use Rattle.std.specs.Prelude.{◌≡◌, ⊤};
+    ghost use Rattle.reg_parse.specs.Route.{routes};
+
+    ghost Value = { ⊤ };
+
+    ghost view = { λ r. tt };
+
+    ghost invariant = { λ r. r.router ≡ routes };
+}
+
+const NONE: Methods = Methods {
+    get: None,
+    put: None,
+    delete: None,
+};
+
+// Each path, and what the methods do there.
+const ROWS: [(&str, Methods); 17] = [
+    (
+        "/registries",
+        Methods {
+            get: Some(Operation::Registries),
+            ..NONE
+        },
+    ),
+    (
+        "/registries/{name}",
+        Methods {
+            get: Some(Operation::Registry),
+            ..NONE
+        },
+    ),
+    (
+        "/listings/registries/{name}",
+        Methods {
+            get: Some(Operation::RegistryCsv),
+            ..NONE
+        },
+    ),
+    (
+        "/pool",
+        Methods {
+            get: Some(Operation::PoolList),
+            ..NONE
+        },
+    ),
+    (
+        "/requests",
+        Methods {
+            get: Some(Operation::Own),
+            ..NONE
+        },
+    ),
+    (
+        "/requests/{reference}",
+        Methods {
+            get: Some(Operation::OwnOne),
+            put: Some(Operation::Submit),
+            delete: Some(Operation::Withdraw),
+        },
+    ),
+    (
+        "/queue",
+        Methods {
+            get: Some(Operation::Queue),
+            ..NONE
+        },
+    ),
+    (
+        "/queue/{account}/{reference}",
+        Methods {
+            put: Some(Operation::Advise),
+            ..NONE
+        },
+    ),
+    (
+        "/desk/requests",
+        Methods {
+            get: Some(Operation::AllRequests),
+            ..NONE
+        },
+    ),
+    (
+        "/desk/requests/{account}/{reference}",
+        Methods {
+            get: Some(Operation::OneRequest),
+            ..NONE
+        },
+    ),
+    (
+        "/desk/experts/{account}/{reference}/{expert}",
+        Methods {
+            put: Some(Operation::AssignExpert),
+            ..NONE
+        },
+    ),
+    (
+        "/desk/approve/{account}/{reference}",
+        Methods {
+            put: Some(Operation::Approve),
+            ..NONE
+        },
+    ),
+    (
+        "/desk/decline/{account}/{reference}",
+        Methods {
+            put: Some(Operation::Decline),
+            ..NONE
+        },
+    ),
+    (
+        "/desk/registries/{name}/{max}",
+        Methods {
+            put: Some(Operation::Define),
+            ..NONE
+        },
+    ),
+    (
+        "/desk/pool/{prefix}",
+        Methods {
+            put: Some(Operation::AddPool),
+            ..NONE
+        },
+    ),
+    (
+        "/desk/tokens",
+        Methods {
+            put: Some(Operation::Grant),
+            ..NONE
+        },
+    ),
+    (
+        "/desk/revoke",
+        Methods {
+            put: Some(Operation::Revoke),
+            ..NONE
+        },
+    ),
+];
+
+impl Routes {
+    /// The routes of all commands. Only memory can be wanting, since no two of them conflict.
+    pub fn new(alloc: Global) -> Result<Self, AllocError> {
+        let mut router = Router::new(alloc);
+        insert_all(&mut router, &ROWS)?;
+        Ok(Routes { router })
+    }
+
+    /// What the methods do at a path, if it has a route.
+    pub fn at(&self, path: &str) -> Option<Methods>
+        ensures { result ≡ methods_at path.now }
+    {
+        match self.router.at(path) {
+            Ok(found) => Some(*found.value),
+            Err(_) => None,
+        }
+    }
+}
+
+fn insert_all(router: &mut Router<Methods>, rows: &[(&str, Methods)]) -> Result<(), AllocError>
+    requires { all_fit (map (λ r. (r.0.now, r.1)) rows.now) router.old ≡ true }
+    ensures { OnOk result (router.new ≡ with_rows (map (λ r. (r.0.now, r.1)) rows.now) router.old) }
+{
+    for (path, methods) in rows {
+        insert(router, path, *methods)?;
+    }
+    Ok(())
+}
+
+fn insert(router: &mut Router<Methods>, path: &str, methods: Methods) -> Result<(), AllocError>
+    requires { fits (path.now, methods) router.old ≡ true }
+    ensures { OnOk result (router.new ≡ with_row (path.now, methods) router.old) }
+{
+    if let Err(error) = router.insert(path, methods) {
+        prove!(matches!(error, InsertError::OutOfMemory));
+        return Err(AllocError);
+    }
+    Ok(())
+}

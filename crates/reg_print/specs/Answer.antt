@@ -1,0 +1,79 @@
+-- The status and the body of an answer.
+use Rattle.std.specs.Prelude.{ℕ, List}
+use Rattle.reg_core.specs.declared.reply.Reply.{Reply}
+use Rattle.reg_core.specs.declared.reply.Reply.TheVariants.{Names, Page, Sheet, Pool, Made, Row, Rows, Item, Items, Desk, Desks, Filed, Defined, Pooled, Granted, Revoked}
+use Rattle.reg_core.specs.declared.reply.Reply.TheVariants as reply
+use Rattle.reg_print.specs.declared.answer.Answer.{Answer}
+use Rattle.reg_print.specs.declared.answer.Answer.TheVariants as answer
+use Rattle.reg_core.specs.declared.wire_refusal.ReadFault.{ReadFault}
+use Rattle.reg_core.specs.declared.wire_refusal.ReadFault.TheVariants.{Refused, Memory}
+use Rattle.reg_print.specs.Body.{Body, json, listing, text_of}
+use Rattle.reg_print.specs.Trees.File.{file_tree}
+use Rattle.reg_print.specs.Trees.Members.{names_tree}
+use Rattle.reg_print.specs.Trees.Page.{page_tree, defined_tree}
+use Rattle.reg_print.specs.Trees.Pool.{pool_tree, pooled_tree}
+use Rattle.reg_print.specs.Trees.Queue.{queue_tree, queues_tree}
+use Rattle.reg_print.specs.Refusal.{office_row, wire_row, storage_row}
+use Rattle.reg_print.specs.Trees.Request.{request_tree, requests_tree, desk_tree, desks_tree}
+use Rattle.reg_print.specs.Trees.Capability.{cap_tree, revoked_tree}
+use Rattle.reg_print.specs.Trees.Refusal.{error_tree}
+
+-- what is answered where no command was read
+abbrev pub answer_to_fault : ReadFault → Answer
+answer_to_fault (Refused refusal) = answer.Wire refusal
+answer_to_fault Memory = answer.Storage
+
+-- ---- Status
+
+abbrev pub reply_status : Reply → ℕ
+reply_status (Names names) = 200
+reply_status (Page page) = 200
+reply_status (Sheet page) = 200
+reply_status (Pool prefixes) = 200
+reply_status (Made request) = 201
+reply_status (Row request) = 200
+reply_status (Rows requests) = 200
+reply_status (Item row) = 200
+reply_status (Items rows) = 200
+reply_status (Desk request) = 200
+reply_status (Desks requests) = 200
+reply_status (Filed file) = 200
+reply_status (Defined name) = 200
+reply_status (Pooled prefix) = 200
+reply_status (Granted cap) = 200
+reply_status Revoked = 200
+reply_status (reply.Refused refusal) = (office_row refusal).status
+
+abbrev pub status_of : Answer → ℕ
+status_of (answer.Reply told) = reply_status told
+status_of (answer.Wire refusal) = (wire_row refusal).status
+status_of answer.Storage = storage_row.status
+
+-- ---- Body
+
+abbrev pub reply_body : Reply → Body
+reply_body (Names names) = json (names_tree names)
+reply_body (Page page) = json (page_tree page)
+reply_body (Sheet page) = listing page
+reply_body (Pool prefixes) = json (pool_tree prefixes)
+reply_body (Made request) = json (request_tree request)
+reply_body (Row request) = json (request_tree request)
+reply_body (Rows requests) = json (requests_tree requests)
+reply_body (Item row) = json (queue_tree row)
+reply_body (Items rows) = json (queues_tree rows)
+reply_body (Desk request) = json (desk_tree request)
+reply_body (Desks requests) = json (desks_tree requests)
+reply_body (Filed file) = json (file_tree file)
+reply_body (Defined name) = json (defined_tree name)
+reply_body (Pooled prefix) = json (pooled_tree prefix)
+reply_body (Granted cap) = json (cap_tree cap)
+reply_body Revoked = json revoked_tree
+reply_body (reply.Refused refusal) = json (error_tree (office_row refusal))
+
+abbrev pub answer_body : Answer → Body
+answer_body (answer.Reply told) = reply_body told
+answer_body (answer.Wire refusal) = json (error_tree (wire_row refusal))
+answer_body answer.Storage = json (error_tree storage_row)
+
+unfoldable pub body_text : Answer → List ℕ
+body_text answer = text_of (answer_body answer)

@@ -1,0 +1,7 @@
+pub mod Detail
+pub mod Refusal
+pub mod Trees
+pub mod Listing
+pub mod Body
+pub mod Answer
+pub mod Laws

@@ -1,0 +1,11 @@
+-- The JSON of what is answered.
+pub mod Members
+pub mod Ask
+pub mod Request
+pub mod Advice
+pub mod Queue
+pub mod File
+pub mod Page
+pub mod Pool
+pub mod Capability
+pub mod Refusal

@@ -1,0 +1,53 @@
+-- The JSON of an ask.
+use Rattle.std.specs.Prelude.{[], ◌∷◌, Option, None, option_map, codes}
+use Rattle.serde_json.specs.Data.{Data}
+use Rattle.reg_ranges.specs.Rfcs.{PublishedRfc}
+use Rattle.reg_ranges.specs.Words.{policy_word, stream_word, track_word}
+use Rattle.reg_core.specs.declared.ask.Ask.{Ask}
+use Rattle.reg_core.specs.declared.ask.Ask.TheVariants.{Code}
+use Rattle.reg_core.specs.declared.ask.CodeAsk.{CodeAsk}
+use Rattle.reg_core.specs.declared.ask.Want.{Want}
+use Rattle.reg_core.specs.declared.ask.Want.TheVariants.{Value, Least}
+use Rattle.reg_print.specs.Trees.Members.{Listed, object_with, text, text_if, whole_number}
+
+abbrev pub rfc_members : PublishedRfc → Listed
+rfc_members rfc =
+    (codes "number", whole_number rfc.number)
+    ∷ (codes "stream", text (stream_word rfc.stream))
+    ∷ (codes "track", text (track_word rfc.track))
+    ∷ []
+
+abbrev pub rfc_tree : PublishedRfc → Data
+rfc_tree rfc = object_with (rfc_members rfc)
+
+abbrev pub rfc_if : Option PublishedRfc → Option Data
+rfc_if rfc = option_map rfc_tree rfc
+
+-- the value that is wanted, where it is one of the asker's choice
+abbrev pub value_if : Want → Option Data
+value_if (Value v) = whole_number v
+value_if (Least policy) = None
+
+-- the policy whose least value is wanted, where it is that
+abbrev pub least_if : Want → Option Data
+least_if (Value v) = None
+least_if (Least policy) = text (policy_word policy)
+
+abbrev pub code_members : CodeAsk → Listed
+code_members ask =
+    (codes "contact", text_if ask.evidence.contact)
+    ∷ (codes "kind", text (codes "code"))
+    ∷ (codes "label", text ask.label)
+    ∷ (codes "least", least_if ask.want)
+    ∷ (codes "minute", text_if ask.evidence.minute)
+    ∷ (codes "registry", text ask.registry)
+    ∷ (codes "rfc", rfc_if ask.evidence.rfc)
+    ∷ (codes "specification", text_if ask.evidence.spec)
+    ∷ (codes "value", value_if ask.want)
+    ∷ []
+
+abbrev pub code_tree : CodeAsk → Data
+code_tree ask = object_with (code_members ask)
+
+abbrev pub ask_tree : Ask → Data
+ask_tree (Code ask) = code_tree ask

@@ -1,0 +1,11 @@
+//! Prints answers as bytes: the status and the body of each, which is JSON or, for a listing, CSV.
+#![tactic(auto)]
+
+pub mod answer;
+mod content;
+pub mod detail;
+pub mod laws;
+mod listing;
+mod note;
+mod refusal;
+mod trees;

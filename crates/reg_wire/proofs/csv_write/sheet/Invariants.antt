@@ -1,6 +1,0 @@
-use Rattle.std.proofs.Common.{◌≡◌, ◌∷◌, map, take}
-use Rattle.reg_wire.specs.Listing.{csv_text, header, row_fields, row_view}
-use Rattle.reg_wire.proofs.csv_write.sheet.Given as goal
-
-abbrev pub invariant-loop-row : goal.invariant-loop-row
-invariant-loop-row l = l.text.items ≡ csv_text (header ∷ map row_fields (map row_view (take l.row-index l.row-items)))

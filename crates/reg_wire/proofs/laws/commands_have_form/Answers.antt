@@ -1,5 +1,0 @@
-use Rattle.reg_wire.proofs.FormedCommands.{asked-formed}
-use Rattle.reg_wire.proofs.laws.commands_have_form.Goals as goal
-
-pub returns : goal.returns
-returns c = asked-formed

@@ -1,5 +1,0 @@
-use Rattle.reg_wire.proofs.Covered.{rows_cover}
-use Rattle.reg_wire.proofs.laws.rows_cover_ranges.Goals as goal
-
-pub returns : goal.returns
-returns c = rows_cover

@@ -1,0 +1,66 @@
+-- Where a run stands between two bytes of its script.
+use Rattle.std.specs.Prelude.{◌≡◌, ◌≤◌, ◌+◌, ℕ, List, [], length, take, Option}
+use Rattle.std.specs.List.{flat_map}
+use Rattle.std.specs.Io.KnownBytes.{Appends}
+use Rattle.reg_wire.specs.Script.Line.{Line, most_bytes}
+use Rattle.reg_wire.specs.Script.Lines.{storage, ended, Cut, AreLines, BeginWith, Ran, Wrote}
+use Rattle.reg_wire.specs.declared.wire_fault.WireFault.{WireFault}
+use Rattle.reg_wire.specs.declared.wire_fault.WireFault.TheVariants.{Read, Write, Memory}
+use Rattle.reg_wire.specs.declared.script.responder.Unanswered.{Unanswered}
+use Rattle.reg_wire.specs.declared.script.responder.Unanswered.TheVariants as without
+
+-- what is kept of a line: all of it, or so much that it is too long
+abbrev pub IsBuffered : List ℕ → List ℕ → Type 0
+IsBuffered line buffered = buffered ≡ take (most_bytes + 1) line
+
+-- what is there where a line has no answer
+abbrev pub Unserved : {S : Type 0} → (S → Line → List ℕ → S → Type 0) → S → Line → Unanswered → S → Type 0
+Unserved Serves before line without.Storage after = Serves before line storage after
+Unserved Serves before line without.Memory after = (answer : List ℕ) × Serves before line answer after
+
+-- what went out of an answer before a fault, after `sent` bytes of others
+abbrev pub CutShort : WireFault → ℕ → List ℕ → Option (List ℕ) → Option (List ℕ) → Type 0
+CutShort Read sent answer had has = ⊥
+CutShort Memory sent answer had has = Appends had has []
+CutShort (Write n) sent answer had has = (m : ℕ) × (m ≤ length answer) × (n ≡ sent + m) × Appends had has (take m (ended answer))
+
+-- after some bytes of the script
+pub record Progress {S : Type 0} (Serves : S → Line → List ℕ → S → Type 0) (first : S) (had : Option (List ℕ)) (bytes buffered : List ℕ) (sent : ℕ) (now : S) (has : Option (List ℕ)) : Type 0 where
+  pub lines : List (List ℕ)
+  pub rest : List ℕ
+  pub answers : List (List ℕ)
+  pub cut : Cut bytes lines rest
+  pub is_buffered : IsBuffered rest buffered
+  pub ran : Ran Serves first lines answers now
+  pub wrote : Appends had has (flat_map ended answers)
+  pub count : sent ≡ length (flat_map ended answers)
+
+-- what went out of the answers before a fault that is no failed read
+abbrev pub WroteSome : WireFault → List (List ℕ) → Option (List ℕ) → Option (List ℕ) → Type 0
+WroteSome Read answers had has = ⊥
+WroteSome Memory answers had has = Wrote Memory answers had has
+WroteSome (Write n) answers had has = Wrote (Write n) answers had has
+
+-- all lines of the bytes were answered
+pub record Whole {S : Type 0} (Serves : S → Line → List ℕ → S → Type 0) (first : S) (had : Option (List ℕ)) (bytes : List ℕ) (now : S) (has : Option (List ℕ)) : Type 0 where
+  pub lines : List (List ℕ)
+  pub answers : List (List ℕ)
+  pub cut : AreLines bytes lines
+  pub ran : Ran Serves first lines answers now
+  pub wrote : Appends had has (flat_map ended answers)
+
+-- a fault after the first lines of the bytes
+pub record Halted {S : Type 0} (Serves : S → Line → List ℕ → S → Type 0) (fault : WireFault) (first : S) (had : Option (List ℕ)) (bytes : List ℕ) (now : S) (has : Option (List ℕ)) : Type 0 where
+  pub lines : List (List ℕ)
+  pub answers : List (List ℕ)
+  pub begins : BeginWith bytes lines
+  pub ran : Ran Serves first lines answers now
+  pub wrote : WroteSome fault answers had has
+
+-- a fault in the answer to the last line of the bytes, which lacks its line feed
+pub record HaltedLast {S : Type 0} (Serves : S → Line → List ℕ → S → Type 0) (fault : WireFault) (first : S) (had : Option (List ℕ)) (bytes : List ℕ) (now : S) (has : Option (List ℕ)) : Type 0 where
+  pub lines : List (List ℕ)
+  pub answers : List (List ℕ)
+  pub cut : AreLines bytes lines
+  pub ran : Ran Serves first lines answers now
+  pub wrote : WroteSome fault answers had has

@@ -1,0 +1,63 @@
+//! The line that is being read, so far.
+ghost use Rattle.std.specs.Prelude.{◌≡◌, ◌<◌, length, ◌++◌, ◌∷◌, [], List, ℕ, IsTrue, ◌↔◌, OnOk, option_map};
+ghost use Rattle.reg_wire.specs.Script.Line.{line_of, asked_by};
+ghost use Rattle.reg_wire.specs.Script.LineBuffer.{IsBuffered};
+
+use crate::script::line::{Line, MOST_BYTES, read_line};
+use std::alloc::{AllocError, Global};
+use std::marker::Model;
+
+/// The bytes of a line so far, up to the first that makes it too long.
+#[derive(Drop)]
+pub(crate) struct LineBuffer {
+    bytes: Vec<u8>,
+}
+
+impl Model for LineBuffer {
+    ghost use Rattle.std.specs.Prelude.{List, ℕ};
+
+    ghost Value = { List ℕ };
+
+    ghost view = { λ h. h.bytes.items };
+}
+
+impl LineBuffer {
+    /// Nothing of a line.
+    pub fn new(alloc: Global) -> Self
+        ensures { result ≡ [] }
+    {
+        LineBuffer {
+            bytes: Vec::new(alloc),
+        }
+    }
+
+    pub fn is_empty(&self) -> bool
+        ensures { IsTrue result ↔ (length self.now ≡ 0) }
+    {
+        self.bytes.is_empty()
+    }
+
+    /// What the line asks; none where it is no line of a script.
+    pub fn line(&self) -> Option<Line<'_>>
+        ensures { (line : List ℕ) → IsBuffered line self.now → option_map asked_by result ≡ line_of line }
+    {
+        read_line(self.bytes.as_slice())
+    }
+
+    /// One byte more.
+    pub fn push(&mut self, byte: u8) -> Result<(), AllocError>
+        ensures { OnOk result ((line : List ℕ) → IsBuffered line self.old → IsBuffered (line ++ byte ∷ []) self.new) }
+    {
+        if self.bytes.len() <= MOST_BYTES {
+            self.bytes.push(byte)?;
+        }
+        Ok(())
+    }
+
+    /// Nothing of the next line.
+    pub fn clear(&mut self)
+        ensures { self.new ≡ [] }
+    {
+        self.bytes.clear();
+    }
+}
