@@ -31,7 +31,7 @@ use Rattle.reg_core.specs.declared.wire_refusal.ReadFault.{ReadFault}
 use Rattle.reg_parse.specs.declared.route.Methods.{Methods}
 use Rattle.reg_parse.specs.declared.route.Operation.{Operation}
 use Rattle.reg_parse.specs.declared.route.Operation.TheVariants as operation
-use Rattle.reg_parse.specs.Route.{operation_for}
+use Rattle.reg_parse.specs.Route.{operation_for, registry_path, listing_path, request_path, review_path, case_path, expert_path, approval_path, decline_path, definition_path, prefix_path}
 use Rattle.reg_parse.specs.Bodies.Members.{Reading, ◌>>=◌, GivesSeen, or_refusal, object_of, needed, only, kind_form, text_form, until_form, verdict_form}
 use Rattle.reg_parse.specs.Bodies.Ask.{ask_of}
 use Rattle.reg_parse.specs.RangeFile.{table_of}
@@ -44,11 +44,11 @@ use Rattle.reg_parse.proofs.FormedTables.{table_of-passes}
 
 -- ---- segments
 
-segment-passes : {A : Type 0} (test : A → Bool) (part : Item) (form : List ℕ → Option A) (slashes : ℕ) (path : List ℕ) → Gives test form → Passes test (segment part form slashes path)
-segment-passes test part form slashes path h = or_refusal-passes test (refusal.Field part) _ (after test form h _)
+segment-passes : {A : Type 0} (test : A → Bool) (part : Item) (form : List ℕ → Option A) (pattern path : List ℕ) → Gives test form → Passes test (segment part form pattern path)
+segment-passes test part form pattern path h = or_refusal-passes test (refusal.Field part) _ (after test form h _)
 
-name_at-passes : (part : Item) (slashes : ℕ) (path : List ℕ) → Passes is_name (name_at part slashes path)
-name_at-passes part slashes path = segment-passes is_name part (read_text is_name) slashes path (λ s t. guard is_name s t)
+name_at-passes : (part : Item) (pattern path : List ℕ) → Passes is_name (name_at part pattern path)
+name_at-passes part pattern path = segment-passes is_name part (read_text is_name) pattern path (λ s t. guard is_name s t)
 
 -- ---- capabilities
 
@@ -182,24 +182,24 @@ revoke_of-passes_at (Err e) = err-passes _ e
 command_of-passes : (o : Operation) (path body : List ℕ) → Passes has_command_form (command_of o path body)
 unfolding registry_of registry_csv_of own_one_of submit_of withdraw_of advise_of one_request_of assign_expert_of approve_of decline_of define_of add_pool_of grant_of revoke_of
 command_of-passes operation.Registries path body = plain_parts (empty body) _ refl
-command_of-passes operation.Registry path body = named_parts (λ s. command.Public (public.Registry s)) (λ s h. h) (empty body) (name_at item.Name 2 path) (name_at-passes item.Name 2 path)
-command_of-passes operation.RegistryCsv path body = named_parts (λ s. command.Public (public.RegistryCsv s)) (λ s h. h) (empty body) (name_at item.Name 3 path) (name_at-passes item.Name 3 path)
+command_of-passes operation.Registry path body = named_parts (λ s. command.Public (public.Registry s)) (λ s h. h) (empty body) (name_at item.Name registry_path path) (name_at-passes item.Name registry_path path)
+command_of-passes operation.RegistryCsv path body = named_parts (λ s. command.Public (public.RegistryCsv s)) (λ s h. h) (empty body) (name_at item.Name listing_path path) (name_at-passes item.Name listing_path path)
 command_of-passes operation.PoolList path body = plain_parts (empty body) _ refl
 command_of-passes operation.Own path body = plain_parts (empty body) _ refl
-command_of-passes operation.OwnOne path body = named_parts (λ s. command.Applicant (applicant.OwnOne s)) (λ s h. h) (empty body) (name_at item.Reference 2 path) (name_at-passes item.Reference 2 path)
-command_of-passes operation.Submit path body = submit_parts (object_of body) (name_at item.Reference 2 path) (name_at-passes item.Reference 2 path)
-command_of-passes operation.Withdraw path body = named_parts (λ s. command.Applicant (applicant.Withdraw s)) (λ s h. h) (empty body) (name_at item.Reference 2 path) (name_at-passes item.Reference 2 path)
+command_of-passes operation.OwnOne path body = named_parts (λ s. command.Applicant (applicant.OwnOne s)) (λ s h. h) (empty body) (name_at item.Reference request_path path) (name_at-passes item.Reference request_path path)
+command_of-passes operation.Submit path body = submit_parts (object_of body) (name_at item.Reference request_path path) (name_at-passes item.Reference request_path path)
+command_of-passes operation.Withdraw path body = named_parts (λ s. command.Applicant (applicant.Withdraw s)) (λ s h. h) (empty body) (name_at item.Reference request_path path) (name_at-passes item.Reference request_path path)
 command_of-passes operation.Queue path body = plain_parts (empty body) _ refl
-command_of-passes operation.Advise path body = advise_parts (object_of body) (name_at item.Account 2 path) (name_at item.Reference 3 path) (name_at-passes item.Account 2 path) (name_at-passes item.Reference 3 path)
+command_of-passes operation.Advise path body = advise_parts (object_of body) (name_at item.Account review_path path) (name_at item.Reference review_path path) (name_at-passes item.Account review_path path) (name_at-passes item.Reference review_path path)
 command_of-passes operation.AllRequests path body = plain_parts (empty body) _ refl
-command_of-passes operation.OneRequest path body = two_parts (λ a r. command.Clerk (clerk.OneRequest a r)) (λ a r h. h) (empty body) (name_at item.Account 3 path) (name_at item.Reference 4 path) (name_at-passes item.Account 3 path) (name_at-passes item.Reference 4 path)
+command_of-passes operation.OneRequest path body = two_parts (λ a r. command.Clerk (clerk.OneRequest a r)) (λ a r h. h) (empty body) (name_at item.Account case_path path) (name_at item.Reference case_path path) (name_at-passes item.Account case_path path) (name_at-passes item.Reference case_path path)
 command_of-passes operation.AssignExpert path body =
-    assign_parts (empty body) (name_at item.Account 3 path) (name_at item.Reference 4 path) (name_at item.Expert 5 path)
-    (name_at-passes item.Account 3 path) (name_at-passes item.Reference 4 path) (name_at-passes item.Expert 5 path)
-command_of-passes operation.Approve path body = two_parts (λ a r. command.Clerk (clerk.Approve a r)) (λ a r h. h) (empty body) (name_at item.Account 3 path) (name_at item.Reference 4 path) (name_at-passes item.Account 3 path) (name_at-passes item.Reference 4 path)
-command_of-passes operation.Decline path body = decline_parts (object_of body) (name_at item.Account 3 path) (name_at item.Reference 4 path) (name_at-passes item.Account 3 path) (name_at-passes item.Reference 4 path)
-command_of-passes operation.Define path body = define_parts (name_at item.Name 3 path) (segment item.Max read_number 4 path) body (name_at-passes item.Name 3 path) (segment-passes is_below item.Max read_number 4 path read_number-gives)
-command_of-passes operation.AddPool path body = add_pool_parts (empty body) (segment item.Prefix read_prefix 3 path)
+    assign_parts (empty body) (name_at item.Account expert_path path) (name_at item.Reference expert_path path) (name_at item.Expert expert_path path)
+    (name_at-passes item.Account expert_path path) (name_at-passes item.Reference expert_path path) (name_at-passes item.Expert expert_path path)
+command_of-passes operation.Approve path body = two_parts (λ a r. command.Clerk (clerk.Approve a r)) (λ a r h. h) (empty body) (name_at item.Account approval_path path) (name_at item.Reference approval_path path) (name_at-passes item.Account approval_path path) (name_at-passes item.Reference approval_path path)
+command_of-passes operation.Decline path body = decline_parts (object_of body) (name_at item.Account decline_path path) (name_at item.Reference decline_path path) (name_at-passes item.Account decline_path path) (name_at-passes item.Reference decline_path path)
+command_of-passes operation.Define path body = define_parts (name_at item.Name definition_path path) (segment item.Max read_number definition_path path) body (name_at-passes item.Name definition_path path) (segment-passes is_below item.Max read_number definition_path path read_number-gives)
+command_of-passes operation.AddPool path body = add_pool_parts (empty body) (segment item.Prefix read_prefix prefix_path path)
 command_of-passes operation.Grant path body = grant_of-passes_at (object_of body)
 command_of-passes operation.Revoke path body = revoke_of-passes_at (object_of body)
 

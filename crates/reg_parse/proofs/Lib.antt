@@ -1,3 +1,4 @@
+pub mod Braces
 pub mod FileFaults
 pub mod Formed
 pub mod FormedAsks

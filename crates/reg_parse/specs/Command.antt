@@ -1,5 +1,5 @@
 -- The command that a method, a path and a body spell, or the first refusal.
-use Rattle.std.specs.Prelude.{ℕ, ◌==◌, ◌&&◌, List, [], ◌∷◌, length, not, Option, None, Ok, Err, slice_get, if◌then◌else◌, option_and_then, ⊤}
+use Rattle.std.specs.Prelude.{ℕ, ◌==◌, ◌&&◌, List, [], ◌∷◌, length, not, Option, None, Ok, Err, if◌then◌else◌, option_and_then, ⊤}
 use Rattle.std.specs.Str.{is_utf8}
 use Rattle.reg_ranges.specs.Numbers.{read_number}
 use Rattle.reg_ranges.specs.Texts.{is_text, read_text}
@@ -22,8 +22,8 @@ use Rattle.reg_parse.specs.Bodies.Advice.{advice_of}
 use Rattle.reg_parse.specs.Bodies.Ask.{ask_of}
 use Rattle.reg_parse.specs.Bodies.Capability.{cap_of}
 use Rattle.reg_parse.specs.RangeFile.{table_of}
-use Rattle.reg_parse.specs.Route.{methods_at, operation_for}
-use Rattle.reg_parse.specs.Path.{segments, has_empty_segment}
+use Rattle.reg_parse.specs.Route.{methods_at, operation_for, registry_path, listing_path, request_path, review_path, case_path, expert_path, approval_path, decline_path, definition_path, prefix_path}
+use Rattle.reg_parse.specs.Path.{segment_named, has_empty_segment}
 
 abbrev pub empty : List ℕ → Reading ⊤
 empty body = if length body == 0 then Ok tt else Err Body
@@ -34,49 +34,49 @@ without_body spelled body = do
   nothing ← empty body
   Ok spelled
 
--- the segment that follows this many slashes, in its form
-abbrev pub segment : {A : Type 0} → Item → (List ℕ → Option A) → ℕ → List ℕ → Reading A
-segment part form slashes path = or_refusal (Field part) (option_and_then form (slice_get (segments path) slashes))
+-- the segment where the pattern of a route names this part, in its form
+abbrev pub segment : {A : Type 0} → Item → (List ℕ → Option A) → List ℕ → List ℕ → Reading A
+segment part form pattern path = or_refusal (Field part) (option_and_then form (segment_named part pattern path))
 
-abbrev pub name_at : Item → ℕ → List ℕ → Reading (List ℕ)
-name_at part slashes path = segment part (read_text is_name) slashes path
+abbrev pub name_at : Item → List ℕ → List ℕ → Reading (List ℕ)
+name_at part pattern path = segment part (read_text is_name) pattern path
 
 unfoldable pub registry_of : List ℕ → List ℕ → Reading Command
 registry_of path body = do
   nothing ← empty body
-  name ← name_at item.Name 2 path
+  name ← name_at item.Name registry_path path
   Ok (command.Public (public.Registry name))
 
 unfoldable pub registry_csv_of : List ℕ → List ℕ → Reading Command
 registry_csv_of path body = do
   nothing ← empty body
-  name ← name_at item.Name 3 path
+  name ← name_at item.Name listing_path path
   Ok (command.Public (public.RegistryCsv name))
 
 unfoldable pub own_one_of : List ℕ → List ℕ → Reading Command
 own_one_of path body = do
   nothing ← empty body
-  reference ← name_at item.Reference 2 path
+  reference ← name_at item.Reference request_path path
   Ok (command.Applicant (applicant.OwnOne reference))
 
 unfoldable pub withdraw_of : List ℕ → List ℕ → Reading Command
 withdraw_of path body = do
   nothing ← empty body
-  reference ← name_at item.Reference 2 path
+  reference ← name_at item.Reference request_path path
   Ok (command.Applicant (applicant.Withdraw reference))
 
 unfoldable pub submit_of : List ℕ → List ℕ → Reading Command
 submit_of path body = do
   json ← object_of body
-  reference ← name_at item.Reference 2 path
+  reference ← name_at item.Reference request_path path
   asked ← ask_of json
   Ok (command.Applicant (applicant.Submit reference asked))
 
 unfoldable pub advise_of : List ℕ → List ℕ → Reading Command
 advise_of path body = do
   json ← object_of body
-  account ← name_at item.Account 2 path
-  reference ← name_at item.Reference 3 path
+  account ← name_at item.Account review_path path
+  reference ← name_at item.Reference review_path path
   advice ← advice_of json
   others ← only (item.Verdict ∷ item.Text ∷ []) json
   Ok (command.Expert (expert.Advise account reference advice))
@@ -84,45 +84,45 @@ advise_of path body = do
 unfoldable pub one_request_of : List ℕ → List ℕ → Reading Command
 one_request_of path body = do
   nothing ← empty body
-  account ← name_at item.Account 3 path
-  reference ← name_at item.Reference 4 path
+  account ← name_at item.Account case_path path
+  reference ← name_at item.Reference case_path path
   Ok (command.Clerk (clerk.OneRequest account reference))
 
 unfoldable pub assign_expert_of : List ℕ → List ℕ → Reading Command
 assign_expert_of path body = do
   nothing ← empty body
-  account ← name_at item.Account 3 path
-  reference ← name_at item.Reference 4 path
-  adviser ← name_at item.Expert 5 path
+  account ← name_at item.Account expert_path path
+  reference ← name_at item.Reference expert_path path
+  adviser ← name_at item.Expert expert_path path
   Ok (command.Clerk (clerk.AssignExpert account reference adviser))
 
 unfoldable pub approve_of : List ℕ → List ℕ → Reading Command
 approve_of path body = do
   nothing ← empty body
-  account ← name_at item.Account 3 path
-  reference ← name_at item.Reference 4 path
+  account ← name_at item.Account approval_path path
+  reference ← name_at item.Reference approval_path path
   Ok (command.Clerk (clerk.Approve account reference))
 
 unfoldable pub decline_of : List ℕ → List ℕ → Reading Command
 decline_of path body = do
   json ← object_of body
-  account ← name_at item.Account 3 path
-  reference ← name_at item.Reference 4 path
+  account ← name_at item.Account decline_path path
+  reference ← name_at item.Reference decline_path path
   reason ← needed item.Reason (text_form is_text) json
   others ← only (item.Reason ∷ []) json
   Ok (command.Clerk (clerk.Decline account reference reason))
 
 unfoldable pub define_of : List ℕ → List ℕ → Reading Command
 define_of path body = do
-  name ← name_at item.Name 3 path
-  max ← segment item.Max read_number 4 path
+  name ← name_at item.Name definition_path path
+  max ← segment item.Max read_number definition_path path
   table ← table_of max body
   Ok (command.Clerk (clerk.Define name table))
 
 unfoldable pub add_pool_of : List ℕ → List ℕ → Reading Command
 add_pool_of path body = do
   nothing ← empty body
-  prefix ← segment item.Prefix read_prefix 3 path
+  prefix ← segment item.Prefix read_prefix prefix_path path
   Ok (command.Clerk (clerk.AddPool prefix))
 
 unfoldable pub grant_of : List ℕ → Reading Command

@@ -17,6 +17,40 @@ operation_for method at =
     else (if bytes_eq method (codes "PUT") then at.put
     else (if bytes_eq method (codes "DELETE") then at.delete else None))
 
+-- ---- the patterns that name parts
+
+abbrev pub registry_path : List ℕ
+registry_path = codes "/registries/{name}"
+
+abbrev pub listing_path : List ℕ
+listing_path = codes "/listings/registries/{name}"
+
+abbrev pub request_path : List ℕ
+request_path = codes "/requests/{reference}"
+
+abbrev pub review_path : List ℕ
+review_path = codes "/queue/{account}/{reference}"
+
+abbrev pub case_path : List ℕ
+case_path = codes "/desk/requests/{account}/{reference}"
+
+abbrev pub expert_path : List ℕ
+expert_path = codes "/desk/experts/{account}/{reference}/{expert}"
+
+abbrev pub approval_path : List ℕ
+approval_path = codes "/desk/approve/{account}/{reference}"
+
+abbrev pub decline_path : List ℕ
+decline_path = codes "/desk/decline/{account}/{reference}"
+
+abbrev pub definition_path : List ℕ
+definition_path = codes "/desk/registries/{name}/{max}"
+
+abbrev pub prefix_path : List ℕ
+prefix_path = codes "/desk/pool/{prefix}"
+
+-- ---- the table
+
 -- a path, and what GET, PUT and DELETE do there
 abbrev pub Row : Type 0
 Row = List ℕ × Methods
@@ -27,20 +61,20 @@ row path get put delete = (path, record { get = get; put = put; delete = delete 
 abbrev pub rows : List Row
 rows =
     row (codes "/registries") (Some Registries) None None
-    ∷ row (codes "/registries/{name}") (Some Registry) None None
-    ∷ row (codes "/listings/registries/{name}") (Some RegistryCsv) None None
+    ∷ row registry_path (Some Registry) None None
+    ∷ row listing_path (Some RegistryCsv) None None
     ∷ row (codes "/pool") (Some PoolList) None None
     ∷ row (codes "/requests") (Some Own) None None
-    ∷ row (codes "/requests/{reference}") (Some OwnOne) (Some Submit) (Some Withdraw)
+    ∷ row request_path (Some OwnOne) (Some Submit) (Some Withdraw)
     ∷ row (codes "/queue") (Some Queue) None None
-    ∷ row (codes "/queue/{account}/{reference}") None (Some Advise) None
+    ∷ row review_path None (Some Advise) None
     ∷ row (codes "/desk/requests") (Some AllRequests) None None
-    ∷ row (codes "/desk/requests/{account}/{reference}") (Some OneRequest) None None
-    ∷ row (codes "/desk/experts/{account}/{reference}/{expert}") None (Some AssignExpert) None
-    ∷ row (codes "/desk/approve/{account}/{reference}") None (Some Approve) None
-    ∷ row (codes "/desk/decline/{account}/{reference}") None (Some Decline) None
-    ∷ row (codes "/desk/registries/{name}/{max}") None (Some Define) None
-    ∷ row (codes "/desk/pool/{prefix}") None (Some AddPool) None
+    ∷ row case_path (Some OneRequest) None None
+    ∷ row expert_path None (Some AssignExpert) None
+    ∷ row approval_path None (Some Approve) None
+    ∷ row decline_path None (Some Decline) None
+    ∷ row definition_path None (Some Define) None
+    ∷ row prefix_path None (Some AddPool) None
     ∷ row (codes "/desk/tokens") None (Some Grant) None
     ∷ row (codes "/desk/revoke") None (Some Revoke) None
     ∷ []

@@ -11,7 +11,10 @@ ghost use Rattle.reg_parse.specs.Command.{add_pool_of, advise_of, approve_of, as
 use crate::bodies::{advice, ask, capability, members};
 use crate::path;
 use crate::range_file::read_table;
-use crate::route::{Methods, Operation, Routes};
+use crate::route::{
+    APPROVAL_PATH, CASE_PATH, DECLINE_PATH, DEFINITION_PATH, EXPERT_PATH, LISTING_PATH, Methods,
+    Operation, PREFIX_PATH, REGISTRY_PATH, REQUEST_PATH, REVIEW_PATH, Routes,
+};
 use reg_blocks::prefix;
 use reg_core::command::{ApplicantCommand, ClerkCommand, Command, ExpertCommand, PublicCommand};
 use reg_core::item::Item;
@@ -97,7 +100,7 @@ fn read_registry(alloc: Global, path: &str, body: &[u8]) -> Result<Command, Read
     ensures { Gives result (registry_of path.now body.now) }
 {
     empty(body)?;
-    let name = word_at(alloc, path, 2, Item::Name)?;
+    let name = word_at(alloc, REGISTRY_PATH, path, Item::Name)?;
     Ok(Command::Public(PublicCommand::Registry(name)))
 }
 
@@ -106,7 +109,7 @@ fn read_registry_csv(alloc: Global, path: &str, body: &[u8]) -> Result<Command, 
     ensures { Gives result (registry_csv_of path.now body.now) }
 {
     empty(body)?;
-    let name = word_at(alloc, path, 3, Item::Name)?;
+    let name = word_at(alloc, LISTING_PATH, path, Item::Name)?;
     Ok(Command::Public(PublicCommand::RegistryCsv(name)))
 }
 
@@ -115,7 +118,7 @@ fn read_own_one(alloc: Global, path: &str, body: &[u8]) -> Result<Command, ReadF
     ensures { Gives result (own_one_of path.now body.now) }
 {
     empty(body)?;
-    let reference = word_at(alloc, path, 2, Item::Reference)?;
+    let reference = word_at(alloc, REQUEST_PATH, path, Item::Reference)?;
     Ok(Command::Applicant(ApplicantCommand::OwnOne(reference)))
 }
 
@@ -124,7 +127,7 @@ fn read_withdraw(alloc: Global, path: &str, body: &[u8]) -> Result<Command, Read
     ensures { Gives result (withdraw_of path.now body.now) }
 {
     empty(body)?;
-    let reference = word_at(alloc, path, 2, Item::Reference)?;
+    let reference = word_at(alloc, REQUEST_PATH, path, Item::Reference)?;
     Ok(Command::Applicant(ApplicantCommand::Withdraw(reference)))
 }
 
@@ -133,7 +136,7 @@ fn read_submit(alloc: Global, path: &str, body: &[u8]) -> Result<Command, ReadFa
     ensures { Gives result (submit_of path.now body.now) }
 {
     let json = members::object_of(alloc, body)?;
-    let reference = word_at(alloc, path, 2, Item::Reference)?;
+    let reference = word_at(alloc, REQUEST_PATH, path, Item::Reference)?;
     let ask = ask::read_ask(alloc, &json)?;
     Ok(Command::Applicant(ApplicantCommand::Submit(reference, ask)))
 }
@@ -143,8 +146,8 @@ fn read_advise(alloc: Global, path: &str, body: &[u8]) -> Result<Command, ReadFa
     ensures { Gives result (advise_of path.now body.now) }
 {
     let json = members::object_of(alloc, body)?;
-    let account = word_at(alloc, path, 2, Item::Account)?;
-    let reference = word_at(alloc, path, 3, Item::Reference)?;
+    let account = word_at(alloc, REVIEW_PATH, path, Item::Account)?;
+    let reference = word_at(alloc, REVIEW_PATH, path, Item::Reference)?;
     let advice = advice::read_advice(alloc, &json)?;
     members::only(&[Item::Verdict, Item::Text], &json)?;
     Ok(Command::Expert(ExpertCommand::Advise(account, reference, advice)))
@@ -155,8 +158,8 @@ fn read_one_request(alloc: Global, path: &str, body: &[u8]) -> Result<Command, R
     ensures { Gives result (one_request_of path.now body.now) }
 {
     empty(body)?;
-    let account = word_at(alloc, path, 3, Item::Account)?;
-    let reference = word_at(alloc, path, 4, Item::Reference)?;
+    let account = word_at(alloc, CASE_PATH, path, Item::Account)?;
+    let reference = word_at(alloc, CASE_PATH, path, Item::Reference)?;
     Ok(Command::Clerk(ClerkCommand::OneRequest(account, reference)))
 }
 
@@ -165,9 +168,9 @@ fn read_assign_expert(alloc: Global, path: &str, body: &[u8]) -> Result<Command,
     ensures { Gives result (assign_expert_of path.now body.now) }
 {
     empty(body)?;
-    let account = word_at(alloc, path, 3, Item::Account)?;
-    let reference = word_at(alloc, path, 4, Item::Reference)?;
-    let expert = word_at(alloc, path, 5, Item::Expert)?;
+    let account = word_at(alloc, EXPERT_PATH, path, Item::Account)?;
+    let reference = word_at(alloc, EXPERT_PATH, path, Item::Reference)?;
+    let expert = word_at(alloc, EXPERT_PATH, path, Item::Expert)?;
     Ok(Command::Clerk(ClerkCommand::AssignExpert(account, reference, expert)))
 }
 
@@ -176,8 +179,8 @@ fn read_approve(alloc: Global, path: &str, body: &[u8]) -> Result<Command, ReadF
     ensures { Gives result (approve_of path.now body.now) }
 {
     empty(body)?;
-    let account = word_at(alloc, path, 3, Item::Account)?;
-    let reference = word_at(alloc, path, 4, Item::Reference)?;
+    let account = word_at(alloc, APPROVAL_PATH, path, Item::Account)?;
+    let reference = word_at(alloc, APPROVAL_PATH, path, Item::Reference)?;
     Ok(Command::Clerk(ClerkCommand::Approve(account, reference)))
 }
 
@@ -186,8 +189,8 @@ fn read_decline(alloc: Global, path: &str, body: &[u8]) -> Result<Command, ReadF
     ensures { Gives result (decline_of path.now body.now) }
 {
     let json = members::object_of(alloc, body)?;
-    let account = word_at(alloc, path, 3, Item::Account)?;
-    let reference = word_at(alloc, path, 4, Item::Reference)?;
+    let account = word_at(alloc, DECLINE_PATH, path, Item::Account)?;
+    let reference = word_at(alloc, DECLINE_PATH, path, Item::Reference)?;
     let reason = members::word(alloc, &json, Item::Reason)?;
     members::only(&[Item::Reason], &json)?;
     Ok(Command::Clerk(ClerkCommand::Decline(account, reference, reason)))
@@ -197,8 +200,8 @@ fn read_decline(alloc: Global, path: &str, body: &[u8]) -> Result<Command, ReadF
 fn read_define(alloc: Global, path: &str, body: &[u8]) -> Result<Command, ReadFault>
     ensures { Gives result (define_of path.now body.now) }
 {
-    let name = word_at(alloc, path, 3, Item::Name)?;
-    let max = number_at(path, 4, Item::Max)?;
+    let name = word_at(alloc, DEFINITION_PATH, path, Item::Name)?;
+    let max = number_at(DEFINITION_PATH, path, Item::Max)?;
     let table = read_table(alloc, max, body)?;
     Ok(Command::Clerk(ClerkCommand::Define(name, table)))
 }
@@ -208,7 +211,7 @@ fn read_add_pool(path: &str, body: &[u8]) -> Result<Command, ReadFault>
     ensures { Gives result (add_pool_of path.now body.now) }
 {
     empty(body)?;
-    let prefix = prefix_at(path, 3, Item::Prefix)?;
+    let prefix = prefix_at(PREFIX_PATH, path, Item::Prefix)?;
     Ok(Command::Clerk(ClerkCommand::AddPool(prefix)))
 }
 
@@ -253,38 +256,38 @@ fn empty(body: &[u8]) -> Result<(), ReadFault>
     }
 }
 
-// The segment that follows this many slashes, in its form.
+// The segment where the pattern names this part, in its form.
 fn word_at<F: Form>(
     alloc: Global,
+    pattern: &str,
     path: &str,
-    slashes: usize,
-    item: Item,
+    part: Item,
 ) -> Result<Word<F>, ReadFault>
-    ensures { Gives result (segment item (read_text F.fits) slashes path.now) }
+    ensures { Gives result (segment part (read_text F.fits) pattern.now path.now) }
 {
-    match path::segment(path, slashes) {
+    match path::segment(pattern, path, part) {
         Some(text) => match Word::read(alloc, text.as_bytes())? {
             Some(word) => Ok(word),
-            None => Err(ReadFault::field(item)),
+            None => Err(ReadFault::field(part)),
         },
-        None => Err(ReadFault::field(item)),
+        None => Err(ReadFault::field(part)),
     }
 }
 
-// The number of 0 to 4294967295 that follows this many slashes, in decimal without leading zeros.
-fn number_at(path: &str, slashes: usize, item: Item) -> Result<u32, ReadFault>
-    ensures { Gives result (segment item read_number slashes path.now) }
+// The number of 0 to 4294967295 where the pattern names this part, in decimal without leading zeros.
+fn number_at(pattern: &str, path: &str, part: Item) -> Result<u32, ReadFault>
+    ensures { Gives result (segment part read_number pattern.now path.now) }
 {
-    path::segment(path, slashes)
+    path::segment(pattern, path, part)
         .and_then(|text| read_number(text.as_bytes()))
-        .ok_or(ReadFault::field(item))
+        .ok_or(ReadFault::field(part))
 }
 
-// The 24-bit prefix that follows this many slashes, in six hexadecimal digits.
-fn prefix_at(path: &str, slashes: usize, item: Item) -> Result<u32, ReadFault>
-    ensures { Gives result (segment item read_prefix slashes path.now) }
+// The 24-bit prefix where the pattern names this part, in six hexadecimal digits.
+fn prefix_at(pattern: &str, path: &str, part: Item) -> Result<u32, ReadFault>
+    ensures { Gives result (segment part read_prefix pattern.now path.now) }
 {
-    path::segment(path, slashes)
+    path::segment(pattern, path, part)
         .and_then(|text| prefix::read(text.as_bytes()))
-        .ok_or(ReadFault::field(item))
+        .ok_or(ReadFault::field(part))
 }

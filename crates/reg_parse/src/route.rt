@@ -78,6 +78,27 @@ const NONE: Methods = Methods {
     delete: None,
 };
 
+// The paths that name parts of a request; a part in braces is a segment of its own.
+pub(crate) const REGISTRY_PATH: &str = "/registries/{name}";
+
+pub(crate) const LISTING_PATH: &str = "/listings/registries/{name}";
+
+pub(crate) const REQUEST_PATH: &str = "/requests/{reference}";
+
+pub(crate) const REVIEW_PATH: &str = "/queue/{account}/{reference}";
+
+pub(crate) const CASE_PATH: &str = "/desk/requests/{account}/{reference}";
+
+pub(crate) const EXPERT_PATH: &str = "/desk/experts/{account}/{reference}/{expert}";
+
+pub(crate) const APPROVAL_PATH: &str = "/desk/approve/{account}/{reference}";
+
+pub(crate) const DECLINE_PATH: &str = "/desk/decline/{account}/{reference}";
+
+pub(crate) const DEFINITION_PATH: &str = "/desk/registries/{name}/{max}";
+
+pub(crate) const PREFIX_PATH: &str = "/desk/pool/{prefix}";
+
 // Each path, and what the methods do there.
 const ROWS: [(&str, Methods); 17] = [
     (
@@ -88,14 +109,14 @@ const ROWS: [(&str, Methods); 17] = [
         },
     ),
     (
-        "/registries/{name}",
+        REGISTRY_PATH,
         Methods {
             get: Some(Operation::Registry),
             ..NONE
         },
     ),
     (
-        "/listings/registries/{name}",
+        LISTING_PATH,
         Methods {
             get: Some(Operation::RegistryCsv),
             ..NONE
@@ -116,7 +137,7 @@ const ROWS: [(&str, Methods); 17] = [
         },
     ),
     (
-        "/requests/{reference}",
+        REQUEST_PATH,
         Methods {
             get: Some(Operation::OwnOne),
             put: Some(Operation::Submit),
@@ -131,7 +152,7 @@ const ROWS: [(&str, Methods); 17] = [
         },
     ),
     (
-        "/queue/{account}/{reference}",
+        REVIEW_PATH,
         Methods {
             put: Some(Operation::Advise),
             ..NONE
@@ -145,42 +166,42 @@ const ROWS: [(&str, Methods); 17] = [
         },
     ),
     (
-        "/desk/requests/{account}/{reference}",
+        CASE_PATH,
         Methods {
             get: Some(Operation::OneRequest),
             ..NONE
         },
     ),
     (
-        "/desk/experts/{account}/{reference}/{expert}",
+        EXPERT_PATH,
         Methods {
             put: Some(Operation::AssignExpert),
             ..NONE
         },
     ),
     (
-        "/desk/approve/{account}/{reference}",
+        APPROVAL_PATH,
         Methods {
             put: Some(Operation::Approve),
             ..NONE
         },
     ),
     (
-        "/desk/decline/{account}/{reference}",
+        DECLINE_PATH,
         Methods {
             put: Some(Operation::Decline),
             ..NONE
         },
     ),
     (
-        "/desk/registries/{name}/{max}",
+        DEFINITION_PATH,
         Methods {
             put: Some(Operation::Define),
             ..NONE
         },
     ),
     (
-        "/desk/pool/{prefix}",
+        PREFIX_PATH,
         Methods {
             put: Some(Operation::AddPool),
             ..NONE
