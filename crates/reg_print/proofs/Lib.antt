@@ -1,7 +1,4 @@
-pub mod AdviceShape
-pub mod AskShape
 pub mod Covered
-pub mod ListedShape
 pub mod ListingText
-pub mod Shallow
-pub mod Whole
+pub mod Plain
+pub mod PlainTrees

@@ -7,5 +7,5 @@ pub mod detail;
 pub mod laws;
 mod listing;
 mod note;
-mod refusal;
+pub mod refusal;
 mod trees;

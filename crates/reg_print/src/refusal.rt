@@ -8,7 +8,7 @@ use reg_core::wire_refusal::WireRefusal;
 
 /// How a refusal is answered.
 #[derive(Clone, Copy)]
-pub(crate) struct RefusalRow {
+pub struct RefusalRow {
     /// The status (RFC 9110 sections 15.5 and 15.6).
     pub status: u16,
     /// The name.
@@ -18,7 +18,7 @@ pub(crate) struct RefusalRow {
 }
 
 /// How a refusal of the office is answered.
-pub(crate) fn office_row(refusal: Refusal) -> RefusalRow
+pub fn office_row(refusal: Refusal) -> RefusalRow
     ensures { row_view result ≡ office_row refusal }
 {
     match refusal {
@@ -42,7 +42,7 @@ pub(crate) fn office_row(refusal: Refusal) -> RefusalRow
 }
 
 /// How bytes are answered that spell no command.
-pub(crate) fn wire_row(refusal: WireRefusal) -> RefusalRow
+pub fn wire_row(refusal: WireRefusal) -> RefusalRow
     ensures { row_view result ≡ wire_row refusal }
 {
     match refusal {
@@ -56,7 +56,7 @@ pub(crate) fn wire_row(refusal: WireRefusal) -> RefusalRow
 }
 
 /// How a fault of memory or of the store is answered.
-pub(crate) fn storage_row() -> RefusalRow
+pub fn storage_row() -> RefusalRow
     ensures { row_view result ≡ storage_row }
 {
     row(503, "storage")

@@ -25,6 +25,9 @@ pub storage_is : storage ≡ answer_line answer.Storage
 unfolding body_text digits serde_json_on_literals
 storage_is = refl
 
+pub refusal_is_another : bytes_eq refusal storage ≡ false
+refusal_is_another = refl
+
 refused_is_another : (why : Refusal) → bytes_eq (answer_line (answer.Reply (Refused why))) storage ≡ false
 unfolding body_text digits serde_json_on_literals
 refused_is_another no.Clock = refl

@@ -1,13 +1,14 @@
 pub mod AlikeLines
 pub mod AnswerLines
 pub mod AskText
+pub mod Calls
 pub mod LineSoFar
 pub mod ListedMembers
-pub mod ModelRun
 pub mod Moments
 pub mod OneCut
 pub mod ReadBack
 pub mod Runs
+pub mod ScriptRun
 pub mod Sent
 pub mod TreeText
 pub mod WrittenLines

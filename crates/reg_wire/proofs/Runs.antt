@@ -8,17 +8,18 @@ use Rattle.std.specs.List.{flat_map, AllByRecursion}
 use Rattle.std.specs.Io.KnownBytes.{Appends, Consumes, IsAtEnd}
 use Rattle.reg_wire.specs.declared.wire_fault.WireFault.{WireFault}
 use Rattle.reg_wire.specs.declared.wire_fault.WireFault.TheVariants as fault
-use Rattle.reg_wire.specs.Script.Line.{Line, line_of, most_bytes}
+use Rattle.reg_wire.specs.Exchange.{Call}
+use Rattle.reg_wire.specs.Script.Line.{line_of, most_bytes}
 use Rattle.reg_wire.specs.Script.Lines.{refusal, Answered, Ran, IsOneLine, ended, Cut, rest_line, AreLines, BeginWith, AnswersAll, StopsAt}
 use Rattle.reg_wire.specs.Script.LineBuffer.{IsBuffered, CutShort, Progress, WroteSome, Whole, Halted, HaltedLast}
 
 -- ---- A line
 
-module _ {S : Type 0} (Serves : S → Line → List ℕ → S → Type 0) where
+module _ {S : Type 0} (Serves : S → Call → List ℕ → S → Type 0) where
   pub refused : (w : S) (line : List ℕ) → line_of line ≡ None → Answered Serves w line refusal w
   refused w line none = rw none (refl, refl)
 
-  pub served : (w v : S) (line answer : List ℕ) (asked : Line) → Some asked ≡ line_of line → Serves w asked answer v → Answered Serves w line answer v
+  pub served : (w v : S) (line answer : List ℕ) (asked : Call) → Some asked ≡ line_of line → Serves w asked answer v → Answered Serves w line answer v
   served w v line answer asked some h = rw (← some) h
 
   ran_more : (lines : List (List ℕ)) (line : List ℕ) (w : S) (answers : List (List ℕ)) (answer : List ℕ) (v u : S)
@@ -81,7 +82,7 @@ wrote_short (fault.Write n) answers answer sent had has now p count h =
 
 -- ---- Progress
 
-module _ {S : Type 0} (Serves : S → Line → List ℕ → S → Type 0) (first : S) (had : Option (List ℕ)) where
+module _ {S : Type 0} (Serves : S → Call → List ℕ → S → Type 0) (first : S) (had : Option (List ℕ)) where
   -- before any byte
   pub progress_start : Progress Serves first had [] [] 0 first had
   progress_start = record {
@@ -279,7 +280,7 @@ module _ {S : Type 0} (Serves : S → Line → List ℕ → S → Type 0) (first
       record { bytes = bytes; lines = h.lines; answers = h.answers; is_read = got; before = inr (end, h.cut); ran = h.ran; wrote = h.wrote }
 
 -- before any byte
-pub stops_before : {S : Type 0} (Serves : S → Line → List ℕ → S → Type 0) (first : S) (unread had : Option (List ℕ)) → StopsAt Serves fault.Memory first first unread unread had had
+pub stops_before : {S : Type 0} (Serves : S → Call → List ℕ → S → Type 0) (first : S) (unread had : Option (List ℕ)) → StopsAt Serves fault.Memory first first unread unread had had
 stops_before Serves first unread had = record {
   bytes = [];
   lines = [];
@@ -292,9 +293,9 @@ stops_before Serves first unread had = record {
 
 -- ---- The same run, seen by a part of the states
 
-module _ {S T : Type 0} (P : S → Line → List ℕ → S → Type 0) (Q : T → Line → List ℕ → T → Type 0) (view : S → T)
-    (same : (s : S) (asked : Line) (answer : List ℕ) (t : S) → P s asked answer t → Q (view s) asked answer (view t)) where
-  answered_seen : (o : Option Line) (s : S) (answer : List ℕ) (t : S)
+module _ {S T : Type 0} (P : S → Call → List ℕ → S → Type 0) (Q : T → Call → List ℕ → T → Type 0) (view : S → T)
+    (same : (s : S) (asked : Call) (answer : List ℕ) (t : S) → P s asked answer t → Q (view s) asked answer (view t)) where
+  answered_seen : (o : Option Call) (s : S) (answer : List ℕ) (t : S)
       → MatchOption o ((answer ≡ refusal) × (t ≡ s)) (λ asked. P s asked answer t)
       → MatchOption o ((answer ≡ refusal) × (view t ≡ view s)) (λ asked. Q (view s) asked answer (view t))
   answered_seen None s answer t h = (h.0, ap view h.1)

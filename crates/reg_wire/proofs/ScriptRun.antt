@@ -1,100 +1,104 @@
--- A script is answered as the model's run of its events.
+-- A script is answered as its calls are.
 use Rattle.std.proofs.Common.{◌≡◌, ℕ, List, [], ◌∷◌, map, true, false, Option, None, Some, Ok, Err, refl, sym, ap, ◌∙◌, subst, inl, inr}
 use Rattle.std.specs.Prelude.{MatchOption}
 use Rattle.std.specs.List.{cons_option}
-use Rattle.std.specs.Result.{result_ok}
 use Rattle.std.specs.Str.{bytes_eq}
-use Rattle.reg_core.specs.Run.{Event, run, world_after, step_of}
 use Rattle.reg_core.specs.World.{World}
 use Rattle.reg_core.specs.declared.command.Command.{Command}
-use Rattle.reg_office.specs.Caller.{token_digest}
-use Rattle.reg_parse.specs.Command.{asked}
-use Rattle.reg_wire.specs.Script.Event.{event_for, event_asked, event_of, events_of, next_answer, answers_with, IsModelRun, stood}
-use Rattle.reg_wire.specs.Script.Line.{Line, line_of}
 use Rattle.reg_parse.specs.Bodies.Members.{Reading}
-use Rattle.reg_wire.specs.Script.Lines.{refusal, storage, Ran}
-use Rattle.reg_wire.specs.Script.Answers.{Serves, answer_for, world_for, answer_line}
+use Rattle.reg_print.specs.declared.answer.Answer.{Answer}
 use Rattle.reg_print.specs.declared.answer.Answer.TheVariants as answer
-use Rattle.reg_core.specs.declared.wire_refusal.WireRefusal.{WireRefusal}
-use Rattle.reg_core.specs.declared.wire_refusal.WireRefusal.TheVariants as wire
-use Rattle.reg_wire.proofs.AnswerLines.{refusal_is, reply_is_another, wire_is_another}
+use Rattle.reg_wire.specs.Exchange.{Call, spelled, answer_for, answer_to, world_then, answers_to, world_after_calls}
+use Rattle.reg_wire.specs.Laws.{CallsRunAsTheModel}
+use Rattle.reg_wire.specs.Script.Answers.{Serves, answer_line, calls_of, next_line, lines_with, AnswerCalls, without_faults}
+use Rattle.reg_wire.specs.Script.Laws.{RunsAsTheModel}
+use Rattle.reg_wire.specs.Script.Line.{line_of}
+use Rattle.reg_wire.specs.Script.Lines.{refusal, storage, Ran}
+use Rattle.reg_wire.proofs.AnswerLines.{refusal_is_another, reply_is_another, wire_is_another}
 
 abbrev Pairs : Type 0
 Pairs = List (List ℕ × List ℕ)
 
-abbrev IsRun : World → World → Pairs → Type 0
-IsRun first last pairs = IsModelRun first last (map (λ p. p.0) pairs) (map (λ p. p.1) pairs)
+-- pairs of lines and answers are answered as their calls are
+abbrev OfCalls : World → World → Pairs → Type 0
+OfCalls first last pairs = AnswerCalls first last (map (λ p. p.0) pairs) (map (λ p. p.1) pairs)
 
--- a line that is refused
-refused_line : (first last : World) (line text : List ℕ) (why : WireRefusal) (pairs : Pairs) → event_of line ≡ Err why → text ≡ answer_line (answer.Wire why)
-    → IsRun first last pairs → IsRun first last ((line, text) ∷ pairs)
-refused_line first last line text why pairs e is r =
-    let lines = map (λ (p : List ℕ × List ℕ). p.0) pairs in
-    record {
-      answered =
-          let P = λ (reading : Reading Event). text ∷ map (λ (p : List ℕ × List ℕ). p.1) pairs ≡ next_answer reading (run token_digest first (cons_option (result_ok reading) (events_of lines))) (answers_with lines) in
-          subst P (sym e) (ap (λ t. t ∷ map (λ (p : List ℕ × List ℕ). p.1) pairs) is ∙ ap (λ ts. answer_line (answer.Wire why) ∷ ts) r.answered);
-      world =
-          let P = λ (reading : Reading Event). last ≡ world_after token_digest first (cons_option (result_ok reading) (events_of lines)) in
-          subst P (sym e) r.world;
-    }
+-- no answer to a call is that of a fault
+answer_is_another : (w : World) (call : Call) (reading : Reading Command) → bytes_eq (answer_line (answer_for w call reading)) storage ≡ false
+answer_is_another w call (Ok command) = reply_is_another _
+answer_is_another w call (Err why) = wire_is_another why
 
--- a line that is an event
-event_line : (first last : World) (line text : List ℕ) (event : Event) (pairs : Pairs) → event_of line ≡ Ok event → text ≡ answer_line (answer.Reply (step_of token_digest first event).reply)
-    → IsRun (step_of token_digest first event).world last pairs → IsRun first last ((line, text) ∷ pairs)
-event_line first last line text event pairs e is r =
-    let lines = map (λ (p : List ℕ × List ℕ). p.0) pairs in
-    record {
-      answered =
-          let P = λ (reading : Reading Event). text ∷ map (λ (p : List ℕ × List ℕ). p.1) pairs ≡ next_answer reading (run token_digest first (cons_option (result_ok reading) (events_of lines))) (answers_with lines) in
-          subst P (sym e) (ap (λ t. t ∷ map (λ (p : List ℕ × List ℕ). p.1) pairs) is ∙ ap (λ ts. answer_line (answer.Reply (step_of token_digest first event).reply) ∷ ts) r.answered);
-      world =
-          let P = λ (reading : Reading Event). last ≡ world_after token_digest first (cons_option (result_ok reading) (events_of lines)) in
-          subst P (sym e) r.world;
-    }
+-- ---- Which lines are left
 
--- ---- Which lines stood
-
-kept : (line text : List ℕ) (lines answers : List (List ℕ)) → bytes_eq text storage ≡ false → stood (line ∷ lines) (text ∷ answers) ≡ (line, text) ∷ stood lines answers
+kept : (line text : List ℕ) (lines answers : List (List ℕ)) → bytes_eq text storage ≡ false → without_faults (line ∷ lines) (text ∷ answers) ≡ (line, text) ∷ without_faults lines answers
 kept line text lines answers h = rw h refl
 
-dropped : (line text : List ℕ) (lines answers : List (List ℕ)) → bytes_eq text storage ≡ true → stood (line ∷ lines) (text ∷ answers) ≡ stood lines answers
+dropped : (line text : List ℕ) (lines answers : List (List ℕ)) → bytes_eq text storage ≡ true → without_faults (line ∷ lines) (text ∷ answers) ≡ without_faults lines answers
 dropped line text lines answers h = rw h refl
 
-module _ (line text : List ℕ) (lines answers : List (List ℕ)) (first now last : World) (rest : IsRun now last (stood lines answers)) where
+-- ---- One line more
+
+module _ (line text : List ℕ) (first now last : World) (pairs : Pairs) (rest : OfCalls now last pairs) where
+  abbrev texts : List (List ℕ)
+  texts = map (λ (p : List ℕ × List ℕ). p.1) pairs
+
+  abbrev others : List (List ℕ)
+  others = map (λ (p : List ℕ × List ℕ). p.0) pairs
+
+  -- a line that is none
+  no_line : line_of line ≡ None → text ≡ refusal → now ≡ first → OfCalls first last ((line, text) ∷ pairs)
+  no_line none is same =
+      let rest_first : OfCalls first last pairs = subst (λ (w : World). OfCalls w last pairs) same rest in
+      record {
+        answered =
+            let P = λ (o : Option Call). text ∷ texts ≡ next_line o (answers_to first (cons_option o (calls_of others))) (lines_with others) in
+            subst P (sym none) (ap (λ t. t ∷ texts) is ∙ ap (λ ts. refusal ∷ ts) rest_first.answered);
+        world =
+            let P = λ (o : Option Call). last ≡ world_after_calls first (cons_option o (calls_of others)) in
+            subst P (sym none) rest_first.world;
+      }
+
+  -- a line that is a call
+  call_line : (call : Call) → line_of line ≡ Some call → text ≡ answer_line (answer_to first call) → now ≡ world_then first call → OfCalls first last ((line, text) ∷ pairs)
+  call_line call some is moved =
+      let rest_then : OfCalls (world_then first call) last pairs = subst (λ (w : World). OfCalls w last pairs) moved rest in
+      record {
+        answered =
+            let P = λ (o : Option Call). text ∷ texts ≡ next_line o (answers_to first (cons_option o (calls_of others))) (lines_with others) in
+            subst P (sym some) (ap (λ t. t ∷ texts) is ∙ ap (λ ts. answer_line (answer_to first call) ∷ ts) rest_then.answered);
+        world =
+            let P = λ (o : Option Call). last ≡ world_after_calls first (cons_option o (calls_of others)) in
+            subst P (sym some) rest_then.world;
+      }
+
+module _ (line text : List ℕ) (lines answers : List (List ℕ)) (first now last : World) (rest : OfCalls now last (without_faults lines answers)) where
   abbrev Goal : Type 0
-  Goal = IsRun first last (stood (line ∷ lines) (text ∷ answers))
+  Goal = OfCalls first last (without_faults (line ∷ lines) (text ∷ answers))
 
-  was_refused : (why : WireRefusal) → event_of line ≡ Err why → text ≡ answer_line (answer.Wire why) → now ≡ first → Goal
-  was_refused why e is same =
-      let P = λ (w : World). IsRun w last (stood lines answers) in
-      let keep = kept line text lines answers (ap (λ t. bytes_eq t storage) is ∙ wire_is_another why) in
-      subst (IsRun first last) (sym keep) (refused_line first last line text why (stood lines answers) e is (subst P same rest))
+  abbrev keeps : bytes_eq text storage ≡ false → OfCalls first last ((line, text) ∷ without_faults lines answers) → Goal
+  keeps other h = subst (OfCalls first last) (sym (kept line text lines answers other)) h
 
-  was_event : (event : Event) → event_of line ≡ Ok event → text ≡ answer_line (answer.Reply (step_of token_digest first event).reply) → now ≡ (step_of token_digest first event).world → Goal
-  was_event event e is moved =
-      let P = λ (w : World). IsRun w last (stood lines answers) in
-      let keep = kept line text lines answers (ap (λ t. bytes_eq t storage) is ∙ reply_is_another (step_of token_digest first event).reply) in
-      subst (IsRun first last) (sym keep) (event_line first last line text event (stood lines answers) e is (subst P moved rest))
+  was_answered : (o : Option Call) → line_of line ≡ o → MatchOption o ((text ≡ refusal) × (now ≡ first)) (λ call. Serves first call text now) → Goal
+  was_answered None e h = keeps (ap (λ t. bytes_eq t storage) h.0 ∙ refusal_is_another) (no_line line text first now last (without_faults lines answers) rest e h.0 h.1)
+  was_answered (Some call) e (inl h) =
+      keeps (ap (λ t. bytes_eq t storage) h.0 ∙ answer_is_another first call (spelled call)) (call_line line text first now last (without_faults lines answers) rest call e h.0 h.1)
+  was_answered (Some call) e (inr h) =
+      subst (OfCalls first last) (sym (dropped line text lines answers (ap (λ t. bytes_eq t storage) h.0))) (subst (λ (w : World). OfCalls w last (without_faults lines answers)) h.1 rest)
 
-  was_stored : text ≡ storage → now ≡ first → Goal
-  was_stored is same =
-      let P = λ (w : World). IsRun w last (stood lines answers) in
-      let drop = dropped line text lines answers (ap (λ t. bytes_eq t storage) is) in
-      subst (IsRun first last) (sym drop) (subst P same rest)
+pub script_run : (lines answers : List (List ℕ)) (first last : World) → Ran Serves first lines answers last → OfCalls first last (without_faults lines answers)
+script_run [] [] first last h = record { answered = refl; world = h }
+script_run [] (text ∷ answers) first last h = absurd h
+script_run (line ∷ lines) [] first last h = absurd h
+script_run (line ∷ lines) (text ∷ answers) first last h =
+    was_answered line text lines answers first h.0 last (script_run lines answers h.0 last h.2) (line_of line) refl h.1
 
-  was_read : (l : Line) (reading : Reading Command) → event_of line ≡ event_for l reading → text ≡ answer_line (answer_for first l reading) → now ≡ world_for first l reading → Goal
-  was_read l (Ok command) e is moved = was_event _ e is moved
-  was_read l (Err why) e is same = was_refused why e is same
-
-  was_answered : (o : Option Line) → event_of line ≡ event_asked o → MatchOption o ((text ≡ refusal) × (now ≡ first)) (λ l. Serves first l text now) → Goal
-  was_answered None e h = was_refused wire.Line e (h.0 ∙ refusal_is) h.1
-  was_answered (Some l) e (inl h) = was_read l (asked l.method l.path l.body) e h.0 h.1
-  was_answered (Some l) e (inr h) = was_stored h.0 h.1
-
-pub model_run : (lines answers : List (List ℕ)) (first last : World) → Ran Serves first lines answers last → IsRun first last (stood lines answers)
-model_run [] [] first last h = record { answered = refl; world = h }
-model_run [] (text ∷ answers) first last h = absurd h
-model_run (line ∷ lines) [] first last h = absurd h
-model_run (line ∷ lines) (text ∷ answers) first last h =
-    was_answered line text lines answers first h.0 last (model_run lines answers h.0 last h.2) (line_of line) refl h.1
+pub model_run : CallsRunAsTheModel → RunsAsTheModel
+model_run of_model lines answers first last ran =
+    let calls = script_run lines answers first last ran in
+    let left = map (λ (p : List ℕ × List ℕ). p.0) (without_faults lines answers) in
+    let model = of_model first (calls_of left) in
+    record {
+      calls = calls;
+      answered = calls.answered ∙ ap (lines_with left) model.answers;
+      world = calls.world ∙ model.world;
+    }

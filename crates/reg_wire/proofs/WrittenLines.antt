@@ -7,7 +7,8 @@ use Rattle.std.proofs.lemmas.Option.{same_Some, none-some}
 use Rattle.std.specs.Prelude.{◌==◌, ◌⊎◌, nat_lt, position, unwrap_or, if◌then◌else◌}
 use Rattle.std.specs.Fmt.{decimal}
 use Rattle.std.specs.List.{AllByRecursion, position_or_len}
-use Rattle.reg_wire.specs.Script.Line.{Line, ◌>>=◌, is_space, field_before, first_field, path_before, path_and_body, moment_of, token_of, line_feed_of, fields_of, line_of, most_bytes}
+use Rattle.reg_wire.specs.Exchange.{Call}
+use Rattle.reg_wire.specs.Script.Line.{◌>>=◌, is_space, field_before, first_field, path_before, path_and_body, moment_of, token_of, line_feed_of, fields_of, line_of, most_bytes}
 use Rattle.reg_wire.specs.Script.Laws.{IsField, after_path, written, IsWritten}
 use Rattle.reg_wire.proofs.Moments.{moment_reads, moment_is, decimal_field}
 
@@ -132,22 +133,22 @@ bind_is (Some x) f y e = (x, refl, e)
 abbrev Pair : Type 0
 Pair = List ℕ × List ℕ
 
-abbrev asks : ℕ → List ℕ → List ℕ → Pair → Line
+abbrev asks : ℕ → List ℕ → List ℕ → Pair → Call
 asks seconds token method p = record { moment = seconds; token = token_of token; method = method; path = p.0; body = map line_feed_of p.1 }
 
-abbrev from_path : ℕ → List ℕ → List ℕ → Pair → Option Line
+abbrev from_path : ℕ → List ℕ → List ℕ → Pair → Option Call
 from_path seconds token method p = Some (asks seconds token method p)
 
-abbrev from_method : ℕ → List ℕ → Pair → Option Line
+abbrev from_method : ℕ → List ℕ → Pair → Option Call
 from_method seconds token p = path_and_body p.1 >>= from_path seconds token p.0
 
-abbrev from_token : ℕ → Pair → Option Line
+abbrev from_token : ℕ → Pair → Option Call
 from_token seconds p = first_field p.1 >>= from_method seconds p.0
 
-abbrev from_seconds : Pair → ℕ → Option Line
+abbrev from_seconds : Pair → ℕ → Option Call
 from_seconds p seconds = first_field p.1 >>= from_token seconds
 
-abbrev from_moment : Pair → Option Line
+abbrev from_moment : Pair → Option Call
 from_moment p = moment_of p.0 >>= from_seconds p
 
 written_fields : (moment : ℕ) (token method path : List ℕ) (body : Option (List ℕ)) → moment < 2 ^ 64 → IsField token → IsField method → IsField path
@@ -165,11 +166,11 @@ written_fields moment token method path body h t m p =
 not_long : (n most : ℕ) → n ≤ most → nat_lt most n ≡ false
 not_long n most h = grind (arith, nat_tests)
 
-pub written_reads : (bytes : List ℕ) (asked : Line) → IsWritten bytes asked → line_of bytes ≡ Some asked
+pub written_reads : (bytes : List ℕ) (asked : Call) → IsWritten bytes asked → line_of bytes ≡ Some asked
 unfolding line_of
 written_reads bytes asked w =
-    let by_token = ap (λ (t : Option (List ℕ)). Some (let l : Line = record { moment = asked.moment; token = t; method = asked.method; path = asked.path; body = map line_feed_of (unwrap_or w.body []) } in l)) (sym w.asks_by) in
-    let by_body = ap (λ (b : List ℕ). Some (let l : Line = record { moment = asked.moment; token = asked.token; method = asked.method; path = asked.path; body = b } in l)) (sym w.asks_with) in
+    let by_token = ap (λ (t : Option (List ℕ)). Some (let l : Call = record { moment = asked.moment; token = t; method = asked.method; path = asked.path; body = map line_feed_of (unwrap_or w.body []) } in l)) (sym w.asks_by) in
+    let by_body = ap (λ (b : List ℕ). Some (let l : Call = record { moment = asked.moment; token = asked.token; method = asked.method; path = asked.path; body = b } in l)) (sym w.asks_with) in
     rw (not_long (length bytes) most_bytes w.fits)
     (ap fields_of w.whole ∙ written_fields asked.moment w.token asked.method asked.path w.body w.moment_fits w.token_is w.method_is w.path_is ∙ by_token ∙ by_body)
 
@@ -179,7 +180,7 @@ whole_is : (bytes first after_moment after_token after_method : List ℕ) (secon
 whole_is bytes first after_moment after_token after_method seconds token method path body b s t m p =
     b ∙ ap (λ x. x ++ 32 ∷ after_moment) s ∙ ap (λ x. decimal seconds ++ 32 ∷ x) (t ∙ ap (λ x. token ++ 32 ∷ x) (m ∙ ap (λ x. method ++ 32 ∷ x) p))
 
-fields_are : (bytes : List ℕ) (asked : Line) → fields_of bytes ≡ Some asked → length bytes ≤ most_bytes → IsWritten bytes asked
+fields_are : (bytes : List ℕ) (asked : Call) → fields_of bytes ≡ Some asked → length bytes ≤ most_bytes → IsWritten bytes asked
 fields_are bytes asked e fits =
     let a = bind_is (first_field bytes) from_moment asked e in
     let s = bind_is (moment_of a.0.0) (from_seconds a.0) asked a.2 in
@@ -205,10 +206,10 @@ fields_are bytes asked e fits =
     } in
     subst (IsWritten bytes) (same_Some _ asked p.2) reading
 
-by_length : (bytes : List ℕ) (asked : Line) (t : Bool) → nat_lt most_bytes (length bytes) ≡ t → (if t then None else fields_of bytes) ≡ Some asked → IsWritten bytes asked
+by_length : (bytes : List ℕ) (asked : Call) (t : Bool) → nat_lt most_bytes (length bytes) ≡ t → (if t then None else fields_of bytes) ≡ Some asked → IsWritten bytes asked
 by_length bytes asked true test e = absurd (none-some asked e)
 by_length bytes asked false test e = fields_are bytes asked e (ltb-false most_bytes (length bytes) test)
 
-pub written_is : (bytes : List ℕ) (asked : Line) → line_of bytes ≡ Some asked → IsWritten bytes asked
+pub written_is : (bytes : List ℕ) (asked : Call) → line_of bytes ≡ Some asked → IsWritten bytes asked
 unfolding line_of
 written_is bytes asked e = by_length bytes asked (nat_lt most_bytes (length bytes)) refl e

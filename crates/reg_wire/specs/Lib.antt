@@ -1,2 +1,16 @@
+pub mod Exchange
 pub mod Laws
 pub mod Script
+pub use Rattle.reg_core.specs.Item
+pub use Rattle.reg_core.specs.WireRefusal
+pub use Rattle.reg_parse.specs.Bodies
+pub use Rattle.reg_parse.specs.Command
+pub use Rattle.reg_parse.specs.Path
+pub use Rattle.reg_parse.specs.RangeFile
+pub use Rattle.reg_parse.specs.Route
+pub use Rattle.reg_print.specs.Answer
+pub use Rattle.reg_print.specs.Body
+pub use Rattle.reg_print.specs.Detail
+pub use Rattle.reg_print.specs.Listing
+pub use Rattle.reg_print.specs.Refusal
+pub use Rattle.reg_print.specs.Trees

@@ -1,8 +1,6 @@
--- Scripts: their lines, how they are answered, and their laws.
+-- Scripts: their lines, how these are answered, and the laws.
 pub mod Line
 pub mod Lines
 pub mod LineBuffer
 pub mod Answers
-pub mod Event
 pub mod Laws
-pub mod Privacy

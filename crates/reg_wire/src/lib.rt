@@ -2,6 +2,7 @@
 //! of each answer, and scripts, whose lines are answered in turn.
 #![tactic(auto)]
 
+pub mod exchange;
 pub mod laws;
 pub mod script;
 #[cfg(test)]

@@ -14,7 +14,7 @@ use serde_json::{Map, Value};
 use std::alloc::{AllocError, Global};
 
 /// A refusal by its name, and what it is about.
-pub(crate) fn error(alloc: Global, row: RefusalRow) -> Result<Value, AllocError>
+pub fn error(alloc: Global, row: RefusalRow) -> Result<Value, AllocError>
     ensures { IfOk result (λ v. view v ≡ error_tree (row_view row)) }
 {
     let mut members = Map::new(alloc);

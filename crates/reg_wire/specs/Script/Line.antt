@@ -5,15 +5,8 @@ use Rattle.std.specs.Str.{bytes_eq}
 use Rattle.std.specs.List.{list_all}
 use Rattle.std.specs.Char.{is_ascii_digit}
 use Rattle.std.specs.Str.Parse.{digits_value}
+use Rattle.reg_wire.specs.Exchange.{Call}
 use Rattle.reg_wire.specs.declared.script.line.Line.{Line as Fields}
-
--- what a line asks
-pub record Line : Type 0 where
-  pub moment : ℕ
-  pub token : Option (List ℕ)
-  pub method : List ℕ
-  pub path : List ℕ
-  pub body : List ℕ
 
 infixl 10 ◌>>=◌
 abbrev pub ◌>>=◌ : {A B : Type 0} → Option A → (A → Option B) → Option B
@@ -60,7 +53,7 @@ abbrev pub line_feed_of : ℕ → ℕ
 line_feed_of b = (if b == 9 then 10 else b)
 
 -- what the bytes of a line ask, without their line feed; none where they are no line of a script
-abbrev pub fields_of : List ℕ → Option Line
+abbrev pub fields_of : List ℕ → Option Call
 fields_of bytes = do
   moment ← first_field bytes
   seconds ← moment_of moment.0
@@ -69,9 +62,9 @@ fields_of bytes = do
   path ← path_and_body method.1
   Some (record { moment = seconds; token = token_of token.0; method = method.0; path = path.0; body = map line_feed_of path.1 })
 
-unfoldable pub line_of : List ℕ → Option Line
+unfoldable pub line_of : List ℕ → Option Call
 line_of bytes = (if nat_lt most_bytes (length bytes) then None else fields_of bytes)
 
 -- what a line asks, as it is read
-abbrev pub asked_by : Fields → Line
-asked_by fields = record { moment = fields.moment; token = option_copied fields.token; method = fields.method.now; path = fields.path.now; body = map line_feed_of fields.body.now }
+abbrev pub call_of : Fields → Call
+call_of fields = record { moment = fields.moment; token = option_copied fields.token; method = fields.method.now; path = fields.path.now; body = map line_feed_of fields.body.now }

@@ -2,7 +2,8 @@
 use Rattle.std.specs.Prelude.{◌≡◌, ◌≤◌, ◌+◌, ℕ, List, [], length, take, Option}
 use Rattle.std.specs.List.{flat_map}
 use Rattle.std.specs.Io.KnownBytes.{Appends}
-use Rattle.reg_wire.specs.Script.Line.{Line, most_bytes}
+use Rattle.reg_wire.specs.Exchange.{Call}
+use Rattle.reg_wire.specs.Script.Line.{most_bytes}
 use Rattle.reg_wire.specs.Script.Lines.{storage, ended, Cut, AreLines, BeginWith, Ran, Wrote}
 use Rattle.reg_wire.specs.declared.wire_fault.WireFault.{WireFault}
 use Rattle.reg_wire.specs.declared.wire_fault.WireFault.TheVariants.{Read, Write, Memory}
@@ -14,7 +15,7 @@ abbrev pub IsBuffered : List ℕ → List ℕ → Type 0
 IsBuffered line buffered = buffered ≡ take (most_bytes + 1) line
 
 -- what is there where a line has no answer
-abbrev pub Unserved : {S : Type 0} → (S → Line → List ℕ → S → Type 0) → S → Line → Unanswered → S → Type 0
+abbrev pub Unserved : {S : Type 0} → (S → Call → List ℕ → S → Type 0) → S → Call → Unanswered → S → Type 0
 Unserved Serves before line without.Storage after = Serves before line storage after
 Unserved Serves before line without.Memory after = (answer : List ℕ) × Serves before line answer after
 
@@ -25,7 +26,7 @@ CutShort Memory sent answer had has = Appends had has []
 CutShort (Write n) sent answer had has = (m : ℕ) × (m ≤ length answer) × (n ≡ sent + m) × Appends had has (take m (ended answer))
 
 -- after some bytes of the script
-pub record Progress {S : Type 0} (Serves : S → Line → List ℕ → S → Type 0) (first : S) (had : Option (List ℕ)) (bytes buffered : List ℕ) (sent : ℕ) (now : S) (has : Option (List ℕ)) : Type 0 where
+pub record Progress {S : Type 0} (Serves : S → Call → List ℕ → S → Type 0) (first : S) (had : Option (List ℕ)) (bytes buffered : List ℕ) (sent : ℕ) (now : S) (has : Option (List ℕ)) : Type 0 where
   pub lines : List (List ℕ)
   pub rest : List ℕ
   pub answers : List (List ℕ)
@@ -42,7 +43,7 @@ WroteSome Memory answers had has = Wrote Memory answers had has
 WroteSome (Write n) answers had has = Wrote (Write n) answers had has
 
 -- all lines of the bytes were answered
-pub record Whole {S : Type 0} (Serves : S → Line → List ℕ → S → Type 0) (first : S) (had : Option (List ℕ)) (bytes : List ℕ) (now : S) (has : Option (List ℕ)) : Type 0 where
+pub record Whole {S : Type 0} (Serves : S → Call → List ℕ → S → Type 0) (first : S) (had : Option (List ℕ)) (bytes : List ℕ) (now : S) (has : Option (List ℕ)) : Type 0 where
   pub lines : List (List ℕ)
   pub answers : List (List ℕ)
   pub cut : AreLines bytes lines
@@ -50,7 +51,7 @@ pub record Whole {S : Type 0} (Serves : S → Line → List ℕ → S → Type 0
   pub wrote : Appends had has (flat_map ended answers)
 
 -- a fault after the first lines of the bytes
-pub record Halted {S : Type 0} (Serves : S → Line → List ℕ → S → Type 0) (fault : WireFault) (first : S) (had : Option (List ℕ)) (bytes : List ℕ) (now : S) (has : Option (List ℕ)) : Type 0 where
+pub record Halted {S : Type 0} (Serves : S → Call → List ℕ → S → Type 0) (fault : WireFault) (first : S) (had : Option (List ℕ)) (bytes : List ℕ) (now : S) (has : Option (List ℕ)) : Type 0 where
   pub lines : List (List ℕ)
   pub answers : List (List ℕ)
   pub begins : BeginWith bytes lines
@@ -58,7 +59,7 @@ pub record Halted {S : Type 0} (Serves : S → Line → List ℕ → S → Type 
   pub wrote : WroteSome fault answers had has
 
 -- a fault in the answer to the last line of the bytes, which lacks its line feed
-pub record HaltedLast {S : Type 0} (Serves : S → Line → List ℕ → S → Type 0) (fault : WireFault) (first : S) (had : Option (List ℕ)) (bytes : List ℕ) (now : S) (has : Option (List ℕ)) : Type 0 where
+pub record HaltedLast {S : Type 0} (Serves : S → Call → List ℕ → S → Type 0) (fault : WireFault) (first : S) (had : Option (List ℕ)) (bytes : List ℕ) (now : S) (has : Option (List ℕ)) : Type 0 where
   pub lines : List (List ℕ)
   pub answers : List (List ℕ)
   pub cut : AreLines bytes lines

@@ -2,7 +2,8 @@
 use Rattle.std.specs.Prelude.{◌≡◌, ◌≢◌, ◌≤◌, ◌<◌, ◌⊎◌, ℕ, List, [], ◌∷◌, ◌++◌, length, take, codes, Option, MatchOption}
 use Rattle.std.specs.List.{flat_map, AllByRecursion}
 use Rattle.std.specs.Io.KnownBytes.{Appends, Consumes, IsAtEnd}
-use Rattle.reg_wire.specs.Script.Line.{Line, line_of}
+use Rattle.reg_wire.specs.Exchange.{Call}
+use Rattle.reg_wire.specs.Script.Line.{line_of}
 use Rattle.reg_wire.specs.declared.wire_fault.WireFault.{WireFault}
 use Rattle.reg_wire.specs.declared.wire_fault.WireFault.TheVariants.{Read, Write, Memory}
 
@@ -45,11 +46,11 @@ refusal = codes "400 {\"error\":\"line\"}"
 abbrev pub storage : List ℕ
 storage = codes "503 {\"error\":\"storage\"}"
 
-abbrev pub Answered : {S : Type 0} → (S → Line → List ℕ → S → Type 0) → S → List ℕ → List ℕ → S → Type 0
+abbrev pub Answered : {S : Type 0} → (S → Call → List ℕ → S → Type 0) → S → List ℕ → List ℕ → S → Type 0
 Answered Serves before line answer after = MatchOption (line_of line) ((answer ≡ refusal) × (after ≡ before)) (λ asked. Serves before asked answer after)
 
 -- the lines are answered in turn
-abbrev pub Ran : {S : Type 0} → (S → Line → List ℕ → S → Type 0) → S → List (List ℕ) → List (List ℕ) → S → Type 0
+abbrev pub Ran : {S : Type 0} → (S → Call → List ℕ → S → Type 0) → S → List (List ℕ) → List (List ℕ) → S → Type 0
 Ran Serves before [] [] after = after ≡ before
 Ran Serves before [] (answer ∷ answers) after = ⊥
 Ran Serves before (line ∷ lines) [] after = ⊥
@@ -58,7 +59,7 @@ Ran {S} Serves before (line ∷ lines) (answer ∷ answers) after = (now : S) ×
 -- ---- Whole runs: `unread` and `left` are what is to be read before and after, `had` and `has` what was written
 
 -- all lines of the script were answered in turn, and nothing else was written
-pub record AnswersAll {S : Type 0} (Serves : S → Line → List ℕ → S → Type 0) (first last : S) (unread left had has : Option (List ℕ)) : Type 0 where
+pub record AnswersAll {S : Type 0} (Serves : S → Call → List ℕ → S → Type 0) (first last : S) (unread left had has : Option (List ℕ)) : Type 0 where
   pub script : List ℕ
   pub lines : List (List ℕ)
   pub answers : List (List ℕ)
@@ -87,7 +88,7 @@ Wrote (Write n) answers had has =
     × Appends had has (take n (flat_map ended answers))
 
 -- a fault, after the first lines were answered in turn
-pub record StopsAt {S : Type 0} (Serves : S → Line → List ℕ → S → Type 0) (fault : WireFault) (first last : S) (unread left had has : Option (List ℕ)) : Type 0 where
+pub record StopsAt {S : Type 0} (Serves : S → Call → List ℕ → S → Type 0) (fault : WireFault) (first last : S) (unread left had has : Option (List ℕ)) : Type 0 where
   pub bytes : List ℕ
   pub lines : List (List ℕ)
   pub answers : List (List ℕ)

@@ -1,6 +1,7 @@
 //! Laws of scripts, over their definitions.
-ghost use Rattle.reg_wire.specs.Script.Privacy.{LinesAreAnsweredAlike, UnseenLinesLeaveNoTrace};
-ghost use Rattle.reg_wire.specs.Script.Laws.{LinesAreRead, IsCutOneWay, AnswersAreLines, AreAnswers, RunsAsTheModel};
+ghost use Rattle.reg_wire.specs.Script.Laws.{LinesAreRead, IsCutOneWay, AnswersAreLines, AreAnswers, RunsAsTheModel, LinesAreAnsweredAlike, UnseenLinesLeaveNoTrace};
+
+use crate::laws::{calls_are_answered_alike, calls_run_as_the_model, unseen_calls_leave_no_trace};
 
 /// A line is read as it is written: `moment token METHOD path body`, with one space between. Other bytes are
 /// no line.
@@ -24,27 +25,29 @@ pub fn refusals_are_answers()
     ensures { AreAnswers }
 {}
 
-/// Without the lines that were answered 503 `storage`, the answers to a script are those of the model's
-/// run of its events, with the refusals of the other lines between them, and so is the last world.
+/// Without the lines that were answered 503 `storage`, the answers to a script are those to its calls: those
+/// of the model's run of its events, with the refusals of the other lines between them, and so is the last
+/// world.
 pub fn runs_as_the_model()
     ensures { RunsAsTheModel }
-{}
+{
+    calls_run_as_the_model();
+}
 
-/// Isolation, to the byte: two well kept offices that show the sender of a line, who is no clerk, the
-/// same view answer it by the same bytes, and then show the sender the same view again, whatever else
-/// they hold. Lines that are answered 503 `storage` are left out.
+/// Isolation, of lines: two well kept offices that show the sender of a line, who is no clerk, the same
+/// view answer it by the same bytes, and then show the sender the same view again, as of calls. Lines that
+/// are answered 503 `storage` are left out.
 pub fn lines_are_answered_alike()
     ensures { LinesAreAnsweredAlike }
 {
-    reg_office::laws::two_worlds();
+    calls_are_answered_alike();
 }
 
-/// Striking, of scripts: the answers to a script, and to one that has its events but for those about
-/// requests that an account does not see, are the lines of the replies at their stages; these are alike
-/// at each event that is left, but for rows of these requests where they list requests of others; and at
-/// the end both show the account the same. Lines that are answered 503 `storage` are no events.
+/// Striking, of scripts: a script, and one that has its events but for those about requests that an account
+/// does not see, are answered as their calls are, which leave no trace of these requests. Lines that are
+/// answered 503 `storage` are no events.
 pub fn unseen_lines_leave_no_trace()
     ensures { UnseenLinesLeaveNoTrace }
 {
-    reg_office::laws::struck();
+    unseen_calls_leave_no_trace();
 }

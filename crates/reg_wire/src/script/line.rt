@@ -4,7 +4,7 @@ ghost use Rattle.std.specs.Option.{option_copied};
 ghost use Rattle.std.specs.List.{list_all};
 ghost use Rattle.std.specs.Char.{is_ascii_digit};
 ghost use Rattle.std.specs.Str.{IsUtf8};
-ghost use Rattle.reg_wire.specs.Script.Line.{is_space, first_field as field, path_and_body as path, is_decimal as decimal, moment_of as moment, token_of as token, line_of, fields_of, asked_by};
+ghost use Rattle.reg_wire.specs.Script.Line.{is_space, first_field as field, path_and_body as path, is_decimal as decimal, moment_of as moment, token_of as token, line_of, fields_of, call_of};
 
 use std::str;
 
@@ -29,7 +29,7 @@ pub(crate) struct Line<'a> {
 /// leading zeros.
 #[tactic(auto, unfolding(crate::specs::Script::Line::line_of))]
 pub(crate) fn read_line(bytes: &[u8]) -> Option<Line<'_>>
-    ensures { option_map asked_by result ≡ line_of bytes.now }
+    ensures { option_map call_of result ≡ line_of bytes.now }
 {
     if bytes.len() > MOST_BYTES {
         return None;
@@ -38,7 +38,7 @@ pub(crate) fn read_line(bytes: &[u8]) -> Option<Line<'_>>
 }
 
 fn fields(bytes: &[u8]) -> Option<Line<'_>>
-    ensures { option_map asked_by result ≡ fields_of bytes.now }
+    ensures { option_map call_of result ≡ fields_of bytes.now }
 {
     let (seconds, after_moment) = first_field(bytes)?;
     let moment = moment_of(seconds)?;

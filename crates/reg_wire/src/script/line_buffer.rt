@@ -1,6 +1,6 @@
 //! The line that is being read, so far.
 ghost use Rattle.std.specs.Prelude.{◌≡◌, ◌<◌, length, ◌++◌, ◌∷◌, [], List, ℕ, IsTrue, ◌↔◌, OnOk, option_map};
-ghost use Rattle.reg_wire.specs.Script.Line.{line_of, asked_by};
+ghost use Rattle.reg_wire.specs.Script.Line.{line_of, call_of};
 ghost use Rattle.reg_wire.specs.Script.LineBuffer.{IsBuffered};
 
 use crate::script::line::{Line, MOST_BYTES, read_line};
@@ -39,7 +39,7 @@ impl LineBuffer {
 
     /// What the line asks; none where it is no line of a script.
     pub fn line(&self) -> Option<Line<'_>>
-        ensures { (line : List ℕ) → IsBuffered line self.now → option_map asked_by result ≡ line_of line }
+        ensures { (line : List ℕ) → IsBuffered line self.now → option_map call_of result ≡ line_of line }
     {
         read_line(self.bytes.as_slice())
     }

@@ -43,8 +43,8 @@ pub(crate) fn respond_all<A: Responder, R: Read, W: Write>(
     Err(WireFault::Read)
 }
 
-// Answers the line that was read; gives how many bytes went out by now.
-fn answer_line<A: Responder, W: Write>(
+// Answers the line in the buffer; gives how many bytes went out by now.
+fn answer_buffered<A: Responder, W: Write>(
     alloc: Global,
     responder: &mut A,
     routes: &A::Routes,
@@ -92,7 +92,7 @@ fn take_byte<A: Responder, W: Write>(
         buffer.push(byte)?;
         return Ok(sent);
     }
-    let sent = answer_line(alloc, responder, routes, writer, buffer, sent)?;
+    let sent = answer_buffered(alloc, responder, routes, writer, buffer, sent)?;
     buffer.clear();
     Ok(sent)
 }
@@ -142,6 +142,6 @@ fn finish<A: Responder, W: Write>(
     if buffer.is_empty() {
         return Ok(());
     }
-    answer_line(alloc, responder, routes, writer, buffer, sent)?;
+    answer_buffered(alloc, responder, routes, writer, buffer, sent)?;
     Ok(())
 }

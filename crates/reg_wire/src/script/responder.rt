@@ -1,6 +1,7 @@
 //! What answers the lines of a script.
 ghost use Rattle.std.specs.Prelude.{◌≡◌, List, ℕ, IfOk, IfErr};
-ghost use Rattle.reg_wire.specs.Script.Line.{Line as Asked, asked_by};
+ghost use Rattle.reg_wire.specs.Exchange.{Call};
+ghost use Rattle.reg_wire.specs.Script.Line.{call_of};
 ghost use Rattle.reg_wire.specs.Script.LineBuffer.{Unserved};
 
 use crate::script::line::Line;
@@ -24,7 +25,7 @@ pub(crate) trait Responder {
     ghost Holds: { Self → Type 0 };
 
     /// What may be answered to a line, and what is there then.
-    ghost Serves: { Self → Asked → List ℕ → Self → Type 0 };
+    ghost Serves: { Self → Call → List ℕ → Self → Type 0 };
 
     /// The answer to a line.
     fn respond(
@@ -34,6 +35,6 @@ pub(crate) trait Responder {
         line: &Line<'_>,
     ) -> Result<Vec<u8>, Unanswered>
         ensures premise { Holds self.new → Holds self.old }
-        ensures ok { Holds self.new → IfOk result (λ answer. Serves self.old (asked_by line.now) answer.items self.new) }
-        ensures err { Holds self.new → IfErr result (λ why. Unserved Serves self.old (asked_by line.now) why self.new) };
+        ensures ok { Holds self.new → IfOk result (λ answer. Serves self.old (call_of line.now) answer.items self.new) }
+        ensures err { Holds self.new → IfErr result (λ why. Unserved Serves self.old (call_of line.now) why self.new) };
 }

@@ -1,7 +1,7 @@
 use Rattle.std.proofs.Common.{sym, ap, ◌∙◌, subst}
 use Rattle.reg_print.specs.Answer.{body_text}
 use Rattle.reg_print.specs.Body.{IsPlain, text_of}
-use Rattle.reg_print.proofs.Shallow.{answer_body-plain}
+use Rattle.reg_print.proofs.PlainTrees.{answer_body-plain}
 use Rattle.reg_print.proofs.answer.body_of.Goals as goal
 
 pub text-requires : goal.text-requires

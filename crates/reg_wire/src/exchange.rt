@@ -1,0 +1,64 @@
+//! A call and its answer, whatever carries them.
+ghost use Rattle.std.specs.Prelude.{◌≡◌, IfOk, OnOk, OnErr};
+ghost use Rattle.reg_office.specs.Caller.{step_by};
+ghost use Rattle.reg_wire.specs.Exchange.{call_view, answer_to, world_then};
+
+use reg_core::command::Command;
+use reg_core::reply::Reply;
+use reg_core::wire_refusal::ReadFault;
+use reg_office::Office;
+use reg_parse::command::read_command;
+use reg_parse::route::Routes;
+use reg_print::answer::Answer;
+use reg_store::keeper::{Fault, Keeper};
+use std::alloc::Global;
+
+/// What is asked at a moment, by whoever has a token.
+#[derive(Clone, Copy)]
+pub struct Call<'a> {
+    /// Seconds since 1970-01-01T00:00:00Z.
+    pub moment: u64,
+    /// The bearer token, if there is one.
+    pub token: Option<&'a [u8]>,
+    pub method: &'a [u8],
+    pub path: &'a [u8],
+    /// Empty where there is none.
+    pub body: &'a [u8],
+}
+
+/// What is answered to a call: the refusal of bytes that spell no command, or what the office answers to
+/// the command, which is then carried out. `body_of` prints it. A fault where the store or memory failed,
+/// with the content of the office unchanged: the answer is then `Answer::Storage`.
+pub fn answer_to<K: Keeper>(
+    alloc: Global,
+    office: &mut Office<K>,
+    routes: &Routes,
+    call: &Call<'_>,
+) -> Result<Answer, Fault>
+    ensures premise { K.Holds office.new → K.Holds office.old }
+    ensures answer { K.Holds office.new → IfOk result (λ a. a ≡ answer_to (K.world office.old) (call_view call.now)) }
+    ensures world { K.Holds office.new → OnOk result (K.world office.new ≡ world_then (K.world office.old) (call_view call.now)) }
+    ensures kept { K.Holds office.new → OnErr result (K.world office.new ≡ K.world office.old) }
+{
+    match read_command(alloc, routes, call.method, call.path, call.body) {
+        Ok(command) => Ok(Answer::Reply(handle(office, call, command)?)),
+        Err(ReadFault::Refused(refusal)) => Ok(Answer::Wire(refusal)),
+        Err(ReadFault::Memory) => Err(Fault::Memory),
+    }
+}
+
+fn handle<K: Keeper>(
+    office: &mut Office<K>,
+    call: &Call<'_>,
+    command: Command,
+) -> Result<Reply, Fault>
+    ensures premise { K.Holds office.new → K.Holds office.old }
+    ensures reply { K.Holds office.new → IfOk result (λ r. r ≡ (step_by (K.world office.old) (call_view call.now).token call.now.moment command).reply) }
+    ensures world { K.Holds office.new → OnOk result (K.world office.new ≡ (step_by (K.world office.old) (call_view call.now).token call.now.moment command).world) }
+    ensures kept { K.Holds office.new → OnErr result (K.world office.new ≡ K.world office.old) }
+{
+    office.handle(call.moment, call.token, &command)
+}
+
+#[cfg(test)]
+mod tests;
