@@ -15,7 +15,7 @@ use Rattle.reg_print.specs.Answer.{body_text, status_of}
 use Rattle.reg_print.specs.declared.answer.Answer.{Answer}
 use Rattle.reg_print.specs.declared.answer.Answer.TheVariants as answer
 use Rattle.reg_wire.specs.Exchange.{Call, spelled, answer_for, world_for, answers_to, world_after_calls, event_for, events_of, next_answer, answers_with}
-use Rattle.reg_wire.specs.Laws.{AreOfModel, LookAlike, AreAnsweredAlike, CallsAreAnsweredAlike, AreOfStages, UnseenCallsLeaveNoTrace}
+use Rattle.reg_wire.specs.Laws.{AreOfModel, LookAlike, CallsAreAnsweredAlike, AreOfStages, UnseenCallsLeaveNoTrace}
 
 -- ---- The model
 
