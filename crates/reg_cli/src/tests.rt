@@ -5,6 +5,7 @@ use std::test::Fail;
 
 mod approvals;
 mod command_lines;
+mod day;
 mod decisions;
 mod devices;
 mod experts;
