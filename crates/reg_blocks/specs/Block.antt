@@ -27,13 +27,15 @@ last_address block = first_address block + (address_count block.size - 1)
 
 -- neither block ends before the other begins
 abbrev pub ends_meet : SizedPrefix → SizedPrefix → Bool
-ends_meet a b = nat_le (first_address a) (last_address b) && nat_le (first_address b) (last_address a)
+ends_meet a b =
+    nat_le (first_address a) (last_address b) && nat_le (first_address b) (last_address a)
 
 -- the 24 bits that all addresses of the block begin with
 abbrev pub leading_24 : SizedPrefix → ℕ
 leading_24 block = block.prefix / blocks_in_prefix block.size
 
--- a block lies in a prefix that may be in a pool: it has no bit too many, and its I/G and U/L bits are 0
+-- a block lies in a prefix that may be in a pool: it has no bit too many, and its I/G and U/L bits
+-- are 0
 abbrev pub is_block : SizedPrefix → Bool
 is_block block = is_pool_prefix (leading_24 block)
 

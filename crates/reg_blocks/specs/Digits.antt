@@ -9,7 +9,8 @@ use Rattle.reg_blocks.specs.Block.{SizedPrefix, is_block, make_block}
 
 -- the number that hexadecimal digits of either case write, if they are all digits
 abbrev pub hex_value_of : List ℕ → Option ℕ
-hex_value_of digits = (if list_all (λ digit. is_digit digit 16) digits then Some (digits_value 16 digits) else None)
+hex_value_of digits =
+    (if list_all (λ digit. is_digit digit 16) digits then Some (digits_value 16 digits) else None)
 
 -- the 24-bit prefix that exactly six digits write
 abbrev pub read_prefix : List ℕ → Option ℕ
@@ -18,7 +19,8 @@ read_prefix digits = (if length digits == 6 then hex_value_of digits else None)
 -- the block whose prefix the digits write: 6 digits for MA-L, 7 for MA-M and 9 for MA-S
 abbrev pub read_block : List ℕ → Option SizedPrefix
 read_block digits =
-    option_and_then (λ size. option_and_then (λ prefix. make_block size prefix) (hex_value_of digits))
+    option_and_then
+    (λ size. option_and_then (λ prefix. make_block size prefix) (hex_value_of digits))
     (size_of_digits (length digits))
 
 -- the last so many hexadecimal digits of the number, in upper case

@@ -11,7 +11,8 @@ pub record IsFree (pool : List ℕ) (given : List SizedPrefix) (block : SizedPre
   pub apart : All (λ other. ¬ Clash block other) given
 
 -- the block is the free one of the size with the least first address
-pub record IsDue (pool : List ℕ) (given : List SizedPrefix) (size : Size) (block : SizedPrefix) : Type 0 where
+pub record IsDue (pool : List ℕ) (given : List SizedPrefix) (size : Size) (block : SizedPrefix) :
+    Type 0 where
   pub free : IsFree pool given block
   pub of_size : block.size ≡ size
   pub least :
@@ -33,4 +34,5 @@ blocks_in size prefix =
 -- the block due by trial of each block of the size, prefix after prefix
 unfoldable pub block_due : List ℕ → List SizedPrefix → Size → Option SizedPrefix
 block_due pool given size =
-    find (λ block. list_all (λ other. not (ends_meet block other)) given) (flat_map (blocks_in size) pool)
+    find (λ block. list_all (λ other. not (ends_meet block other)) given)
+    (flat_map (blocks_in size) pool)

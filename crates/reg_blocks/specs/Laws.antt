@@ -8,8 +8,8 @@ use Rattle.reg_blocks.specs.Block.{SizedPrefix, IsAddressOf, Clash, first_addres
 use Rattle.reg_blocks.specs.Digits.{read_block, block_text, Writes}
 use Rattle.reg_blocks.specs.Due.{IsDue, NoneIsFree, block_due}
 
--- a size is the number of bits that a prefix fixes: the others of the 48 tell the addresses apart, those past the 24th
--- tell the blocks in a 24-bit prefix apart, and a digit writes four of them
+-- a size is the number of bits that a prefix fixes: the others of the 48 tell the addresses apart,
+-- those past the 24th tell the blocks in a 24-bit prefix apart, and a digit writes four of them
 abbrev pub PrefixBitsDecide : Type 0
 PrefixBitsDecide =
     (size : Size)

@@ -6,8 +6,8 @@ use Rattle.std.specs.List.Sorted.{IsStrictlyIncreasing}
 abbrev pub first_octet : ℕ → ℕ
 first_octet prefix = prefix / 2 ^ 16
 
--- a 24-bit prefix of individual addresses that are universally administered: in the first octet the least significant
--- bit (I/G) and the next one (U/L) are 0
+-- a 24-bit prefix of individual addresses that are universally administered: in the first octet the
+-- least significant bit (I/G) and the next one (U/L) are 0
 abbrev pub is_pool_prefix : ℕ → Bool
 is_pool_prefix prefix = nat_lt prefix (2 ^ 24) && nat_eq (first_octet prefix % 4) 0
 
@@ -18,4 +18,5 @@ pub record IsPool (prefixes : List ℕ) : Type 0 where
 
 -- the new pool has the prefix and those of the old one, and no other
 abbrev pub AddsPrefix : List ℕ → List ℕ → ℕ → Type 0
-AddsPrefix old new prefix = (other : ℕ) → Contains new other ↔ ((other ≡ prefix) ⊎ Contains old other)
+AddsPrefix old new prefix =
+    (other : ℕ) → Contains new other ↔ ((other ≡ prefix) ⊎ Contains old other)

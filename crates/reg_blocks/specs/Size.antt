@@ -30,7 +30,8 @@ digit_count MaS = 9
 -- the size whose prefixes are written by so many digits
 abbrev pub size_of_digits : ℕ → Option Size
 size_of_digits count =
-    (if count == 6 then Some MaL else (if count == 7 then Some MaM else (if count == 9 then Some MaS else None)))
+    (if count == 6 then Some MaL
+    else (if count == 7 then Some MaM else (if count == 9 then Some MaS else None)))
 
 abbrev pub word_of : Size → List ℕ
 word_of MaL = codes "MA-L"

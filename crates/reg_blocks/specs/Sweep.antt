@@ -11,7 +11,8 @@ use Rattle.reg_blocks.specs.Due.{IsDue, NoneIsFree}
 abbrev pub EndBefore : List SizedPrefix → ℕ → ℕ → Type 0
 EndBefore given count address = AllWithin (λ block. last_address block < address) given 0 count
 
--- no block of the size in this prefix is free, and the first so many of the given blocks end with the prefix or before
+-- no block of the size in this prefix is free, and the first so many of the given blocks end with
+-- the prefix or before
 pub record IsFull (prefix : ℕ) (given : List SizedPrefix) (size : Size) (count : ℕ) : Type 0 where
   pub none : NoneIsFree (prefix ∷ []) given size
   pub within : count ≤ length given
@@ -19,5 +20,8 @@ pub record IsFull (prefix : ℕ) (given : List SizedPrefix) (size : Size) (count
 
 -- the block due of the pool with this prefix alone, or how many of the given blocks were passed
 abbrev pub Swept : ℕ → List SizedPrefix → Size → Sweep → Type 0
-Swept prefix given size (Free candidate) = IsDue (prefix ∷ []) given size (record { size = size; prefix = candidate })
+Swept prefix given size (Free candidate) = IsDue (prefix ∷ []) given size (record {
+  size = size;
+  prefix = candidate;
+})
 Swept prefix given size (Full passed) = IsFull prefix given size passed

@@ -14,10 +14,12 @@ use std::alloc::{AllocError, Global};
 use std::cmp::Ordering;
 use std::marker::Model;
 
-/// A block of universally administered individual EUI-48 addresses: its size, and the leading bits that its addresses
-/// share. Both least significant bits of the first octet, I/G and U/L, are zero (IEEE Std 802-2014, clause 8).
+/// A block of universally administered individual EUI-48 addresses: its size, and the leading bits
+/// that its addresses share. Both least significant bits of the first octet, I/G and U/L, are zero
+/// (IEEE Std 802-2014, clause 8).
 ///
-/// Blocks are ordered by their first addresses, and of those that begin together the larger comes first.
+/// Blocks are ordered by their first addresses, and of those that begin together the larger comes
+/// first.
 #[derive(Clone, Copy, Debug, PartialEq, Eq)]
 pub struct Block {
     size: Size,
@@ -38,7 +40,8 @@ impl Model for Block {
 }
 
 impl Block {
-    /// The block of this size and prefix, or none where the prefix has too many bits or its I/G or U/L bit is set.
+    /// The block of this size and prefix, or none where the prefix has too many bits or its I/G or
+    /// U/L bit is set.
     pub fn make(size: Size, prefix: u64) -> Option<Block>
         ensures { result ≡ make_block size prefix }
     {
@@ -124,7 +127,8 @@ impl Ord for Block {
 impl PartialOrd for Block {
     ghost partial_cmp = { as_partial_cmp block_cmp };
 
-    ghost laws = { partial_order_from_own_ties (Prim.search (comparing, rules)) (Prim.search (comparing, rules)) };
+    ghost laws = { partial_order_from_own_ties (Prim.search (comparing, rules))
+        (Prim.search (comparing, rules)) };
 
     fn partial_cmp(&self, other: &Block) -> Option<Ordering> {
         Some(self.cmp(other))

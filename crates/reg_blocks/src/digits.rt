@@ -5,7 +5,8 @@ ghost use Rattle.reg_blocks.specs.Digits.{hex_value_of, hex_digits};
 
 use std::alloc::{AllocError, Global};
 
-/// The number that hexadecimal digits of either case write, or none where one of them is no such digit.
+/// The number that hexadecimal digits of either case write, or none where one of them is no such
+/// digit.
 pub(crate) fn hex_value(digits: &[u8]) -> Option<u64>
     requires { length digits.now ≤ 9 }
     ensures value { result ≡ hex_value_of digits.now }
@@ -18,7 +19,8 @@ pub(crate) fn hex_value(digits: &[u8]) -> Option<u64>
     Some(value)
 }
 
-/// The last so many hexadecimal digits of the number, in upper case. Only want of memory is an error.
+/// The last so many hexadecimal digits of the number, in upper case. Only want of memory is an
+/// error.
 pub(crate) fn hex_text(alloc: Global, count: usize, n: u64) -> Result<String, AllocError>
     requires { count ≤ 16 }
     ensures { IfOk result (λ text. string_bytes text ≡ hex_digits count n) }

@@ -24,10 +24,12 @@ pub fn ascends(blocks: &[Block]) -> bool
     blocks.is_sorted_by_key(|block| block.first())
 }
 
-/// The block due: of the free blocks of this size the one with the least first address, or none where none is free. A
-/// block is free where it lies in a prefix of the pool and shares no address with a given block.
+/// The block due: of the free blocks of this size the one with the least first address, or none
+/// where none is free. A block is free where it lies in a prefix of the pool and shares no address
+/// with a given block.
 ///
-/// The given blocks ascend by first address, as sorted blocks do. They are passed once, and no memory is taken.
+/// The given blocks ascend by first address, as sorted blocks do. They are passed once, and no
+/// memory is taken.
 pub fn least_free(pool: &Pool, given: &[Block], size: Size) -> Option<Block>
     requires ascending { IsNonDecreasingBy first_address given.now }
     ensures due { IfSome result (IsDue pool.now given.now size) }
@@ -44,8 +46,9 @@ pub fn least_free(pool: &Pool, given: &[Block], size: Size) -> Option<Block>
     None
 }
 
-/// Sweeps over the blocks of one prefix, past the given blocks that do not end before it. A candidate that ends before
-/// the next given block is free; one that does not makes way for the first one past that block.
+/// Sweeps over the blocks of one prefix, past the given blocks that do not end before it. A
+/// candidate that ends before the next given block is free; one that does not makes way for the
+/// first one past that block.
 fn sweep_prefix(prefix: u32, given: &[Block], passed: usize, size: Size) -> Sweep
     requires bits { prefix < 2 ^ 24 }
     requires ascending { IsNonDecreasingBy first_address given.now }

@@ -31,7 +31,8 @@ pub fn sorted_blocks_ascend()
     ensures { SortedBlocksAscend }
 {}
 
-/// Digits read as a block exactly where they write its prefix: 6, 7 or 9 of them, with both bits zero.
+/// Digits read as a block exactly where they write its prefix: 6, 7 or 9 of them, with both bits
+/// zero.
 pub fn reading_is_exact()
     ensures { ReadingIsExact }
 {}

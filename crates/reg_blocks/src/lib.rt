@@ -1,5 +1,6 @@
-//! Blocks of EUI-48 addresses as the IEEE Registration Authority assigns them: their sizes MA-L, MA-M and MA-S, the pool
-//! of 24-bit prefixes that they are cut from, and the block that is due next.
+//! Blocks of EUI-48 addresses as the IEEE Registration Authority assigns them: their sizes MA-L,
+//! MA-M and MA-S, the pool of 24-bit prefixes that they are cut from, and the block that is due
+//! next.
 #![tactic(auto)]
 
 pub mod block;

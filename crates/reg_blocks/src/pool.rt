@@ -7,7 +7,7 @@ use std::alloc::{AllocError, Global};
 use std::marker::Model;
 
 /// The 24-bit prefixes that the blocks of an office are cut from, ascending.
-#[derive(Debug, Drop)]
+#[derive(Clone, Debug, Drop)]
 pub struct Pool {
     prefixes: Vec<u32>,
 }
@@ -33,8 +33,9 @@ pub enum Add {
     Memory,
 }
 
-/// Whether the number is 24 bits of which the two least significant bits of the first octet, I/G and U/L, are zero: a
-/// prefix of individual addresses that are universally administered (IEEE Std 802-2014, clause 8).
+/// Whether the number is 24 bits of which the two least significant bits of the first octet, I/G
+/// and U/L, are zero: a prefix of individual addresses that are universally administered (IEEE Std
+/// 802-2014, clause 8).
 pub fn is_pool_prefix(prefix: u32) -> bool
     ensures { result ≡ may_be_in_pool prefix }
 {
@@ -81,10 +82,10 @@ impl Pool {
 
     /// A pool with the same prefixes. Only want of memory is an error.
     pub fn copy(&self) -> Result<Self, AllocError>
-        ensures { IfOk result (λ pool. pool ≡ self.now) }
+        ensures equal { IfOk result (λ pool. pool ≡ self.now) }
+        ensures pool { IsPool self.now }
     {
-        Ok(Pool {
-            prefixes: self.prefixes.clone()?,
-        })
+        let _ = &self.prefixes;
+        self.clone()
     }
 }

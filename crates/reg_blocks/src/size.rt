@@ -3,7 +3,8 @@ ghost use Rattle.std.specs.Prelude.{◌≡◌, ◌↔◌, Some};
 ghost use Rattle.reg_blocks.specs.declared.size.Size.{Size as BlockSize};
 ghost use Rattle.reg_blocks.specs.Size.{prefix_bits, address_count, blocks_in_prefix, digit_count, size_of_digits, word_of};
 
-/// The size of a block, by the length of the prefix that its addresses share (IEEE Registration Authority).
+/// The size of a block, by the length of the prefix that its addresses share (IEEE Registration
+/// Authority).
 #[derive(Clone, Copy, Debug, PartialEq, Eq, PartialOrd, Ord, Hash)]
 pub enum Size {
     /// MAC Addresses - Large: a prefix of 24 bits, 2^24 addresses.

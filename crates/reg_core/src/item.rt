@@ -2,8 +2,8 @@
 ghost use Rattle.std.specs.Prelude.{◌≡◌};
 ghost use Rattle.reg_core.specs.Item.{item_name};
 
-/// A part of a request: a segment of its path or a member of its body. `Number`, `Stream` and `Track` are the
-/// members of an RFC; a fault in one of them is a fault of `Rfc`.
+/// A part of a request: a segment of its path or a member of its body. `Number`, `Stream` and
+/// `Track` are the members of an RFC; a fault in one of them is a fault of `Rfc`.
 #[derive(Clone, Copy, Debug, PartialEq, Eq)]
 pub enum Item {
     Account,

@@ -1,23 +1,26 @@
-//! Laws of the office, as the contracts of functions that do nothing. Each holds for every function that
-//! gives tokens their digests.
+//! Laws of the office, as the contracts of functions that do nothing. Each holds for every
+//! function that gives tokens their digests.
 ghost use Rattle.std.specs.Prelude.{List, ℕ};
 ghost use Rattle.reg_ranges.specs.Words.{ReadsWords};
 ghost use Rattle.reg_core.specs.Advice.{read_verdict, same_advice, verdict_word};
 ghost use Rattle.reg_core.specs.Ask.{same_ask};
 ghost use Rattle.reg_core.specs.Capability.{same_cap, same_kind};
 ghost use Rattle.reg_core.specs.Laws.{AnswersAreDone, ApprovalsAreAdvised, ApprovalsGiveWhatIsAllowed, ApprovalsStand, ChangesFit, DecidesSame, FirstWorldsAreWellKept, GivenStays, GivesDigests, RefusalsChangeNothing, RepeatsActOnce, RunsKeepWell, SubmissionsStand, TwoWorlds};
+ghost use Rattle.reg_core.specs.MayBeGiven.{AsksMeetTheirPolicy, NoValueIsGivenTwice};
 ghost use Rattle.reg_core.specs.Striking.{StagesAreOfRun, UnseenLeaveNoTrace};
 
-/// Isolation: two well kept worlds that show a caller who is no clerk the same view answer its command
-/// alike, and then show it the same view again.
+/// Isolation: two well kept worlds that show a caller who is no clerk the same view answer its
+/// command alike, and then show it the same view again.
 pub fn two_worlds()
     ensures { (digest_of : List ℕ → List ℕ) → TwoWorlds digest_of }
 {}
 
-/// Striking: requests of others that an account never sees, and that are given nothing, can be struck from
-/// a run. Without the events about them (what the account itself does as an applicant or as an expert stays)
-/// every event that is left is answered alike, and finds and leaves the published registers and the account's
-/// views the same; only a list of all requests, or of another account's, may lack their rows. So too at the end.
+/// Striking: requests of others that an account never sees, and that are given nothing, can be
+/// struck from a run. Without the events about them (what the account itself does as an applicant
+/// or as an expert stays) every event that is left is answered alike, and finds and leaves the
+/// published registers and the account's views the same; only a list of all requests, or of
+/// another account's, may lack their rows. So too at the end. What is left changes none of these
+/// requests; and where none of them is there, such a list is the other list without their rows.
 pub fn struck()
     ensures no_trace { (digest_of : List ℕ → List ℕ) → UnseenLeaveNoTrace digest_of }
     ensures stages { (digest_of : List ℕ → List ℕ) → StagesAreOfRun digest_of }
@@ -33,8 +36,8 @@ pub fn runs_keep_well()
     ensures { (digest_of : List ℕ → List ℕ) → GivesDigests digest_of → RunsKeepWell digest_of }
 {}
 
-/// What is answered was done: the world after a command has what the reply says, and the reply is about
-/// what was asked.
+/// What is answered was done: the world after a command has what the reply says, and the reply is
+/// about what was asked.
 pub fn answers_are_done()
     ensures { (digest_of : List ℕ → List ℕ) → AnswersAreDone digest_of }
 {}
@@ -44,15 +47,31 @@ pub fn approvals_give_what_is_allowed()
     ensures { (digest_of : List ℕ → List ℕ) → ApprovalsGiveWhatIsAllowed digest_of }
 {}
 
-/// An approval that changes something, of what experts review (RFC 8126 sections 4.5 and 4.6), is of a
-/// request that an expert is for to whom it is assigned.
+/// An approval that changes something, of what experts review (RFC 8126 sections 4.5 and 4.6), is
+/// of a request that an expert is for to whom it is assigned.
 pub fn approvals_are_advised()
     ensures { (digest_of : List ℕ → List ℕ) → ApprovalsAreAdvised digest_of }
 {}
 
-/// What was given stays: in every run from a well kept world an entry keeps its label, its assignee and
-/// its first day, a registry its ranges, a request its ask and, once it is not pending, its state; and none
-/// of them goes away, nor does a prefix of the pool.
+/// Asks meet their policy: a request is taken in, and approved, only for a value of its registry's
+/// ranges under a policy by which values are assigned one by one, with all evidence that this
+/// policy asks for (RFC 8126 section 4), and at which no entry stands; and what was approved has
+/// its entry, of the applicant's account.
+pub fn asks_meet_their_policy()
+    ensures { (digest_of : List ℕ → List ℕ) → AsksMeetTheirPolicy digest_of }
+{}
+
+/// No value is given twice: in a run from a well kept world, an entry that is given after another
+/// was is of another registry or at another value.
+pub fn no_value_is_given_twice()
+    ensures { (digest_of : List ℕ → List ℕ) → GivesDigests digest_of
+        → NoValueIsGivenTwice digest_of }
+{}
+
+/// What was given stays: in every run from a well kept world an entry keeps its label, its
+/// assignee and its first day, a registry its ranges, a request its ask and, once it is not
+/// pending, its state, its experts and all advice on it; and none of them goes away, nor does a
+/// prefix of the pool.
 pub fn given_stays()
     ensures { (digest_of : List ℕ → List ℕ) → GivesDigests digest_of → GivenStays digest_of }
 {}
@@ -62,12 +81,14 @@ pub fn refusals_change_nothing()
     ensures { (digest_of : List ℕ → List ℕ) → RefusalsChangeNothing digest_of }
 {}
 
-/// Repeats act once: an accepted command that is given again as the next step is accepted and changes nothing.
+/// Repeats act once: an accepted command that is given again as the next step is accepted and
+/// changes nothing.
 pub fn repeats_act_once()
     ensures { (digest_of : List ℕ → List ℕ) → RepeatsActOnce digest_of }
 {}
 
-/// The same request is accepted again after any run, and changes nothing.
+/// The same request is answered again after any run, by its row as it stands then, and changes
+/// nothing.
 pub fn submissions_stand()
     ensures { (digest_of : List ℕ → List ℕ) → GivesDigests digest_of → SubmissionsStand digest_of }
 {}

@@ -14,7 +14,8 @@ is_leap_year y = (y % 4 == 0) && (not (y % 100 == 0) || (y % 400 == 0))
 
 -- the days of each month of a year, from January on
 abbrev pub month_lengths : ℕ → List ℕ
-month_lengths y = 31 ∷ (if is_leap_year y then 29 else 28) ∷ 31 ∷ 30 ∷ 31 ∷ 30 ∷ 31 ∷ 31 ∷ 30 ∷ 31 ∷ 30 ∷ 31 ∷ []
+month_lengths y =
+    31 ∷ (if is_leap_year y then 29 else 28) ∷ 31 ∷ 30 ∷ 31 ∷ 30 ∷ 31 ∷ 31 ∷ 30 ∷ 31 ∷ 30 ∷ 31 ∷ []
 
 -- months and days count from 1
 pub record CivilDate : Type 0 where
@@ -50,11 +51,13 @@ day_number date = start_of_month date.year date.month + (date.day - 1)
 
 -- the first year from 2000 on that ends after the day
 unfoldable pub year_of : ℕ → ℕ
-year_of day = unwrap_or (find (λ y. nat_lt day (start_of_year (y + 1))) (range_with_len 2000 8000)) 9999
+year_of day =
+    unwrap_or (find (λ y. nat_lt day (start_of_year (y + 1))) (range_with_len 2000 8000)) 9999
 
 -- the first month of the year that ends after the day
 unfoldable pub month_of : ℕ → ℕ → ℕ
-month_of y day = unwrap_or (find (λ m. nat_lt day (start_of_month y (m + 1))) (range_with_len 1 12)) 12
+month_of y day =
+    unwrap_or (find (λ m. nat_lt day (start_of_month y (m + 1))) (range_with_len 1 12)) 12
 
 -- the date of a day
 unfoldable pub date_of : ℕ → CivilDate

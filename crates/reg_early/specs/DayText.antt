@@ -12,7 +12,8 @@ four_digits n = two_digits (n / 100) ++ two_digits (n % 100)
 
 -- YYYY-MM-DD
 abbrev pub date_text : CivilDate → List ℕ
-date_text date = four_digits date.year ++ codes "-" ++ two_digits date.month ++ codes "-" ++ two_digits date.day
+date_text date =
+    four_digits date.year ++ codes "-" ++ two_digits date.month ++ codes "-" ++ two_digits date.day
 
 -- the text of a day
 abbrev pub text_of_day : ℕ → List ℕ

@@ -6,7 +6,8 @@ use Rattle.reg_ranges.specs.declared.evidence.Item.{Item}
 use Rattle.reg_ranges.specs.declared.evidence.Item.TheVariants as item
 use Rattle.reg_early.specs.declared.evidence.EarlyEvidence.{EarlyEvidence}
 
--- values under the policy are allocated early; under Specification Required only where the specification will be an RFC
+-- values under the policy are allocated early; under Specification Required only where the
+-- specification will be an RFC
 abbrev pub is_eligible : Policy → Bool → Bool
 is_eligible policy.PrivateUse will_be_rfc = false
 is_eligible policy.ExperimentalUse will_be_rfc = false
@@ -21,7 +22,8 @@ is_eligible policy.IesgApproval will_be_rfc = false
 
 -- what is asked, in this order
 abbrev pub early_items : List Item
-early_items = item.Policy ∷ item.Draft ∷ item.Stable ∷ item.Interest ∷ item.Chair ∷ item.Director ∷ []
+early_items =
+    item.Policy ∷ item.Draft ∷ item.Stable ∷ item.Interest ∷ item.Chair ∷ item.Director ∷ []
 
 -- whether an item is met: a text by being there, a statement by being true
 abbrev pub is_early_met : Policy → EarlyEvidence → Item → Bool

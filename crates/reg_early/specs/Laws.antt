@@ -29,12 +29,15 @@ pub record IsJiffsDay (day : ℕ) : Type 0 where
 -- the calendar is jiff's on every day, and no other date of jiff's has the number of the day
 pub record CalendarIsJiffs : Type 0 where
   pub has : (day : ℕ) → IsDay day → IsJiffsDay day
-  pub only : (theirs : Date) (day : ℕ) → IsDay day → epoch_day theirs ≡ pos day → IsSameDate theirs (date_of day)
+  pub only : (theirs : Date) (day : ℕ) → IsDay day → epoch_day theirs ≡ pos day
+      → IsSameDate theirs (date_of day)
 
 -- the same date a year on, but for 29 February and the days of 9999
 pub record YearAfterIsTheSameDate : Type 0 where
-  pub same : (year month day : ℕ) → IsDate (civil_date year month day) → year < 9999 → ¬ ((month ≡ 2) × (day ≡ 29))
-      → year_after (day_number (civil_date year month day)) ≡ day_number (civil_date (year + 1) month day)
+  pub same : (year month day : ℕ) → IsDate (civil_date year month day) → year < 9999
+      → ¬ ((month ≡ 2) × (day ≡ 29))
+      → year_after (day_number (civil_date year month day))
+      ≡ day_number (civil_date (year + 1) month day)
   pub leap_day : (year : ℕ) → IsDate (civil_date year 2 29)
       → year_after (day_number (civil_date year 2 29)) ≡ day_number (civil_date (year + 1) 2 28)
   pub last_year : (month day : ℕ) → IsDate (civil_date 9999 month day)
@@ -50,5 +53,6 @@ MomentsHaveDays = (moment : ℕ) → is_in_clock moment ≡ true → IsDay (utc_
 pub record TermsHaveDays : Type 0 where
   pub permanent : (first : ℕ) → IsDay first → HasDays (permanent_term first)
   pub early : (first : ℕ) → IsDay first → HasDays (early_term first)
-  pub renewed : (term : Term) (approval : ℕ) → HasDays term → IsDay approval → HasDays (renewed_term term approval)
+  pub renewed : (term : Term) (approval : ℕ) → HasDays term → IsDay approval
+      → HasDays (renewed_term term approval)
   pub settled : (term : Term) → HasDays term → HasDays (settled_term term)

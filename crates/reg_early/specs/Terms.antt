@@ -1,4 +1,5 @@
--- The terms of entries: an early allocation lasts a year, and is renewed once (RFC 7120, section 3.3).
+-- The terms of entries: an early allocation lasts a year, and is renewed once (RFC 7120, section
+-- 3.3).
 use Rattle.std.specs.Prelude.{ℕ, true, false, nat_lt, max, if◌then◌else◌, List, Option, Some, None, Result, Ok, Err, IfSome, is_some, option_map, codes}
 use Rattle.reg_early.specs.declared.term.Term.{Term}
 use Rattle.reg_early.specs.declared.term.Status.{Status}
@@ -34,7 +35,12 @@ early_term first = record { first = first; expires = Some (year_after first); re
 -- renewed on a day: a year from the later of the old expiry day and that day
 abbrev pub renewed_term : Term → ℕ → Term
 renewed_term term approval =
-    record { first = term.first; expires = option_map (λ expiry. year_after (max expiry approval)) term.expires; renewed = true }
+    record {
+      first = term.first;
+      expires =
+          option_map (λ expiry. year_after (max expiry approval)) term.expires;
+      renewed = true;
+    }
 
 -- a term is renewed if it has an expiry and was not renewed before
 abbrev pub renewal : Term → ℕ → Result Term RenewFault
@@ -49,7 +55,8 @@ settled_term term = record { first = term.first; expires = None; renewed = term.
 
 -- a term is settled if it has an expiry
 abbrev pub settlement : Term → Result Term SettleFault
-settlement term = if is_some term.expires then Ok (settled_term term) else Err settle_fault.Permanent
+settlement term =
+    if is_some term.expires then Ok (settled_term term) else Err settle_fault.Permanent
 
 -- each day of the term is a day of the calendar
 abbrev pub HasDays : Term → Type 0

@@ -1,7 +1,8 @@
 //! Laws of the calendar and of terms. Each function does nothing; what it ensures is the law.
 ghost use Rattle.reg_early.specs.Laws.{DaysAreDates, CalendarIsJiffs, YearAfterIsTheSameDate, MomentsHaveDays, TermsHaveDays};
 
-/// Each day from 2000-01-01 to 9999-12-31 has one date, and each date of these years is that of one day.
+/// Each day from 2000-01-01 to 9999-12-31 has one date, and each date of these years is that of one
+/// day.
 pub fn days_and_dates_are_one_to_one()
     ensures { DaysAreDates }
 {}
@@ -11,8 +12,8 @@ pub fn calendar_is_jiffs()
     ensures { CalendarIsJiffs }
 {}
 
-/// The year after a day is the same date of the next year. After 29 February comes 28 February, and after
-/// each day of 9999 its last.
+/// The year after a day is the same date of the next year. After 29 February comes 28 February, and
+/// after each day of 9999 its last.
 pub fn year_after_is_the_same_date()
     ensures { YearAfterIsTheSameDate }
 {}

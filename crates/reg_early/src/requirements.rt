@@ -7,10 +7,10 @@ use crate::evidence::EarlyEvidence;
 use reg_ranges::evidence::Item;
 use reg_ranges::policy::Policy;
 
-/// The first item that an early allocation under the policy asks for and that is not met, in the order
-/// policy, draft, stable, interest, chair, director; or none where all are met. Policy is met under RFC
-/// Required, IETF Review and Standards Action, and under Specification Required where the specification
-/// will be published as an RFC.
+/// The first item that an early allocation under the policy asks for and that is not met, in the
+/// order policy, draft, stable, interest, chair, director; or none where all are met. Policy is met
+/// under RFC Required, IETF Review and Standards Action, and under Specification Required where the
+/// specification will be published as an RFC.
 pub fn early_missing(policy: Policy, evidence: &EarlyEvidence) -> Option<Item>
     ensures { result ≡ first_item (early_unmet policy evidence.now) }
 {

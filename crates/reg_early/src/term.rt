@@ -2,6 +2,7 @@
 ghost use Rattle.std.specs.Prelude.{◌≡◌};
 
 use crate::day::{Day, year_after};
+use reg_ranges::formed::Formed;
 
 /// How long an entry stands.
 #[derive(Clone, Copy, Debug, PartialEq, Eq)]
@@ -56,8 +57,8 @@ impl Term {
         }
     }
 
-    /// The term of an entry that is allocated early on a day: it expires on the same date of the next
-    /// year, or on 28 February for 29 February.
+    /// The term of an entry that is allocated early on a day: it expires on the same date of the
+    /// next year, or on 28 February for 29 February.
     pub fn early(first: Day) -> Term
         ensures { result ≡ early_term first }
     {
@@ -78,8 +79,9 @@ impl Term {
         }
     }
 
-    /// The term after a renewal that is approved on a day: a year from the later of that day and the old
-    /// expiry day. A term without expiry is `Permanent`, and one that was renewed before is `Renewed`.
+    /// The term after a renewal that is approved on a day: a year from the later of that day and
+    /// the old expiry day. A term without expiry is `Permanent`, and one that was renewed before is
+    /// `Renewed`.
     pub fn renew(&self, approval: Day) -> Result<Term, RenewFault>
         ensures { result ≡ renewal self.now approval }
     {
@@ -107,6 +109,17 @@ impl Term {
             expires: None,
             ..*self
         })
+    }
+}
+
+impl Formed for Term {
+    ghost use Rattle.reg_early.specs.Forms.{has_term_form};
+
+    ghost has_form = { has_term_form };
+
+    fn formed(&self) {
+        self.first.formed();
+        self.expires.formed();
     }
 }
 

@@ -23,9 +23,10 @@ use reg_core::wire_refusal::{ReadFault, WireRefusal};
 use reg_ranges::number::read_number;
 use std::alloc::Global;
 
-/// The command that these bytes spell. What is wrong with them is looked for in this order: `Route`,
-/// `Method`, `Body`, then `Field` of the segments of the path from left to right, of the members of the
-/// body, and of a member too many, and `Ranges`. `Memory` comes only where there was none for the reading.
+/// The command that these bytes spell. What is wrong with them is looked for in this order:
+/// `Route`, `Method`, `Body`, then `Field` of the segments of the path from left to right, of the
+/// members of the body, and of a member too many, and `Ranges`. `Memory` comes only where there was
+/// none for the reading.
 #[tactic(auto, unfolding(crate::specs::Command::asked))]
 pub fn read_command(
     alloc: Global,
@@ -39,7 +40,9 @@ pub fn read_command(
 
     // A path or a method that is refused takes no memory.
     ensures no_route { routed path.now ≡ None → result ≡ Err (ReadFault.Refused WireRefusal.Route) }
-    ensures no_method { IfSome (routed path.now) (λ methods. operation_for method.now methods ≡ None → result ≡ Err (ReadFault.Refused WireRefusal.Method)) }
+    ensures no_method { IfSome (routed path.now)
+        (λ methods. operation_for method.now methods ≡ None
+        → result ≡ Err (ReadFault.Refused WireRefusal.Method)) }
 {
     let Some((path, methods)) = routed(routes, path) else {
         return Err(ReadFault::Refused(WireRefusal::Route));
@@ -75,7 +78,7 @@ fn command_of(
     match operation {
         Operation::Registries => without_body(Command::Public(PublicCommand::Registries), body),
         Operation::Registry => read_registry(alloc, path, body),
-        Operation::RegistryCsv => read_registry_csv(alloc, path, body),
+        Operation::RegistryListing => read_registry_csv(alloc, path, body),
         Operation::PoolList => without_body(Command::Public(PublicCommand::PoolList), body),
         Operation::Own => without_body(Command::Applicant(ApplicantCommand::Own), body),
         Operation::OwnOne => read_own_one(alloc, path, body),
@@ -110,7 +113,7 @@ fn read_registry_csv(alloc: Global, path: &str, body: &[u8]) -> Result<Command, 
 {
     empty(body)?;
     let name = word_at(alloc, LISTING_PATH, path, Item::Name)?;
-    Ok(Command::Public(PublicCommand::RegistryCsv(name)))
+    Ok(Command::Public(PublicCommand::RegistryListing(name)))
 }
 
 #[tactic(auto, unfolding(crate::specs::Command::own_one_of))]
@@ -274,7 +277,8 @@ fn word_at<F: Form>(
     }
 }
 
-// The number of 0 to 4294967295 where the pattern names this part, in decimal without leading zeros.
+// The number of 0 to 4294967295 where the pattern names this part, in decimal without leading
+// zeros.
 fn number_at(pattern: &str, path: &str, part: Item) -> Result<u32, ReadFault>
     ensures { Gives result (segment part read_number pattern.now path.now) }
 {

@@ -10,6 +10,8 @@ use Rattle.reg_core.specs.declared.ask.Ask.{Ask}
 use Rattle.reg_core.specs.declared.ask.Ask.TheVariants.{Code}
 use Rattle.reg_core.specs.declared.ask.Want.{Want}
 use Rattle.reg_core.specs.declared.ask.Want.TheVariants.{Value, Least}
+use Rattle.reg_core.specs.declared.content.Content.{Content}
+use Rattle.reg_core.specs.declared.content.Content.TheVariants as content
 use Rattle.reg_core.specs.declared.entry.PageEntry.{PageEntry}
 use Rattle.reg_core.specs.declared.file.File.{File}
 use Rattle.reg_core.specs.declared.page.Page.{Page}
@@ -19,7 +21,7 @@ use Rattle.reg_core.specs.declared.reply.Reply.TheVariants as reply
 use Rattle.reg_core.specs.declared.request.Request.{Request}
 use Rattle.reg_core.specs.declared.request.State.{State}
 use Rattle.reg_core.specs.declared.request.State.TheVariants.{Pending, Approved, Declined, Withdrawn}
-use Rattle.reg_print.specs.Answer.{reply_body, answer_body}
+use Rattle.reg_print.specs.Answer.{content_body, reply_body, answer_body}
 use Rattle.reg_print.specs.Body.{Body, json, listing, IsPlain}
 use Rattle.reg_print.specs.Detail.{detail_text}
 use Rattle.reg_print.specs.Refusal.{Row, office_row, wire_row, storage_row}
@@ -55,12 +57,15 @@ ask-plain (Code ask) =
     let e = ask.evidence in
     let texts = option-plain 1 string (λ s. refl) in
     object-plain 1 (code_members ask)
-    (and_from _ _ (texts e.contact) (and_from _ _ (least-plain ask.want) (and_from _ _ (texts e.minute)
-    (and_from _ _ (option-plain 1 rfc_tree rfc-plain e.rfc) (and_from _ _ (texts e.spec) (and_from _ _ (value-plain ask.want) refl))))))
+    (and_from _ _ (texts e.contact)
+    (and_from _ _ (least-plain ask.want) (and_from _ _ (texts e.minute)
+    (and_from _ _ (option-plain 1 rfc_tree rfc-plain e.rfc)
+    (and_from _ _ (texts e.spec) (and_from _ _ (value-plain ask.want) refl))))))
 
 -- ---- requests
 
-standing-plain : (s : State) → (is_plain_if 2 (given_if s) && (is_plain_if 2 (reason_if s) && true)) ≡ true
+standing-plain : (s : State)
+    → (is_plain_if 2 (given_if s) && (is_plain_if 2 (reason_if s) && true)) ≡ true
 standing-plain Pending = refl
 standing-plain (Approved given) = refl
 standing-plain (Declined reason) = refl
@@ -84,12 +89,16 @@ opinion-plain : (o : Opinion) → is_plain 1 (opinion_tree o) ≡ true
 opinion-plain o = object-plain 0 (opinion_members o) refl
 
 queue-plain : (r : QueueRow) → is_plain 3 (queue_tree r) ≡ true
-queue-plain r = object-plain 2 (queue_members r) (and_from _ _ (option-plain 2 advice_tree advice-plain r.advice) (and_from _ _ (ask-plain r.ask) refl))
+queue-plain r =
+    object-plain 2 (queue_members r)
+    (and_from _ _ (option-plain 2 advice_tree advice-plain r.advice)
+    (and_from _ _ (ask-plain r.ask) refl))
 
 file-plain : (f : File) → is_plain 3 (file_tree f) ≡ true
 file-plain f =
     object-plain 2 (file_members f)
-    (and_from _ _ (array-plain 1 opinion_tree opinion-plain f.advice) (and_from _ _ (ask-plain f.request.ask)
+    (and_from _ _ (array-plain 1 opinion_tree opinion-plain f.advice)
+    (and_from _ _ (ask-plain f.request.ask)
     (and_from _ _ (array-plain 1 string (λ s. refl) f.experts) (standing-plain f.request.state))))
 
 -- ---- registries
@@ -100,17 +109,23 @@ range-plain r = object-plain 0 (range_members r) refl
 entry-plain : (e : PageEntry) → is_plain 1 (entry_tree e) ≡ true
 entry-plain e =
     object-plain 0 (entry_members e)
-    (and_from _ _ (option-plain 0 day_data (λ day. refl) e.term.expires) (and_from _ _ (option-plain 0 (λ day. boolean e.term.renewed) (λ day. refl) e.term.expires) refl))
+    (and_from _ _ (option-plain 0 day_data (λ day. refl) e.term.expires)
+    (and_from _ _ (option-plain 0 (λ day. boolean e.term.renewed) (λ day. refl) e.term.expires)
+    refl))
 
 page-plain : (p : Page) → is_plain 3 (page_tree p) ≡ true
 page-plain p =
     object-plain 2 (page_members p)
-    (and_from _ _ (array-plain 1 entry_tree entry-plain p.entries) (and_from _ _ (array-plain 1 range_tree range-plain p.table.ranges) refl))
+    (and_from _ _ (array-plain 1 entry_tree entry-plain p.entries)
+    (and_from _ _ (array-plain 1 range_tree range-plain p.table.ranges) refl))
 
 -- ---- answers
 
 error-plain : (row : Row) → is_plain 4 (error_tree row) ≡ true
-error-plain row = object-plain 3 (error_members row) (and_from _ _ (option-plain 3 (λ (d : Detail). string (detail_text d)) (λ d. refl) row.item) refl)
+error-plain row =
+    object-plain 3 (error_members row)
+    (and_from _ _ (option-plain 3 (λ (d : Detail). string (detail_text d)) (λ d. refl) row.item)
+    refl)
 
 -- a body that is JSON is plain
 abbrev IsPlainBody : Body → Type 0
@@ -120,23 +135,26 @@ IsPlainBody (listing page) = Unit {0}
 within : (d : Data) → is_plain 3 d ≡ true → is_plain 4 d ≡ true
 within d h = deeper 3 4 d (omega arith) h
 
+content-plain : (c : Content) → IsPlainBody (content_body c)
+content-plain (content.Names names) = array-plain 3 string (λ s. refl) names
+content-plain (content.Page page) = within (page_tree page) (page-plain page)
+content-plain (content.Listing page) = tt
+content-plain (content.Pool prefixes) = array-plain 3 prefix_tree (λ p. refl) prefixes
+content-plain (content.Made request) = within (request_tree request) (request-plain request)
+content-plain (content.Row request) = within (request_tree request) (request-plain request)
+content-plain (content.Rows requests) = array-plain 3 request_tree request-plain requests
+content-plain (content.Item row) = within (queue_tree row) (queue-plain row)
+content-plain (content.Items rows) = array-plain 3 queue_tree queue-plain rows
+content-plain (content.Desk request) = within (desk_tree request) (desk-plain request)
+content-plain (content.Desks requests) = array-plain 3 desk_tree desk-plain requests
+content-plain (content.Filed file) = within (file_tree file) (file-plain file)
+content-plain (content.Defined name) = refl
+content-plain (content.Pooled prefix) = refl
+content-plain (content.Granted granted) = object-plain 3 (cap_members granted) refl
+content-plain content.Revoked = refl
+
 reply-plain : (r : Reply) → IsPlainBody (reply_body r)
-reply-plain (reply.Names names) = array-plain 3 string (λ s. refl) names
-reply-plain (reply.Page page) = within (page_tree page) (page-plain page)
-reply-plain (reply.Sheet page) = tt
-reply-plain (reply.Pool prefixes) = array-plain 3 prefix_tree (λ p. refl) prefixes
-reply-plain (reply.Made request) = within (request_tree request) (request-plain request)
-reply-plain (reply.Row request) = within (request_tree request) (request-plain request)
-reply-plain (reply.Rows requests) = array-plain 3 request_tree request-plain requests
-reply-plain (reply.Item row) = within (queue_tree row) (queue-plain row)
-reply-plain (reply.Items rows) = array-plain 3 queue_tree queue-plain rows
-reply-plain (reply.Desk request) = within (desk_tree request) (desk-plain request)
-reply-plain (reply.Desks requests) = array-plain 3 desk_tree desk-plain requests
-reply-plain (reply.Filed file) = within (file_tree file) (file-plain file)
-reply-plain (reply.Defined name) = refl
-reply-plain (reply.Pooled prefix) = refl
-reply-plain (reply.Granted granted) = object-plain 3 (cap_members granted) refl
-reply-plain reply.Revoked = refl
+reply-plain (reply.Accepted told) = content-plain told
 reply-plain (reply.Refused refusal) = error-plain (office_row refusal)
 
 answer-plain : (a : Answer) → IsPlainBody (answer_body a)

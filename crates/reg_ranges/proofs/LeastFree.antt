@@ -11,10 +11,10 @@ use Rattle.reg_ranges.specs.declared.policy.Treatment.TheVariants as treatment
 use Rattle.reg_ranges.specs.Tables.{Table, IsPartition, lies_in, treatment_of}
 use Rattle.reg_ranges.specs.FreeValues.{IsUnder, IsLeastFree, IsLeastIn, is_under, is_free, least_value}
 use Rattle.reg_ranges.specs.Sameness.{same_treatment}
-use Rattle.reg_ranges.proofs.Sames.{option_decided, treatment_decided}
+use Rattle.reg_ranges.proofs.SamenessDecides.{option_decided, treatment_decided}
 use Rattle.reg_ranges.proofs.Partitions.{Chain, chain_from_partition}
 use Rattle.reg_ranges.proofs.Treatments.{treatment_in, treatment_above}
-use Rattle.reg_ranges.proofs.Gaps.{has_cases}
+use Rattle.reg_ranges.proofs.LeastGap.{has_cases}
 
 -- ---- the walk over the ranges
 
@@ -24,7 +24,8 @@ pub record Searched (table : Table) (p : Policy) (taken : List ℕ) (left : List
   pub chain : Chain next table.max left
   pub all_taken : (u : ℕ) → u < next → IsUnder table p u → Contains taken u
 
-pub search_starts : (table : Table) (p : Policy) (taken : List ℕ) → IsPartition table → Searched table p taken table.ranges
+pub search_starts : (table : Table) (p : Policy) (taken : List ℕ) → IsPartition table
+    → Searched table p taken table.ranges
 search_starts table p taken partition = record {
   next = 0;
   chain = chain_from_partition table partition;
@@ -34,13 +35,16 @@ search_starts table p taken partition = record {
 lies : (range : Range) (u : ℕ) → range.lo ≤ u → u ≤ range.hi → IsTrue (lies_in u range)
 lies range u low high = rw (le-leb range.lo u low, le-leb u range.hi high) refl
 
-under_as_range : (table : Table) (p : Policy) (range : Range) (u : ℕ) → IsPartition table → Contains table.ranges range → range.lo ≤ u → u ≤ range.hi
+under_as_range : (table : Table) (p : Policy) (range : Range) (u : ℕ) → IsPartition table
+    → Contains table.ranges range → range.lo ≤ u → u ≤ range.hi
     → IsUnder table p u → range.treatment ≡ treatment.Under p
 under_as_range table p range u partition has low high under =
     let of = treatment_in table partition range u has (lies range u low high) in cc
 
-search_goes_on : (table : Table) (p : Policy) (taken : List ℕ) (range : Range) (rest : List Range) → IsPartition table → Contains table.ranges range
-    → Searched table p taken (range ∷ rest) → IsLeastIn range p taken None → Searched table p taken rest
+search_goes_on : (table : Table) (p : Policy) (taken : List ℕ) (range : Range) (rest : List Range)
+    → IsPartition table → Contains table.ranges range
+    → Searched table p taken (range ∷ rest) → IsLeastIn range p taken None
+    → Searched table p taken rest
 search_goes_on table p taken range rest partition has s full = record {
   next = range.hi + 1;
   chain = s.chain.2;
@@ -54,11 +58,14 @@ search_goes_on table p taken range rest partition has s full = record {
   ];
 }
 
-search_finds : (table : Table) (p : Policy) (taken : List ℕ) (range : Range) (rest : List Range) (v : ℕ) → IsPartition table → Contains table.ranges range
-    → Searched table p taken (range ∷ rest) → IsLeastIn range p taken (Some v) → IsLeastFree table p taken (Some v)
-search_finds table p taken range rest v partition has s found =
-    let gap = found.1 in
-    let under : IsUnder table p v = treatment_in table partition range v has (lies range v gap.0 gap.1) ∙ ap Some found.0 in (
+search_finds : (table : Table) (p : Policy) (taken : List ℕ) (range : Range) (rest : List Range)
+    (v : ℕ) → IsPartition table → Contains table.ranges range
+    → Searched table p taken (range ∷ rest) → IsLeastIn range p taken (Some v)
+    → IsLeastFree table p taken (Some v)
+search_finds table p taken range rest v partition has s least =
+    let gap = least.1 in
+    let under : IsUnder table p v =
+    treatment_in table partition range v has (lies range v gap.0 gap.1) ∙ ap Some least.0 in (
       under,
       gap.2,
       λ u lt at. elim (cases_lt u s.next) [
@@ -67,13 +74,17 @@ search_finds table p taken range rest v partition has s found =
       ],
     )
 
-under_max : (table : Table) (p : Policy) (u : ℕ) → IsPartition table → IsUnder table p u → u ≤ table.max
+under_max : (table : Table) (p : Policy) (u : ℕ) → IsPartition table → IsUnder table p u
+    → u ≤ table.max
 under_max table p u partition under = elim (cases_lt table.max u) [
-  | inl past ↦ absurd (let none = (treatment_above table partition u).1 past in let some : IsNone (Some (treatment.Under p)) = rw under at none in cc)
+  | inl past ↦
+      absurd (let none = (treatment_above table partition u).1 past in
+      let some : IsNone (Some (treatment.Under p)) = rw under at none in cc)
   | inr small ↦ small
 ]
 
-search_ends : (table : Table) (p : Policy) (taken : List ℕ) → IsPartition table → Searched table p taken [] → IsLeastFree table p taken None
+search_ends : (table : Table) (p : Policy) (taken : List ℕ) → IsPartition table
+    → Searched table p taken [] → IsLeastFree table p taken None
 search_ends table p taken partition s u under =
     let small = under_max table p u partition under in
     let end : s.next ≡ table.max + 1 = s.chain in
@@ -84,25 +95,35 @@ record At (table : Table) (p : Policy) (taken : List ℕ) (i : ℕ) (range : Ran
   pub has : Contains table.ranges range
   pub searched : Searched table p taken (range ∷ drop (i + 1) table.ranges)
 
-search_at : (table : Table) (p : Policy) (taken : List ℕ) (i : ℕ) (range : Range) → i < length table.ranges → range ≡ get_or table.ranges i range
+search_at : (table : Table) (p : Policy) (taken : List ℕ) (i : ℕ) (range : Range)
+    → i < length table.ranges → range ≡ get_or table.ranges i range
     → Searched table p taken (drop i table.ranges) → At table p taken i range
 search_at table p taken i range lt is s =
-    let at : drop i table.ranges ≡ range ∷ drop (i + 1) table.ranges = rw add-one (drop-cons table.ranges i range lt ∙ ap (λ x. x ∷ drop (suc i) table.ranges) (sym is)) in
+    let at : drop i table.ranges ≡ range ∷ drop (i + 1) table.ranges =
+    rw add-one
+    (drop-cons table.ranges i range lt
+    ∙ ap (λ x. x ∷ drop (suc i) table.ranges) (sym is)) in
     record { has = (i, lt, sym is); searched = rw at at s }
 
-pub turn_goes_on : (table : Table) (p : Policy) (taken : List ℕ) (items : List Range) (i : ℕ) (range : Range) → items ≡ table.ranges → IsPartition table → i < length items
-    → range ≡ get_or items i range → Searched table p taken (drop i table.ranges) → IsLeastIn range p taken None → Searched table p taken (drop (i + 1) table.ranges)
+pub turn_goes_on : (table : Table) (p : Policy) (taken : List ℕ) (items : List Range) (i : ℕ)
+    (range : Range) → items ≡ table.ranges → IsPartition table → i < length items
+    → range ≡ get_or items i range → Searched table p taken (drop i table.ranges)
+    → IsLeastIn range p taken None → Searched table p taken (drop (i + 1) table.ranges)
 turn_goes_on table p taken items i range of partition lt is s full =
     let at = search_at table p taken i range (rw of at lt) (rw of at is) s in
     search_goes_on table p taken range (drop (i + 1) table.ranges) partition at.has at.searched full
 
-pub turn_finds : (table : Table) (p : Policy) (taken : List ℕ) (items : List Range) (i : ℕ) (range : Range) (v : ℕ) → items ≡ table.ranges → IsPartition table → i < length items
-    → range ≡ get_or items i range → Searched table p taken (drop i table.ranges) → IsLeastIn range p taken (Some v) → IsLeastFree table p taken (Some v)
-turn_finds table p taken items i range v of partition lt is s found =
+pub turn_finds : (table : Table) (p : Policy) (taken : List ℕ) (items : List Range) (i : ℕ)
+    (range : Range) (v : ℕ) → items ≡ table.ranges → IsPartition table → i < length items
+    → range ≡ get_or items i range → Searched table p taken (drop i table.ranges)
+    → IsLeastIn range p taken (Some v) → IsLeastFree table p taken (Some v)
+turn_finds table p taken items i range v of partition lt is s least =
     let at = search_at table p taken i range (rw of at lt) (rw of at is) s in
-    search_finds table p taken range (drop (i + 1) table.ranges) v partition at.has at.searched found
+    search_finds table p taken range (drop (i + 1) table.ranges) v partition at.has at.searched
+    least
 
-pub turns_end : (table : Table) (p : Policy) (taken : List ℕ) (items : List Range) (i : ℕ) → items ≡ table.ranges → IsPartition table → length items ≤ i
+pub turns_end : (table : Table) (p : Policy) (taken : List ℕ) (items : List Range) (i : ℕ)
+    → items ≡ table.ranges → IsPartition table → length items ≤ i
     → Searched table p taken (drop i table.ranges) → IsLeastFree table p taken None
 turns_end table p taken items i of partition le s =
     let past : drop i table.ranges ≡ [] = drop_all i table.ranges (rw of at le) in
@@ -110,7 +131,8 @@ turns_end table p taken items i of partition le s =
 
 -- ---- there is one least free value
 
-one_least : (table : Table) (p : Policy) (taken : List ℕ) (a b : Option ℕ) → IsLeastFree table p taken a → IsLeastFree table p taken b → a ≡ b
+one_least : (table : Table) (p : Policy) (taken : List ℕ) (a b : Option ℕ)
+    → IsLeastFree table p taken a → IsLeastFree table p taken b → a ≡ b
 one_least table p taken None None all others = refl
 one_least table p taken None (Some w) all least = absurd (least.1 (all w least.0))
 one_least table p taken (Some v) None least all = absurd (least.1 (all v least.0))
@@ -122,14 +144,18 @@ one_least table p taken (Some v) (Some w) first second = elim (cases_order v w) 
 
 -- ---- the search finds it
 
-under_decided : (table : Table) (p : Policy) (v : ℕ) → Decides (is_under table p v) (IsUnder table p v)
-under_decided table p v = option_decided same_treatment treatment_decided (treatment_of table v) (Some (treatment.Under p))
+under_decided : (table : Table) (p : Policy) (v : ℕ)
+    → Decides (is_under table p v) (IsUnder table p v)
+under_decided table p v =
+    option_decided same_treatment treatment_decided (treatment_of table v)
+    (Some (treatment.Under p))
 
 any_has : (u : ℕ) (xs : List ℕ) → list_any (nat_eq u) xs ≡ true → Contains xs u
 any_has u [] h = absurd (cc)
 any_has u (x ∷ xs) h = elim (or_cases (nat_eq u x) (list_any (nat_eq u) xs) h) [
   | inl here ↦ (0, omega arith, sym (eqb-true u x here))
-  | inr more ↦ let later = any_has u xs more in (suc later.0, let below = later.1 in omega arith, later.2)
+  | inr more ↦ let later = any_has u xs more in
+      (suc later.0, let below = later.1 in omega arith, later.2)
 ]
 
 any_not : (u : ℕ) (xs : List ℕ) → list_any (nat_eq u) xs ≡ false → ¬ (Contains xs u)
@@ -141,51 +167,76 @@ any_not u (x ∷ xs) h has =
       | inr more ↦ any_not u xs parts.1 more
     ]
 
-free_true : (table : Table) (p : Policy) (taken : List ℕ) (v : ℕ) → is_free table p taken v ≡ true → IsUnder table p v × ¬ (Contains taken v)
+free_true : (table : Table) (p : Policy) (taken : List ℕ) (v : ℕ) → is_free table p taken v ≡ true
+    → IsUnder table p v × ¬ (Contains taken v)
 free_true table p taken v h =
-    let parts = and_parts (is_under table p v) (not (list_any (nat_eq v) taken)) h in
-    ((under_decided table p v).0 parts.0, any_not v taken (not-true (list_any (nat_eq v) taken) parts.1))
+    let parts = and_parts (is_under table p v) (not (list_any (nat_eq v) taken)) h in (
+      (under_decided table p v).0 parts.0,
+      any_not v taken (not-true (list_any (nat_eq v) taken) parts.1),
+    )
 
-free_false : (table : Table) (p : Policy) (taken : List ℕ) (v : ℕ) → is_free table p taken v ≡ false → IsUnder table p v → Contains taken v
-free_false table p taken v h under = elim (and_cases (is_under table p v) (not (list_any (nat_eq v) taken)) h) [
-  | inl none ↦ absurd (let some = (under_decided table p v).1 under in cc)
-  | inr taken_there ↦ any_has v taken (not-false (list_any (nat_eq v) taken) taken_there)
-]
+free_false : (table : Table) (p : Policy) (taken : List ℕ) (v : ℕ) → is_free table p taken v ≡ false
+    → IsUnder table p v → Contains taken v
+free_false table p taken v h under =
+    elim (and_cases (is_under table p v) (not (list_any (nat_eq v) taken)) h) [
+      | inl none ↦ absurd (let some = (under_decided table p v).1 under in cc)
+      | inr taken_there ↦ any_has v taken (not-false (list_any (nat_eq v) taken) taken_there)
+    ]
 
 -- what `find` finds in numbers that follow one another is the least
 abbrev IsFirst : (ℕ → Bool) → ℕ → ℕ → Option ℕ → Type 0
 IsFirst test a n None = (u : ℕ) → a ≤ u → u < a + n → test u ≡ false
 IsFirst test a n (Some v) = (test v ≡ true) × ((u : ℕ) → a ≤ u → u < v → test u ≡ false)
 
-first_or_later : (test : ℕ → Bool) (a u : ℕ) → test a ≡ false → a ≤ u → (test u ≡ false) ⊎ (a + 1 ≤ u)
+first_or_later : (test : ℕ → Bool) (a u : ℕ) → test a ≡ false → a ≤ u
+    → (test u ≡ false) ⊎ (a + 1 ≤ u)
 first_or_later test a u h le = elim (cases_lt a u) [
   | inl later ↦ inr (omega arith)
   | inr here ↦ inl (let same : a ≡ u = omega arith in rw same at h)
 ]
 
-goes_on : (test : ℕ → Bool) (a n : ℕ) (o : Option ℕ) → test a ≡ false → IsFirst test (a + 1) n o → IsFirst test a (suc n) o
-goes_on test a n None h rest = λ u low high. elim (first_or_later test a u h low) [ inl here ↦ here | inr later ↦ rest u later (omega arith) ]
-goes_on test a n (Some v) h rest = (rest.0, λ u low high. elim (first_or_later test a u h low) [ inl here ↦ here | inr later ↦ rest.1 u later high ])
+goes_on : (test : ℕ → Bool) (a n : ℕ) (o : Option ℕ) → test a ≡ false → IsFirst test (a + 1) n o
+    → IsFirst test a (suc n) o
+goes_on test a n None h rest =
+    λ u low high. elim (first_or_later test a u h low)
+    [ inl here ↦ here | inr later ↦ rest u later (omega arith) ]
+goes_on test a n (Some v) h rest = (
+  rest.0,
+  λ u low high. elim (first_or_later test a u h low)
+      [ inl here ↦ here | inr later ↦ rest.1 u later high ],
+)
 
-first_found : (test : ℕ → Bool) (a n : ℕ) → IsFirst test a n (find test (range_with_len a n))
-first_found test a zero = λ u low high. absurd (omega arith)
-first_found test a (suc n) =
-    elim (test a) as (λ b. test a ≡ b → IsFirst test a (suc n) (cond b (Some a) (find test (range_with_len (a + 1) n)))) [
+first_is_first : (test : ℕ → Bool) (a n : ℕ) → IsFirst test a n (find test (range_with_len a n))
+first_is_first test a zero = λ u low high. absurd (omega arith)
+first_is_first test a (suc n) =
+    elim (test a) as
+    (λ b. test a ≡ b → IsFirst test a (suc n)
+    (cond b (Some a) (find test (range_with_len (a + 1) n)))) [
       | true ↦ λ h. (h, λ u low high. absurd (omega arith))
-      | false ↦ λ h. goes_on test a n (find test (range_with_len (a + 1) n)) h (first_found test (a + 1) n)
+      | false ↦
+          λ h. goes_on test a n (find test (range_with_len (a + 1) n)) h
+          (first_is_first test (a + 1) n)
     ] refl
 
-least_from : (table : Table) (p : Policy) (taken : List ℕ) (o : Option ℕ) → IsPartition table → IsFirst (is_free table p taken) 0 (table.max + 1) o → IsLeastFree table p taken o
+least_from : (table : Table) (p : Policy) (taken : List ℕ) (o : Option ℕ) → IsPartition table
+    → IsFirst (is_free table p taken) 0 (table.max + 1) o → IsLeastFree table p taken o
 least_from table p taken None partition first =
-    λ u under. let small = under_max table p u partition under in free_false table p taken u (first u (omega arith) (omega arith)) under
+    λ u under. let small = under_max table p u partition under in
+    free_false table p taken u (first u (omega arith) (omega arith)) under
 least_from table p taken (Some v) partition first =
     let free = free_true table p taken v first.0 in
     (free.0, free.1, λ u lt under. free_false table p taken u (first.1 u (omega arith) lt) under)
 
-pub least_value_is_least : (table : Table) → IsPartition table → (p : Policy) (taken : List ℕ) → IsLeastFree table p taken (least_value table p taken)
+pub least_value_is_least : (table : Table) → IsPartition table → (p : Policy) (taken : List ℕ)
+    → IsLeastFree table p taken (least_value table p taken)
 unfolding least_value
 least_value_is_least table partition p taken =
-    least_from table p taken (find (is_free table p taken) (range_with_len 0 (table.max + 1))) partition (first_found (is_free table p taken) 0 (table.max + 1))
+    least_from table p taken (find (is_free table p taken) (range_with_len 0 (table.max + 1)))
+    partition (first_is_first (is_free table p taken) 0 (table.max + 1))
 
-pub is_least_value : (table : Table) → IsPartition table → (p : Policy) (taken : List ℕ) (o : Option ℕ) → IsLeastFree table p taken o → o ≡ least_value table p taken
-is_least_value table partition p taken o is = one_least table p taken o (least_value table p taken) is (least_value_is_least table partition p taken)
+pub is_least_value : (table : Table) → IsPartition table
+    → (p : Policy) (taken : List ℕ) (o : Option ℕ) → IsLeastFree table p taken o
+    → o ≡ least_value table p taken
+is_least_value table partition p taken o is =
+    one_least table p taken o (least_value table p taken) is
+    (least_value_is_least table partition p taken)

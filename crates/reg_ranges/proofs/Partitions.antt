@@ -18,7 +18,9 @@ Chain next max (r ∷ rs) = (r.lo ≡ next) × (r.lo ≤ r.hi) × Chain (r.hi + 
 
 -- ---- no fault is a chain
 
-no_test : (a b c : Bool) (x y z : RangeFault) → cond a (Some x) (cond b (Some y) (cond c (Some z) None)) ≡ None → (a ≡ false) × (b ≡ false) × (c ≡ false)
+no_test : (a b c : Bool) (x y z : RangeFault)
+    → cond a (Some x) (cond b (Some y) (cond c (Some z) None)) ≡ None
+    → (a ≡ false) × (b ≡ false) × (c ≡ false)
 no_test true b c x y z h = absurd (cc)
 no_test false true c x y z h = absurd (cc)
 no_test false false true x y z h = absurd (cc)
@@ -26,14 +28,16 @@ no_test false false false x y z h = (refl, refl, refl)
 
 fits : (i next : ℕ) (r : Range) → fault_at i next r ≡ None → (r.lo ≡ next) × (r.lo ≤ r.hi)
 fits i next r h =
-    let t = no_test (nat_lt r.hi r.lo) (nat_lt next r.lo) (nat_lt r.lo next) (fault.Order i) (fault.Gap i) (fault.Overlap i) h in
+    let t = no_test (nat_lt r.hi r.lo) (nat_lt next r.lo) (nat_lt r.lo next) (fault.Order i)
+    (fault.Gap i) (fault.Overlap i) h in
     let order = ltb-false r.hi r.lo t.0 in
     let gap = ltb-false next r.lo t.1 in
     let overlap = ltb-false r.lo next t.2 in
     (omega arith, omega arith)
 
 no_fault : (i next : ℕ) (r : Range) → r.lo ≡ next → r.lo ≤ r.hi → fault_at i next r ≡ None
-no_fault i next r first order = rw (le-ltb r.hi r.lo order, le-ltb next r.lo (omega arith), le-ltb r.lo next (omega arith)) refl
+no_fault i next r first order =
+    rw (le-ltb r.hi r.lo order, le-ltb next r.lo (omega arith), le-ltb r.lo next (omega arith)) refl
 
 both_none : (o p : Option RangeFault) → or_else o p ≡ None → (o ≡ None) × (p ≡ None)
 both_none None p h = (refl, h)
@@ -46,27 +50,37 @@ at_end a b f h =
       | false ↦ λ e h. absurd (cc)
     ] refl h
 
-pub chain_from_none : (i next max : ℕ) (rs : List Range) → fault_from i next max rs ≡ None → Chain next max rs
+pub chain_from_none : (i next max : ℕ) (rs : List Range) → fault_from i next max rs ≡ None
+    → Chain next max rs
 chain_from_none i next max [] h = at_end next (max + 1) fault.End h
 chain_from_none i next max (r ∷ rs) h =
     let b = both_none (fault_at i next r) (fault_from (i + 1) (r.hi + 1) max rs) h in
     let f = fits i next r b.0 in
     (f.0, f.1, chain_from_none (i + 1) (r.hi + 1) max rs b.1)
 
-pub none_from_chain : (i next max : ℕ) (rs : List Range) → Chain next max rs → fault_from i next max rs ≡ None
+pub none_from_chain : (i next max : ℕ) (rs : List Range) → Chain next max rs
+    → fault_from i next max rs ≡ None
 none_from_chain i next max [] h = rw (eq-eqb next (max + 1) h) refl
-none_from_chain i next max (r ∷ rs) h = rw (no_fault i next r h.0 h.1) (none_from_chain (i + 1) (r.hi + 1) max rs h.2)
+none_from_chain i next max (r ∷ rs) h =
+    rw (no_fault i next r h.0 h.1) (none_from_chain (i + 1) (r.hi + 1) max rs h.2)
 
 -- ---- a chain covers
 
-count_in : (v : ℕ) (r : Range) (rs : List Range) → r.lo ≤ v → v ≤ r.hi → count_by (lies_in v) (r ∷ rs) ≡ 1 + count_by (lies_in v) rs
-count_in v r rs low high = sum_by-cons (λ x. cond (lies_in v x) 1 0) r rs ∙ rw (le-leb r.lo v low, le-leb v r.hi high) refl
+count_in : (v : ℕ) (r : Range) (rs : List Range) → r.lo ≤ v → v ≤ r.hi
+    → count_by (lies_in v) (r ∷ rs) ≡ 1 + count_by (lies_in v) rs
+count_in v r rs low high =
+    sum_by-cons (λ x. cond (lies_in v x) 1 0) r rs ∙ rw (le-leb r.lo v low, le-leb v r.hi high) refl
 
-count_below : (v : ℕ) (r : Range) (rs : List Range) → v < r.lo → count_by (lies_in v) (r ∷ rs) ≡ count_by (lies_in v) rs
-count_below v r rs low = sum_by-cons (λ x. cond (lies_in v x) 1 0) r rs ∙ rw (lt-leb r.lo v low) (omega arith)
+count_below : (v : ℕ) (r : Range) (rs : List Range) → v < r.lo
+    → count_by (lies_in v) (r ∷ rs) ≡ count_by (lies_in v) rs
+count_below v r rs low =
+    sum_by-cons (λ x. cond (lies_in v x) 1 0) r rs ∙ rw (lt-leb r.lo v low) (omega arith)
 
-count_above : (v : ℕ) (r : Range) (rs : List Range) → r.hi < v → count_by (lies_in v) (r ∷ rs) ≡ count_by (lies_in v) rs
-count_above v r rs high = sum_by-cons (λ x. cond (lies_in v x) 1 0) r rs ∙ rw (and_right (nat_le r.lo v) (nat_le v r.hi) (lt-leb v r.hi high)) (omega arith)
+count_above : (v : ℕ) (r : Range) (rs : List Range) → r.hi < v
+    → count_by (lies_in v) (r ∷ rs) ≡ count_by (lies_in v) rs
+count_above v r rs high =
+    sum_by-cons (λ x. cond (lies_in v x) 1 0) r rs
+    ∙ rw (and_right (nat_le r.lo v) (nat_le v r.hi) (lt-leb v r.hi high)) (omega arith)
 
 -- the ranges have each number from next to max once, and no other
 record Covers (next max : ℕ) (rs : List Range) : Type 0 where
@@ -96,13 +110,22 @@ covers next max (r ∷ rs) h =
 
 rises : (next max : ℕ) (rs : List Range) → Chain next max rs → Rises next (map (λ r. r.lo) rs)
 rises next max [] h = tt
-rises next max (r ∷ rs) h = (omega arith, Rises-lower (r.lo + 1) (r.hi + 1) (map (λ r. r.lo) rs) (omega arith) (rises (r.hi + 1) max rs h.2))
+rises next max (r ∷ rs) h = (
+  omega arith,
+  Rises-lower (r.lo + 1) (r.hi + 1) (map (λ r. r.lo) rs) (omega arith)
+      (rises (r.hi + 1) max rs h.2),
+)
 
 none_empty : (next max : ℕ) (rs : List Range) → Chain next max rs → All (λ r. r.lo ≤ r.hi) rs
 none_empty next max [] h = All-nil (λ r. r.lo ≤ r.hi)
-none_empty next max (r ∷ rs) h = All-cons (λ r. r.lo ≤ r.hi) r rs h.1 (none_empty (r.hi + 1) max rs h.2)
+none_empty next max (r ∷ rs) h =
+    All-cons (λ r. r.lo ≤ r.hi) r rs h.1 (none_empty (r.hi + 1) max rs h.2)
 
-partition_from_chain : (max : ℕ) (rs : List Range) → 1 ≤ length rs → length rs ≤ 64 → Chain 0 max rs → IsPartition (record { max = max; ranges = rs })
+partition_from_chain : (max : ℕ) (rs : List Range) → 1 ≤ length rs → length rs ≤ 64 → Chain 0 max rs
+    → IsPartition (record {
+      max = max;
+      ranges = rs;
+    })
 partition_from_chain max rs some few h =
     let c = covers 0 max rs h in
     record {
@@ -114,14 +137,20 @@ partition_from_chain max rs some few h =
       no_other = c.above;
     }
 
-not_too_many : (n : ℕ) (f : RangeFault) (o : Option RangeFault) → cond (nat_lt 64 n) (Some f) o ≡ None → (n ≤ 64) × (o ≡ None)
+not_too_many : (n : ℕ) (f : RangeFault) (o : Option RangeFault)
+    → cond (nat_lt 64 n) (Some f) o ≡ None → (n ≤ 64) × (o ≡ None)
 not_too_many n f o h =
-    elim (nat_lt 64 n) as (λ t. nat_lt 64 n ≡ t → cond t (Some f) o ≡ None → (n ≤ 64) × (o ≡ None)) [
+    elim (nat_lt 64 n) as
+    (λ t. nat_lt 64 n ≡ t → cond t (Some f) o ≡ None → (n ≤ 64) × (o ≡ None)) [
       | true ↦ λ e h. absurd (cc)
       | false ↦ λ e h. (ltb-false 64 n e, h)
     ] refl h
 
-pub partition_from_none : (max : ℕ) (rs : List Range) → first_fault max rs ≡ None → IsPartition (record { max = max; ranges = rs })
+pub partition_from_none : (max : ℕ) (rs : List Range) → first_fault max rs ≡ None
+    → IsPartition (record {
+      max = max;
+      ranges = rs;
+    })
 partition_from_none max [] h = absurd (cc)
 partition_from_none max (r ∷ rs) h =
     let n = not_too_many (length (r ∷ rs)) fault.TooMany (fault_from 0 0 max (r ∷ rs)) h in
@@ -130,11 +159,14 @@ partition_from_none max (r ∷ rs) h =
 -- ---- what covers is a chain
 
 -- a number below all beginnings lies in no range
-none_below : (v bound : ℕ) (rs : List Range) → v < bound → Rises bound (map (λ r. r.lo) rs) → count_by (lies_in v) rs ≡ 0
+none_below : (v bound : ℕ) (rs : List Range) → v < bound → Rises bound (map (λ r. r.lo) rs)
+    → count_by (lies_in v) rs ≡ 0
 none_below v bound [] lt h = refl
-none_below v bound (r ∷ rs) lt h = count_below v r rs (omega arith) ∙ none_below v (r.lo + 1) rs (omega arith) h.1
+none_below v bound (r ∷ rs) lt h =
+    count_below v r rs (omega arith) ∙ none_below v (r.lo + 1) rs (omega arith) h.1
 
-first_begins : (next max : ℕ) (r : Range) (rs : List Range) → Covers next max (r ∷ rs) → r.lo ≤ r.hi → Rises (r.lo + 1) (map (λ r. r.lo) rs) → r.lo ≡ next
+first_begins : (next max : ℕ) (r : Range) (rs : List Range) → Covers next max (r ∷ rs) → r.lo ≤ r.hi
+    → Rises (r.lo + 1) (map (λ r. r.lo) rs) → r.lo ≡ next
 first_begins next max r rs c order rise =
     let here = count_in r.lo r rs (omega arith) order in
     elim (cases_order r.lo next) [
@@ -142,27 +174,35 @@ first_begins next max r rs c order rise =
       | inr (inl low) ↦ absurd (let no = c.below r.lo low in omega arith)
       | inr (inr high) ↦ elim (cases_lt max r.lo) [
         | inl past ↦ absurd (let no = c.above r.lo past in omega arith)
-        | inr small ↦ absurd (let once = c.within next (omega arith) (omega arith) in let never = count_below next r rs high ∙ none_below next (r.lo + 1) rs (omega arith) rise in omega arith)
+        | inr small ↦
+            absurd (let once = c.within next (omega arith) (omega arith) in let never =
+            count_below next r rs high ∙ none_below next (r.lo + 1) rs (omega arith) rise in
+            omega arith)
       ]
     ]
 
-covers_rest : (next max : ℕ) (r : Range) (rs : List Range) → Covers next max (r ∷ rs) → r.lo ≡ next → r.lo ≤ r.hi → Covers (r.hi + 1) max rs
+covers_rest : (next max : ℕ) (r : Range) (rs : List Range) → Covers next max (r ∷ rs) → r.lo ≡ next
+    → r.lo ≤ r.hi → Covers (r.hi + 1) max rs
 covers_rest next max r rs c first order =
     let end : r.hi ≤ max = elim (cases_lt max r.hi) [
-      | inl past ↦ absurd (let never = c.above r.hi past in let once = count_in r.hi r rs order (omega arith) in omega arith)
+      | inl past ↦
+          absurd (let never = c.above r.hi past in let once =
+          count_in r.hi r rs order (omega arith) in omega arith)
       | inr small ↦ small
     ] in
     record {
       small = omega arith;
       below = λ v lt. elim (cases_lt v r.lo) [
         | inl low ↦ sym (count_below v r rs low) ∙ c.below v (omega arith)
-        | inr here ↦ let once = c.within v (omega arith) (omega arith) in let one = count_in v r rs here (omega arith) in omega arith
+        | inr here ↦ let once = c.within v (omega arith) (omega arith) in let one =
+            count_in v r rs here (omega arith) in omega arith
       ];
       within = λ v low high. sym (count_above v r rs (omega arith)) ∙ c.within v (omega arith) high;
       above = λ v lt. sym (count_above v r rs (omega arith)) ∙ c.above v lt;
     }
 
-chain_from_covers : (next max : ℕ) (rs : List Range) → Covers next max rs → All (λ r. r.lo ≤ r.hi) rs → (bound : ℕ) → Rises bound (map (λ r. r.lo) rs) → Chain next max rs
+chain_from_covers : (next max : ℕ) (rs : List Range) → Covers next max rs
+    → All (λ r. r.lo ≤ r.hi) rs → (bound : ℕ) → Rises bound (map (λ r. r.lo) rs) → Chain next max rs
 chain_from_covers next max [] c each bound rise =
     elim (cases_lt max next) [
       | inl past ↦ let small = c.small in omega arith
@@ -170,15 +210,29 @@ chain_from_covers next max [] c each bound rise =
     ]
 chain_from_covers next max (r ∷ rs) c each bound rise =
     let order : r.lo ≤ r.hi = All-head (λ r. r.lo ≤ r.hi) r rs each in
-    let first = first_begins next max r rs c order rise.1 in
-    (first, order, chain_from_covers (r.hi + 1) max rs (covers_rest next max r rs c first order) (All-tail (λ r. r.lo ≤ r.hi) r rs each) (r.lo + 1) rise.1)
+    let first = first_begins next max r rs c order rise.1 in (
+      first,
+      order,
+      chain_from_covers (r.hi + 1) max rs (covers_rest next max r rs c first order)
+          (All-tail (λ r. r.lo ≤ r.hi) r rs each) (r.lo + 1) rise.1,
+    )
 
 pub chain_from_partition : (table : Table) → IsPartition table → Chain 0 table.max table.ranges
 chain_from_partition table p =
-    let c : Covers 0 table.max table.ranges = record { small = omega arith; below = λ v lt. absurd (omega arith); within = λ v low high. p.covered v high; above = p.no_other } in
-    chain_from_covers 0 table.max table.ranges c p.none_empty 0 (rises_any (map (λ r. r.lo) table.ranges) p.ascending)
+    let c : Covers 0 table.max table.ranges =
+    record {
+      small = omega arith;
+      below = λ v lt. absurd (omega arith);
+      within = λ v low high. p.covered v high;
+      above = p.no_other;
+    } in
+    chain_from_covers 0 table.max table.ranges c p.none_empty 0
+    (rises_any (map (λ r. r.lo) table.ranges) p.ascending)
 
-pub none_from_partition : (max : ℕ) (rs : List Range) → IsPartition (record { max = max; ranges = rs }) → first_fault max rs ≡ None
+pub none_from_partition : (max : ℕ) (rs : List Range)
+    → IsPartition (record { max = max; ranges = rs }) → first_fault max rs ≡ None
 none_from_partition max [] p = absurd (let some = p.some in omega arith)
 none_from_partition max (r ∷ rs) p =
-    rw (le-ltb 64 (length (r ∷ rs)) p.few) (none_from_chain 0 0 max (r ∷ rs) (chain_from_partition (record { max = max; ranges = r ∷ rs }) p))
+    rw (le-ltb 64 (length (r ∷ rs)) p.few)
+    (none_from_chain 0 0 max (r ∷ rs)
+    (chain_from_partition (record { max = max; ranges = r ∷ rs }) p))

@@ -8,17 +8,23 @@ use Rattle.reg_ranges.specs.Sameness.{same_evidence, same_range, same_rfc, same_
 rfcs_equiv : IsEquivalence same_rfc
 rfcs_equiv =
     and_equiv (on_equiv (λ r. r.number) nat_eq_equiv)
-    (and_equiv (on_equiv (λ r. stream_word r.stream) nat_list_eq_equiv) (on_equiv (λ r. track_word r.track) nat_list_eq_equiv))
+    (and_equiv (on_equiv (λ r. stream_word r.stream) nat_list_eq_equiv)
+    (on_equiv (λ r. track_word r.track) nat_list_eq_equiv))
 
 pub evidence_equiv : IsEquivalence same_evidence
 evidence_equiv =
-    and_equiv (on_equiv (λ e. e.contact) (options_equiv nat_list_eq_equiv)) (and_equiv (on_equiv (λ e. e.spec) (options_equiv nat_list_eq_equiv))
-    (and_equiv (on_equiv (λ e. e.rfc) (options_equiv rfcs_equiv)) (on_equiv (λ e. e.minute) (options_equiv nat_list_eq_equiv))))
+    and_equiv (on_equiv (λ e. e.contact) (options_equiv nat_list_eq_equiv))
+    (and_equiv (on_equiv (λ e. e.spec) (options_equiv nat_list_eq_equiv))
+    (and_equiv (on_equiv (λ e. e.rfc) (options_equiv rfcs_equiv))
+    (on_equiv (λ e. e.minute) (options_equiv nat_list_eq_equiv))))
 
 ranges_equiv : IsEquivalence same_range
 ranges_equiv =
     and_equiv (on_equiv (λ r. r.lo) nat_eq_equiv) (and_equiv (on_equiv (λ r. r.hi) nat_eq_equiv)
-    (and_equiv (on_equiv (λ r. treatment_word r.treatment) nat_list_eq_equiv) (on_equiv (λ r. r.note) (options_equiv nat_list_eq_equiv))))
+    (and_equiv (on_equiv (λ r. treatment_word r.treatment) nat_list_eq_equiv)
+    (on_equiv (λ r. r.note) (options_equiv nat_list_eq_equiv))))
 
 pub tables_equiv : IsEquivalence same_table
-tables_equiv = and_equiv (on_equiv (λ t. t.max) nat_eq_equiv) (on_equiv (λ t. t.ranges) (lists_equiv ranges_equiv))
+tables_equiv =
+    and_equiv (on_equiv (λ t. t.max) nat_eq_equiv)
+    (on_equiv (λ t. t.ranges) (lists_equiv ranges_equiv))

@@ -20,9 +20,13 @@ or_else None rest = rest
 -- the first fault of the ranges from place i on, or that of their end
 abbrev pub fault_from : ℕ → ℕ → ℕ → List Range → Option RangeFault
 fault_from i next max [] = (if next == max + 1 then None else Some fault.End)
-fault_from i next max (range ∷ rest) = or_else (fault_at i next range) (fault_from (i + 1) (range.hi + 1) max rest)
+fault_from i next max (range ∷ rest) =
+    or_else (fault_at i next range) (fault_from (i + 1) (range.hi + 1) max rest)
 
--- why the ranges are no partition of 0 to max: none, more than 64, the first range at fault, the end
+-- why the ranges are no partition of 0 to max: none, more than 64, the first range at fault, the
+-- end
 abbrev pub first_fault : ℕ → List Range → Option RangeFault
 first_fault max [] = Some fault.Empty
-first_fault max (range ∷ rest) = (if nat_lt 64 (length (range ∷ rest)) then Some fault.TooMany else fault_from 0 0 max (range ∷ rest))
+first_fault max (range ∷ rest) =
+    (if nat_lt 64 (length (range ∷ rest)) then Some fault.TooMany else fault_from 0 0 max
+    (range ∷ rest))

@@ -15,7 +15,8 @@ IsUnder table p v = treatment_of table v ≡ Some (treatment.Under p)
 -- the least value under the policy that is not taken, or none where each value under it is taken
 abbrev pub IsLeastFree : Table → Policy → List ℕ → Option ℕ → Type 0
 IsLeastFree table p taken (Some v) =
-    IsUnder table p v × (¬ (Contains taken v)) × ((u : ℕ) → u < v → IsUnder table p u → Contains taken u)
+    IsUnder table p v × (¬ (Contains taken v))
+    × ((u : ℕ) → u < v → IsUnder table p u → Contains taken u)
 IsLeastFree table p taken None = (u : ℕ) → IsUnder table p u → Contains taken u
 
 -- ---- the same by a search
@@ -40,5 +41,7 @@ IsLeastGap lo hi taken None = (u : ℕ) → lo ≤ u → u ≤ hi → Contains t
 
 -- the same for a range under the policy, and none for any other
 abbrev pub IsLeastIn : Range → Policy → List ℕ → Option ℕ → Type 0
-IsLeastIn range p taken (Some v) = (range.treatment ≡ treatment.Under p) × IsLeastGap range.lo range.hi taken (Some v)
-IsLeastIn range p taken None = range.treatment ≡ treatment.Under p → IsLeastGap range.lo range.hi taken None
+IsLeastIn range p taken (Some v) =
+    (range.treatment ≡ treatment.Under p) × IsLeastGap range.lo range.hi taken (Some v)
+IsLeastIn range p taken None =
+    range.treatment ≡ treatment.Under p → IsLeastGap range.lo range.hi taken None

@@ -16,7 +16,8 @@ is_numeral s = nat_lt 0 (length s) && (not (has_leading_zero s) && list_all is_a
 
 -- the number that these digits write, where it has 32 bits at most
 abbrev pub read_number : List ℕ → Option ℕ
-read_number s = (if is_numeral s && nat_lt (digits_value 10 s) (2 ^ 32) then Some (digits_value 10 s) else None)
+read_number s =
+    (if is_numeral s && nat_lt (digits_value 10 s) (2 ^ 32) then Some (digits_value 10 s) else None)
 
 -- exactly the decimal text of a number of 32 bits reads to that number
 abbrev pub ReadsDecimals : Type 0

@@ -30,7 +30,8 @@ abbrev pub has_rfc : (PublishedRfc → Bool) → Option PublishedRfc → Bool
 has_rfc test None = false
 has_rfc test (Some rfc) = test rfc
 
--- the items that the policy asks for, in the order in which they are asked; Policy where it assigns no single values
+-- the items that the policy asks for, in the order in which they are asked; Policy where it assigns
+-- no single values
 abbrev pub asked_items : Policy → List Item
 asked_items policy.PrivateUse = item.Policy ∷ []
 asked_items policy.ExperimentalUse = item.Policy ∷ []
@@ -43,8 +44,8 @@ asked_items policy.IetfReview = item.Contact ∷ item.Rfc ∷ item.Stream ∷ []
 asked_items policy.StandardsAction = item.Contact ∷ item.Rfc ∷ item.Stream ∷ item.Track ∷ []
 asked_items policy.IesgApproval = item.Contact ∷ item.Minute ∷ []
 
--- whether the evidence meets an item: a text or an RFC by being there, its stream by being the IETF's,
--- its track by being Standards Track or BCP
+-- whether the evidence meets an item: a text or an RFC by being there, its stream by being the
+-- IETF's, its track by being Standards Track or BCP
 abbrev pub is_met : Evidence → Item → Bool
 is_met e item.Policy = false
 is_met e item.Contact = is_some e.contact

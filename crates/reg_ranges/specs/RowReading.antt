@@ -11,11 +11,13 @@ abbrev pub text_rows : List ℕ → List (List (List ℕ))
 text_rows text = records default_config (strip_bom text)
 
 -- the reader has read these records of the text
-pub record HasRead (text : List ℕ) (rows : List (List (List ℕ))) (it : ByteRecordsIntoIter (Bor (List ℕ))) : Type 0 where
+pub record HasRead (text : List ℕ) (rows : List (List (List ℕ)))
+    (it : ByteRecordsIntoIter (Bor (List ℕ))) : Type 0 where
   pub trim : reader_trim (owned_rows_reader it) ≡ trim.None
   pub ready : Ready (owned_rows_reader it)
   pub left : 0 < owned_rows_left it
   pub config : reader_config (owned_rows_reader it) ≡ default_config
   pub rest : List ℕ
   pub source : source_of (λ s. Some s.now) (owned_rows_reader it) ≡ Some rest
-  pub reached : Reached default_config st.StartRecord (strip_bom text) rows (reader_state (owned_rows_reader it)) rest
+  pub reached : Reached default_config st.StartRecord (strip_bom text) rows
+      (reader_state (owned_rows_reader it)) rest

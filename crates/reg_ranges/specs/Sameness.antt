@@ -30,7 +30,8 @@ abbrev pub same_track : Track → Track → Bool
 same_track s t = same_by track_word s t
 
 abbrev pub same_rfc : PublishedRfc → PublishedRfc → Bool
-same_rfc a b = (a.number == b.number) && (same_stream a.stream b.stream && same_track a.track b.track)
+same_rfc a b =
+    (a.number == b.number) && (same_stream a.stream b.stream && same_track a.track b.track)
 
 abbrev pub same_evidence : Evidence → Evidence → Bool
 same_evidence a b =
@@ -39,7 +40,9 @@ same_evidence a b =
 
 abbrev pub same_range : Range → Range → Bool
 same_range a b =
-    (a.lo == b.lo) && ((a.hi == b.hi) && (same_treatment a.treatment b.treatment && option_eq bytes_eq a.note b.note))
+    (a.lo == b.lo)
+    && ((a.hi == b.hi)
+    && (same_treatment a.treatment b.treatment && option_eq bytes_eq a.note b.note))
 
 abbrev pub same_table : Table → Table → Bool
 same_table a b = (a.max == b.max) && pointwise same_range a.ranges b.ranges

@@ -12,8 +12,8 @@ pub record Table : Type 0 where
 abbrev pub lies_in : ℕ → Range → Bool
 lies_in v range = nat_le range.lo v && nat_le v range.hi
 
--- there are 1 to 64 ranges, in ascending order, none is empty, and each number from 0 to the largest value,
--- and no other, lies in exactly one of them
+-- there are 1 to 64 ranges, in ascending order, none is empty, and each number from 0 to the
+-- largest value, and no other, lies in exactly one of them
 pub record IsPartition (table : Table) : Type 0 where
   pub some : 1 ≤ length table.ranges
   pub few : length table.ranges ≤ 64

@@ -28,13 +28,17 @@ abbrev pub read_text : (List ℕ → Bool) → List ℕ → Option (List ℕ)
 read_text form s = (if form s then Some s else None)
 
 -- each form is of ASCII texts
-pub ascii_all : (kind : ℕ → Bool) → ((b : ℕ) → kind b ≡ true → b < 128) → (s : List ℕ) → list_all kind s ≡ true → IsAscii s
+pub ascii_all : (kind : ℕ → Bool) → ((b : ℕ) → kind b ≡ true → b < 128) → (s : List ℕ)
+    → list_all kind s ≡ true → IsAscii s
 ascii_all kind below [] h = IsAscii-nil
 ascii_all kind below (x ∷ xs) h =
-    IsAscii-cons x xs (below x (first_so (kind x) (list_all kind xs) h)) (ascii_all kind below xs (second_so (kind x) (list_all kind xs) h))
+    IsAscii-cons x xs (below x (first_so (kind x) (list_all kind xs) h))
+    (ascii_all kind below xs (second_so (kind x) (list_all kind xs) h))
 
-pub ascii_run : (kind : ℕ → Bool) (low high : ℕ) → ((b : ℕ) → kind b ≡ true → b < 128) → (s : List ℕ) → is_run kind low high s ≡ true → IsAscii s
-ascii_run kind low high below s h = ascii_all kind below s (second_so (is_within low high (length s)) (list_all kind s) h)
+pub ascii_run : (kind : ℕ → Bool) (low high : ℕ) → ((b : ℕ) → kind b ≡ true → b < 128)
+    → (s : List ℕ) → is_run kind low high s ≡ true → IsAscii s
+ascii_run kind low high below s h =
+    ascii_all kind below s (second_so (is_within low high (length s)) (list_all kind s) h)
 
 pub ascii_text : (s : List ℕ) → is_text s ≡ true → IsAscii s
 ascii_text s h = ascii_run is_text_byte 1 200 (λ b h. grind (arith, nat_tests)) s h

@@ -22,8 +22,10 @@ ReadsWords {T} word read = (x : T) (s : List ℕ) → (read s ≡ Some x) ↔ (s
 
 abbrev pub policies : List Policy
 policies =
-    policy.PrivateUse ∷ policy.ExperimentalUse ∷ policy.HierarchicalAllocation ∷ policy.FirstComeFirstServed ∷ policy.ExpertReview
-    ∷ policy.SpecificationRequired ∷ policy.RfcRequired ∷ policy.IetfReview ∷ policy.StandardsAction ∷ policy.IesgApproval ∷ []
+    policy.PrivateUse ∷ policy.ExperimentalUse ∷ policy.HierarchicalAllocation
+    ∷ policy.FirstComeFirstServed ∷ policy.ExpertReview
+    ∷ policy.SpecificationRequired ∷ policy.RfcRequired ∷ policy.IetfReview ∷ policy.StandardsAction
+    ∷ policy.IesgApproval ∷ []
 
 abbrev pub policy_word : Policy → List ℕ
 policy_word policy.PrivateUse = codes "private-use"
@@ -45,7 +47,9 @@ treatment_word (treatment.Under p) = policy_word p
 treatment_word treatment.Reserved = codes "reserved"
 
 abbrev pub read_treatment : List ℕ → Option Treatment
-read_treatment s = (if bytes_eq s (codes "reserved") then Some treatment.Reserved else option_map treatment.Under (read_policy s))
+read_treatment s =
+    (if bytes_eq s (codes "reserved") then Some treatment.Reserved else option_map treatment.Under
+    (read_policy s))
 
 abbrev pub streams : List Stream
 streams = stream.Ietf ∷ stream.Irtf ∷ stream.Iab ∷ stream.Independent ∷ stream.Editorial ∷ []
@@ -61,7 +65,8 @@ abbrev pub read_stream : List ℕ → Option Stream
 read_stream s = read_among streams stream_word s
 
 abbrev pub tracks : List Track
-tracks = track.Standards ∷ track.Bcp ∷ track.Informational ∷ track.Experimental ∷ track.Historic ∷ []
+tracks =
+    track.Standards ∷ track.Bcp ∷ track.Informational ∷ track.Experimental ∷ track.Historic ∷ []
 
 abbrev pub track_word : Track → List ℕ
 track_word track.Standards = codes "standards"

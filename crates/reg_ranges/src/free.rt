@@ -7,9 +7,9 @@ use crate::policy::{Policy, Treatment};
 use crate::range::Range;
 use crate::table::RangeTable;
 
-/// The least value that lies in a range under the policy and is not taken, or none where there is no such value.
-/// The values in `taken` ascend. The time is that of one walk over them and one search in them for each range,
-/// however many values the registry has.
+/// The least value that lies in a range under the policy and is not taken, or none where there is
+/// no such value. The values in `taken` ascend. The time is that of one walk over them and one
+/// search in them for each range, however many values the registry has.
 pub fn least_free(table: &RangeTable, policy: Policy, taken: &[u32]) -> Option<u32>
     requires { IsStrictlyIncreasing taken.now }
     ensures least { IsLeastFree table.now policy taken.now result }

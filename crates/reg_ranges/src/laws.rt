@@ -22,7 +22,8 @@ pub fn each_value_has_one_range()
     ensures { EachValueHasOneRange }
 {}
 
-/// The treatment of a value is that of the range in which it lies. Above the largest value there is none.
+/// The treatment of a value is that of the range in which it lies. Above the largest value there is
+/// none.
 pub fn treatment_is_of_its_range()
     ensures { TreatmentIsOfItsRange }
 {}

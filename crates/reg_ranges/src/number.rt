@@ -5,7 +5,8 @@ ghost use Rattle.std.specs.List.{list_all};
 ghost use Rattle.std.specs.Str.Parse.{digits_value};
 ghost use Rattle.reg_ranges.specs.Numbers.{has_leading_zero, is_numeral, read_number};
 
-/// The number that these bytes write: decimal digits, 0 to 4294967295, with no leading zero except in `0` itself.
+/// The number that these bytes write: decimal digits, 0 to 4294967295, with no leading zero except
+/// in `0` itself.
 pub fn read_number(digits: &[u8]) -> Option<u32>
     ensures { result ≡ read_number digits.now }
 {
@@ -35,7 +36,9 @@ fn are_digits(bytes: &[u8]) -> bool
 
 fn parsed(digits: &[u8]) -> Option<u32>
     requires { is_numeral digits.now ≡ true }
-    ensures { result ≡ (if nat_lt (digits_value 10 digits.now) (2 ^ 32) then Some (digits_value 10 digits.now) else None) }
+    ensures { result
+        ≡ (if nat_lt (digits_value 10 digits.now) (2 ^ 32) then Some (digits_value 10 digits.now)
+        else None) }
 {
     str::from_utf8(digits).unwrap().parse().ok()
 }

@@ -5,9 +5,9 @@ ghost use Rattle.reg_ranges.specs.Requirements.{asked_items, first_item, is_expe
 use crate::evidence::{Evidence, Item, Stream, Track};
 use crate::policy::Policy;
 
-/// The first item of evidence that the policy asks for and that is not met, or none where all are met.
-/// Under Private Use, Experimental Use and Hierarchical Allocation no single values are assigned,
-/// so `Item::Policy` is never met there.
+/// The first item of evidence that the policy asks for and that is not met, or none where all are
+/// met. Under Private Use, Experimental Use and Hierarchical Allocation no single values are
+/// assigned, so `Item::Policy` is never met there.
 pub fn missing(policy: Policy, evidence: &Evidence) -> Option<Item>
     ensures { result ≡ first_item (unmet policy evidence.now) }
 {

@@ -8,7 +8,9 @@ use Rattle.serde_json.proofs.OnLiterals.{serde_json_on_literals}
 use Rattle.reg_core.specs.declared.refusal.Refusal.{Refusal}
 use Rattle.reg_core.specs.declared.refusal.Refusal.TheVariants as no
 use Rattle.reg_core.specs.declared.reply.Reply.{Reply}
-use Rattle.reg_core.specs.declared.reply.Reply.TheVariants.{Names, Page, Sheet, Pool, Made, Row, Rows, Item, Items, Desk, Desks, Filed, Defined, Pooled, Granted, Revoked, Refused}
+use Rattle.reg_core.specs.declared.reply.Reply.TheVariants.{Accepted, Refused}
+use Rattle.reg_core.specs.declared.content.Content.{Content}
+use Rattle.reg_core.specs.declared.content.Content.TheVariants.{Names, Page, Listing, Pool, Made, Row, Rows, Item, Items, Desk, Desks, Filed, Defined, Pooled, Granted, Revoked}
 use Rattle.reg_print.specs.Answer.{body_text, status_of}
 use Rattle.reg_wire.specs.Script.Lines.{IsOneLine, refusal, storage}
 use Rattle.reg_wire.specs.Script.Answers.{answer_line, tab_of}
@@ -28,7 +30,8 @@ storage_is = refl
 pub refusal_is_another : bytes_eq refusal storage ≡ false
 refusal_is_another = refl
 
-refused_is_another : (why : Refusal) → bytes_eq (answer_line (answer.Reply (Refused why))) storage ≡ false
+refused_is_another : (why : Refusal)
+    → bytes_eq (answer_line (answer.Reply (Refused why))) storage ≡ false
 unfolding body_text digits serde_json_on_literals
 refused_is_another no.Clock = refl
 refused_is_another no.Token = refl
@@ -47,24 +50,28 @@ refused_is_another no.Own = refl
 refused_is_another no.Exists = refl
 refused_is_another no.Bits = refl
 
-pub reply_is_another : (r : Reply) → bytes_eq (answer_line (answer.Reply r)) storage ≡ false
+content_is_another : (c : Content)
+    → bytes_eq (answer_line (answer.Reply (Accepted c))) storage ≡ false
 unfolding digits
-reply_is_another (Names names) = refl
-reply_is_another (Page page) = refl
-reply_is_another (Sheet page) = refl
-reply_is_another (Pool prefixes) = refl
-reply_is_another (Made request) = refl
-reply_is_another (Row request) = refl
-reply_is_another (Rows requests) = refl
-reply_is_another (Item row) = refl
-reply_is_another (Items rows) = refl
-reply_is_another (Desk request) = refl
-reply_is_another (Desks requests) = refl
-reply_is_another (Filed file) = refl
-reply_is_another (Defined name) = refl
-reply_is_another (Pooled prefix) = refl
-reply_is_another (Granted granted) = refl
-reply_is_another Revoked = refl
+content_is_another (Names names) = refl
+content_is_another (Page page) = refl
+content_is_another (Listing page) = refl
+content_is_another (Pool prefixes) = refl
+content_is_another (Made request) = refl
+content_is_another (Row request) = refl
+content_is_another (Rows requests) = refl
+content_is_another (Item row) = refl
+content_is_another (Items rows) = refl
+content_is_another (Desk request) = refl
+content_is_another (Desks requests) = refl
+content_is_another (Filed file) = refl
+content_is_another (Defined name) = refl
+content_is_another (Pooled prefix) = refl
+content_is_another (Granted granted) = refl
+content_is_another Revoked = refl
+
+pub reply_is_another : (r : Reply) → bytes_eq (answer_line (answer.Reply r)) storage ≡ false
+reply_is_another (Accepted content) = content_is_another content
 reply_is_another (Refused why) = refused_is_another why
 
 pub wire_is_another : (why : WireRefusal) → bytes_eq (answer_line (answer.Wire why)) storage ≡ false
@@ -87,10 +94,15 @@ glyph_is_no_feed d = grind (arith, nat_tests)
 
 digits_line : (k n : ℕ) (more : List ℕ) → IsOneLine more → IsOneLine (digits_onto k 10 false n more)
 digits_line zero n more h = h
-digits_line (suc k) n more h = elim (n / 10 == 0) as (λ b. IsOneLine (cond b (digit_glyph false (n % 10) ∷ more) (digits_onto k 10 false (n / 10) (digit_glyph false (n % 10) ∷ more)))) [
-  | true ↦ (glyph_is_no_feed (n % 10), h)
-  | false ↦ digits_line k (n / 10) (digit_glyph false (n % 10) ∷ more) (glyph_is_no_feed (n % 10), h)
-]
+digits_line (suc k) n more h =
+    elim (n / 10 == 0) as
+    (λ b. IsOneLine
+    (cond b (digit_glyph false (n % 10) ∷ more)
+    (digits_onto k 10 false (n / 10) (digit_glyph false (n % 10) ∷ more)))) [
+      | true ↦ (glyph_is_no_feed (n % 10), h)
+      | false ↦
+          digits_line k (n / 10) (digit_glyph false (n % 10) ∷ more) (glyph_is_no_feed (n % 10), h)
+    ]
 
 decimal_line : (n : ℕ) → IsOneLine (decimal n)
 unfolding digits
@@ -107,4 +119,6 @@ above_a_feed : (b : ℕ) → 10 < b → b ≢ 10
 above_a_feed b h e = omega arith
 
 pub answer_is_line : (a : Answer) → IsOneLine (answer_line a)
-answer_is_line a = both_lines (decimal (status_of a)) (32 ∷ map tab_of (body_text a)) (decimal_line (status_of a)) (above_a_feed 32 (lit< tt), tabs_line (body_text a))
+answer_is_line a =
+    both_lines (decimal (status_of a)) (32 ∷ map tab_of (body_text a)) (decimal_line (status_of a))
+    (above_a_feed 32 (lit< tt), tabs_line (body_text a))

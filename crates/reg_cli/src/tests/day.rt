@@ -2,7 +2,8 @@
 use super::transcript::assert_answered;
 use std::test::Fail;
 
-/// A registry is defined; a value of it is asked for, reviewed, approved and read, and the least one too.
+/// A registry is defined; a value of it is asked for, reviewed, approved and read, and the least
+/// one too.
 const DAY: &str = r#"
 > 1700000000 - GET /requests
 < 401 {"error":"token"}

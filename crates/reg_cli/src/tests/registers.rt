@@ -24,8 +24,8 @@ pub const GRANTS: &str = r#"
 < 200 []
 "#;
 
-/// A capability at its last second and past it, a token that has none, a command of another kind, and the first and last
-/// moments at which the office is open.
+/// A capability at its last second and past it, a token that has none, a command of another kind,
+/// and the first and last moments at which the office is open.
 pub const LIMITS: &str = r#"
 > 1799999999 alice-token-00001 GET /requests
 < 200 []

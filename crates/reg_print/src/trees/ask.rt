@@ -36,7 +36,9 @@ fn code(alloc: Global, ask: &CodeAsk) -> Result<Value, AllocError>
 }
 
 fn put_value_if(members: &mut Members, alloc: Global, want: Want) -> Result<(), AllocError>
-    ensures { OnOk result (members_view members.new.entries ≡ put_some (codes "value") (value_if want) (members_view members.old.entries)) }
+    ensures { OnOk result
+        (members_view members.new.entries
+        ≡ put_some (codes "value") (value_if want) (members_view members.old.entries)) }
 {
     match want {
         Want::Value(value) => put_number(members, alloc, "value", u64::from(value)),
@@ -45,7 +47,9 @@ fn put_value_if(members: &mut Members, alloc: Global, want: Want) -> Result<(), 
 }
 
 fn put_least_if(members: &mut Members, alloc: Global, want: Want) -> Result<(), AllocError>
-    ensures { OnOk result (members_view members.new.entries ≡ put_some (codes "least") (least_if want) (members_view members.old.entries)) }
+    ensures { OnOk result
+        (members_view members.new.entries
+        ≡ put_some (codes "least") (least_if want) (members_view members.old.entries)) }
 {
     match want {
         Want::Value(_) => Ok(()),
@@ -54,7 +58,9 @@ fn put_least_if(members: &mut Members, alloc: Global, want: Want) -> Result<(), 
 }
 
 fn put_rfc_if(members: &mut Members, alloc: Global, rfc: Option<Rfc>) -> Result<(), AllocError>
-    ensures { OnOk result (members_view members.new.entries ≡ put_some (codes "rfc") (rfc_if rfc) (members_view members.old.entries)) }
+    ensures { OnOk result
+        (members_view members.new.entries
+        ≡ put_some (codes "rfc") (rfc_if rfc) (members_view members.old.entries)) }
 {
     match rfc {
         Some(rfc) => {

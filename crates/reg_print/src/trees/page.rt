@@ -73,7 +73,9 @@ fn one_entry(alloc: Global, entry: &PageEntry) -> Result<Value, AllocError>
 
 // Whether the term was renewed, where it has an expiry.
 fn put_renewed_if(members: &mut Members, alloc: Global, term: Term) -> Result<(), AllocError>
-    ensures { OnOk result (members_view members.new.entries ≡ put_some (codes "renewed") (renewed_if term) (members_view members.old.entries)) }
+    ensures { OnOk result
+        (members_view members.new.entries
+        ≡ put_some (codes "renewed") (renewed_if term) (members_view members.old.entries)) }
 {
     match term.expires {
         Some(_) => serde_json::put(members, alloc, "renewed", Value::Bool(term.renewed)),
@@ -83,7 +85,9 @@ fn put_renewed_if(members: &mut Members, alloc: Global, term: Term) -> Result<()
 
 // The day from which the entry no longer stands, where there is one.
 fn put_expires_if(members: &mut Members, alloc: Global, term: Term) -> Result<(), AllocError>
-    ensures { OnOk result (members_view members.new.entries ≡ put_some (codes "expires") (expires_if term) (members_view members.old.entries)) }
+    ensures { OnOk result
+        (members_view members.new.entries
+        ≡ put_some (codes "expires") (expires_if term) (members_view members.old.entries)) }
 {
     match term.expires {
         Some(day) => put_day(members, alloc, "expires", day),
@@ -93,7 +97,9 @@ fn put_expires_if(members: &mut Members, alloc: Global, term: Term) -> Result<()
 
 // This day under this name.
 fn put_day(members: &mut Members, alloc: Global, name: &str, day: Day) -> Result<(), AllocError>
-    ensures { OnOk result (members_view members.new.entries ≡ put_some name.now (text (text_of_day day)) (members_view members.old.entries)) }
+    ensures { OnOk result
+        (members_view members.new.entries
+        ≡ put_some name.now (text (text_of_day day)) (members_view members.old.entries)) }
 {
     let text = day_text(alloc, day)?;
     put_text(members, alloc, name, text.as_str())

@@ -11,8 +11,8 @@ use reg_core::queue::QueueRow;
 use serde_json::{Map, Value};
 use std::alloc::{AllocError, Global};
 
-/// A request as an expert sees it: whose it is, what it asks for, under which reference, the bare word of
-/// where it stands, and the expert's own advice, where it was given.
+/// A request as an expert sees it: whose it is, what it asks for, under which reference, the bare
+/// word of where it stands, and the expert's own advice, where it was given.
 pub fn row(alloc: Global, row: &QueueRow) -> Result<Value, AllocError>
     ensures { IfOk result (λ v. view v ≡ queue_tree row.now) }
 {
@@ -41,7 +41,9 @@ fn put_advice_if(
     alloc: Global,
     advice: &Option<Advice>,
 ) -> Result<(), AllocError>
-    ensures { OnOk result (members_view members.new.entries ≡ put_some (codes "advice") (advice_if advice.now) (members_view members.old.entries)) }
+    ensures { OnOk result
+        (members_view members.new.entries
+        ≡ put_some (codes "advice") (advice_if advice.now) (members_view members.old.entries)) }
 {
     match advice {
         Some(advice) => {

@@ -28,7 +28,10 @@ fn put_detail_if(
     alloc: Global,
     detail: Option<Detail>,
 ) -> Result<(), AllocError>
-    ensures { OnOk result (members_view members.new.entries ≡ put_some (codes "item") (option_map (λ d. string (detail_text d)) detail) (members_view members.old.entries)) }
+    ensures { OnOk result
+        (members_view members.new.entries
+        ≡ put_some (codes "item") (option_map (λ d. string (detail_text d)) detail)
+        (members_view members.old.entries)) }
 {
     match detail {
         Some(detail) => {

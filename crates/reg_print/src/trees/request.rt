@@ -11,7 +11,8 @@ use reg_core::request::{Given, Request, State, StateWord};
 use serde_json::{Map, Value};
 use std::alloc::{AllocError, Global};
 
-/// A request as its applicant sees it: what it asks for, under which reference, and where it stands.
+/// A request as its applicant sees it: what it asks for, under which reference, and where it
+/// stands.
 pub fn request(alloc: Global, request: &Request) -> Result<Value, AllocError>
     ensures { IfOk result (λ v. view v ≡ request_tree request.now) }
 {
@@ -60,7 +61,8 @@ fn own(alloc: Global, request: &Request) -> Result<Members, AllocError>
 
 /// The members that tell a request's reference, and where it stands.
 pub fn standing(alloc: Global, request: &Request) -> Result<Members, AllocError>
-    ensures { IfOk result (λ m. members_view m.entries ≡ with_members (standing_members request.now)) }
+    ensures { IfOk result
+        (λ m. members_view m.entries ≡ with_members (standing_members request.now)) }
 {
     let mut members = Map::new(alloc);
     put_text(
@@ -88,7 +90,9 @@ pub fn state_word(word: StateWord) -> &'static str
 }
 
 fn put_reason_if(members: &mut Members, alloc: Global, state: &State) -> Result<(), AllocError>
-    ensures { OnOk result (members_view members.new.entries ≡ put_some (codes "reason") (reason_if state.now) (members_view members.old.entries)) }
+    ensures { OnOk result
+        (members_view members.new.entries
+        ≡ put_some (codes "reason") (reason_if state.now) (members_view members.old.entries)) }
 {
     match state {
         State::Declined(reason) => put_text(members, alloc, "reason", reason.as_str()),
@@ -97,7 +101,9 @@ fn put_reason_if(members: &mut Members, alloc: Global, state: &State) -> Result<
 }
 
 fn put_given_if(members: &mut Members, alloc: Global, state: &State) -> Result<(), AllocError>
-    ensures { OnOk result (members_view members.new.entries ≡ put_some (codes "given") (given_if state.now) (members_view members.old.entries)) }
+    ensures { OnOk result
+        (members_view members.new.entries
+        ≡ put_some (codes "given") (given_if state.now) (members_view members.old.entries)) }
 {
     match state {
         State::Approved(given) => {

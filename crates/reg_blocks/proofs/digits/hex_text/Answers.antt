@@ -1,7 +1,7 @@
 use Rattle.std.proofs.Common.{◌≡◌, ◌-◌, ◌++◌, ◌∙◌, ap, arith}
 use Rattle.std.specs.Prelude.{string_bytes}
 use Rattle.reg_blocks.specs.Digits.{hex_digits}
-use Rattle.reg_blocks.proofs.Writing.{written_next}
+use Rattle.reg_blocks.proofs.HexDigits.{written_next}
 use Rattle.reg_blocks.proofs.digits.hex_text.Goals as goal
 
 pub loop-left-init : goal.loop-left-init
@@ -12,8 +12,14 @@ loop-left-init c =
 
 pub loop-left-preserved : goal.loop-left-preserved
 loop-left-preserved c =
-    let pushed = c.in_ok-push.ensures.bytes ∙ ap (λ bytes. string_bytes c.loop-left.text ++ bytes) (c.in_ok-push.ensures.ascii c.upper_digit.ensures.ascii) in
+    let pushed =
+    c.in_ok-push.ensures.bytes
+    ∙ ap (λ bytes. string_bytes c.loop-left.text ++ bytes)
+    (c.in_ok-push.ensures.ascii c.upper_digit.ensures.ascii) in
     record {
       within = omega arith;
-      written = written_next _ c.loop-left.left _ c.upper_digit.result (string_bytes c.loop-left.text) _ c.loop-left-test.true c.loop-left.invariant.within c.loop-left.invariant.written c.upper_digit.ensures.value pushed;
+      written =
+          written_next _ c.loop-left.left _ c.upper_digit.result (string_bytes c.loop-left.text) _
+          c.loop-left-test.true c.loop-left.invariant.within c.loop-left.invariant.written
+          c.upper_digit.ensures.value pushed;
     }

@@ -2,29 +2,48 @@ use Rattle.std.proofs.Common.{◌∙◌, subst, ◌≤◌, ◌+◌, ◌*◌, ari
 use Rattle.std.proofs.lemmas.List.{get_or_default}
 use Rattle.reg_blocks.specs.Size.{address_count}
 use Rattle.reg_blocks.specs.Block.{SizedPrefix, first_address}
-use Rattle.reg_blocks.proofs.Sweeping.{sweeping-free, sweeping-next, sweeping-full}
+use Rattle.reg_blocks.proofs.SweptPrefix.{sweeping-free, sweeping-next, sweeping-full}
 use Rattle.reg_blocks.proofs.due.sweep_prefix.Goals as goal
 
 pub returns-then-candidate-end : goal.returns-then-candidate-end
 returns-then-candidate-end c =
-    let begins = rw (c.first.ensures.value, c.address_count-count.ensures) at c.if-candidate-count.false in
-    let moves = rw (c.last.ensures.value, c.address_count-count.ensures) at c.max-candidate.ensures in
-    let past = rw (c.from.ensures, c.blocks_in_prefix.ensures, c.blocks_in_prefix-2.ensures) at c.if-candidate-end.true in
-    sweeping-full c.args.prefix c.args.given.now c.args.size c.loop-i.i c.loop-i.candidate c.loop-i.invariant c.index-given-i.result c.max-candidate.result c.index-given-i.is c.loop-i-test.true begins moves past
+    let begins =
+    rw (c.first.ensures.value, c.address_count-count.ensures) at c.if-candidate-count.false in
+    let moves =
+    rw (c.last.ensures.value, c.address_count-count.ensures) at c.max-candidate.ensures in
+    let past =
+    rw (c.from.ensures, c.blocks_in_prefix.ensures, c.blocks_in_prefix-2.ensures) at
+    c.if-candidate-end.true in
+    sweeping-full c.args.prefix c.args.given.now c.args.size c.loop-i.i c.loop-i.candidate
+    c.loop-i.invariant c.index-given-i.result c.max-candidate.result c.index-given-i.is
+    c.loop-i-test.true begins moves past
 
 pub loop-i-preserved : goal.loop-i-preserved
 loop-i-preserved c =
-    let begins = rw (c.first.ensures.value, c.address_count-count.ensures) at c.if-candidate-count.false in
-    let moves = rw (c.last.ensures.value, c.address_count-count.ensures) at c.max-candidate.ensures in
-    let past = rw (c.from.ensures, c.blocks_in_prefix.ensures, c.blocks_in_prefix-2.ensures) at c.if-candidate-end.false in
-    sweeping-next c.args.prefix c.args.given.now c.args.size c.loop-i.i c.loop-i.candidate c.loop-i.invariant c.index-given-i.result c.max-candidate.result c.index-given-i.is c.loop-i-test.true begins moves past
+    let begins =
+    rw (c.first.ensures.value, c.address_count-count.ensures) at c.if-candidate-count.false in
+    let moves =
+    rw (c.last.ensures.value, c.address_count-count.ensures) at c.max-candidate.ensures in
+    let past =
+    rw (c.from.ensures, c.blocks_in_prefix.ensures, c.blocks_in_prefix-2.ensures) at
+    c.if-candidate-end.false in
+    sweeping-next c.args.prefix c.args.given.now c.args.size c.loop-i.i c.loop-i.candidate
+    c.loop-i.invariant c.index-given-i.result c.max-candidate.result c.index-given-i.is
+    c.loop-i-test.true begins moves past
 
 pub returns-after-loop-i : goal.returns-after-loop-i
 returns-after-loop-i c =
-    sweeping-free c.args.prefix c.args.given.now c.args.size c.loop-i.i c.loop-i.candidate c.loop-i.invariant c.requires.ascending (λ d h. absurd (omega arith))
+    sweeping-free c.args.prefix c.args.given.now c.args.size c.loop-i.i c.loop-i.candidate
+    c.loop-i.invariant c.requires.ascending (λ d h. absurd (omega arith))
 
 pub returns-then-candidate-count : goal.returns-then-candidate-count
 returns-then-candidate-count c =
-    let after = rw (c.first.ensures.value, c.address_count-count.ensures) at c.if-candidate-count.true in
-    sweeping-free c.args.prefix c.args.given.now c.args.size c.loop-i.i c.loop-i.candidate c.loop-i.invariant c.requires.ascending
-    (λ d h. let same = c.index-given-i.is ∙ get_or_default c.args.given.now c.loop-i.i c.index-given-i.result d h in subst (λ (b : SizedPrefix). (c.loop-i.candidate + 1) * address_count c.args.size ≤ first_address b) same after)
+    let after =
+    rw (c.first.ensures.value, c.address_count-count.ensures) at c.if-candidate-count.true in
+    sweeping-free c.args.prefix c.args.given.now c.args.size c.loop-i.i c.loop-i.candidate
+    c.loop-i.invariant c.requires.ascending
+    (λ d h. let same =
+    c.index-given-i.is ∙ get_or_default c.args.given.now c.loop-i.i c.index-given-i.result d
+    h in subst
+    (λ (b : SizedPrefix). (c.loop-i.candidate + 1) * address_count c.args.size ≤
+    first_address b) same after)
