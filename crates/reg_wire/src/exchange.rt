@@ -61,6 +61,3 @@ fn handle<K: Keeper>(
 {
     office.handle(call.moment, call.token, &command)
 }
-
-#[cfg(test)]
-mod tests;
