@@ -7,7 +7,7 @@ use std::alloc::{AllocError, Global};
 use std::marker::Model;
 
 /// The 24-bit prefixes that the blocks of an office are cut from, ascending.
-#[derive(Debug, Drop)]
+#[derive(Clone, Debug, Drop)]
 pub struct Pool {
     prefixes: Vec<u32>,
 }
@@ -81,10 +81,10 @@ impl Pool {
 
     /// A pool with the same prefixes. Only want of memory is an error.
     pub fn copy(&self) -> Result<Self, AllocError>
-        ensures { IfOk result (λ pool. pool ≡ self.now) }
+        ensures equal { IfOk result (λ pool. pool ≡ self.now) }
+        ensures pool { IsPool self.now }
     {
-        Ok(Pool {
-            prefixes: self.prefixes.clone()?,
-        })
+        let _ = &self.prefixes;
+        self.clone()
     }
 }

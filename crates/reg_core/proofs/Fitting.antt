@@ -1,15 +1,24 @@
--- Each rule's change fits the world over whose rows it was decided.
-use Rattle.std.proofs.Common.{◌≡◌, ℕ, Bool, true, List, refl, sym, subst}
-use Rattle.std.specs.Prelude.{Some, Result, Ok}
+-- What each rule decides to change fits the world over whose rows it was decided, and so does what
+-- each step changes.
+use Rattle.std.proofs.Common.{◌≡◌, ℕ, Bool, true, List, refl, subst, arith}
+use Rattle.std.proofs.lemmas.Bool.Decides.{nat_tests}
+use Rattle.std.specs.Cmp.{first_so, second_so}
+use Rattle.std.specs.Cmp.Derive.{both_true}
+use Rattle.std.specs.Prelude.{Option, Some, None, Result, Ok, nat_le}
 use Rattle.std.specs.FinMap.{get, contains_key}
+use Rattle.reg_early.specs.Moment.{is_in_clock, utc_day}
+use Rattle.reg_early.proofs.MomentsHaveDays.{IsDay-utc_day}
 use Rattle.reg_ranges.specs.Tables.{Table}
 use Rattle.reg_ranges.specs.Texts.{is_text}
 use Rattle.reg_core.specs.Advice.{has_advice_form}
 use Rattle.reg_core.specs.Allowance.{allowed, ground_of}
+use Rattle.reg_core.specs.Ask.{has_ask_form}
+use Rattle.reg_core.specs.Capability.{last_until, has_cap_form}
 use Rattle.reg_core.specs.Entry.{has_day_form}
-use Rattle.reg_core.specs.Names.{is_name}
+use Rattle.reg_core.specs.Laws.{GivesDigests, ChangesFit}
+use Rattle.reg_core.specs.Names.{is_name, is_digest}
 use Rattle.reg_core.specs.Rules.{withdraw_rule, decline_rule, assign_rule, advise_rule, award, approve_rule, define_rule, pool_rule, grant_rule, revoke_rule, submit_rule}
-use Rattle.reg_core.specs.View.{Queued, published}
+use Rattle.reg_core.specs.View.{Queued, published, cap_at}
 use Rattle.reg_core.specs.WellKept.{WellKept, CanApply, has_grant_form, has_registry_form, has_request_form}
 use Rattle.reg_core.specs.World.{World, RequestName, pending}
 use Rattle.reg_core.specs.declared.advice.Advice.{Advice}
@@ -17,84 +26,176 @@ use Rattle.reg_core.specs.declared.ask.Ask.{Ask}
 use Rattle.reg_core.specs.declared.ask.Ask.TheVariants.{Code}
 use Rattle.reg_core.specs.declared.capability.Cap.{Cap}
 use Rattle.reg_core.specs.declared.change.Change.{Change}
+use Rattle.reg_core.specs.declared.change.Change.TheVariants.{Grant, Revoke, Define, AddPool, Submit, Close, Assign, Advise, GiveValue}
 use Rattle.reg_core.specs.declared.decide.Decision.TheVariants.{Make}
 use Rattle.reg_core.specs.declared.refusal.Refusal.{Refusal}
-use Rattle.reg_core.specs.declared.request.Filing.{Filing}
+use Rattle.reg_core.specs.declared.request.Case.{Case}
 use Rattle.reg_core.specs.declared.request.Given.{Given}
-use Rattle.reg_core.specs.declared.request.State.TheVariants.{Declined, Withdrawn}
-use Rattle.reg_core.proofs.Awards.{allowed_code}
-use Rattle.reg_core.proofs.Changes.{can_grant, can_revoke, can_define, can_add_pool, can_submit, can_close, can_assign, can_advise, can_give}
-use Rattle.reg_core.proofs.Deciding.{withdraw_made, decline_made, assign_made, advise_made, approve_made, define_made, pool_made, grant_made, revoke_made, submit_made}
+use Rattle.reg_core.specs.declared.request.Given.TheVariants.{Value}
+use Rattle.reg_core.specs.declared.request.State.TheVariants.{Pending, Approved, Declined, Withdrawn}
+use Rattle.reg_core.proofs.Allowances.{allowed_free}
+use Rattle.reg_core.proofs.Keeping.Changes.{can_grant, can_revoke, can_define, can_add_pool, can_submit, can_close, can_assign, can_advise, can_give}
+use Rattle.reg_core.proofs.Outcomes.Deciding.{where_made, Defines, Pools, Grants, Revokes, Submits, Withdraws, Declines, Assigns, Advises, Approves, define_decides, pool_decides, grant_decides, revoke_decides, submit_decides, withdraw_decides, decline_decides, assign_decides, advise_decides, approve_decides}
+use Rattle.reg_core.proofs.Outcomes.Dues.{Due, has_change_form, changes_due}
 use Rattle.reg_core.proofs.Queues.{IsQueued}
 
 -- a definition that is to be made fits the world that has this registry, or none, under the name
-pub define_fits : (w : World) (name : List ℕ) (table : Table) (change : Change) → WellKept w → has_registry_form name table ≡ true
+pub define_fits : (w : World) (name : List ℕ) (table : Table) (change : Change) → WellKept w
+    → has_registry_form name table ≡ true
     → define_rule (get w.registries name) name table ≡ Ok (Make change) → CanApply w change
 define_fits w name table change kept form made =
-    let decided = define_made (get w.registries name) name table change made in
-    subst (CanApply w) decided.1 (can_define w name table kept form decided.0)
+    where_made (Defines (get w.registries name) name table) _ change
+    (define_decides (get w.registries name) name table) made (CanApply w)
+    (can_define w name table kept form)
 
 -- a prefix that is to be added fits the world that has it, or has it not
 pub pool_fits : (w : World) (prefix : ℕ) (change : Change) → WellKept w
     → pool_rule (contains_key w.pool prefix) prefix ≡ Ok (Make change) → CanApply w change
 pool_fits w prefix change kept made =
-    let decided = pool_made (contains_key w.pool prefix) prefix change made in
-    subst (CanApply w) decided.2 (can_add_pool w prefix kept decided.1 decided.0)
+    where_made (Pools (contains_key w.pool prefix) prefix) _ change
+    (pool_decides (contains_key w.pool prefix) prefix) made (CanApply w)
+    (λ facts. can_add_pool w prefix kept facts.0 facts.1)
 
 -- a grant that is to be made fits the world that has this capability, or none, at the digest
-pub grant_fits : (w : World) (digest : List ℕ) (cap : Cap) (change : Change) → WellKept w → has_grant_form digest cap ≡ true
+pub grant_fits : (w : World) (digest : List ℕ) (cap : Cap) (change : Change) → WellKept w
+    → has_grant_form digest cap ≡ true
     → grant_rule (get w.caps digest) digest cap ≡ Ok (Make change) → CanApply w change
 grant_fits w digest cap change kept form made =
-    let decided = grant_made (get w.caps digest) digest cap change made in
-    subst (CanApply w) decided.1 (can_grant w digest cap kept form decided.0)
+    where_made (Grants (get w.caps digest) digest cap) _ change
+    (grant_decides (get w.caps digest) digest cap) made (CanApply w)
+    (can_grant w digest cap kept form)
 
 -- a revocation that is to be made fits the world that has this capability, or none, at the digest
 pub revoke_fits : (w : World) (in_use digest : List ℕ) (change : Change) → WellKept w
     → revoke_rule in_use (get w.caps digest) digest ≡ Ok (Make change) → CanApply w change
 revoke_fits w in_use digest change kept made =
-    subst (CanApply w) (revoke_made in_use (get w.caps digest) digest change made) (can_revoke w digest kept)
+    where_made (Revokes in_use (get w.caps digest) digest) _ change
+    (revoke_decides in_use (get w.caps digest) digest) made (CanApply w)
+    (λ facts. can_revoke w digest kept)
 
--- a request that is to be made fits the world that has this request, or none, under the name, whatever made it allowed
-pub submit_fits : (w : World) (allowance : Result Given Refusal) (name : RequestName) (ask : Ask) (change : Change) → WellKept w
+-- a request that is to be made fits the world that has this request, or none, under the name,
+-- whatever made it allowed
+pub submit_fits : (w : World) (allowance : Result Given Refusal) (name : RequestName) (ask : Ask)
+    (change : Change) → WellKept w
     → has_request_form name (pending ask) ≡ true
     → submit_rule allowance name ask (get w.requests name) ≡ Ok (Make change) → CanApply w change
 submit_fits w allowance name ask change kept form made =
-    let decided = submit_made allowance name ask (get w.requests name) change made in
-    subst (CanApply w) decided.1 (can_submit w name ask kept form decided.0)
+    where_made (Submits allowance name ask (get w.requests name)) _ change
+    (submit_decides allowance name ask (get w.requests name)) made (CanApply w)
+    (λ facts. can_submit w name ask kept form facts.0)
 
 -- a withdrawal that is to be made fits the world that has this request
-pub withdraw_fits : (w : World) (name : RequestName) (filing : Filing) (change : Change) → WellKept w → get w.requests name ≡ Some filing
-    → withdraw_rule name filing.state ≡ Ok (Make change) → CanApply w change
-withdraw_fits w name filing change kept found made =
-    subst (CanApply w) (withdraw_made name filing.state change made).1 (can_close w name filing Withdrawn kept found tt refl)
+pub withdraw_fits : (w : World) (name : RequestName) (case : Case) (change : Change) → WellKept w
+    → get w.requests name ≡ Some case
+    → withdraw_rule name case.state ≡ Ok (Make change) → CanApply w change
+withdraw_fits w name case change kept is_there made =
+    where_made (Withdraws name case.state) _ change
+    (withdraw_decides name case.state) made (CanApply w)
+    (λ pending. can_close w name case Withdrawn kept is_there tt refl)
 
-pub decline_fits : (w : World) (name : RequestName) (filing : Filing) (reason : List ℕ) (change : Change) → WellKept w → get w.requests name ≡ Some filing
-    → is_text reason ≡ true → decline_rule name reason filing.state ≡ Ok (Make change) → CanApply w change
-decline_fits w name filing reason change kept found form made =
-    subst (CanApply w) (decline_made name reason filing.state change made).1 (can_close w name filing (Declined reason) kept found tt form)
+pub decline_fits : (w : World) (name : RequestName) (case : Case) (reason : List ℕ)
+    (change : Change) → WellKept w → get w.requests name ≡ Some case
+    → is_text reason ≡ true → decline_rule name reason case.state ≡ Ok (Make change)
+    → CanApply w change
+decline_fits w name case reason change kept is_there form made =
+    where_made (Declines name reason case.state) _ change
+    (decline_decides name reason case.state) made (CanApply w)
+    (λ pending. can_close w name case (Declined reason) kept is_there tt form)
 
 -- an assignment that is to be made fits the world that has this request, and these assignments
-pub assign_fits : (w : World) (name : RequestName) (filing : Filing) (expert : List ℕ) (change : Change) → WellKept w → get w.requests name ≡ Some filing
-    → is_name expert ≡ true → assign_rule name expert (contains_key w.queue (name, expert)) filing.state ≡ Ok (Make change) → CanApply w change
-assign_fits w name filing expert change kept found form made =
-    let by = assign_made name expert (contains_key w.queue (name, expert)) filing.state change made in
-    subst (CanApply w) by.2 (can_assign w name filing expert kept found form by.1 by.0)
+pub assign_fits : (w : World) (name : RequestName) (case : Case) (expert : List ℕ)
+    (change : Change) → WellKept w → get w.requests name ≡ Some case
+    → is_name expert ≡ true
+    → assign_rule name expert (contains_key w.queue (name, expert)) case.state
+    ≡ Ok (Make change) → CanApply w change
+assign_fits w name case expert change kept is_there form made =
+    where_made (Assigns name expert (contains_key w.queue (name, expert)) case.state) _ change
+    (assign_decides name expert (contains_key w.queue (name, expert)) case.state) made (CanApply w)
+    (λ facts. can_assign w name case expert kept is_there form facts.2 facts.1)
 
 -- advice that is to be given fits the world where this request is queued to its expert
-pub advise_fits : (w : World) (name : RequestName) (expert : List ℕ) (advice : Advice) (queued : Queued) (change : Change) → WellKept w → IsQueued expert w name queued
-    → has_advice_form advice ≡ true → advise_rule name expert advice queued.advice queued.word ≡ Ok (Make change) → CanApply w change
+pub advise_fits : (w : World) (name : RequestName) (expert : List ℕ) (advice : Advice)
+    (queued : Queued) (change : Change) → WellKept w → IsQueued expert w name queued
+    → has_advice_form advice ≡ true
+    → advise_rule name expert advice queued.advice queued.word ≡ Ok (Make change)
+    → CanApply w change
 advise_fits w name expert advice queued change kept is form made =
-    subst (CanApply w) (advise_made name expert advice queued.advice queued.word change made) (can_advise w name expert advice kept is.assigned form)
+    where_made (Advises name expert advice queued.advice queued.word) _ change
+    (advise_decides name expert advice queued.advice queued.word) made (CanApply w)
+    (λ pending. can_advise w name expert advice kept is.assigned form)
+
+-- what is given to a request fits the world over whose published rows it is allowed
+given_fits : (w : World) (name : RequestName) (case : Case) (ask : Ask) (today : ℕ) (given : Given)
+    → WellKept w → get w.requests name ≡ Some case
+    → case.ask ≡ ask → has_day_form today ≡ true → allowed (published w) name.0 ask ≡ Ok given
+    → CanApply w (award name ask today given)
+given_fits w name case (Code ask) today (Value v) kept is_there asks day is =
+    can_give w name case ask today v kept is_there asks (allowed_free w kept name.0 ask v is) day
 
 -- an approval that is to be made on a day fits the world over whose published rows it was decided
-pub approve_fits : (w : World) (advised : Bool) (name : RequestName) (filing : Filing) (today : ℕ) (change : Change) → WellKept w → get w.requests name ≡ Some filing
-    → has_day_form today ≡ true → approve_rule (ground_of (published w) filing.ask) advised name filing.ask today filing.state ≡ Ok (Make change) → CanApply w change
-approve_fits w advised name filing today change kept found day made =
-    let by = approve_made (ground_of (published w) filing.ask) advised name filing.ask today filing.state change made in
-    subst (CanApply w) by.3 (can_award filing.ask refl by.1 by.2)
-  where
-    can_award : (ask : Ask) → filing.ask ≡ ask → (given : Given) → allowed (published w) name.0 filing.ask ≡ Ok given → CanApply w (award name filing.ask today given)
-    can_award (Code ask) asks given is =
-        let free = allowed_code w kept name.0 ask given (subst (λ x. allowed (published w) name.0 x ≡ Ok given) asks is) in
-        subst (λ x. CanApply w (award name x today given)) (sym asks)
-        (subst (λ g. CanApply w (award name (Code ask) today g)) (sym free.1) (can_give w name filing ask today free.0 kept found asks free.2 day))
+pub approve_fits : (w : World) (advised : Bool) (name : RequestName) (case : Case) (today : ℕ)
+    (change : Change) → WellKept w → get w.requests name ≡ Some case
+    → has_day_form today ≡ true
+    → approve_rule (ground_of (published w) case.ask) advised name case.ask today case.state
+    ≡ Ok (Make change) → CanApply w change
+approve_fits w advised name case today change kept is_there day made =
+    where_made (Approves
+    (ground_of (published w) case.ask) advised name case.ask today case.state) _ change
+    (approve_decides
+    (ground_of (published w) case.ask) advised name case.ask today case.state) made
+    (CanApply w)
+    (λ facts. given_fits w name case case.ask today facts.2 kept is_there refl day facts.3)
+
+-- ---- Each change of a step
+
+-- the day of a moment at which the office is open
+open_day : (moment : ℕ) → is_in_clock moment ≡ true → has_day_form (utc_day moment) ≡ true
+open_day moment h =
+    let day = IsDay-utc_day moment h in
+    grind (arith, nat_tests, day)
+
+-- the account of a caller has its form
+known_account : (w : World) (caller : Option (List ℕ)) (cap : Cap) → WellKept w
+    → cap_at w caller ≡ Some cap → is_name cap.account ≡ true
+known_account w None cap kept is_there = absurd (cc)
+known_account w (Some digest) cap kept is_there =
+    first_so (is_name cap.account) (nat_le cap.until last_until)
+    (second_so (is_digest digest) (has_cap_form cap) (kept.caps digest cap is_there))
+
+-- a line for each change: where it is due, it fits
+module _ (w : World) (kept : WellKept w) (caller : Option (List ℕ)) (moment : ℕ)
+    (now : is_in_clock moment ≡ true) where
+  pub due_fits : (change : Change) → Due w caller moment change → has_change_form change ≡ true
+      → CanApply w change
+  due_fits (Grant digest cap) due form = can_grant w digest cap kept form due.1
+  due_fits (Revoke digest) due form = can_revoke w digest kept
+  due_fits (Define name table) due form = can_define w name table kept form due.1
+  due_fits (AddPool prefix) due form = can_add_pool w prefix kept due.1 due.2
+  due_fits (Submit account reference ask) due form =
+      let mine = subst (λ a. is_name a ≡ true) due.0.own
+      (known_account w caller due.0.serves.cap kept due.0.serves.is_there) in
+      let its = first_so (is_name reference) (has_ask_form ask) form in
+      let asks = second_so (is_name reference) (has_ask_form ask) form in
+      can_submit w (account, reference) ask kept
+      (both_true (both_true (both_true mine its) asks) refl) due.1
+  due_fits (Close account reference Pending) due form = absurd due.1
+  due_fits (Close account reference (Approved given)) due form = absurd due.1
+  due_fits (Close account reference (Declined reason)) due form =
+      can_close w (account, reference) due.0.case (Declined reason) kept due.0.is_there tt form
+  due_fits (Close account reference Withdrawn) due form =
+      can_close w (account, reference) due.0.case Withdrawn kept due.0.is_there tt refl
+  due_fits (Assign account reference expert) due form =
+      can_assign w (account, reference) due.1.case expert kept due.1.is_there form due.2 due.3
+  due_fits (Advise account reference expert advice) due form =
+      can_advise w (account, reference) expert advice kept due.2 form
+  due_fits (GiveValue account reference entry) due form =
+      let is = due.1 in
+      let free = allowed_free w kept account is.ask entry.value is.allows in
+      subst (λ e. CanApply w (GiveValue account reference e)) is.is
+      (can_give w (account, reference) is.pending.case is.ask
+      (utc_day moment) entry.value kept is.pending.is_there is.asks free (open_day moment now))
+
+pub steps_fit : (digest_of : List ℕ → List ℕ) → GivesDigests digest_of → ChangesFit digest_of
+steps_fit digest_of digests w caller moment command change kept form made =
+    let is = changes_due digest_of w caller moment command change made in
+    due_fits w kept caller moment is.is_open change is.due (is.form digests form)

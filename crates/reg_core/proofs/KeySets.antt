@@ -21,8 +21,10 @@ module _ {K X : Type 0} {R : K → K → Ordering} (o : IsKeyOrder R) (m : FinMa
       by false = there
 
   -- what holds of each key holds of each key after an insertion
-  pub each_key : (P : K → Type 0) (v : X) → ((q : K) → IsSome (get m q) → P q) → P k → (q : K) → IsSome (get (insert m k v) q) → P q
-  each_key P v each new q there = by (eq_by_cmp R q k) refl (sym (ap is_some (get-at_insert o m k v q)) ∙ there)
+  pub each_key : (P : K → Type 0) (v : X) → ((q : K) → IsSome (get m q) → P q) → P k → (q : K)
+      → IsSome (get (insert m k v) q) → P q
+  each_key P v each new q there =
+      by (eq_by_cmp R q k) refl (sym (ap is_some (get-at_insert o m k v q)) ∙ there)
     where
       by : (b : Bool) → eq_by_cmp R q k ≡ b → IsSome (cond b (Some v) (get m q)) → P q
       by true t there = subst P (sym (tied o q k t)) new

@@ -1,32 +1,17 @@
 pub mod Cases
 pub mod MapLaws
 pub mod KeySets
-pub mod Verdicts
-pub mod Sameness
-pub mod Deciding
+pub mod VerdictsReadBack
+pub mod SamenessIsDecided
 pub mod Stepping
 pub mod Queues
 pub mod Files
-pub mod Awards
-pub mod Answering
-pub mod Refusing
-pub mod Changes
+pub mod Allowances
+pub mod Outcomes
 pub mod Fitting
-pub mod Isolation
 pub mod Keeping
-pub mod Doing
-pub mod Approving
-pub mod Standing
-pub mod Repeating
-pub mod Staying
-pub mod Later
-pub mod StrikingMaps
-pub mod StrikingWorlds
-pub mod StrikingViews
-pub mod StrikingAnswers
-pub mod StrikingChanges
-pub mod StrikingSteps
+pub mod GivenStays
+pub mod TwoWorlds
+pub mod Repeats
 pub mod Striking
-mod StrikingRows
-mod WorkedRows
-mod WorkedAdvice
+mod Worked

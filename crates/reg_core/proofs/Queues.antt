@@ -13,88 +13,124 @@ use Rattle.reg_core.specs.View.{Queued, as_queued, queued_to, queue_of}
 use Rattle.reg_core.specs.WellKept.{WellKept}
 use Rattle.reg_core.specs.World.{World, RequestName, name_cmp}
 use Rattle.reg_core.specs.declared.advice.Advice.{Advice}
-use Rattle.reg_core.specs.declared.request.Filing.{Filing}
+use Rattle.reg_core.specs.declared.request.Case.{Case}
 use Rattle.reg_core.proofs.MapLaws.{name_keys, seat_keys, tied, same_at, get-select, get-at_insert, get-inserted, get-update}
-use Rattle.reg_core.proofs.Sameness.{same_text-itself}
+use Rattle.reg_core.proofs.SamenessIsDecided.{same_text-itself}
 
-pub get-queue_of : (account : List ℕ) (w : World) (name : RequestName) → get (queue_of account w) name ≡ option_and_then (queued_to account w name) (get w.requests name)
-get-queue_of account w name = get-select name_keys (λ name filing. queued_to account w name filing) w.requests name
+pub get-queue_of : (account : List ℕ) (w : World) (name : RequestName)
+    → get (queue_of account w) name
+    ≡ option_and_then (queued_to account w name) (get w.requests name)
+get-queue_of account w name =
+    get-select name_keys (λ name case. queued_to account w name case) w.requests name
 
 -- ---- A queued request
 
 -- a request that is queued to the account, as the world has it
-pub record IsQueued (account : List ℕ) (w : World) (name : RequestName) (queued : Queued) : Type 0 where
-  pub filing : Filing
-  pub found : get w.requests name ≡ Some filing
+pub record IsQueued (account : List ℕ) (w : World) (name : RequestName)
+    (queued : Queued) : Type 0 where
+  pub case : Case
+  pub is_there : get w.requests name ≡ Some case
   pub assigned : contains_key w.queue (name, account) ≡ true
-  pub shows : as_queued (get w.advice (name, account)) filing ≡ queued
+  pub shows : as_queued (get w.advice (name, account)) case ≡ queued
 
-pub queued_found : (account : List ℕ) (w : World) (name : RequestName) (queued : Queued) → get (queue_of account w) name ≡ Some queued → IsQueued account w name queued
-queued_found account w name queued h = from (get w.requests name) refl (sym (get-queue_of account w name) ∙ h)
+pub queued_found : (account : List ℕ) (w : World) (name : RequestName) (queued : Queued)
+    → get (queue_of account w) name ≡ Some queued → IsQueued account w name queued
+queued_found account w name queued h =
+    from (get w.requests name) refl (sym (get-queue_of account w name) ∙ h)
   where
-    shown : (filing : Filing) → get w.requests name ≡ Some filing → (b : Bool) → contains_key w.queue (name, account) ≡ b
-        → only_if b (as_queued (get w.advice (name, account)) filing) ≡ Some queued → IsQueued account w name queued
-    shown filing found true t h = record { filing = filing; found = found; assigned = t; shows = cc }
-    shown filing found false t h = absurd (cc)
+    shown : (case : Case) → get w.requests name ≡ Some case → (b : Bool)
+        → contains_key w.queue (name, account) ≡ b
+        → only_if b (as_queued (get w.advice (name, account)) case) ≡ Some queued
+        → IsQueued account w name queued
+    shown case is_there true t h =
+        record { case = case; is_there = is_there; assigned = t; shows = cc }
+    shown case is_there false t h = absurd (cc)
 
-    from : (o : Option Filing) → get w.requests name ≡ o → option_and_then (queued_to account w name) o ≡ Some queued → IsQueued account w name queued
-    from None found h = absurd (cc)
-    from (Some filing) found h = shown filing found (contains_key w.queue (name, account)) refl h
+    from : (o : Option Case) → get w.requests name ≡ o
+        → option_and_then (queued_to account w name) o ≡ Some queued
+        → IsQueued account w name queued
+    from None is_there h = absurd (cc)
+    from (Some case) is_there h = shown case is_there (contains_key w.queue (name, account)) refl h
 
-pub found_queued : (account : List ℕ) (w : World) (name : RequestName) (filing : Filing) → get w.requests name ≡ Some filing → contains_key w.queue (name, account) ≡ true
-    → get (queue_of account w) name ≡ Some (as_queued (get w.advice (name, account)) filing)
-found_queued account w name filing found assigned =
-    get-queue_of account w name ∙ ap (option_and_then (queued_to account w name)) found ∙ ap (λ b. only_if b (as_queued (get w.advice (name, account)) filing)) assigned
+pub found_queued : (account : List ℕ) (w : World) (name : RequestName) (case : Case)
+    → get w.requests name ≡ Some case → contains_key w.queue (name, account) ≡ true
+    → get (queue_of account w) name ≡ Some (as_queued (get w.advice (name, account)) case)
+found_queued account w name case is_there assigned =
+    get-queue_of account w name ∙ ap (option_and_then (queued_to account w name)) is_there
+    ∙ ap (λ b. only_if b (as_queued (get w.advice (name, account)) case)) assigned
 
 -- ---- Own requests
 
 -- the maps have the same requests of others
-abbrev pub SameOthers : List ℕ → FinMap name_cmp Filing → FinMap name_cmp Filing → Type 0
-SameOthers account m n = (name : RequestName) → same_text account name.0 ≡ false → get m name ≡ get n name
+abbrev pub SameOthers : List ℕ → FinMap name_cmp Case → FinMap name_cmp Case → Type 0
+SameOthers account m n =
+    (name : RequestName) → same_text account name.0 ≡ false → get m name ≡ get n name
 
-module _ (account reference : List ℕ) (m : FinMap name_cmp Filing) where
-  own_apart : (name : RequestName) → same_text account name.0 ≡ false → eq_by_cmp name_cmp name (account, reference) ≡ true → ⊥
+module _ (account reference : List ℕ) (m : FinMap name_cmp Case) where
+  own_apart : (name : RequestName) → same_text account name.0 ≡ false
+      → eq_by_cmp name_cmp name (account, reference) ≡ true → ⊥
   own_apart name other t =
-      let own : same_text account name.0 ≡ true = ap (λ (n : RequestName). same_text account n.0) (tied name_keys name (account, reference) t) ∙ same_text-itself account in
+      let own : same_text account name.0 ≡ true =
+      ap (λ (n : RequestName). same_text account n.0)
+      (tied name_keys name (account, reference) t) ∙ same_text-itself account in
       cc
 
-  pub others_after_insert : (filing : Filing) → SameOthers account (insert m (account, reference) filing) m
-  others_after_insert filing name other = get-at_insert name_keys m (account, reference) filing name ∙ by (eq_by_cmp name_cmp name (account, reference)) refl
+  pub others_after_insert : (case : Case)
+      → SameOthers account (insert m (account, reference) case) m
+  others_after_insert case name other =
+      get-at_insert name_keys m (account, reference) case name
+      ∙ by (eq_by_cmp name_cmp name (account, reference)) refl
     where
-      by : (b : Bool) → eq_by_cmp name_cmp name (account, reference) ≡ b → cond b (Some filing) (get m name) ≡ get m name
+      by : (b : Bool) → eq_by_cmp name_cmp name (account, reference) ≡ b
+          → cond b (Some case) (get m name) ≡ get m name
       by true t = absurd (own_apart name other t)
       by false t = refl
 
-  pub others_after_update : (f : Filing → Filing) → SameOthers account (update m (account, reference) f) m
-  others_after_update f name other = get-update name_keys m (account, reference) f name ∙ by (eq_by_cmp name_cmp name (account, reference)) refl
+  pub others_after_update : (f : Case → Case)
+      → SameOthers account (update m (account, reference) f) m
+  others_after_update f name other =
+      get-update name_keys m (account, reference) f name
+      ∙ by (eq_by_cmp name_cmp name (account, reference)) refl
     where
-      by : (b : Bool) → eq_by_cmp name_cmp name (account, reference) ≡ b → cond b (option_map f (get m (account, reference))) (get m name) ≡ get m name
+      by : (b : Bool) → eq_by_cmp name_cmp name (account, reference) ≡ b
+          → cond b (option_map f (get m (account, reference))) (get m name) ≡ get m name
       by true t = absurd (own_apart name other t)
       by false t = refl
 
--- no request is queued to its applicant, so an account's queue does not change with its own requests
-pub queue_same : (account : List ℕ) (w : World) (requests : FinMap name_cmp Filing) → WellKept w → SameOthers account requests w.requests
+-- no request is queued to its applicant, so an account's queue does not change with its own
+-- requests
+pub queue_same : (account : List ℕ) (w : World) (requests : FinMap name_cmp Case) → WellKept w
+    → SameOthers account requests w.requests
     → queue_of account (record w { requests = requests }) ≡ queue_of account w
 queue_same account w requests kept same = same_at name_keys _ _ (λ name.
-    get-queue_of account (record w { requests = requests }) name ∙ by name (contains_key w.queue (name, account)) refl ∙ sym (get-queue_of account w name))
+    get-queue_of account (record w { requests = requests }) name
+    ∙ by name (contains_key w.queue (name, account)) refl ∙ sym (get-queue_of account w name))
   where
-    none : (queued : Filing → Queued) (o r : Option Filing) → option_and_then (λ filing. only_if false (queued filing)) o ≡ option_and_then (λ filing. only_if false (queued filing)) r
+    none : (queued : Case → Queued) (o r : Option Case)
+        → option_and_then (λ case. only_if false (queued case)) o
+        ≡ option_and_then (λ case. only_if false (queued case)) r
     none queued None None = refl
-    none queued None (Some filing) = refl
-    none queued (Some filing) None = refl
-    none queued (Some filing) (Some old) = refl
+    none queued None (Some case) = refl
+    none queued (Some case) None = refl
+    none queued (Some case) (Some old) = refl
 
     not_true : (b : Bool) → not b ≡ true → b ≡ false
     not_true true h = absurd (cc)
     not_true false h = refl
 
     by : (name : RequestName) (b : Bool) → contains_key w.queue (name, account) ≡ b
-        → option_and_then (λ filing. only_if b (as_queued (get w.advice (name, account)) filing)) (get requests name)
-        ≡ option_and_then (λ filing. only_if b (as_queued (get w.advice (name, account)) filing)) (get w.requests name)
+        → option_and_then (λ case. only_if b (as_queued (get w.advice (name, account)) case))
+        (get requests name)
+        ≡ option_and_then (λ case. only_if b (as_queued (get w.advice (name, account)) case))
+        (get w.requests name)
     by name true t =
-        let other = not_true (same_text account name.0) (second_so (is_name account) (not (same_text account name.0)) (kept.queue (name, account) t)) in
-        ap (option_and_then (λ filing. only_if true (as_queued (get w.advice (name, account)) filing))) (same name other)
-    by name false t = none (as_queued (get w.advice (name, account))) (get requests name) (get w.requests name)
+        let other = not_true (same_text account name.0)
+        (second_so (is_name account) (not (same_text account name.0))
+        (kept.queue (name, account) t)) in
+        ap (option_and_then (λ case. only_if true (as_queued (get w.advice (name, account)) case)))
+        (same name other)
+    by name false t =
+        none (as_queued (get w.advice (name, account))) (get requests name) (get w.requests name)
 
 -- ---- Own advice
 
@@ -105,38 +141,58 @@ other_seat Greater s h = refl
 
 -- an account's own advice stands in its queue
 pub queue_advised : (account : List ℕ) (w : World) (name : RequestName) (advice : Advice)
-    → queue_of account (record w { advice = insert w.advice (name, account) advice }) ≡ update (queue_of account w) name (with_advice advice)
-queue_advised account w name advice = same_at name_keys _ _ (λ other. by other (eq_by_cmp name_cmp other name) refl)
+    → queue_of account (record w { advice = insert w.advice (name, account) advice })
+    ≡ update (queue_of account w) name (with_advice advice)
+queue_advised account w name advice =
+    same_at name_keys _ _ (λ other. by other (eq_by_cmp name_cmp other name) refl)
   where
     v : World
     v = record w { advice = insert w.advice (name, account) advice }
 
-    replaced_row : (b : Bool) (old : Option Advice) (o : Option Filing)
-        → option_and_then (λ filing. only_if b (as_queued (Some advice) filing)) o ≡ option_map (with_advice advice) (option_and_then (λ filing. only_if b (as_queued old filing)) o)
+    replaced_row : (b : Bool) (old : Option Advice) (o : Option Case)
+        → option_and_then (λ case. only_if b (as_queued (Some advice) case)) o
+        ≡ option_map (with_advice advice)
+        (option_and_then (λ case. only_if b (as_queued old case)) o)
     replaced_row true old None = refl
     replaced_row false old None = refl
-    replaced_row true old (Some filing) = refl
-    replaced_row false old (Some filing) = refl
+    replaced_row true old (Some case) = refl
+    replaced_row false old (Some case) = refl
 
-    at_name : get (queue_of account v) name ≡ option_map (with_advice advice) (get (queue_of account w) name)
+    at_name : get (queue_of account v) name
+        ≡ option_map (with_advice advice) (get (queue_of account w) name)
     at_name =
         get-queue_of account v name
-        ∙ ap (λ given. option_and_then (λ filing. only_if (contains_key w.queue (name, account)) (as_queued given filing)) (get w.requests name)) (get-inserted seat_keys w.advice (name, account) advice)
-        ∙ replaced_row (contains_key w.queue (name, account)) (get w.advice (name, account)) (get w.requests name)
+        ∙ ap (λ given.
+        option_and_then
+        (λ case. only_if (contains_key w.queue (name, account)) (as_queued given case))
+        (get w.requests name)) (get-inserted seat_keys w.advice (name, account) advice)
+        ∙ replaced_row (contains_key w.queue (name, account)) (get w.advice (name, account))
+        (get w.requests name)
         ∙ ap (option_map (with_advice advice)) (sym (get-queue_of account w name))
 
-    at_other : (other : RequestName) → eq_by_cmp name_cmp other name ≡ false → get (queue_of account v) other ≡ get (queue_of account w) other
+    at_other : (other : RequestName) → eq_by_cmp name_cmp other name ≡ false
+        → get (queue_of account v) other ≡ get (queue_of account w) other
     at_other other t =
         get-queue_of account v other
-        ∙ ap (λ given. option_and_then (λ filing. only_if (contains_key w.queue (other, account)) (as_queued given filing)) (get w.requests other))
+        ∙ ap (λ given.
+        option_and_then
+        (λ case. only_if (contains_key w.queue (other, account)) (as_queued given case))
+        (get w.requests other))
         (get-at_insert seat_keys w.advice (name, account) advice (other, account)
-        ∙ ap (λ b. cond b (Some advice) (get w.advice (other, account))) (other_seat (name_cmp other name) (text_cmp account account) t))
+        ∙ ap (λ b. cond b (Some advice) (get w.advice (other, account)))
+        (other_seat (name_cmp other name) (text_cmp account account) t))
         ∙ sym (get-queue_of account w other)
 
-    by : (other : RequestName) (b : Bool) → eq_by_cmp name_cmp other name ≡ b → get (queue_of account v) other ≡ get (update (queue_of account w) name (with_advice advice)) other
+    by : (other : RequestName) (b : Bool) → eq_by_cmp name_cmp other name ≡ b
+        → get (queue_of account v) other
+        ≡ get (update (queue_of account w) name (with_advice advice)) other
     by other true t =
         ap (get (queue_of account v)) (tied name_keys other name t) ∙ at_name
-        ∙ sym (get-update name_keys (queue_of account w) name (with_advice advice) other ∙ ap (λ b. cond b (option_map (with_advice advice) (get (queue_of account w) name)) (get (queue_of account w) other)) t)
+        ∙ sym (get-update name_keys (queue_of account w) name (with_advice advice) other
+        ∙ ap (λ b. cond b (option_map (with_advice advice) (get (queue_of account w) name))
+        (get (queue_of account w) other)) t)
     by other false t =
         at_other other t
-        ∙ sym (get-update name_keys (queue_of account w) name (with_advice advice) other ∙ ap (λ b. cond b (option_map (with_advice advice) (get (queue_of account w) name)) (get (queue_of account w) other)) t)
+        ∙ sym (get-update name_keys (queue_of account w) name (with_advice advice) other
+        ∙ ap (λ b. cond b (option_map (with_advice advice) (get (queue_of account w) name))
+        (get (queue_of account w) other)) t)

@@ -9,42 +9,53 @@ use Rattle.reg_core.specs.View.{requests_of}
 use Rattle.reg_core.specs.World.{World, RequestName}
 use Rattle.reg_core.specs.declared.capability.Cap.{Cap}
 use Rattle.reg_core.specs.declared.capability.Kind.{Kind}
-use Rattle.reg_core.specs.declared.request.Filing.{Filing}
+use Rattle.reg_core.specs.declared.request.Case.{Case}
 use Rattle.reg_core.specs.declared.refusal.Refusal.TheVariants as no
 use Rattle.reg_core.proofs.MapLaws.{name_keys, get-select}
-use Rattle.reg_core.proofs.Sameness.{same_text-itself}
+use Rattle.reg_core.proofs.SamenessIsDecided.{same_text-itself}
 
 -- among an account's own requests each of the account's is found under its name
-pub own_request : (account : List ℕ) (reference : List ℕ) (w : World) → get (requests_of account w) (account, reference) ≡ get w.requests (account, reference)
+pub own_request : (account : List ℕ) (reference : List ℕ) (w : World)
+    → get (requests_of account w) (account, reference) ≡ get w.requests (account, reference)
 own_request account reference w =
     get-select name_keys _ w.requests (account, reference)
-    ∙ elim (get w.requests (account, reference)) as (λ o. option_and_then (λ filing. only_if (same_text account account) filing) o ≡ o) [
+    ∙ elim (get w.requests (account, reference)) as
+    (λ o. option_and_then (λ case. only_if (same_text account account) case) o ≡ o) [
       | None ↦ refl
-      | Some filing ↦ ap (λ b. only_if b filing) (same_text-itself account)
+      | Some case ↦ ap (λ b. only_if b case) (same_text-itself account)
     ]
 
 -- an account's own row is a row of the world
-pub own_row_found : (account : List ℕ) (w : World) (name : RequestName) (filing : Filing) → get (requests_of account w) name ≡ Some filing → get w.requests name ≡ Some filing
-own_row_found account w name filing found =
-    from (get w.requests name) (sym (get-select name_keys (λ name filing. only_if (same_text name.0 account) filing) w.requests name) ∙ found)
+pub own_row_found : (account : List ℕ) (w : World) (name : RequestName) (case : Case)
+    → get (requests_of account w) name ≡ Some case → get w.requests name ≡ Some case
+own_row_found account w name case is_there =
+    from (get w.requests name)
+    (sym (get-select name_keys
+    (λ name case. only_if (same_text name.0 account) case) w.requests name) ∙ is_there)
   where
-    shown : (b : Bool) (row : Filing) → only_if b row ≡ Some filing → Some row ≡ Some filing
+    shown : (b : Bool) (row : Case) → only_if b row ≡ Some case → Some row ≡ Some case
     shown true row h = h
     shown false row h = absurd (cc)
 
-    from : (o : Option Filing) → option_and_then (λ filing. only_if (same_text name.0 account) filing) o ≡ Some filing → o ≡ Some filing
+    from : (o : Option Case)
+        → option_and_then (λ case. only_if (same_text name.0 account) case) o ≡ Some case
+        → o ≡ Some case
     from None h = absurd (cc)
     from (Some row) h = shown (same_text name.0 account) row h
 
--- the capability by which a command is admitted is the one that was found, still valid and of the kind
-pub admitted-ok : (found : Option Cap) (moment : ℕ) (kind : Kind) (cap : Cap) → admitted found moment kind ≡ Ok cap
-    → (found ≡ Some cap) × (nat_le cap.until moment ≡ false) × (same_kind cap.kind kind ≡ true)
+-- the capability by which a command is admitted is the one that was found, still valid and of the
+-- kind
+pub admitted-ok : (existing : Option Cap) (moment : ℕ) (kind : Kind) (cap : Cap)
+    → admitted existing moment kind ≡ Ok cap
+    → (existing ≡ Some cap) × (nat_le cap.until moment ≡ false) × (same_kind cap.kind kind ≡ true)
 admitted-ok None moment kind cap h = absurd (cc)
-admitted-ok (Some old) moment kind cap h = from (nat_le old.until moment) (same_kind old.kind kind) refl refl h
+admitted-ok (Some old) moment kind cap h =
+    from (nat_le old.until moment) (same_kind old.kind kind) refl refl h
   where
     from : (late same : Bool) → nat_le old.until moment ≡ late → same_kind old.kind kind ≡ same
         → (if late then Err no.Token else if same then Ok old else Err no.Kind) ≡ Ok cap
-        → (Some old ≡ Some cap) × (nat_le cap.until moment ≡ false) × (same_kind cap.kind kind ≡ true)
+        → (Some old ≡ Some cap) × (nat_le cap.until moment ≡ false)
+        × (same_kind cap.kind kind ≡ true)
     from true same l s e = absurd (cc)
     from false false l s e = absurd (cc)
     from false true l s e = let is : old ≡ cap = cc in rw (← is) (refl, l, s)

@@ -48,7 +48,8 @@ is_among account accounts = list_any (λ other. same_text other account) account
 
 -- the opinion is for the request, and of one of these experts
 abbrev pub is_favourable : List (List ℕ) → Opinion → Bool
-is_favourable experts opinion = same_verdict opinion.advice.verdict For && is_among opinion.expert experts
+is_favourable experts opinion =
+    same_verdict opinion.advice.verdict For && is_among opinion.expert experts
 
 -- one of a request's experts is for it, among all advice on it
 abbrev pub is_advised : List (List ℕ) → List Opinion → Bool

@@ -13,19 +13,20 @@ use Rattle.reg_ranges.specs.declared.policy.Treatment.TheVariants.{Under, Reserv
 use Rattle.reg_core.specs.View.{Published, entries_of}
 use Rattle.reg_core.specs.declared.ask.Ask.{Ask}
 use Rattle.reg_core.specs.declared.ask.Ask.TheVariants.{Code}
+use Rattle.reg_core.specs.declared.decide.allowance.Allowance.{Allowance}
 use Rattle.reg_core.specs.declared.ask.Want.{Want}
 use Rattle.reg_core.specs.declared.ask.Want.TheVariants.{Value, Least}
 use Rattle.reg_core.specs.declared.refusal.Refusal.{Refusal}
 use Rattle.reg_core.specs.declared.refusal.Refusal.TheVariants as no
-use Rattle.reg_core.specs.declared.entry.Assignment.{Assignment}
+use Rattle.reg_core.specs.declared.entry.Registration.{Registration}
 use Rattle.reg_core.specs.declared.request.Given.{Given}
 use Rattle.reg_core.specs.declared.request.Given.TheVariants as given
 
--- the published rows that an ask needs: its registry, the entry at the value that it names, and the values
--- that have entries where it wants the least
+-- the published rows that an ask needs: its registry, the entry at the value that it names, and
+-- the values that have entries where it wants the least
 pub record Ground : Type 0 where
   pub table : Option Table
-  pub entry : Option Assignment
+  pub entry : Option Registration
   pub taken : List ℕ
 
 -- each check in turn, as far as none refuses
@@ -47,11 +48,13 @@ open_policy (Some (Under policy)) = if is_closed_policy policy then Err no.Polic
 -- the policy, where the registry has a range under it
 abbrev pub policy_in : Table → Policy → Option Treatment
 policy_in table policy =
-    if list_any (λ range. same_treatment range.treatment (Under policy)) table.ranges then Some (Under policy) else None
+    if list_any (λ range. same_treatment range.treatment (Under policy)) table.ranges
+    then Some (Under policy) else None
 
 -- the policy that decides about what is wanted
 abbrev pub policy_for : Table → Want → Result Policy Refusal
-policy_for table (Value v) = if nat_lt table.max v then Err no.Range else open_policy (treatment_of table v)
+policy_for table (Value v) =
+    if nat_lt table.max v then Err no.Range else open_policy (treatment_of table v)
 policy_for table (Least policy) = open_policy (policy_in table policy)
 
 -- nothing is missing of the evidence that the policy asks for
@@ -64,18 +67,25 @@ abbrev pub value_for : Ground → Table → Want → Result ℕ Refusal
 value_for rows table (Value v) = if is_some rows.entry then Err no.Taken else Ok v
 value_for rows table (Least policy) = or_refusal no.Exhausted (least_value table policy rows.taken)
 
--- what an ask of an account would be given, or the first refusal that it meets
-abbrev pub allowed_on : Ground → List ℕ → Ask → Result Given Refusal
-allowed_on rows account (Code ask) = do
+-- what an ask of an account is allowed, or the first refusal that it meets: what it is given, and
+-- whether a designated expert has to approve (RFC 8126 sections 4.5 and 4.6)
+abbrev pub allowance_on : Ground → List ℕ → Ask → Result Allowance Refusal
+allowance_on rows account (Code ask) = do
   table ← or_refusal no.Registry rows.table
   policy ← policy_for table ask.want
   nothing ← is_met (first_item (unmet policy ask.evidence))
   value ← value_for rows table ask.want
-  Ok (given.Value value)
+  Ok (record { given = given.Value value; needs_advice = is_expert_policy policy })
+
+-- what it would be given
+abbrev pub allowed_on : Ground → List ℕ → Ask → Result Given Refusal
+allowed_on rows account ask = do
+  allowance ← allowance_on rows account ask
+  Ok allowance.given
 
 -- ---- In the published registers
 
-abbrev pub entry_wanted : Published → List ℕ → Want → Option Assignment
+abbrev pub entry_wanted : Published → List ℕ → Want → Option Registration
 entry_wanted p registry (Value v) = get p.entries (registry, v)
 entry_wanted p registry (Least policy) = None
 
@@ -95,16 +105,17 @@ allowed p account ask = allowed_on (ground_of p ask) account ask
 
 -- ---- Review
 
--- a designated expert has to approve (RFC 8126 sections 4.5 and 4.6)
+-- a designated expert has to approve
 abbrev pub is_reviewed : Result Policy Refusal → Bool
 is_reviewed (Ok policy) = is_expert_policy policy
 is_reviewed (Err refusal) = false
 
 -- the policy that decides about what is wanted of a registry that may not be there
 abbrev pub policy_wanted : Option Table → Want → Result Policy Refusal
-policy_wanted found want = do
-  table ← or_refusal no.Registry found
+policy_wanted existing want = do
+  table ← or_refusal no.Registry existing
   policy_for table want
 
+-- whatever else the ask meets, the policy is one under which an expert has to approve
 abbrev pub needs_advice : Ground → Ask → Bool
 needs_advice rows (Code ask) = is_reviewed (policy_wanted rows.table ask.want)

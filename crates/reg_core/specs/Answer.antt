@@ -2,8 +2,7 @@
 use Rattle.std.specs.Prelude.{ℕ, nat_le, List, Option, Some, None, Result, Ok, Err, if◌then◌else◌}
 use Rattle.std.specs.FinMap.{get, keys}
 use Rattle.reg_early.specs.Moment.{is_in_clock, utc_day}
-use Rattle.reg_ranges.specs.Tables.{Table}
-use Rattle.reg_core.specs.Allowance.{allowed}
+use Rattle.reg_core.specs.Allowance.{◌>>=◌, or_refusal, allowed}
 use Rattle.reg_core.specs.Capability.{same_kind}
 use Rattle.reg_core.specs.Page.{page}
 use Rattle.reg_core.specs.Queue.{queue_row, queue_rows, with_advice}
@@ -11,7 +10,6 @@ use Rattle.reg_core.specs.Request.{request_row, request_rows, after}
 use Rattle.reg_core.specs.Rules.{submit_rule, withdraw_rule, advise_rule}
 use Rattle.reg_core.specs.View.{Published, Queued, Personal, View}
 use Rattle.reg_core.specs.World.{RequestName, pending}
-use Rattle.reg_core.specs.declared.advice.Advice.{Advice as AdviceOf}
 use Rattle.reg_core.specs.declared.ask.Ask.{Ask}
 use Rattle.reg_core.specs.declared.capability.Cap.{Cap}
 use Rattle.reg_core.specs.declared.capability.Kind.{Kind}
@@ -24,75 +22,72 @@ use Rattle.reg_core.specs.declared.command.ApplicantCommand.TheVariants.{Own, Ow
 use Rattle.reg_core.specs.declared.command.ExpertCommand.{ExpertCommand}
 use Rattle.reg_core.specs.declared.command.ExpertCommand.TheVariants.{Queue, Advise}
 use Rattle.reg_core.specs.declared.command.PublicCommand.{PublicCommand}
-use Rattle.reg_core.specs.declared.command.PublicCommand.TheVariants.{Registries, Registry, RegistryCsv, PoolList}
+use Rattle.reg_core.specs.declared.command.PublicCommand.TheVariants.{Registries, Registry, RegistryListing, PoolList}
+use Rattle.reg_core.specs.declared.content.Content.{Content}
+use Rattle.reg_core.specs.declared.content.Content.TheVariants as content
 use Rattle.reg_core.specs.declared.decide.Decision.{Decision}
 use Rattle.reg_core.specs.declared.decide.Decision.TheVariants.{Make, Same}
 use Rattle.reg_core.specs.declared.refusal.Refusal.{Refusal}
 use Rattle.reg_core.specs.declared.refusal.Refusal.TheVariants as no
 use Rattle.reg_core.specs.declared.reply.Reply.{Reply}
-use Rattle.reg_core.specs.declared.reply.Reply.TheVariants as reply
-use Rattle.reg_core.specs.declared.request.Filing.{Filing}
-use Rattle.reg_core.specs.declared.request.Given.{Given}
+use Rattle.reg_core.specs.declared.reply.Reply.TheVariants.{Accepted, Refused}
+use Rattle.reg_core.specs.declared.request.Case.{Case}
 
--- a reply, and the change that goes with it, if there is one
-pub record Answer : Type 0 where
-  pub reply : Reply
+-- what an accepted command comes to: what the caller is told, and the change, if there is one
+pub record Outcome : Type 0 where
+  pub content : Content
   pub change : Option Change
 
-abbrev pub replied : Reply → Answer
-replied r = record { reply = r; change = None }
+-- an answer is a refusal, or what the accepted command comes to
+abbrev pub Answer : Type 0
+Answer = Result Outcome Refusal
 
-abbrev pub refused : Refusal → Answer
-refused refusal = replied (reply.Refused refusal)
+abbrev pub reply_of : Answer → Reply
+reply_of (Ok outcome) = Accepted outcome.content
+reply_of (Err refusal) = Refused refusal
 
--- the answer to a decision: one reply where all is there already, another where it is made now
-abbrev pub answered : Result Decision Refusal → Reply → Reply → Answer
-answered (Err refusal) there made = refused refusal
-answered (Ok Same) there made = replied there
-answered (Ok (Make change)) there made = record { reply = made; change = Some change }
+-- a refusal changes nothing
+abbrev pub change_of : Answer → Option Change
+change_of (Ok outcome) = outcome.change
+change_of (Err refusal) = None
 
--- the answer to a decision about a request: the request as it is then
-abbrev pub stated : Result Decision Refusal → (Filing → Reply) → Filing → Answer
-stated (Err refusal) show filing = refused refusal
-stated (Ok Same) show filing = replied (show filing)
-stated (Ok (Make change)) show filing = record { reply = show (after change filing); change = Some change }
+-- the caller is told something, and nothing changes
+abbrev pub unchanged : Content → Answer
+unchanged content = Ok (record { content = content; change = None })
 
--- the answer about a request, if there is such a one, or it is queued
-abbrev pub for_request : {Row : Type 0} → Option Row → (Row → Answer) → Answer
-for_request None f = refused no.Request
-for_request (Some row) f = f row
+-- the change of a decision, if there is one
+abbrev pub change_by : Decision → Option Change
+change_by Same = None
+change_by (Make change) = Some change
+
+-- a rule's refusal; or what its decision comes to, and the caller is told what goes with it
+abbrev pub by_rule : Result Decision Refusal → (Decision → Content) → Answer
+by_rule (Err refusal) told = Err refusal
+by_rule (Ok decision) told = Ok (record { content = told decision; change = change_by decision })
+
+-- a request after a decision about it
+abbrev pub case_by : Decision → Case → Case
+case_by Same case = case
+case_by (Make change) case = after change case
 
 -- a request as its applicant sees it, and as the desk does
-abbrev pub own_row : RequestName → Filing → Reply
-own_row name filing = reply.Row (request_row name filing)
+abbrev pub own_row : RequestName → Case → Content
+own_row name case = content.Row (request_row name case)
 
-abbrev pub desk_row : RequestName → Filing → Reply
-desk_row name filing = reply.Desk (request_row name filing)
-
-abbrev pub row_reply : RequestName → Option Filing → Reply
-row_reply name None = reply.Refused no.Request
-row_reply name (Some filing) = own_row name filing
-
-abbrev pub submit : Result Given Refusal → RequestName → Ask → Option Filing → Answer
-submit allowance name ask found =
-    answered (submit_rule allowance name ask found) (row_reply name found) (reply.Made (request_row name (pending ask)))
+abbrev pub desk_row : RequestName → Case → Content
+desk_row name case = content.Desk (request_row name case)
 
 -- ---- Anybody
 
--- a registry as it is on a day, if there is one of this name
-abbrev pub page_reply : Published → List ℕ → Option Table → ℕ → Reply
-page_reply p name None today = reply.Refused no.Registry
-page_reply p name (Some table) today = reply.Page (page p name table today)
-
-abbrev pub sheet_reply : Published → List ℕ → Option Table → ℕ → Reply
-sheet_reply p name None today = reply.Refused no.Registry
-sheet_reply p name (Some table) today = reply.Sheet (page p name table today)
-
 abbrev pub public_answer : Published → ℕ → PublicCommand → Answer
-public_answer p today Registries = replied (reply.Names (keys p.registries))
-public_answer p today (Registry name) = replied (page_reply p name (get p.registries name) today)
-public_answer p today (RegistryCsv name) = replied (sheet_reply p name (get p.registries name) today)
-public_answer p today PoolList = replied (reply.Pool (keys p.pool))
+public_answer p today Registries = unchanged (content.Names (keys p.registries))
+public_answer p today (Registry name) = do
+  table ← or_refusal no.Registry (get p.registries name)
+  unchanged (content.Page (page p name table today))
+public_answer p today (RegistryListing name) = do
+  table ← or_refusal no.Registry (get p.registries name)
+  unchanged (content.Listing (page p name table today))
+public_answer p today PoolList = unchanged (content.Pool (keys p.pool))
 
 -- ---- Admission
 
@@ -104,53 +99,63 @@ admitted (Some cap) moment kind =
     else if same_kind cap.kind kind then Ok cap
     else Err no.Kind
 
-abbrev pub if_admitted : Result Cap Refusal → Answer → Answer
-if_admitted (Err refusal) a = refused refusal
-if_admitted (Ok cap) a = a
-
 -- a caller with a capability of this kind is answered by its account and its own rows
 abbrev pub as_kind : Kind → Option (Cap × Personal) → ℕ → (List ℕ → Personal → Answer) → Answer
-as_kind kind None moment f = refused no.Token
-as_kind kind (Some me) moment f = if_admitted (admitted (Some me.0) moment kind) (f me.0.account me.1)
+as_kind kind None moment f = Err no.Token
+as_kind kind (Some me) moment f = do
+  cap ← admitted (Some me.0) moment kind
+  f me.0.account me.1
 
 -- ---- An applicant
 
+-- what is told of a request that its applicant makes, or made before
+abbrev pub made_row : RequestName → Ask → Option Case → Content
+made_row name ask None = content.Made (request_row name (pending ask))
+made_row name ask (Some case) = own_row name case
+
 abbrev pub own_answer : Published → List ℕ → Personal → ApplicantCommand → Answer
-own_answer p account my Own = replied (reply.Rows (request_rows my.requests))
-own_answer p account my (OwnOne reference) = replied (row_reply (account, reference) (get my.requests (account, reference)))
-own_answer p account my (Withdraw reference) =
-    for_request (get my.requests (account, reference)) (λ filing.
-    stated (withdraw_rule (account, reference) filing.state) (own_row (account, reference)) filing)
-own_answer p account my (Submit reference ask) = submit (allowed p account ask) (account, reference) ask (get my.requests (account, reference))
+own_answer p account my Own = unchanged (content.Rows (request_rows my.requests))
+own_answer p account my (OwnOne reference) = do
+  case ← or_refusal no.Request (get my.requests (account, reference))
+  unchanged (own_row (account, reference) case)
+own_answer p account my (Withdraw reference) = do
+  case ← or_refusal no.Request (get my.requests (account, reference))
+  by_rule (withdraw_rule (account, reference) case.state)
+      (λ decision. own_row (account, reference) (case_by decision case))
+own_answer p account my (Submit reference ask) =
+    let existing = get my.requests (account, reference) in
+    by_rule (submit_rule (allowed p account ask) (account, reference) ask existing)
+    (λ decision. made_row (account, reference) ask existing)
 
 -- ---- An expert
 
 -- a queued request, as its expert sees it
-abbrev pub item : RequestName → Queued → Reply
-item name queued = reply.Item (queue_row name queued)
-
-abbrev pub advise : RequestName → List ℕ → AdviceOf → Queued → Answer
-advise name account advice queued =
-    answered (advise_rule name account advice queued.advice queued.word) (item name queued) (item name (with_advice advice queued))
+abbrev pub item : RequestName → Queued → Content
+item name queued = content.Item (queue_row name queued)
 
 abbrev pub expert_answer : List ℕ → Personal → ExpertCommand → Answer
-expert_answer account my Queue = replied (reply.Items (queue_rows my.queue))
-expert_answer account my (Advise applicant reference advice) = for_request (get my.queue (applicant, reference)) (advise (applicant, reference) account advice)
+expert_answer account my Queue = unchanged (content.Items (queue_rows my.queue))
+expert_answer account my (Advise applicant reference advice) = do
+  queued ← or_refusal no.Request (get my.queue (applicant, reference))
+  by_rule (advise_rule (applicant, reference) account advice queued.advice queued.word)
+      (λ decision. item (applicant, reference) (with_advice advice queued))
 
 -- ---- A caller who acts as no clerk
 
 abbrev pub answer_at : View → ℕ → Command → Answer
 answer_at v moment (Public command) = public_answer v.published (utc_day moment) command
-answer_at v moment (Applicant command) = as_kind kind.Applicant v.me moment (λ account my. own_answer v.published account my command)
-answer_at v moment (Expert command) = as_kind kind.Expert v.me moment (λ account my. expert_answer account my command)
-answer_at v moment (Clerk command) = as_kind kind.Clerk v.me moment (λ account my. refused no.Kind)
+answer_at v moment (Applicant command) =
+    as_kind kind.Applicant v.me moment (λ account my. own_answer v.published account my command)
+answer_at v moment (Expert command) =
+    as_kind kind.Expert v.me moment (λ account my. expert_answer account my command)
+answer_at v moment (Clerk command) = as_kind kind.Clerk v.me moment (λ account my. Err no.Kind)
 
 abbrev pub answer : View → ℕ → Command → Answer
-answer v moment command = if is_in_clock moment then answer_at v moment command else refused no.Clock
+answer v moment command = if is_in_clock moment then answer_at v moment command else Err no.Clock
 
 -- the reply, and the change, to a caller who sees this view
 abbrev pub told : View → ℕ → Command → Reply
-told v moment command = (answer v moment command).reply
+told v moment command = reply_of (answer v moment command)
 
 abbrev pub effect : View → ℕ → Command → Option Change
-effect v moment command = (answer v moment command).change
+effect v moment command = change_of (answer v moment command)

@@ -1,9 +1,10 @@
 -- What an ask is.
-use Rattle.std.specs.Prelude.{ℕ, Bool, true, false, ◌&&◌, ◌==◌, ◌^◌, nat_lt, bytes_eq, List, Option, Some, None}
+use Rattle.std.specs.Prelude.{ℕ, Bool, true, false, ◌&&◌, ◌==◌, ◌^◌, nat_lt, bytes_eq, List, Option}
+pub use Rattle.reg_ranges.specs.Forms.{has_evidence_form}
+use Rattle.reg_ranges.specs.Forms.{is_none_or, is_rfc}
 use Rattle.reg_ranges.specs.Rfcs.{PublishedRfc}
 use Rattle.reg_ranges.specs.Sameness.{same_policy, same_evidence}
-use Rattle.reg_ranges.specs.Texts.{is_within, is_text}
-use Rattle.reg_ranges.specs.declared.evidence.Evidence.{Evidence}
+use Rattle.reg_ranges.specs.Texts.{is_text}
 use Rattle.reg_core.specs.Names.{is_name}
 use Rattle.reg_core.specs.declared.ask.CodeAsk.{CodeAsk}
 use Rattle.reg_core.specs.declared.ask.Ask.{Ask}
@@ -15,23 +16,20 @@ use Rattle.reg_core.specs.declared.ask.Want.TheVariants.{Value, Least}
 
 -- a text that may be missing
 abbrev pub has_note_form : Option (List ℕ) → Bool
-has_note_form None = true
-has_note_form (Some note) = is_text note
+has_note_form = is_none_or is_text
 
 -- an RFC that may be missing
 abbrev pub has_rfc_form : Option PublishedRfc → Bool
-has_rfc_form None = true
-has_rfc_form (Some rfc) = is_within 1 99999 rfc.number
-
-abbrev pub has_evidence_form : Evidence → Bool
-has_evidence_form e = has_note_form e.contact && has_note_form e.spec && has_rfc_form e.rfc && has_note_form e.minute
+has_rfc_form = is_none_or is_rfc
 
 abbrev pub has_want_form : Want → Bool
 has_want_form (Value v) = nat_lt v (2 ^ 32)
 has_want_form (Least policy) = true
 
 abbrev pub has_code_form : CodeAsk → Bool
-has_code_form ask = is_name ask.registry && has_want_form ask.want && is_text ask.label && has_evidence_form ask.evidence
+has_code_form ask =
+    is_name ask.registry && has_want_form ask.want && is_text ask.label
+    && has_evidence_form ask.evidence
 
 abbrev pub has_ask_form : Ask → Bool
 has_ask_form (Code ask) = has_code_form ask
@@ -45,7 +43,10 @@ same_want (Value v) (Least q) = false
 same_want (Least p) (Value u) = false
 
 abbrev pub same_code : CodeAsk → CodeAsk → Bool
-same_code a b = bytes_eq a.registry b.registry && (same_want a.want b.want && (bytes_eq a.label b.label && same_evidence a.evidence b.evidence))
+same_code a b =
+    bytes_eq a.registry b.registry
+    && (same_want a.want b.want
+    && (bytes_eq a.label b.label && same_evidence a.evidence b.evidence))
 
 abbrev pub same_ask : Ask → Ask → Bool
 same_ask (Code a) (Code b) = same_code a b

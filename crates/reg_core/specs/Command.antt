@@ -1,22 +1,21 @@
--- Whose commands they are.
-use Rattle.std.specs.Prelude.{Bool, true, ◌&&◌, Option, Some, None}
+-- What is so of each command by itself: whose it is, which request it is about, and whether it has
+-- its form.
+use Rattle.std.specs.Prelude.{Bool, true, ◌&&◌, List, ℕ, Option, Some, None, option_map}
 use Rattle.reg_ranges.specs.Texts.{is_text}
 use Rattle.reg_core.specs.Names.{is_name, is_token}
 use Rattle.reg_core.specs.Advice.{has_advice_form}
 use Rattle.reg_core.specs.Ask.{has_ask_form}
 use Rattle.reg_core.specs.Capability.{has_cap_form}
 use Rattle.reg_core.specs.Registry.{has_table_form}
+use Rattle.reg_core.specs.World.{RequestName}
+use Rattle.reg_core.specs.declared.capability.Cap.{Cap}
 use Rattle.reg_core.specs.declared.capability.Kind.{Kind}
 use Rattle.reg_core.specs.declared.capability.Kind.TheVariants as kind
 use Rattle.reg_core.specs.declared.command.Command.{Command}
 use Rattle.reg_core.specs.declared.command.Command.TheVariants.{Public, Applicant, Expert, Clerk}
-use Rattle.reg_core.specs.declared.command.PublicCommand.{PublicCommand}
-use Rattle.reg_core.specs.declared.command.PublicCommand.TheVariants.{Registries, Registry, RegistryCsv, PoolList}
-use Rattle.reg_core.specs.declared.command.ApplicantCommand.{ApplicantCommand}
+use Rattle.reg_core.specs.declared.command.PublicCommand.TheVariants.{Registries, Registry, RegistryListing, PoolList}
 use Rattle.reg_core.specs.declared.command.ApplicantCommand.TheVariants.{Own, OwnOne, Submit, Withdraw}
-use Rattle.reg_core.specs.declared.command.ExpertCommand.{ExpertCommand}
 use Rattle.reg_core.specs.declared.command.ExpertCommand.TheVariants.{Queue, Advise}
-use Rattle.reg_core.specs.declared.command.ClerkCommand.{ClerkCommand}
 use Rattle.reg_core.specs.declared.command.ClerkCommand.TheVariants.{AllRequests, OneRequest, AssignExpert, Approve, Decline, Define, AddPool, Grant, Revoke}
 
 -- the kind of capability that a command needs; none where it is anybody's
@@ -26,38 +25,55 @@ kind_of (Applicant command) = Some kind.Applicant
 kind_of (Expert command) = Some kind.Expert
 kind_of (Clerk command) = Some kind.Clerk
 
--- ---- Its texts and numbers have their forms
+-- a request of the caller's account, if the caller has a capability
+abbrev pub own_name : Option Cap → List ℕ → Option RequestName
+own_name by reference = option_map (λ (cap : Cap). (cap.account, reference)) by
 
-abbrev pub has_public_form : PublicCommand → Bool
-has_public_form Registries = true
-has_public_form (Registry name) = is_name name
-has_public_form (RegistryCsv name) = is_name name
-has_public_form PoolList = true
+-- the one request that a command is about, if it is about one, from a caller with this capability
+-- or with none
+abbrev pub about : Option Cap → Command → Option RequestName
+about by (Public Registries) = None
+about by (Public (Registry name)) = None
+about by (Public (RegistryListing name)) = None
+about by (Public PoolList) = None
+about by (Applicant Own) = None
+about by (Applicant (OwnOne reference)) = own_name by reference
+about by (Applicant (Submit reference ask)) = own_name by reference
+about by (Applicant (Withdraw reference)) = own_name by reference
+about by (Expert Queue) = None
+about by (Expert (Advise account reference advice)) = Some (account, reference)
+about by (Clerk AllRequests) = None
+about by (Clerk (OneRequest account reference)) = Some (account, reference)
+about by (Clerk (AssignExpert account reference expert)) = Some (account, reference)
+about by (Clerk (Approve account reference)) = Some (account, reference)
+about by (Clerk (Decline account reference reason)) = Some (account, reference)
+about by (Clerk (Define name table)) = None
+about by (Clerk (AddPool prefix)) = None
+about by (Clerk (Grant token cap)) = None
+about by (Clerk (Revoke token)) = None
 
-abbrev pub has_applicant_form : ApplicantCommand → Bool
-has_applicant_form Own = true
-has_applicant_form (OwnOne reference) = is_name reference
-has_applicant_form (Submit reference ask) = is_name reference && has_ask_form ask
-has_applicant_form (Withdraw reference) = is_name reference
-
-abbrev pub has_expert_form : ExpertCommand → Bool
-has_expert_form Queue = true
-has_expert_form (Advise account reference advice) = is_name account && is_name reference && has_advice_form advice
-
--- whether a number may be in the pool is no matter of form: the rule decides it
-abbrev pub has_clerk_form : ClerkCommand → Bool
-has_clerk_form AllRequests = true
-has_clerk_form (OneRequest account reference) = is_name account && is_name reference
-has_clerk_form (AssignExpert account reference expert) = is_name account && is_name reference && is_name expert
-has_clerk_form (Approve account reference) = is_name account && is_name reference
-has_clerk_form (Decline account reference reason) = is_name account && is_name reference && is_text reason
-has_clerk_form (Define name table) = is_name name && has_table_form table
-has_clerk_form (AddPool prefix) = true
-has_clerk_form (Grant token cap) = is_token token && has_cap_form cap
-has_clerk_form (Revoke token) = is_token token
-
+-- its texts and numbers have their forms; whether a number may be in the pool is no matter of
+-- form: the rule decides it
 abbrev pub has_command_form : Command → Bool
-has_command_form (Public command) = has_public_form command
-has_command_form (Applicant command) = has_applicant_form command
-has_command_form (Expert command) = has_expert_form command
-has_command_form (Clerk command) = has_clerk_form command
+has_command_form (Public Registries) = true
+has_command_form (Public (Registry name)) = is_name name
+has_command_form (Public (RegistryListing name)) = is_name name
+has_command_form (Public PoolList) = true
+has_command_form (Applicant Own) = true
+has_command_form (Applicant (OwnOne reference)) = is_name reference
+has_command_form (Applicant (Submit reference ask)) = is_name reference && has_ask_form ask
+has_command_form (Applicant (Withdraw reference)) = is_name reference
+has_command_form (Expert Queue) = true
+has_command_form (Expert (Advise account reference advice)) =
+    is_name account && is_name reference && has_advice_form advice
+has_command_form (Clerk AllRequests) = true
+has_command_form (Clerk (OneRequest account reference)) = is_name account && is_name reference
+has_command_form (Clerk (AssignExpert account reference expert)) =
+    is_name account && is_name reference && is_name expert
+has_command_form (Clerk (Approve account reference)) = is_name account && is_name reference
+has_command_form (Clerk (Decline account reference reason)) =
+    is_name account && is_name reference && is_text reason
+has_command_form (Clerk (Define name table)) = is_name name && has_table_form table
+has_command_form (Clerk (AddPool prefix)) = true
+has_command_form (Clerk (Grant token cap)) = is_token token && has_cap_form cap
+has_command_form (Clerk (Revoke token)) = is_token token

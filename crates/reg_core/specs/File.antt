@@ -8,7 +8,7 @@ use Rattle.reg_core.specs.World.{World, RequestName, Seat, seat_cmp}
 use Rattle.reg_core.specs.declared.advice.Advice.{Advice}
 use Rattle.reg_core.specs.declared.advice.Opinion.{Opinion}
 use Rattle.reg_core.specs.declared.file.File.{File}
-use Rattle.reg_core.specs.declared.request.Filing.{Filing}
+use Rattle.reg_core.specs.declared.request.Case.{Case}
 
 abbrev pub same_name : RequestName → RequestName → Bool
 same_name a b = same_text a.0 b.0 && same_text a.1 b.1
@@ -28,8 +28,14 @@ opinion seat advice = record { expert = seat.1; advice = advice }
 abbrev pub opinions_of : World → RequestName → List Opinion
 opinions_of w name = map (λ e. opinion e.0 e.1) (entries (seats_of name w.advice))
 
-abbrev pub file : World → RequestName → Filing → File
-file w name filing = record { request = request_row name filing; experts = experts_of w name; advice = opinions_of w name }
+abbrev pub file : World → RequestName → Case → File
+file w name case =
+    record {
+      request = request_row name case;
+      experts = experts_of w name;
+      advice =
+          opinions_of w name;
+    }
 
 -- one of the request's experts is for it
 abbrev pub was_advised : World → RequestName → Bool

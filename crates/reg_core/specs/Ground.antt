@@ -2,12 +2,12 @@
 use Rattle.std.specs.Prelude.{option_map}
 use Rattle.std.specs.Option.{option_copied}
 use Rattle.reg_core.specs.Allowance.{Ground}
-use Rattle.reg_core.specs.Entry.{assignment_in}
+use Rattle.reg_core.specs.Entry.{registration_in}
 use Rattle.reg_core.specs.declared.decide.allowance.Ground.{Ground as Rows}
 
 abbrev pub seen : Rows → Ground
 seen rows = record {
   table = option_copied rows.table;
-  entry = option_map assignment_in (option_copied rows.entry);
+  entry = option_map registration_in (option_copied rows.entry);
   taken = rows.taken.now;
 }

@@ -1,20 +1,22 @@
 -- The laws of the office.
 use Rattle.std.specs.Prelude.{◌≡◌, ◌<◌, ◌↔◌, ℕ, Bool, true, false, List, Option, Some, None, Ok, IsTrue, All, codes}
 use Rattle.std.specs.FinMap.{get, contains_key, keys}
+use Rattle.reg_blocks.specs.Pool.{is_pool_prefix}
 use Rattle.reg_early.specs.Moment.{is_in_clock, utc_day}
 use Rattle.reg_core.specs.Allowance.{allowed, ground_of, needs_advice}
+use Rattle.reg_core.specs.Answer.{change_of}
 use Rattle.reg_ranges.specs.Tables.{Table}
 use Rattle.reg_core.specs.Capability.{last_until}
 use Rattle.reg_core.specs.Command.{kind_of, has_command_form}
 use Rattle.reg_core.specs.File.{experts_of, opinions_of}
 use Rattle.reg_core.specs.Names.{is_token, is_digest}
 use Rattle.reg_core.specs.Queue.{queue_rows}
-use Rattle.reg_core.specs.Request.{filing_of, request_rows, word_of}
+use Rattle.reg_core.specs.Request.{case_of, request_rows, word_of}
 use Rattle.reg_core.specs.Page.{page_entries}
 use Rattle.reg_core.specs.Rules.{award}
 use Rattle.reg_core.specs.Run.{Event, have_forms, world_after}
 use Rattle.reg_core.specs.Step.{answer_to, step}
-use Rattle.reg_core.specs.View.{published, queue_of, cap_at, view_of}
+use Rattle.reg_core.specs.View.{published, requests_of, queue_of, cap_at, view_of}
 use Rattle.reg_core.specs.WellKept.{WellKept, CanApply}
 use Rattle.reg_core.specs.World.{World, Place, RequestName, empty_world, applied}
 use Rattle.reg_core.specs.declared.advice.Advice.{Advice}
@@ -30,15 +32,17 @@ use Rattle.reg_core.specs.declared.command.Command.TheVariants.{Public, Applican
 use Rattle.reg_core.specs.declared.command.ApplicantCommand.TheVariants.{Own, OwnOne, Submit, Withdraw}
 use Rattle.reg_core.specs.declared.command.ExpertCommand.TheVariants.{Queue, Advise}
 use Rattle.reg_core.specs.declared.command.ClerkCommand.TheVariants.{AllRequests, OneRequest, AssignExpert, Approve, Decline, Define, AddPool, Grant, Revoke}
-use Rattle.reg_core.specs.declared.command.PublicCommand.TheVariants.{Registries, Registry, RegistryCsv, PoolList}
+use Rattle.reg_core.specs.declared.command.PublicCommand.TheVariants.{Registries, Registry, RegistryListing, PoolList}
+use Rattle.reg_core.specs.declared.content.Content.{Content}
+use Rattle.reg_core.specs.declared.content.Content.TheVariants.{Names, Page, Listing, Pool, Made, Row, Rows, Item, Items, Desk, Desks, Filed, Defined, Pooled, Granted, Revoked}
 use Rattle.reg_core.specs.declared.file.File.{File}
 use Rattle.reg_core.specs.declared.page.Page.{Page as PageOf}
 use Rattle.reg_core.specs.declared.queue.QueueRow.{QueueRow}
 use Rattle.reg_core.specs.declared.refusal.Refusal.{Refusal}
 use Rattle.reg_core.specs.declared.reply.Reply.{Reply}
-use Rattle.reg_core.specs.declared.reply.Reply.TheVariants.{Names, Page, Sheet, Pool, Made, Row, Rows, Item, Items, Desk, Desks, Filed, Defined, Pooled, Granted, Revoked, Refused}
-use Rattle.reg_core.specs.declared.entry.Assignment.{Assignment}
-use Rattle.reg_core.specs.declared.request.Filing.{Filing}
+use Rattle.reg_core.specs.declared.reply.Reply.TheVariants.{Accepted, Refused}
+use Rattle.reg_core.specs.declared.entry.Registration.{Registration}
+use Rattle.reg_core.specs.declared.request.Case.{Case}
 use Rattle.reg_core.specs.declared.request.Given.{Given}
 use Rattle.reg_core.specs.declared.request.Request.{Request}
 use Rattle.reg_core.specs.declared.request.State.{State}
@@ -46,7 +50,8 @@ use Rattle.reg_core.specs.declared.request.State.TheVariants.{Pending, Approved,
 
 -- the digest of a token has a digest's form
 abbrev pub GivesDigests : (List ℕ → List ℕ) → Type 0
-GivesDigests digest_of = (token : List ℕ) → is_token token ≡ true → is_digest (digest_of token) ≡ true
+GivesDigests digest_of =
+    (token : List ℕ) → is_token token ≡ true → is_digest (digest_of token) ≡ true
 
 -- ---- Isolation
 
@@ -55,11 +60,15 @@ abbrev pub IsNoClerk : World → Option (List ℕ) → Type 0
 IsNoClerk w caller = (cap : Cap) → cap_at w caller ≡ Some cap → ¬ (cap.kind ≡ kind.Clerk)
 
 -- the caller is answered alike in both worlds, and then sees the same view in both
-pub record AreAlike (digest_of : List ℕ → List ℕ) (w v : World) (caller : Option (List ℕ)) (moment : ℕ) (command : Command) : Type 0 where
-  pub replies : (step digest_of w caller moment command).reply ≡ (step digest_of v caller moment command).reply
-  pub views : view_of (step digest_of w caller moment command).world caller ≡ view_of (step digest_of v caller moment command).world caller
+pub record AreAlike (digest_of : List ℕ → List ℕ) (w v : World) (caller : Option (List ℕ))
+    (moment : ℕ) (command : Command) : Type 0 where
+  pub replies : (step digest_of w caller moment command).reply
+      ≡ (step digest_of v caller moment command).reply
+  pub views : view_of (step digest_of w caller moment command).world caller
+      ≡ view_of (step digest_of v caller moment command).world caller
 
--- two well kept worlds that show a caller who is no clerk the same view answer it alike, and then show it the same view
+-- two well kept worlds that show a caller who is no clerk the same view answer it alike, and then
+-- show it the same view
 abbrev pub TwoWorlds : (List ℕ → List ℕ) → Type 0
 TwoWorlds digest_of =
     (w v : World) (caller : Option (List ℕ)) (moment : ℕ) (command : Command)
@@ -73,81 +82,117 @@ abbrev pub ChangesFit : (List ℕ → List ℕ) → Type 0
 ChangesFit digest_of =
     (w : World) (caller : Option (List ℕ)) (moment : ℕ) (command : Command) (change : Change)
     → WellKept w → has_command_form command ≡ true
-    → (answer_to digest_of w caller moment command).change ≡ Some change → CanApply w change
+    → change_of (answer_to digest_of w caller moment command) ≡ Some change → CanApply w change
 
 -- every run from a well kept world ends in one
 abbrev pub RunsKeepWell : (List ℕ → List ℕ) → Type 0
-RunsKeepWell digest_of = (w : World) (events : List Event) → WellKept w → have_forms events ≡ true → WellKept (world_after digest_of w events)
+RunsKeepWell digest_of =
+    (w : World) (events : List Event) → WellKept w → have_forms events ≡ true
+    → WellKept (world_after digest_of w events)
 
 -- ---- What is answered was done
 
 abbrev pub HasRow : World → Request → Type 0
-HasRow w row = get w.requests (row.account, row.reference) ≡ Some (filing_of row)
+HasRow w row = get w.requests (row.account, row.reference) ≡ Some (case_of row)
 
 -- the page shows the registry of this name as it is on the day
 abbrev pub Shows : World → List ℕ → ℕ → PageOf → Type 0
 Shows w name today page =
-    (page.name ≡ name) × (get w.registries name ≡ Some page.table) × (page.entries ≡ page_entries (published w) name today)
+    (page.name ≡ name) × (get w.registries name ≡ Some page.table)
+    × (page.entries ≡ page_entries (published w) name today)
 
 -- the row is of the request of this name
 abbrev pub IsRow : World → List ℕ → List ℕ → Request → Type 0
-IsRow w account reference row = (row.account ≡ account) × (row.reference ≡ reference) × HasRow w row
+IsRow w account reference row =
+    (row.account ≡ account) × (row.reference ≡ reference) × HasRow w row
 
 -- the file is of the request of this name, with all its experts and all advice on it
 abbrev pub IsFile : World → List ℕ → List ℕ → File → Type 0
 IsFile w account reference file =
     IsRow w account reference file.request
-    × (file.experts ≡ experts_of w (account, reference)) × (file.advice ≡ opinions_of w (account, reference))
+    × (file.experts ≡ experts_of w (account, reference))
+    × (file.advice ≡ opinions_of w (account, reference))
 
 -- the row is of the request of this name, as this expert sees it to whom it is assigned
 abbrev pub IsItem : World → List ℕ → List ℕ → List ℕ → QueueRow → Type 0
 IsItem w expert account reference row =
     (row.account ≡ account) × (row.reference ≡ reference)
-    × (contains_key w.queue ((account, reference), expert) ≡ true) × (row.advice ≡ get w.advice ((account, reference), expert))
-    × (filing : Filing) × (get w.requests (account, reference) ≡ Some filing) × (row.ask ≡ filing.ask) × (row.word ≡ word_of filing.state)
+    × (contains_key w.queue ((account, reference), expert) ≡ true)
+    × (row.advice ≡ get w.advice ((account, reference), expert))
+    × (case : Case) × (get w.requests (account, reference) ≡ Some case) × (row.ask ≡ case.ask)
+    × (row.word ≡ word_of case.state)
 
 abbrev pub IsApproved : State → Type 0
 IsApproved state = (given : Given) × (state ≡ Approved given)
 
--- the world after a command on a day has what the reply says, and the reply is about what was asked
-abbrev pub WasDone : (List ℕ → List ℕ) → World → ℕ → Command → Reply → Type 0
-WasDone digest_of w today command (Refused refusal) = Unit {0}
-WasDone digest_of w today (Public Registries) (Names names) = names ≡ keys w.registries
-WasDone digest_of w today (Public (Registry name)) (Page page) = Shows w name today page
-WasDone digest_of w today (Public (RegistryCsv name)) (Sheet page) = Shows w name today page
-WasDone digest_of w today (Public PoolList) (Pool prefixes) = prefixes ≡ keys w.pool
-WasDone digest_of w today (Applicant Own) (Rows rows) = All (HasRow w) rows
-WasDone digest_of w today (Applicant (OwnOne reference)) (Row row) = (row.reference ≡ reference) × HasRow w row
-WasDone digest_of w today (Applicant (Submit reference ask)) (Made row) = (row.reference ≡ reference) × (row.ask ≡ ask) × HasRow w row
-WasDone digest_of w today (Applicant (Submit reference ask)) (Row row) = (row.reference ≡ reference) × (row.ask ≡ ask) × HasRow w row
-WasDone digest_of w today (Applicant (Withdraw reference)) (Row row) = (row.reference ≡ reference) × (row.state ≡ Withdrawn) × HasRow w row
-WasDone digest_of w today (Expert Queue) (Items rows) = (expert : List ℕ) × (rows ≡ queue_rows (queue_of expert w))
-WasDone digest_of w today (Expert (Advise account reference advice)) (Item row) =
-    (row.advice ≡ Some advice) × (expert : List ℕ) × IsItem w expert account reference row
-WasDone digest_of w today (Clerk AllRequests) (Desks rows) = rows ≡ request_rows w.requests
-WasDone digest_of w today (Clerk (OneRequest account reference)) (Filed file) = IsFile w account reference file
-WasDone digest_of w today (Clerk (AssignExpert account reference expert)) (Desk row) =
+-- the row is of the request of this reference of the caller's own, who gave the command with this
+-- capability
+abbrev pub IsOwnRow : World → Option Cap → List ℕ → Request → Type 0
+IsOwnRow w by reference row = (cap : Cap) × (by ≡ Some cap) × IsRow w cap.account reference row
+
+-- the world after a command on a day, by a caller with this capability or with none, has what the
+-- caller is told, and that is about what was asked
+abbrev pub IsDone : (List ℕ → List ℕ) → World → Option Cap → ℕ → Command → Content → Type 0
+IsDone digest_of w by today (Public Registries) (Names names) = names ≡ keys w.registries
+IsDone digest_of w by today (Public (Registry name)) (Page page) = Shows w name today page
+IsDone digest_of w by today (Public (RegistryListing name)) (Listing page) =
+    Shows w name today page
+IsDone digest_of w by today (Public PoolList) (Pool prefixes) = prefixes ≡ keys w.pool
+IsDone digest_of w by today (Applicant Own) (Rows rows) =
+    (cap : Cap) × (by ≡ Some cap) × (rows ≡ request_rows (requests_of cap.account w))
+    × All (HasRow w) rows
+IsDone digest_of w by today (Applicant (OwnOne reference)) (Row row) = IsOwnRow w by reference row
+IsDone digest_of w by today (Applicant (Submit reference ask)) (Made row) =
+    (row.ask ≡ ask) × IsOwnRow w by reference row
+IsDone digest_of w by today (Applicant (Submit reference ask)) (Row row) =
+    (row.ask ≡ ask) × IsOwnRow w by reference row
+IsDone digest_of w by today (Applicant (Withdraw reference)) (Row row) =
+    (row.state ≡ Withdrawn) × IsOwnRow w by reference row
+IsDone digest_of w by today (Expert Queue) (Items rows) =
+    (cap : Cap) × (by ≡ Some cap) × (rows ≡ queue_rows (queue_of cap.account w))
+IsDone digest_of w by today (Expert (Advise account reference advice)) (Item row) =
+    (row.advice ≡ Some advice) × (cap : Cap) × (by ≡ Some cap)
+    × IsItem w cap.account account reference row
+IsDone digest_of w by today (Clerk AllRequests) (Desks rows) = rows ≡ request_rows w.requests
+IsDone digest_of w by today (Clerk (OneRequest account reference)) (Filed file) =
+    IsFile w account reference file
+IsDone digest_of w by today (Clerk (AssignExpert account reference expert)) (Desk row) =
     (contains_key w.queue ((account, reference), expert) ≡ true) × IsRow w account reference row
-WasDone digest_of w today (Clerk (Approve account reference)) (Desk row) = IsApproved row.state × IsRow w account reference row
-WasDone digest_of w today (Clerk (Decline account reference reason)) (Desk row) = (row.state ≡ Declined reason) × IsRow w account reference row
-WasDone digest_of w today (Clerk (Define name table)) (Defined given) = (given ≡ name) × (get w.registries name ≡ Some table)
-WasDone digest_of w today (Clerk (AddPool prefix)) (Pooled given) = (given ≡ prefix) × (contains_key w.pool prefix ≡ true)
-WasDone digest_of w today (Clerk (Grant token cap)) (Granted given) = (given ≡ cap) × (get w.caps (digest_of token) ≡ Some cap)
-WasDone digest_of w today (Clerk (Revoke token)) Revoked = get w.caps (digest_of token) ≡ None
-WasDone digest_of w today command reply = ⊥
+IsDone digest_of w by today (Clerk (Approve account reference)) (Desk row) =
+    IsApproved row.state × IsRow w account reference row
+IsDone digest_of w by today (Clerk (Decline account reference reason)) (Desk row) =
+    (row.state ≡ Declined reason) × IsRow w account reference row
+IsDone digest_of w by today (Clerk (Define name table)) (Defined given) =
+    (given ≡ name) × (get w.registries name ≡ Some table)
+IsDone digest_of w by today (Clerk (AddPool prefix)) (Pooled given) =
+    (given ≡ prefix) × (is_pool_prefix prefix ≡ true) × (contains_key w.pool prefix ≡ true)
+IsDone digest_of w by today (Clerk (Grant token cap)) (Granted given) =
+    (given ≡ cap) × (get w.caps (digest_of token) ≡ Some cap)
+IsDone digest_of w by today (Clerk (Revoke token)) Revoked = get w.caps (digest_of token) ≡ None
+IsDone digest_of w by today command content = ⊥
+
+-- a refusal says nothing of the world
+abbrev pub WasDone : (List ℕ → List ℕ) → World → Option Cap → ℕ → Command → Reply → Type 0
+WasDone digest_of w by today command (Accepted content) =
+    IsDone digest_of w by today command content
+WasDone digest_of w by today command (Refused refusal) = Unit {0}
 
 abbrev pub AnswersAreDone : (List ℕ → List ℕ) → Type 0
 AnswersAreDone digest_of =
     (w : World) (caller : Option (List ℕ)) (moment : ℕ) (command : Command)
-    → WasDone digest_of (step digest_of w caller moment command).world (utc_day moment) command (step digest_of w caller moment command).reply
+    → let after = step digest_of w caller moment command in
+    WasDone digest_of after.world (cap_at w caller) (utc_day moment) command after.reply
 
 -- an approval that changes something gives exactly what is allowed, on the day of the moment
 abbrev pub ApprovalsGiveWhatIsAllowed : (List ℕ → List ℕ) → Type 0
 ApprovalsGiveWhatIsAllowed digest_of =
-    (w : World) (caller : Option (List ℕ)) (moment : ℕ) (account reference : List ℕ) (change : Change)
-    → (answer_to digest_of w caller moment (Clerk (Approve account reference))).change ≡ Some change
-    → (filing : Filing) × (get w.requests (account, reference) ≡ Some filing) × (filing.state ≡ Pending)
-    × (given : Given) × (allowed (published w) account filing.ask ≡ Ok given) × (change ≡ award (account, reference) filing.ask (utc_day moment) given)
+    (w : World) (caller : Option (List ℕ)) (moment : ℕ) (account reference : List ℕ)
+    (change : Change)
+    → change_of (answer_to digest_of w caller moment (Clerk (Approve account reference)))
+    ≡ Some change
+    → (case : Case) × (get w.requests (account, reference) ≡ Some case) × (case.state ≡ Pending)
+    × (given : Given) × (allowed (published w) account case.ask ≡ Ok given)
+    × (change ≡ award (account, reference) case.ask (utc_day moment) given)
 
 -- an expert to whom the request is assigned is for it
 abbrev pub IsAdvised : World → RequestName → Type 0
@@ -155,39 +200,29 @@ IsAdvised w name =
     (expert : List ℕ) × (contains_key w.queue (name, expert) ≡ true)
     × (advice : Advice) × (get w.advice (name, expert) ≡ Some advice) × (advice.verdict ≡ For)
 
--- an approval that changes something, of what experts review, is of a request that one of its experts is for
+-- an approval that changes something, of what experts review, is of a request that one of its
+-- experts is for
 abbrev pub ApprovalsAreAdvised : (List ℕ → List ℕ) → Type 0
 ApprovalsAreAdvised digest_of =
-    (w : World) (caller : Option (List ℕ)) (moment : ℕ) (account reference : List ℕ) (change : Change) (filing : Filing)
-    → (answer_to digest_of w caller moment (Clerk (Approve account reference))).change ≡ Some change
-    → get w.requests (account, reference) ≡ Some filing → needs_advice (ground_of (published w) filing.ask) filing.ask ≡ true
+    (w : World) (caller : Option (List ℕ)) (moment : ℕ) (account reference : List ℕ)
+    (change : Change) (case : Case)
+    → change_of (answer_to digest_of w caller moment (Clerk (Approve account reference)))
+    ≡ Some change
+    → get w.requests (account, reference) ≡ Some case
+    → needs_advice (ground_of (published w) case.ask) case.ask ≡ true
     → IsAdvised w (account, reference)
 
 abbrev pub RefusalsChangeNothing : (List ℕ → List ℕ) → Type 0
 RefusalsChangeNothing digest_of =
     (w : World) (caller : Option (List ℕ)) (moment : ℕ) (command : Command) (refusal : Refusal)
-    → (step digest_of w caller moment command).reply ≡ Refused refusal → (step digest_of w caller moment command).world ≡ w
+    → (step digest_of w caller moment command).reply ≡ Refused refusal
+    → (step digest_of w caller moment command).world ≡ w
 
 -- ---- Repeats act once
 
 abbrev pub is_refused : Reply → Bool
+is_refused (Accepted content) = false
 is_refused (Refused refusal) = true
-is_refused (Names names) = false
-is_refused (Page page) = false
-is_refused (Sheet page) = false
-is_refused (Pool prefixes) = false
-is_refused (Made row) = false
-is_refused (Row row) = false
-is_refused (Rows rows) = false
-is_refused (Item row) = false
-is_refused (Items rows) = false
-is_refused (Desk row) = false
-is_refused (Desks rows) = false
-is_refused (Filed file) = false
-is_refused (Defined name) = false
-is_refused (Pooled prefix) = false
-is_refused (Granted cap) = false
-is_refused Revoked = false
 
 -- the caller's capability is valid, for the same account and of the same kind as it was
 pub record IsStillValid (w v : World) (caller : Option (List ℕ)) (moment : ℕ) : Type 0 where
@@ -209,15 +244,18 @@ abbrev pub RepeatsActOnce : (List ℕ → List ℕ) → Type 0
 RepeatsActOnce digest_of =
     (w : World) (caller : Option (List ℕ)) (first second : ℕ) (command : Command)
     → let v = (step digest_of w caller first command).world in
-    is_refused (step digest_of w caller first command).reply ≡ false → is_in_clock second ≡ true → MayRepeat w v caller second (kind_of command)
-    → (is_refused (step digest_of v caller second command).reply ≡ false) × ((step digest_of v caller second command).world ≡ v)
+    is_refused (step digest_of w caller first command).reply ≡ false → is_in_clock second ≡ true
+    → MayRepeat w v caller second (kind_of command)
+    → (is_refused (step digest_of v caller second command).reply ≡ false)
+    × ((step digest_of v caller second command).world ≡ v)
 
 -- ---- What was given stays
 
 -- an entry keeps its label, its assignee and its first day
-abbrev pub StillGiven : Assignment → Option Assignment → Type 0
+abbrev pub StillGiven : Registration → Option Registration → Type 0
 StillGiven a None = ⊥
-StillGiven a (Some now) = (now.label ≡ a.label) × (now.assignee ≡ a.assignee) × (now.term.first ≡ a.term.first)
+StillGiven a (Some now) =
+    (now.label ≡ a.label) × (now.assignee ≡ a.assignee) × (now.term.first ≡ a.term.first)
 
 -- a request that is not pending keeps its state
 abbrev pub StillStands : State → State → Type 0
@@ -226,25 +264,32 @@ StillStands (Approved given) now = now ≡ Approved given
 StillStands (Declined reason) now = now ≡ Declined reason
 StillStands Withdrawn now = now ≡ Withdrawn
 
-abbrev pub StillAsks : Filing → Option Filing → Type 0
-StillAsks filing None = ⊥
-StillAsks filing (Some now) = (now.ask ≡ filing.ask) × StillStands filing.state now.state
+abbrev pub StillAsks : Case → Option Case → Type 0
+StillAsks case None = ⊥
+StillAsks case (Some now) = (now.ask ≡ case.ask) × StillStands case.state now.state
 
 -- no registry, entry, request or prefix of the pool goes away, and each keeps what it is
 pub record Stays (w v : World) : Type 0 where
-  pub registries : (name : List ℕ) (table : Table) → get w.registries name ≡ Some table → get v.registries name ≡ Some table
-  pub entries : (place : Place) (a : Assignment) → get w.entries place ≡ Some a → StillGiven a (get v.entries place)
-  pub requests : (name : RequestName) (filing : Filing) → get w.requests name ≡ Some filing → StillAsks filing (get v.requests name)
+  pub registries : (name : List ℕ) (table : Table) → get w.registries name ≡ Some table
+      → get v.registries name ≡ Some table
+  pub entries : (place : Place) (a : Registration) → get w.entries place ≡ Some a
+      → StillGiven a (get v.entries place)
+  pub requests : (name : RequestName) (case : Case) → get w.requests name ≡ Some case
+      → StillAsks case (get v.requests name)
   pub pool : (prefix : ℕ) → contains_key w.pool prefix ≡ true → contains_key v.pool prefix ≡ true
 
 -- what a well kept world has stays in every run
 abbrev pub GivenStays : (List ℕ → List ℕ) → Type 0
-GivenStays digest_of = (w : World) (events : List Event) → WellKept w → have_forms events ≡ true → Stays w (world_after digest_of w events)
+GivenStays digest_of =
+    (w : World) (events : List Event) → WellKept w → have_forms events ≡ true
+    → Stays w (world_after digest_of w events)
 
 -- ---- The same again, later
 
--- a command is accepted, and then others are given in a run; a caller who may gives it again at a moment
-pub record IsLater (digest_of : List ℕ → List ℕ) (w : World) (caller : Option (List ℕ)) (first : ℕ) (command : Command) (events : List Event) (second : ℕ) (v : World) : Type 0 where
+-- a command is accepted, and then others are given in a run; a caller who may gives it again at a
+-- moment
+pub record IsLater (digest_of : List ℕ → List ℕ) (w : World) (caller : Option (List ℕ)) (first : ℕ)
+    (command : Command) (events : List Event) (second : ℕ) (v : World) : Type 0 where
   pub kept : WellKept w
   pub form : has_command_form command ≡ true
   pub accepted : is_refused (step digest_of w caller first command).reply ≡ false
@@ -256,18 +301,22 @@ pub record IsLater (digest_of : List ℕ → List ℕ) (w : World) (caller : Opt
 -- the same request is accepted whatever came between, and nothing changes
 abbrev pub SubmissionsStand : (List ℕ → List ℕ) → Type 0
 SubmissionsStand digest_of =
-    (w v : World) (caller : Option (List ℕ)) (first second : ℕ) (reference : List ℕ) (ask : Ask) (events : List Event)
+    (w v : World) (caller : Option (List ℕ)) (first second : ℕ) (reference : List ℕ) (ask : Ask)
+    (events : List Event)
     → let command = Applicant (Submit reference ask) in
     IsLater digest_of w caller first command events second v
-    → (is_refused (step digest_of v caller second command).reply ≡ false) × ((step digest_of v caller second command).world ≡ v)
+    → (is_refused (step digest_of v caller second command).reply ≡ false)
+    × ((step digest_of v caller second command).world ≡ v)
 
 -- the same approval is answered as it first was whatever came between, and nothing changes
 abbrev pub ApprovalsStand : (List ℕ → List ℕ) → Type 0
 ApprovalsStand digest_of =
-    (w v : World) (caller : Option (List ℕ)) (first second : ℕ) (account reference : List ℕ) (events : List Event)
+    (w v : World) (caller : Option (List ℕ)) (first second : ℕ) (account reference : List ℕ)
+    (events : List Event)
     → let command = Clerk (Approve account reference) in
     IsLater digest_of w caller first command events second v
-    → ((step digest_of v caller second command).reply ≡ (step digest_of w caller first command).reply)
+    → ((step digest_of v caller second command).reply
+    ≡ (step digest_of w caller first command).reply)
     × ((step digest_of v caller second command).world ≡ v)
 
 -- ---- Tests of sameness
@@ -286,4 +335,6 @@ abbrev pub founded_world : List ℕ → World
 founded_world digest = applied empty_world (GrantIt digest clerk_cap)
 
 abbrev pub FirstWorldsAreWellKept : Type 0
-FirstWorldsAreWellKept = WellKept empty_world × ((digest : List ℕ) → is_digest digest ≡ true → WellKept (founded_world digest))
+FirstWorldsAreWellKept =
+    WellKept empty_world
+    × ((digest : List ℕ) → is_digest digest ≡ true → WellKept (founded_world digest))

@@ -1,10 +1,7 @@
 pub mod Names
-pub mod Item
-pub mod WireRefusal
 pub mod Capability
 pub mod Ask
 pub mod Advice
-pub mod Equivalences
 pub mod Registry
 pub mod Command
 pub mod Maps
@@ -25,3 +22,5 @@ pub mod Run
 pub mod Unseen
 pub mod Striking
 pub mod Laws
+pub mod Item
+pub mod WireRefusal

@@ -10,7 +10,8 @@ abbrev pub text_cmp : List ℕ → List ℕ → Ordering
 text_cmp = slice_cmp nat_cmp
 
 -- pairs in order of the first part, and then of the second
-abbrev pub pair_cmp : {A B : Type 0} → (A → A → Ordering) → (B → B → Ordering) → A × B → A × B → Ordering
+abbrev pub pair_cmp : {A B : Type 0} → (A → A → Ordering) → (B → B → Ordering) → A × B → A × B
+    → Ordering
 pair_cmp P Q x y = ordering_then (P x.0 y.0) (Q x.1 y.1)
 
 abbrev pub same_text : List ℕ → List ℕ → Bool
@@ -25,11 +26,13 @@ abbrev pub keyed : {K Y : Type 0} → K → Option Y → Option (K × Y)
 keyed k o = option_map (λ y. (k, y)) o
 
 -- the rows for which the test gives something, with what it gives
-unfoldable pub select : {K X Y : Type 0} {R : K → K → Ordering} → (K → X → Option Y) → FinMap R X → FinMap R Y
+unfoldable pub select : {K X Y : Type 0} {R : K → K → Ordering} → (K → X → Option Y) → FinMap R X
+    → FinMap R Y
 select f m = from_sorted (filter_map (λ e. keyed e.0 (f e.0 e.1)) (entries m))
 
 -- the map after a row is replaced; without such a row the map itself
-abbrev pub replaced : {K X : Type 0} {R : K → K → Ordering} → FinMap R X → K → Option X → FinMap R X
+abbrev pub replaced : {K X : Type 0} {R : K → K → Ordering} → FinMap R X → K → Option X
+    → FinMap R X
 replaced m k None = m
 replaced m k (Some x) = insert m k x
 

@@ -1,4 +1,5 @@
--- The forms of names: which lists of bytes are an account, a reference, a registry's name, a token, a digest.
+-- The forms of names: which lists of bytes are an account, a reference, a registry's name, a
+-- token, a digest.
 use Rattle.std.specs.Prelude.{◌≡◌, ℕ, Bool, true, ◌||◌, ◌==◌, List}
 use Rattle.std.specs.Str.{IsAscii}
 use Rattle.std.proofs.Common.{arith}
@@ -20,7 +21,8 @@ is_name_byte b = is_lower b || is_digit b || b == 45
 
 -- letters, digits, dash, dot, underscore and tilde
 abbrev pub is_token_byte : ℕ → Bool
-is_token_byte b = is_lower b || is_upper b || is_digit b || b == 45 || b == 46 || b == 95 || b == 126
+is_token_byte b =
+    is_lower b || is_upper b || is_digit b || b == 45 || b == 46 || b == 95 || b == 126
 
 -- 0 to 9 and a to f
 abbrev pub is_digest_byte : ℕ → Bool

@@ -7,7 +7,8 @@ use Rattle.reg_core.specs.declared.advice.Advice.{Advice}
 use Rattle.reg_core.specs.declared.queue.QueueRow.{QueueRow}
 
 abbrev pub queue_row : RequestName → Queued → QueueRow
-queue_row name q = record { account = name.0; reference = name.1; ask = q.ask; word = q.word; advice = q.advice }
+queue_row name q =
+    record { account = name.0; reference = name.1; ask = q.ask; word = q.word; advice = q.advice }
 
 abbrev pub queue_rows : FinMap name_cmp Queued → List QueueRow
 queue_rows m = map (λ e. queue_row e.0 e.1) (entries m)

@@ -5,7 +5,7 @@ use Rattle.reg_ranges.specs.Texts.{is_text}
 use Rattle.reg_core.specs.World.{RequestName, name_cmp, in_state}
 use Rattle.reg_core.specs.declared.change.Change.{Change}
 use Rattle.reg_core.specs.declared.change.Change.TheVariants.{Grant, Revoke, Define, AddPool, Submit, Close, Assign, Advise, GiveValue}
-use Rattle.reg_core.specs.declared.request.Filing.{Filing}
+use Rattle.reg_core.specs.declared.request.Case.{Case}
 use Rattle.reg_core.specs.declared.request.Given.{Given}
 use Rattle.reg_core.specs.declared.request.Given.TheVariants.{Value}
 use Rattle.reg_core.specs.declared.request.State.{State}
@@ -14,13 +14,14 @@ use Rattle.reg_core.specs.declared.request.StateWord.{StateWord}
 use Rattle.reg_core.specs.declared.request.StateWord.TheVariants as word
 use Rattle.reg_core.specs.declared.request.Request.{Request}
 
-abbrev pub filing_of : Request → Filing
-filing_of r = record { ask = r.ask; state = r.state }
+abbrev pub case_of : Request → Case
+case_of r = record { ask = r.ask; state = r.state }
 
-abbrev pub request_row : RequestName → Filing → Request
-request_row name filing = record { account = name.0; reference = name.1; ask = filing.ask; state = filing.state }
+abbrev pub request_row : RequestName → Case → Request
+request_row name case =
+    record { account = name.0; reference = name.1; ask = case.ask; state = case.state }
 
-abbrev pub request_rows : FinMap name_cmp Filing → List Request
+abbrev pub request_rows : FinMap name_cmp Case → List Request
 request_rows m = map (λ e. request_row e.0 e.1) (entries m)
 
 -- ---- Forms
@@ -62,5 +63,5 @@ state_by (Advise account reference expert advice) = None
 state_by (GiveValue account reference entry) = Some (Approved (Value entry.value))
 
 -- a request after the change
-abbrev pub after : Change → Filing → Filing
-after change filing = in_state (unwrap_or (state_by change) filing.state) filing
+abbrev pub after : Change → Case → Case
+after change case = in_state (unwrap_or (state_by change) case.state) case

@@ -5,7 +5,7 @@ use Rattle.reg_ranges.specs.Sameness.{same_table}
 use Rattle.reg_ranges.specs.Tables.{Table}
 use Rattle.reg_core.specs.Advice.{is_given}
 use Rattle.reg_core.specs.Maps.{same_text}
-use Rattle.reg_core.specs.Allowance.{Ground, allowed_on, needs_advice}
+use Rattle.reg_core.specs.Allowance.{Ground, allowance_on}
 use Rattle.reg_core.specs.Ask.{same_ask}
 use Rattle.reg_core.specs.Capability.{same_cap}
 use Rattle.reg_core.specs.Entry.{entry_for}
@@ -18,11 +18,12 @@ use Rattle.reg_core.specs.declared.change.Change.{Change}
 use Rattle.reg_core.specs.declared.change.Change.TheVariants.{Grant, Revoke, Define, AddPool, Submit, Close, Assign, Advise, GiveValue}
 use Rattle.reg_core.specs.declared.decide.Decision.{Decision}
 use Rattle.reg_core.specs.declared.decide.Decision.TheVariants.{Make, Same}
+use Rattle.reg_core.specs.declared.decide.allowance.Allowance.{Allowance}
 use Rattle.reg_core.specs.declared.decide.Deny.{Deny}
 use Rattle.reg_core.specs.declared.decide.Deny.TheVariants.{Refused, Memory}
 use Rattle.reg_core.specs.declared.refusal.Refusal.{Refusal}
 use Rattle.reg_core.specs.declared.refusal.Refusal.TheVariants.{Ref, Closed, Advice, Own, Exists, Bits}
-use Rattle.reg_core.specs.declared.request.Filing.{Filing}
+use Rattle.reg_core.specs.declared.request.Case.{Case}
 use Rattle.reg_core.specs.declared.request.Given.{Given}
 use Rattle.reg_core.specs.declared.request.Given.TheVariants.{Value}
 use Rattle.reg_core.specs.declared.request.State.{State}
@@ -30,8 +31,10 @@ use Rattle.reg_core.specs.declared.request.State.TheVariants.{Pending, Approved,
 use Rattle.reg_core.specs.declared.request.StateWord.{StateWord}
 use Rattle.reg_core.specs.declared.request.StateWord.TheVariants as word
 
--- another request is made where the ask is allowed; the same ask again is the request that is there
-abbrev pub submit_rule : Result Given Refusal → RequestName → Ask → Option Filing → Result Decision Refusal
+-- another request is made where the ask is allowed; the same ask again is the request that is
+-- there
+abbrev pub submit_rule : Result Given Refusal → RequestName → Ask → Option Case
+    → Result Decision Refusal
 submit_rule allowance name ask (Some old) = if same_ask old.ask ask then Ok Same else Err Ref
 submit_rule (Ok _) name ask None = Ok (Make (Submit name.0 name.1 ask))
 submit_rule (Err refusal) name ask None = Err refusal
@@ -53,34 +56,42 @@ decline_rule name reason Withdrawn = Err Closed
 -- a pending request is assigned to an expert, who is not its applicant
 abbrev pub assign_rule : RequestName → List ℕ → Bool → State → Result Decision Refusal
 assign_rule name expert true state = Ok Same
-assign_rule name expert false Pending = if same_text expert name.0 then Err Own else Ok (Make (Assign name.0 name.1 expert))
+assign_rule name expert false Pending =
+    if same_text expert name.0 then Err Own else Ok (Make (Assign name.0 name.1 expert))
 assign_rule name expert false (Approved given) = Err Closed
 assign_rule name expert false (Declined reason) = Err Closed
 assign_rule name expert false Withdrawn = Err Closed
 
 -- an expert's advice is taken while the request is pending
-abbrev pub taken_rule : RequestName → List ℕ → AdviceOf → StateWord → Result Decision Refusal
-taken_rule name expert advice word.Pending = Ok (Make (Advise name.0 name.1 expert advice))
-taken_rule name expert advice word.Approved = Err Closed
-taken_rule name expert advice word.Declined = Err Closed
-taken_rule name expert advice word.Withdrawn = Err Closed
+abbrev pub new_advice_rule : RequestName → List ℕ → AdviceOf → StateWord → Result Decision Refusal
+new_advice_rule name expert advice word.Pending = Ok (Make (Advise name.0 name.1 expert advice))
+new_advice_rule name expert advice word.Approved = Err Closed
+new_advice_rule name expert advice word.Declined = Err Closed
+new_advice_rule name expert advice word.Withdrawn = Err Closed
 
 -- an expert gives advice on a request that is queued to it, in place of what it gave before
-abbrev pub advise_rule : RequestName → List ℕ → AdviceOf → Option AdviceOf → StateWord → Result Decision Refusal
-advise_rule name expert advice old word = if is_given old advice then Ok Same else taken_rule name expert advice word
+abbrev pub advise_rule : RequestName → List ℕ → AdviceOf → Option AdviceOf → StateWord
+    → Result Decision Refusal
+advise_rule name expert advice old word =
+    if is_given old advice then Ok Same else new_advice_rule name expert advice word
 
 -- the change by which a request is given what it is allowed
 abbrev pub award : RequestName → Ask → ℕ → Given → Change
 award name (Code ask) today (Value v) = GiveValue name.0 name.1 (entry_for name.0 ask today v)
 
 -- what is allowed is given, unless an expert's advice is wanting
-abbrev pub give_rule : RequestName → Ask → ℕ → Bool → Result Given Refusal → Result Decision Refusal
-give_rule name ask today wanting (Err refusal) = Err refusal
-give_rule name ask today wanting (Ok given) = if wanting then Err Advice else Ok (Make (award name ask today given))
+abbrev pub give_rule : RequestName → Ask → ℕ → Bool → Result Allowance Refusal
+    → Result Decision Refusal
+give_rule name ask today advised (Err refusal) = Err refusal
+give_rule name ask today advised (Ok allowance) =
+    if allowance.needs_advice && not advised then Err Advice
+    else Ok (Make (award name ask today allowance.given))
 
--- a pending request is approved on a day, over the published rows that its ask needs, and whether one of its experts is for it
+-- a pending request is approved on a day, over the published rows that its ask needs, and whether
+-- one of its experts is for it
 abbrev pub approve_rule : Ground → Bool → RequestName → Ask → ℕ → State → Result Decision Refusal
-approve_rule rows advised name ask today Pending = give_rule name ask today (needs_advice rows ask && not advised) (allowed_on rows name.0 ask)
+approve_rule rows advised name ask today Pending =
+    give_rule name ask today advised (allowance_on rows name.0 ask)
 approve_rule rows advised name ask today (Approved given) = Ok Same
 approve_rule rows advised name ask today (Declined reason) = Err Closed
 approve_rule rows advised name ask today Withdrawn = Err Closed
@@ -103,13 +114,14 @@ grant_rule (Some old) digest cap = if same_cap old cap then Ok Same else Err Exi
 
 -- no clerk takes away the token in use
 abbrev pub revoke_rule : List ℕ → Option Cap → List ℕ → Result Decision Refusal
-revoke_rule in_use found digest =
+revoke_rule in_use existing digest =
     if same_text in_use digest then Err Own
-    else if is_some found then Ok (Make (Revoke digest))
+    else if is_some existing then Ok (Make (Revoke digest))
     else Ok Same
 
 -- the decision is the rule's, or want of memory where a change has to be made
 abbrev pub Follows : Result Decision Refusal → Result Decision Deny → Type 0
 Follows (Ok Same) result = result ≡ Ok Same
-Follows (Ok (Make change)) result = MatchResult result (λ decision. decision ≡ Make change) (λ deny. deny ≡ Memory)
+Follows (Ok (Make change)) result =
+    MatchResult result (λ decision. decision ≡ Make change) (λ deny. deny ≡ Memory)
 Follows (Err refusal) result = result ≡ Err (Refused refusal)

@@ -1,7 +1,10 @@
--- Which requests of others an account never sees in a run, and what is left of the run without what was done about them.
-use Rattle.std.specs.Prelude.{ℕ, Bool, true, false, ◌&&◌, ◌||◌, not, List, [], ◌∷◌, map, filter, Option, Some, None, option_map}
+-- Which requests of others an account never sees in a run, and what is left of the run without
+-- what was done about them.
+use Rattle.std.specs.Prelude.{ℕ, Bool, true, false, ◌&&◌, ◌||◌, not, List, [], ◌∷◌, map, filter, Option, Some, None}
 use Rattle.std.specs.List.{list_any}
 use Rattle.std.specs.FinMap.{contains_key}
+use Rattle.reg_core.specs.Answer.{change_of}
+use Rattle.reg_core.specs.Command.{about}
 use Rattle.reg_core.specs.File.{same_name}
 use Rattle.reg_core.specs.Maps.{same_text}
 use Rattle.reg_core.specs.Run.{Event, step_of}
@@ -13,16 +16,6 @@ use Rattle.reg_core.specs.declared.capability.Kind.{Kind}
 use Rattle.reg_core.specs.declared.capability.Kind.TheVariants as kind
 use Rattle.reg_core.specs.declared.change.Change.{Change}
 use Rattle.reg_core.specs.declared.change.Change.TheVariants as change
-use Rattle.reg_core.specs.declared.command.Command.{Command}
-use Rattle.reg_core.specs.declared.command.Command.TheVariants.{Public, Applicant, Expert, Clerk}
-use Rattle.reg_core.specs.declared.command.ApplicantCommand.{ApplicantCommand}
-use Rattle.reg_core.specs.declared.command.ApplicantCommand.TheVariants.{Own, OwnOne, Submit, Withdraw}
-use Rattle.reg_core.specs.declared.command.ExpertCommand.{ExpertCommand}
-use Rattle.reg_core.specs.declared.command.ExpertCommand.TheVariants.{Queue, Advise}
-use Rattle.reg_core.specs.declared.command.ClerkCommand.{ClerkCommand}
-use Rattle.reg_core.specs.declared.command.ClerkCommand.TheVariants.{AllRequests, OneRequest, AssignExpert, Approve, Decline, Define, AddPool, Grant, Revoke}
-use Rattle.reg_core.specs.declared.command.PublicCommand.{PublicCommand}
-use Rattle.reg_core.specs.declared.command.PublicCommand.TheVariants.{Registries, Registry, RegistryCsv, PoolList}
 use Rattle.reg_core.specs.declared.reply.Reply.{Reply}
 
 -- ---- The stages of a run
@@ -41,7 +34,7 @@ module _ (digest_of : List ℕ → List ℕ) where
     before = w;
     event = e;
     reply = (step_of digest_of w e).reply;
-    change = (answer_to digest_of w e.caller e.moment e.command).change;
+    change = change_of (answer_to digest_of w e.caller e.moment e.command);
     after = (step_of digest_of w e).world;
   }
 
@@ -50,73 +43,37 @@ module _ (digest_of : List ℕ → List ℕ) where
   stages w [] = []
   stages w (e ∷ events) = stage w e ∷ stages (step_of digest_of w e).world events
 
--- ---- The request that an event is about
-
--- a request of the caller's account, if the caller has a capability
-abbrev pub own_name : Option Cap → List ℕ → Option RequestName
-own_name found reference = option_map (λ (cap : Cap). (cap.account, reference)) found
-
-abbrev pub public_about : PublicCommand → Option RequestName
-public_about Registries = None
-public_about (Registry name) = None
-public_about (RegistryCsv name) = None
-public_about PoolList = None
-
-abbrev pub applicant_about : Option Cap → ApplicantCommand → Option RequestName
-applicant_about found Own = None
-applicant_about found (OwnOne reference) = own_name found reference
-applicant_about found (Submit reference ask) = own_name found reference
-applicant_about found (Withdraw reference) = own_name found reference
-
-abbrev pub expert_about : ExpertCommand → Option RequestName
-expert_about Queue = None
-expert_about (Advise account reference advice) = Some (account, reference)
-
-abbrev pub clerk_about : ClerkCommand → Option RequestName
-clerk_about AllRequests = None
-clerk_about (OneRequest account reference) = Some (account, reference)
-clerk_about (AssignExpert account reference expert) = Some (account, reference)
-clerk_about (Approve account reference) = Some (account, reference)
-clerk_about (Decline account reference reason) = Some (account, reference)
-clerk_about (Define name table) = None
-clerk_about (AddPool prefix) = None
-clerk_about (Grant token cap) = None
-clerk_about (Revoke token) = None
-
--- the one request that a command is about, if it is about one, from a caller with this capability or with none
-abbrev pub about : Option Cap → Command → Option RequestName
-about found (Public command) = public_about command
-about found (Applicant command) = applicant_about found command
-about found (Expert command) = expert_about command
-about found (Clerk command) = clerk_about command
-
+-- the request that an event is about
 abbrev pub about_at : Stage → Option RequestName
 about_at s = about (cap_at s.before s.event.caller) s.event.command
 
 -- ---- Requests that an account never sees
 
 -- the change gives the request something, or assigns it to the account
-abbrev pub shows : List ℕ → RequestName → Change → Bool
-shows account name (change.Grant digest cap) = false
-shows account name (change.Revoke digest) = false
-shows account name (change.Define registry table) = false
-shows account name (change.AddPool prefix) = false
-shows account name (change.Submit applicant reference ask) = false
-shows account name (change.Close applicant reference state) = false
-shows account name (change.Assign applicant reference expert) = same_name (applicant, reference) name && same_text expert account
-shows account name (change.Advise applicant reference expert advice) = false
-shows account name (change.GiveValue applicant reference entry) = same_name (applicant, reference) name
+abbrev pub reveals : List ℕ → RequestName → Change → Bool
+reveals account name (change.Grant digest cap) = false
+reveals account name (change.Revoke digest) = false
+reveals account name (change.Define registry table) = false
+reveals account name (change.AddPool prefix) = false
+reveals account name (change.Submit applicant reference ask) = false
+reveals account name (change.Close applicant reference state) = false
+reveals account name (change.Assign applicant reference expert) =
+    same_name (applicant, reference) name && same_text expert account
+reveals account name (change.Advise applicant reference expert advice) = false
+reveals account name (change.GiveValue applicant reference entry) =
+    same_name (applicant, reference) name
 
-abbrev pub shows_if : List ℕ → RequestName → Option Change → Bool
-shows_if account name None = false
-shows_if account name (Some change) = shows account name change
+abbrev pub reveals_if : List ℕ → RequestName → Option Change → Bool
+reveals_if account name None = false
+reveals_if account name (Some change) = reveals account name change
 
--- a request of another account, given nothing in the run, and assigned to this account neither before the run nor in it
+-- a request of another account, given nothing in the run, and assigned to this account neither
+-- before the run nor in it
 abbrev pub is_unseen : (List ℕ → List ℕ) → List ℕ → World → List Event → RequestName → Bool
 is_unseen digest_of account w events name =
     not (same_text name.0 account)
     && not (contains_key w.queue (name, account))
-    && not (list_any (λ (s : Stage). shows_if account name s.change) (stages digest_of w events))
+    && not (list_any (λ (s : Stage). reveals_if account name s.change) (stages digest_of w events))
 
 -- ---- What is left of the run
 
@@ -136,15 +93,18 @@ abbrev pub is_hidden : (RequestName → Bool) → Option RequestName → Bool
 is_hidden unseen None = false
 is_hidden unseen (Some name) = unseen name
 
--- an event stays unless it is about an unseen request; what the account itself does, as an applicant or as an expert, stays
--- in any case
+-- an event stays unless it is about an unseen request; what the account itself does, as an
+-- applicant or as an expert, stays in any case
 abbrev pub stays_in : List ℕ → (RequestName → Bool) → Stage → Bool
-stays_in account unseen s = not (is_hidden unseen (about_at s)) || speaks_for account (cap_at s.before s.event.caller)
+stays_in account unseen s =
+    not (is_hidden unseen (about_at s)) || speaks_for account (cap_at s.before s.event.caller)
 
 -- the stages of the run at which an event stays
 abbrev pub kept_stages : (List ℕ → List ℕ) → List ℕ → World → List Event → List Stage
-kept_stages digest_of account w events = filter (stays_in account (is_unseen digest_of account w events)) (stages digest_of w events)
+kept_stages digest_of account w events =
+    filter (stays_in account (is_unseen digest_of account w events)) (stages digest_of w events)
 
 -- the list of events without those about unseen requests
 abbrev pub struck : (List ℕ → List ℕ) → List ℕ → World → List Event → List Event
-struck digest_of account w events = map (λ (s : Stage). s.event) (kept_stages digest_of account w events)
+struck digest_of account w events =
+    map (λ (s : Stage). s.event) (kept_stages digest_of account w events)

@@ -9,22 +9,23 @@ use Rattle.reg_core.specs.Request.{word_of}
 use Rattle.reg_core.specs.World.{World, RequestName, name_cmp, place_cmp}
 use Rattle.reg_core.specs.declared.advice.Advice.{Advice}
 use Rattle.reg_core.specs.declared.ask.Ask.{Ask}
-use Rattle.reg_core.specs.declared.entry.Assignment.{Assignment}
+use Rattle.reg_core.specs.declared.entry.Registration.{Registration}
 use Rattle.reg_core.specs.declared.capability.Cap.{Cap}
-use Rattle.reg_core.specs.declared.request.Filing.{Filing}
+use Rattle.reg_core.specs.declared.request.Case.{Case}
 use Rattle.reg_core.specs.declared.request.StateWord.{StateWord}
 
--- the published registers: the ranges of each registry, and its entries; and the prefixes of the pool
+-- the published registers: the ranges of each registry, and its entries; and the prefixes of the
+-- pool
 pub record Published : Type 0 where
   pub registries : FinMap text_cmp Table
-  pub entries : FinMap place_cmp Assignment
+  pub entries : FinMap place_cmp Registration
   pub pool : FinSet nat_cmp
 
 abbrev pub published : World → Published
 published w = record { registries = w.registries; entries = w.entries; pool = w.pool }
 
 -- a registry's entries
-abbrev pub entries_of : List ℕ → FinMap place_cmp Assignment → FinMap place_cmp Assignment
+abbrev pub entries_of : List ℕ → FinMap place_cmp Registration → FinMap place_cmp Registration
 entries_of registry m = select (λ place a. only_if (same_text place.0 registry) a) m
 
 -- a request as an expert sees it: the bare word of its state, and the expert's own advice
@@ -35,21 +36,22 @@ pub record Queued : Type 0 where
 
 -- an account's own requests, and those that are queued to it
 pub record Personal : Type 0 where
-  pub requests : FinMap name_cmp Filing
+  pub requests : FinMap name_cmp Case
   pub queue : FinMap name_cmp Queued
 
-abbrev pub requests_of : List ℕ → World → FinMap name_cmp Filing
-requests_of account w = select (λ name filing. only_if (same_text name.0 account) filing) w.requests
+abbrev pub requests_of : List ℕ → World → FinMap name_cmp Case
+requests_of account w = select (λ name case. only_if (same_text name.0 account) case) w.requests
 
-abbrev pub as_queued : Option Advice → Filing → Queued
-as_queued advice filing = record { ask = filing.ask; word = word_of filing.state; advice = advice }
+abbrev pub as_queued : Option Advice → Case → Queued
+as_queued advice case = record { ask = case.ask; word = word_of case.state; advice = advice }
 
 -- a request, where it is assigned to this account
-abbrev pub queued_to : List ℕ → World → RequestName → Filing → Option Queued
-queued_to account w name filing = only_if (contains_key w.queue (name, account)) (as_queued (get w.advice (name, account)) filing)
+abbrev pub queued_to : List ℕ → World → RequestName → Case → Option Queued
+queued_to account w name case =
+    only_if (contains_key w.queue (name, account)) (as_queued (get w.advice (name, account)) case)
 
 abbrev pub queue_of : List ℕ → World → FinMap name_cmp Queued
-queue_of account w = select (λ name filing. queued_to account w name filing) w.requests
+queue_of account w = select (λ name case. queued_to account w name case) w.requests
 
 abbrev pub personal : List ℕ → World → Personal
 personal account w = record { requests = requests_of account w; queue = queue_of account w }
@@ -65,6 +67,8 @@ cap_at w caller = option_and_then (get w.caps) caller
 abbrev pub with_personal : World → Cap → Cap × Personal
 with_personal w cap = (cap, personal cap.account w)
 
--- what a caller sees: the published registers, its own capability, and its account's own requests and queue
+-- what a caller sees: the published registers, its own capability, and its account's own requests
+-- and queue
 abbrev pub view_of : World → Option (List ℕ) → View
-view_of w caller = record { published = published w; me = option_map (with_personal w) (cap_at w caller) }
+view_of w caller =
+    record { published = published w; me = option_map (with_personal w) (cap_at w caller) }

@@ -7,7 +7,7 @@ use Rattle.reg_core.specs.Advice.{has_advice_form}
 use Rattle.reg_core.specs.Ask.{has_ask_form}
 use Rattle.reg_core.specs.Capability.{has_cap_form}
 use Rattle.reg_core.specs.Allowance.{open_policy}
-use Rattle.reg_core.specs.Entry.{has_assignment_form}
+use Rattle.reg_core.specs.Entry.{has_registration_form}
 use Rattle.reg_core.specs.Maps.{same_text}
 use Rattle.reg_core.specs.Request.{has_state_form}
 use Rattle.reg_core.specs.Names.{is_name, is_digest}
@@ -17,10 +17,10 @@ use Rattle.reg_core.specs.declared.advice.Advice.{Advice}
 use Rattle.reg_core.specs.declared.capability.Cap.{Cap}
 use Rattle.reg_core.specs.declared.change.Change.{Change}
 use Rattle.reg_core.specs.declared.change.Change.TheVariants.{Grant, Revoke, Define, AddPool, Submit, Close, Assign, Advise, GiveValue}
-use Rattle.reg_core.specs.declared.request.Filing.{Filing}
+use Rattle.reg_core.specs.declared.request.Case.{Case}
 use Rattle.reg_core.specs.declared.ask.Ask.{Ask}
 use Rattle.reg_core.specs.declared.ask.Ask.TheVariants.{Code}
-use Rattle.reg_core.specs.declared.entry.Assignment.{Assignment}
+use Rattle.reg_core.specs.declared.entry.Registration.{Registration}
 use Rattle.reg_core.specs.declared.request.Given.TheVariants.{Value}
 use Rattle.reg_core.specs.declared.request.State.{State}
 use Rattle.reg_core.specs.declared.request.State.TheVariants.{Pending, Approved, Declined, Withdrawn}
@@ -31,11 +31,12 @@ has_grant_form digest cap = is_digest digest && has_cap_form cap
 abbrev pub has_registry_form : List ℕ → Table → Bool
 has_registry_form name table = is_name name && has_table_form table
 
-abbrev pub has_entry_form : Place → Assignment → Bool
-has_entry_form place a = is_name place.0 && nat_lt place.1 (2 ^ 32) && has_assignment_form a
+abbrev pub has_entry_form : Place → Registration → Bool
+has_entry_form place a = is_name place.0 && nat_lt place.1 (2 ^ 32) && has_registration_form a
 
-abbrev pub has_request_form : RequestName → Filing → Bool
-has_request_form name filing = is_name name.0 && is_name name.1 && has_ask_form filing.ask && has_state_form filing.state
+abbrev pub has_request_form : RequestName → Case → Bool
+has_request_form name case =
+    is_name name.0 && is_name name.1 && has_ask_form case.ask && has_state_form case.state
 
 -- the expert has an account's form, and is not the request's applicant
 abbrev pub has_seat_form : Seat → Bool
@@ -47,35 +48,45 @@ is_open_at None v = false
 is_open_at (Some table) v = is_ok (open_policy (treatment_of table v))
 
 -- there is an entry with this assignee
-abbrev pub is_assigned_to : List ℕ → Option Assignment → Bool
-is_assigned_to account None = false
-is_assigned_to account (Some a) = same_text a.assignee account
+abbrev pub is_registered_to : List ℕ → Option Registration → Bool
+is_registered_to account None = false
+is_registered_to account (Some a) = same_text a.assignee account
 
 -- what an approved request of an account was given is an entry of the account's
-abbrev pub stands_in : FinMap place_cmp Assignment → List ℕ → Ask → State → Bool
+abbrev pub stands_in : FinMap place_cmp Registration → List ℕ → Ask → State → Bool
 stands_in entries account ask Pending = true
-stands_in entries account (Code ask) (Approved (Value v)) = is_assigned_to account (get entries (ask.registry, v))
+stands_in entries account (Code ask) (Approved (Value v)) =
+    is_registered_to account (get entries (ask.registry, v))
 stands_in entries account ask (Declined reason) = true
 stands_in entries account ask Withdrawn = true
 
--- every text and number has its form, the ranges of each registry are a partition of its values, each entry
--- has a value that is assigned one by one, and each approved request its entry; only requests that are there are
--- assigned to experts, none to its applicant, and advice is by experts to whom the request is assigned; every number of
--- the pool is a prefix that may be in one
+-- every text and number has its form, the ranges of each registry are a partition of its values,
+-- each entry has a value that is assigned one by one, and each approved request its entry; only
+-- requests that are there are assigned to experts, none to its applicant, and advice is by experts
+-- to whom the request is assigned; every number of the pool is a prefix that may be in one
 pub record WellKept (w : World) : Type 0 where
-  pub caps : (digest : List ℕ) (cap : Cap) → get w.caps digest ≡ Some cap → has_grant_form digest cap ≡ true
-  pub registries : (name : List ℕ) (table : Table) → get w.registries name ≡ Some table → has_registry_form name table ≡ true
-  pub entries : (place : Place) (a : Assignment) → get w.entries place ≡ Some a → has_entry_form place a ≡ true
-  pub open_values : (place : Place) (a : Assignment) → get w.entries place ≡ Some a → is_open_at (get w.registries place.0) place.1 ≡ true
-  pub requests : (name : RequestName) (filing : Filing) → get w.requests name ≡ Some filing → has_request_form name filing ≡ true
-  pub given : (name : RequestName) (filing : Filing) → get w.requests name ≡ Some filing → stands_in w.entries name.0 filing.ask filing.state ≡ true
+  pub caps : (digest : List ℕ) (cap : Cap) → get w.caps digest ≡ Some cap
+      → has_grant_form digest cap ≡ true
+  pub registries : (name : List ℕ) (table : Table) → get w.registries name ≡ Some table
+      → has_registry_form name table ≡ true
+  pub entries : (place : Place) (a : Registration) → get w.entries place ≡ Some a
+      → has_entry_form place a ≡ true
+  pub open_values : (place : Place) (a : Registration) → get w.entries place ≡ Some a
+      → is_open_at (get w.registries place.0) place.1 ≡ true
+  pub requests : (name : RequestName) (case : Case) → get w.requests name ≡ Some case
+      → has_request_form name case ≡ true
+  pub given : (name : RequestName) (case : Case) → get w.requests name ≡ Some case
+      → stands_in w.entries name.0 case.ask case.state ≡ true
   pub queue : (seat : Seat) → contains_key w.queue seat ≡ true → has_seat_form seat ≡ true
   pub queued : (seat : Seat) → contains_key w.queue seat ≡ true → IsSome (get w.requests seat.0)
-  pub advice : (seat : Seat) (advice : Advice) → get w.advice seat ≡ Some advice → has_advice_form advice ≡ true
-  pub advised : (seat : Seat) (advice : Advice) → get w.advice seat ≡ Some advice → contains_key w.queue seat ≡ true
+  pub advice : (seat : Seat) (advice : Advice) → get w.advice seat ≡ Some advice
+      → has_advice_form advice ≡ true
+  pub advised : (seat : Seat) (advice : Advice) → get w.advice seat ≡ Some advice
+      → contains_key w.queue seat ≡ true
   pub pool : (prefix : ℕ) → contains_key w.pool prefix ≡ true → is_pool_prefix prefix ≡ true
 
--- a capability, a registry, a prefix, a request or an assignment that the change adds is not there, and a request that it closes or gives something is
+-- a capability, a registry, a prefix, a request or an assignment that the change adds is not
+-- there, and a request that it closes or gives something is
 abbrev pub IsNew : World → Change → Type 0
 IsNew w (Grant digest cap) = get w.caps digest ≡ None
 IsNew w (Revoke digest) = Unit {0}
@@ -83,7 +94,8 @@ IsNew w (Define name table) = get w.registries name ≡ None
 IsNew w (AddPool prefix) = contains_key w.pool prefix ≡ false
 IsNew w (Submit account reference ask) = get w.requests (account, reference) ≡ None
 IsNew w (Close account reference state) = IsSome (get w.requests (account, reference))
-IsNew w (Assign account reference expert) = contains_key w.queue ((account, reference), expert) ≡ false
+IsNew w (Assign account reference expert) =
+    contains_key w.queue ((account, reference), expert) ≡ false
 IsNew w (Advise account reference expert advice) = Unit {0}
 IsNew w (GiveValue account reference entry) = IsSome (get w.requests (account, reference))
 

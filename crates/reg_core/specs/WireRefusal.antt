@@ -1,8 +1,8 @@
 -- What faults of range files are called, and which refusals they are.
 use Rattle.std.specs.Prelude.{ℕ, List}
 use Rattle.reg_ranges.specs.FaultTexts.{range_fault_text, row_fault_text}
-use Rattle.reg_ranges.specs.declared.file.RowFault.{RowFault}
-use Rattle.reg_ranges.specs.declared.file.RowFault.TheVariants as row
+use Rattle.reg_ranges.specs.declared.range_file.RowFault.{RowFault}
+use Rattle.reg_ranges.specs.declared.range_file.RowFault.TheVariants as row
 use Rattle.reg_ranges.specs.declared.table.RangeFault.{RangeFault}
 use Rattle.reg_core.specs.declared.wire_refusal.ReadFault.{ReadFault}
 use Rattle.reg_core.specs.declared.wire_refusal.ReadFault.TheVariants as read

@@ -7,17 +7,17 @@ use Rattle.std.specs.FinMap.{FinMap, insert, remove}
 use Rattle.std.specs.FinSet.{FinSet}
 use Rattle.reg_ranges.specs.Tables.{Table}
 use Rattle.reg_core.specs.Maps.{text_cmp, pair_cmp, update}
-use Rattle.reg_core.specs.Entry.{assignment_in}
+use Rattle.reg_core.specs.Entry.{registration_in}
 use Rattle.reg_core.specs.declared.advice.Advice.{Advice}
 use Rattle.reg_core.specs.declared.ask.Ask.{Ask}
 use Rattle.reg_core.specs.declared.capability.Cap.{Cap}
 use Rattle.reg_core.specs.declared.change.Change.{Change}
 use Rattle.reg_core.specs.declared.change.Change.TheVariants.{Grant, Revoke, Define, AddPool, Submit, Close, Assign, Advise, GiveValue}
-use Rattle.reg_core.specs.declared.request.Filing.{Filing}
+use Rattle.reg_core.specs.declared.request.Case.{Case}
 use Rattle.reg_core.specs.declared.request.State.{State}
 use Rattle.reg_core.specs.declared.request.State.TheVariants.{Pending, Approved}
 use Rattle.reg_core.specs.declared.request.Given.TheVariants.{Value}
-use Rattle.reg_core.specs.declared.entry.Assignment.{Assignment}
+use Rattle.reg_core.specs.declared.entry.Registration.{Registration}
 
 -- a request's name: its applicant's account and the applicant's reference
 abbrev pub RequestName : Type 0
@@ -40,44 +40,59 @@ Seat = RequestName × List ℕ
 abbrev pub seat_cmp : Seat → Seat → Ordering
 seat_cmp = pair_cmp name_cmp text_cmp
 
--- capabilities by the digests of their tokens, registries by their names, entries by registry and value, requests by their names;
--- which request is assigned to which expert, and the advice that each gave; the prefixes that blocks are cut from
+-- capabilities by the digests of their tokens, registries by their names, entries by registry and
+-- value, requests by their names; which request is assigned to which expert, and the advice that
+-- each gave; the prefixes that blocks are cut from
 pub record World : Type 0 where
   pub caps : FinMap text_cmp Cap
   pub registries : FinMap text_cmp Table
-  pub entries : FinMap place_cmp Assignment
-  pub requests : FinMap name_cmp Filing
+  pub entries : FinMap place_cmp Registration
+  pub requests : FinMap name_cmp Case
   pub queue : FinSet seat_cmp
   pub advice : FinMap seat_cmp Advice
   pub pool : FinSet nat_cmp
 
 abbrev pub empty_world : World
-empty_world = record { caps = map.empty; registries = map.empty; entries = map.empty; requests = map.empty; queue = map.empty; advice = map.empty; pool = map.empty }
+empty_world =
+    record {
+      caps = map.empty;
+      registries = map.empty;
+      entries = map.empty;
+      requests = map.empty;
+      queue = map.empty;
+      advice = map.empty;
+      pool = map.empty;
+    }
 
 -- a request that waits for the office
-abbrev pub pending : Ask → Filing
+abbrev pub pending : Ask → Case
 pending ask = record { ask = ask; state = Pending }
 
-abbrev pub in_state : State → Filing → Filing
-in_state state filing = record filing { state = state }
+abbrev pub in_state : State → Case → Case
+in_state state case = record case { state = state }
 
 -- a request in a new state
 abbrev pub with_state : World → RequestName → State → World
 with_state w name state = record w { requests = update w.requests name (in_state state) }
 
--- the world with the row that the change names added, replaced or taken away, and all other rows the same
+-- the world with the row that the change names added, replaced or taken away, and all other rows
+-- the same
 abbrev pub applied : World → Change → World
 applied w (Grant digest cap) = record w { caps = insert w.caps digest cap }
 applied w (Revoke digest) = record w { caps = remove w.caps digest }
 applied w (Define name table) = record w { registries = insert w.registries name table }
 applied w (AddPool prefix) = record w { pool = insert w.pool prefix tt }
-applied w (Submit account reference ask) = record w { requests = insert w.requests (account, reference) (pending ask) }
+applied w (Submit account reference ask) =
+    record w { requests = insert w.requests (account, reference) (pending ask) }
 applied w (Close account reference state) = with_state w (account, reference) state
-applied w (Assign account reference expert) = record w { queue = insert w.queue ((account, reference), expert) tt }
-applied w (Advise account reference expert advice) = record w { advice = insert w.advice ((account, reference), expert) advice }
-applied w (GiveValue account reference entry) = record (with_state w (account, reference) (Approved (Value entry.value))) {
-  entries = insert w.entries (entry.registry, entry.value) (assignment_in entry);
-}
+applied w (Assign account reference expert) =
+    record w { queue = insert w.queue ((account, reference), expert) tt }
+applied w (Advise account reference expert advice) =
+    record w { advice = insert w.advice ((account, reference), expert) advice }
+applied w (GiveValue account reference entry) =
+    record (with_state w (account, reference) (Approved (Value entry.value))) {
+      entries = insert w.entries (entry.registry, entry.value) (registration_in entry);
+    }
 
 abbrev pub applied_if : World → Option Change → World
 applied_if w None = w

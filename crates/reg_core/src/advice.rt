@@ -3,6 +3,7 @@ ghost use Rattle.std.specs.Prelude.{◌≡◌, true, IfOk};
 ghost use Rattle.reg_core.specs.Advice.{has_advice_form, read_verdict, verdict_word};
 
 use crate::text::{Account, Text};
+use reg_ranges::formed::Formed;
 use std::alloc::AllocError;
 
 /// Whether an expert is for a request.
@@ -13,14 +14,14 @@ pub enum Verdict {
 }
 
 /// What an expert says of a request.
-#[derive(Drop, PartialEq, Eq)]
+#[derive(Clone, Drop, PartialEq, Eq)]
 pub struct Advice {
     pub verdict: Verdict,
     pub text: Text,
 }
 
 /// An advice with its expert.
-#[derive(Drop, PartialEq, Eq)]
+#[derive(Clone, Drop, PartialEq, Eq)]
 pub struct Opinion {
     pub expert: Account,
     pub advice: Advice,
@@ -51,16 +52,24 @@ impl Verdict {
     }
 }
 
+impl Formed for Advice {
+    ghost use Rattle.reg_core.specs.Advice.{has_advice_form};
+
+    ghost has_form = { has_advice_form };
+
+    fn formed(&self) {
+        self.text.formed();
+    }
+}
+
 impl Advice {
     /// An equal advice.
     pub fn copy(&self) -> Result<Self, AllocError>
         ensures equal { IfOk result (λ a. a ≡ self.now) }
         ensures form { IfOk result (λ _. has_advice_form self.now ≡ true) }
     {
-        Ok(Advice {
-            verdict: self.verdict,
-            text: self.text.copy()?,
-        })
+        self.formed();
+        self.clone()
     }
 }
 
@@ -69,9 +78,6 @@ impl Opinion {
     pub fn copy(&self) -> Result<Self, AllocError>
         ensures { IfOk result (λ o. o ≡ self.now) }
     {
-        Ok(Opinion {
-            expert: self.expert.copy()?,
-            advice: self.advice.copy()?,
-        })
+        self.clone()
     }
 }

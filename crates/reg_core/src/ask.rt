@@ -1,15 +1,16 @@
 //! What an applicant asks for.
 ghost use Rattle.std.specs.Prelude.{◌≡◌, true, IfOk};
-ghost use Rattle.reg_ranges.specs.Sameness.{same_policy};
-ghost use Rattle.reg_core.specs.Ask.{has_ask_form, has_code_form, has_evidence_form, has_note_form, has_rfc_form, has_want_form};
+ghost use Rattle.reg_ranges.specs.Sameness.{same_evidence};
+ghost use Rattle.reg_core.specs.Ask.{has_ask_form, has_code_form, same_ask, same_code, same_want};
 
 use crate::text::{Name, Text};
-use reg_ranges::evidence::{Evidence, Rfc};
+use reg_ranges::evidence::Evidence;
+use reg_ranges::formed::Formed;
 use reg_ranges::policy::Policy;
 use std::alloc::AllocError;
 
 /// What is wanted of a registry.
-#[derive(Clone, Copy, Debug)]
+#[derive(Clone, Copy, Debug, PartialEq, Eq)]
 pub enum Want {
     /// This value.
     Value(u32),
@@ -18,7 +19,7 @@ pub enum Want {
 }
 
 /// An ask for a value of a registry (RFC 8126 section 4).
-#[derive(Drop)]
+#[derive(Clone, Drop, PartialEq, Eq)]
 pub struct CodeAsk {
     /// The registry whose value is wanted.
     pub registry: Name,
@@ -31,62 +32,48 @@ pub struct CodeAsk {
 }
 
 /// What a request asks for.
-#[derive(Drop, PartialEq, Eq)]
+#[derive(Clone, Drop, PartialEq, Eq)]
 pub enum Ask {
     Code(CodeAsk),
 }
 
-impl PartialEq for Want {
-    ghost use Rattle.std.specs.Cmp.{partial_equiv_from_equiv};
-    ghost use Rattle.reg_core.specs.Equivalences.{wants_equiv};
-    ghost use Rattle.reg_core.specs.Ask.{same_want};
+impl Formed for Want {
+    ghost use Rattle.reg_core.specs.Ask.{has_want_form};
 
-    ghost eq = { same_want };
+    ghost has_form = { has_want_form };
 
-    ghost laws = { partial_equiv_from_equiv wants_equiv };
-
-    fn eq(&self, other: &Self) -> bool {
-        match (self, other) {
-            (Want::Value(value), Want::Value(other)) => value == other,
-            (Want::Least(policy), Want::Least(other)) => is_same_policy(*policy, *other),
-            _ => false,
+    #[tactic(auto, using(std::proofs::lemmas::Bool::Decides::nat_tests))]
+    fn formed(&self) {
+        if let Want::Value(value) = self {
+            let _value = *value;
         }
     }
 }
 
-impl Eq for Want {
-    ghost use Rattle.reg_core.specs.Equivalences.{wants_equiv};
+impl Formed for CodeAsk {
+    ghost use Rattle.reg_core.specs.Ask.{has_code_form};
 
-    ghost laws = { wants_equiv };
-}
+    ghost has_form = { has_code_form };
 
-impl PartialEq for CodeAsk {
-    ghost use Rattle.std.specs.Cmp.{partial_equiv_from_equiv};
-    ghost use Rattle.reg_core.specs.Equivalences.{codes_equiv};
-    ghost use Rattle.reg_core.specs.Ask.{same_code};
-
-    ghost eq = { same_code };
-
-    ghost laws = { partial_equiv_from_equiv codes_equiv };
-
-    fn eq(&self, other: &Self) -> bool {
-        self.registry == other.registry
-            && self.want == other.want
-            && self.label == other.label
-            && self.evidence == other.evidence
+    fn formed(&self) {
+        self.registry.formed();
+        self.want.formed();
+        self.label.formed();
+        self.evidence.formed();
     }
 }
 
-impl Eq for CodeAsk {
-    ghost use Rattle.reg_core.specs.Equivalences.{codes_equiv};
+impl Formed for Ask {
+    ghost use Rattle.reg_ranges.specs.Sameness.{same_evidence};
+    ghost use Rattle.reg_core.specs.Ask.{has_ask_form};
 
-    ghost laws = { codes_equiv };
-}
+    ghost has_form = { has_ask_form };
 
-fn is_same_policy(policy: Policy, other: Policy) -> bool
-    ensures { result ≡ same_policy policy other }
-{
-    policy == other
+    fn formed(&self) {
+        match self {
+            Ask::Code(code) => code.formed(),
+        }
+    }
 }
 
 impl CodeAsk {
@@ -95,63 +82,48 @@ impl CodeAsk {
         ensures equal { IfOk result (λ a. a ≡ self.now) }
         ensures form { IfOk result (λ _. has_code_form self.now ≡ true) }
     {
-        Ok(CodeAsk {
-            registry: self.registry.copy()?,
-            want: copy_want(self.want),
-            label: self.label.copy()?,
-            evidence: copy_evidence(&self.evidence)?,
-        })
+        self.formed();
+        self.clone()
     }
 }
 
 impl Ask {
+    /// Whether it is the same ask.
+    pub fn is_same(&self, other: &Ask) -> bool
+        ensures { result ≡ same_ask self.now other.now }
+    {
+        match (self, other) {
+            (Ask::Code(code), Ask::Code(other)) => is_same_code(code, other),
+        }
+    }
+
     /// An equal ask.
     pub fn copy(&self) -> Result<Self, AllocError>
         ensures equal { IfOk result (λ a. a ≡ self.now) }
         ensures form { IfOk result (λ _. has_ask_form self.now ≡ true) }
     {
-        match self {
-            Ask::Code(code) => Ok(Ask::Code(code.copy()?)),
-        }
+        self.formed();
+        self.clone()
     }
 }
 
-#[tactic(auto, using(std::proofs::lemmas::Bool::Decides::nat_tests))]
-fn copy_want(want: Want) -> Want
-    ensures equal { result ≡ want }
-    ensures form { has_want_form want ≡ true }
+fn is_same_code(code: &CodeAsk, other: &CodeAsk) -> bool
+    ensures { result ≡ same_code code.now other.now }
 {
-    want
+    code.registry == other.registry
+        && is_same_want(code.want, other.want)
+        && code.label == other.label
+        && is_same_evidence(&code.evidence, &other.evidence)
 }
 
-fn copy_evidence(evidence: &Evidence) -> Result<Evidence, AllocError>
-    ensures equal { IfOk result (λ e. e ≡ evidence.now) }
-    ensures form { IfOk result (λ _. has_evidence_form evidence.now ≡ true) }
+fn is_same_want(want: Want, other: Want) -> bool
+    ensures { result ≡ same_want want other }
 {
-    Ok(Evidence {
-        contact: copy_note(&evidence.contact)?,
-        spec: copy_note(&evidence.spec)?,
-        rfc: copy_rfc(evidence.rfc),
-        minute: copy_note(&evidence.minute)?,
-    })
+    want == other
 }
 
-fn copy_note(text: &Option<Text>) -> Result<Option<Text>, AllocError>
-    ensures equal { IfOk result (λ t. t ≡ text.now) }
-    ensures form { IfOk result (λ _. has_note_form text.now ≡ true) }
+fn is_same_evidence(evidence: &Evidence, other: &Evidence) -> bool
+    ensures { result ≡ same_evidence evidence.now other.now }
 {
-    match text {
-        Some(text) => Ok(Some(text.copy()?)),
-        None => Ok(None),
-    }
-}
-
-fn copy_rfc(rfc: Option<Rfc>) -> Option<Rfc>
-    ensures equal { result ≡ rfc }
-    ensures form { has_rfc_form rfc ≡ true }
-{
-    if let Some(rfc) = rfc {
-        let _number = rfc.number();
-    }
-    rfc
+    *evidence == *other
 }

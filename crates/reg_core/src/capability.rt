@@ -3,6 +3,7 @@ ghost use Rattle.std.specs.Prelude.{◌≡◌, ◌≤◌, true, IfOk, IfSome, If
 ghost use Rattle.reg_core.specs.Capability.{last_until, has_cap_form, read_until};
 
 use crate::text::Account;
+use reg_ranges::formed::Formed;
 use std::alloc::AllocError;
 use std::marker::Model;
 
@@ -58,11 +59,23 @@ impl Until {
 }
 
 /// What the holder of a token may do, valid while the moment is before `until`.
-#[derive(Drop, PartialEq, Eq)]
+#[derive(Clone, Drop, PartialEq, Eq)]
 pub struct Cap {
     pub account: Account,
     pub kind: Kind,
     pub until: Until,
+}
+
+impl Formed for Cap {
+    ghost use Rattle.reg_core.specs.Capability.{has_cap_form};
+
+    ghost has_form = { has_cap_form };
+
+    #[tactic(auto, using(std::proofs::lemmas::Bool::Decides::nat_tests))]
+    fn formed(&self) {
+        self.account.formed();
+        let _seconds = self.until.seconds();
+    }
 }
 
 impl Cap {
@@ -71,12 +84,7 @@ impl Cap {
         ensures equal { IfOk result (λ c. c ≡ self.now) }
         ensures form { has_cap_form self.now ≡ true }
     {
-        let _seconds = self.until.seconds();
-        let _account = self.account.as_str();
-        Ok(Cap {
-            account: self.account.copy()?,
-            kind: self.kind,
-            until: self.until,
-        })
+        self.formed();
+        self.clone()
     }
 }

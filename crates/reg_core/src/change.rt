@@ -1,4 +1,6 @@
 //! What a command changes.
+ghost use Rattle.std.specs.Prelude.{◌≡◌, IfOk};
+
 use crate::advice::Advice;
 use crate::ask::Ask;
 use crate::capability::Cap;
@@ -6,6 +8,7 @@ use crate::entry::Entry;
 use crate::request::State;
 use crate::text::{Account, Digest, Name, Ref};
 use reg_ranges::table::RangeTable;
+use std::alloc::AllocError;
 
 /// What a command changes in the office: the whole of one change, or nothing, is kept.
 #[derive(Drop)]
@@ -28,4 +31,25 @@ pub enum Change {
     Advise(Account, Ref, Account, Advice),
     /// Approves a request and adds the entry of the value that it is given.
     GiveValue(Account, Ref, Entry),
+}
+
+impl Change {
+    ghost use Rattle.reg_core.specs.Request.{state_by};
+
+    /// The state in which the change leaves the request that it is about, if it leaves it in one.
+    pub fn state(&self) -> Result<Option<State>, AllocError>
+        ensures { IfOk result (λ state. state ≡ state_by self.now) }
+    {
+        match self {
+            Change::Submit(_, _, _) => Ok(Some(State::Pending)),
+            Change::Close(_, _, state) => Ok(Some(state.copy()?)),
+            Change::GiveValue(_, _, entry) => Ok(Some(entry.approval())),
+            Change::Grant(_, _)
+            | Change::Revoke(_)
+            | Change::Define(_, _)
+            | Change::AddPool(_)
+            | Change::Assign(_, _, _)
+            | Change::Advise(_, _, _, _) => Ok(None),
+        }
+    }
 }

@@ -26,7 +26,7 @@ pub enum PublicCommand {
     /// Looks at a registry.
     Registry(Name),
     /// Lists a registry as a table.
-    RegistryCsv(Name),
+    RegistryListing(Name),
     /// Lists the prefixes that blocks are cut from.
     PoolList,
 }

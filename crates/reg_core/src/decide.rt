@@ -15,7 +15,7 @@ mod withdraw;
 use crate::change::Change;
 use crate::refusal::Refusal;
 pub use advise::decide_advise;
-pub use allowance::{Ground, check_ask, needs_advice};
+pub use allowance::{Ground, check_ask};
 pub use approve::decide_approve;
 pub use assign::decide_assign;
 pub use decline::decide_decline;

@@ -1,13 +1,14 @@
 //! The entries of a registry: which value stands for what.
 ghost use Rattle.std.specs.Prelude.{◌≡◌, IfOk};
 
+use crate::request::{Given, State};
 use crate::text::{Account, Name, Text};
 use reg_early::term::{Status, Term};
 use std::alloc::AllocError;
 
 /// An entry without its place: what the value stands for, for whom, and how long.
-#[derive(Drop)]
-pub struct Assignment {
+#[derive(Clone, Drop)]
+pub struct Registration {
     pub label: Text,
     pub assignee: Account,
     pub term: Term,
@@ -33,16 +34,24 @@ pub struct PageEntry {
     pub status: Status,
 }
 
-impl Assignment {
-    /// An equal assignment.
+impl Registration {
+    /// An equal registration.
     pub fn copy(&self) -> Result<Self, AllocError>
         ensures { IfOk result (λ a. a ≡ self.now) }
     {
-        let term = self.term;
-        Ok(Assignment {
-            label: self.label.copy()?,
-            assignee: self.assignee.copy()?,
-            term,
-        })
+        self.clone()
+    }
+}
+
+impl Entry {
+    ghost use Rattle.reg_core.specs.declared.request.Given.TheVariants.{Value};
+    ghost use Rattle.reg_core.specs.declared.request.State.TheVariants.{Approved};
+
+    /// The state of a request that was given this entry.
+    pub fn approval(&self) -> State
+        ensures { result ≡ Approved (Value self.now.value) }
+    {
+        let value = self.value;
+        State::Approved(Given::Value(value))
     }
 }

@@ -1,5 +1,5 @@
-//! The rows, commands, changes and replies of the office, the rule by which each command is decided,
-//! and the laws of the whole.
+//! The rows, commands, changes and replies of the office, the rule by which each command is
+//! decided, and the laws of the whole.
 #![tactic(auto)]
 
 pub mod advice;
@@ -7,6 +7,7 @@ pub mod ask;
 pub mod capability;
 pub mod change;
 pub mod command;
+pub mod content;
 pub mod decide;
 pub mod entry;
 pub mod file;

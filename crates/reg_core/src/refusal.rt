@@ -2,8 +2,8 @@
 
 use reg_ranges::evidence::Item;
 
-/// Why the office refuses a command. A refusal changes nothing, and each command meets its refusals in
-/// the order in which they stand here.
+/// Why the office refuses a command. A refusal changes nothing, and each command meets its
+/// refusals in the order in which they stand here.
 #[derive(Clone, Copy, Debug, PartialEq, Eq)]
 pub enum Refusal {
     /// The moment is outside the years 2000 to 2999.
@@ -22,8 +22,9 @@ pub enum Refusal {
     Registry,
     /// The value is above the registry's largest.
     Range,
-    /// The value's range is reserved, or its policy assigns no single values (RFC 8126 sections 4.1 to
-    /// 4.3 and 6); or the least value is wanted under such a policy or under one that no range has.
+    /// The value's range is reserved, or its policy assigns no single values (RFC 8126 sections
+    /// 4.1 to 4.3 and 6); or the least value is wanted under such a policy or under one that no
+    /// range has.
     Policy,
     /// The policy asks for this item of evidence, and it is not met (RFC 8126 section 4).
     Evidence(Item),

@@ -2,51 +2,14 @@
 ghost use Rattle.std.specs.Prelude.{◌≡◌};
 ghost use Rattle.reg_core.specs.Laws.{is_refused as refused};
 
-use crate::capability::Cap;
-use crate::file::File;
-use crate::page::Page;
-use crate::queue::QueueRow;
+use crate::content::Content;
 use crate::refusal::Refusal;
-use crate::request::Request;
-use crate::rows::Rows;
-use crate::text::Name;
-use reg_blocks::pool::Pool;
 
 /// What the office answers to a command.
 #[derive(Drop)]
 pub enum Reply {
-    /// The names of all registries, in order.
-    Names(Rows<Name>),
-    /// A registry.
-    Page(Page),
-    /// A registry as a table.
-    Sheet(Page),
-    /// The prefixes of the pool, ascending.
-    Pool(Pool),
-    /// A request was made.
-    Made(Request),
-    /// A request of the caller's.
-    Row(Request),
-    /// The caller's requests, by reference.
-    Rows(Rows<Request>),
-    /// A request that is queued to the caller.
-    Item(QueueRow),
-    /// The requests that are queued to the caller, by account and reference.
-    Items(Rows<QueueRow>),
-    /// A request, as the desk sees it.
-    Desk(Request),
-    /// All requests, by account and reference.
-    Desks(Rows<Request>),
-    /// A request with all that the desk has of it.
-    Filed(File),
-    /// The registry of this name is there as it was defined.
-    Defined(Name),
-    /// The prefix is in the pool.
-    Pooled(u32),
-    /// The capability that a token now has.
-    Granted(Cap),
-    /// The token has no capability now.
-    Revoked,
+    /// The command was accepted.
+    Accepted(Content),
     /// The command was refused.
     Refused(Refusal),
 }

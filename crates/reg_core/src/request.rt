@@ -4,6 +4,7 @@ ghost use Rattle.reg_core.specs.Request.{has_state_form, word_of};
 
 use crate::ask::Ask;
 use crate::text::{Account, Ref, Text};
+use reg_ranges::formed::Formed;
 use std::alloc::AllocError;
 
 /// What an approved request was given.
@@ -36,14 +37,14 @@ pub enum StateWord {
 }
 
 /// A request without its name: what is asked for, and where it stands.
-#[derive(Drop, PartialEq, Eq)]
-pub struct Filing {
+#[derive(Clone, Drop, PartialEq, Eq)]
+pub struct Case {
     pub ask: Ask,
     pub state: State,
 }
 
 /// A request. Its name is its applicant's account and the reference that the applicant chose.
-#[derive(Drop, PartialEq, Eq)]
+#[derive(Clone, Drop, PartialEq, Eq)]
 pub struct Request {
     pub account: Account,
     pub reference: Ref,
@@ -51,22 +52,46 @@ pub struct Request {
     pub state: State,
 }
 
+impl Clone for State {
+    ghost use Rattle.std.specs.Prelude.{◌≡◌};
+
+    ghost is_clone = { λ state copy. copy ≡ state };
+
+    fn clone(&self) -> Result<Self, AllocError> {
+        match self {
+            State::Pending => Ok(State::Pending),
+            State::Approved(given) => Ok(State::Approved(*given)),
+            State::Declined(reason) => Ok(State::Declined(reason.copy()?)),
+            State::Withdrawn => Ok(State::Withdrawn),
+        }
+    }
+}
+
+impl Formed for State {
+    ghost use Rattle.reg_core.specs.Request.{has_state_form};
+
+    ghost has_form = { has_state_form };
+
+    #[tactic(auto, using(std::proofs::lemmas::Bool::Decides::nat_tests))]
+    fn formed(&self) {
+        match self {
+            State::Approved(Given::Value(value)) => {
+                let _value = *value;
+            }
+            State::Declined(reason) => reason.formed(),
+            State::Pending | State::Withdrawn => {}
+        }
+    }
+}
+
 impl State {
     /// An equal state.
-    #[tactic(auto, using(std::proofs::lemmas::Bool::Decides::nat_tests))]
     pub fn copy(&self) -> Result<Self, AllocError>
         ensures equal { IfOk result (λ s. s ≡ self.now) }
         ensures form { has_state_form self.now ≡ true }
     {
-        match self {
-            State::Pending => Ok(State::Pending),
-            State::Approved(Given::Value(value)) => {
-                let value = *value;
-                Ok(State::Approved(Given::Value(value)))
-            }
-            State::Declined(reason) => Ok(State::Declined(reason.copy()?)),
-            State::Withdrawn => Ok(State::Withdrawn),
-        }
+        self.formed();
+        self.clone()
     }
 
     /// The bare word.
@@ -82,15 +107,12 @@ impl State {
     }
 }
 
-impl Filing {
-    /// An equal filing.
+impl Case {
+    /// An equal case.
     pub fn copy(&self) -> Result<Self, AllocError>
         ensures { IfOk result (λ f. f ≡ self.now) }
     {
-        Ok(Filing {
-            ask: self.ask.copy()?,
-            state: self.state.copy()?,
-        })
+        self.clone()
     }
 }
 
@@ -99,11 +121,6 @@ impl Request {
     pub fn copy(&self) -> Result<Self, AllocError>
         ensures { IfOk result (λ r. r ≡ self.now) }
     {
-        Ok(Request {
-            account: self.account.copy()?,
-            reference: self.reference.copy()?,
-            ask: self.ask.copy()?,
-            state: self.state.copy()?,
-        })
+        self.clone()
     }
 }

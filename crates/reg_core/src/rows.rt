@@ -1,11 +1,10 @@
 //! A list inside a row or a reply.
-ghost use Rattle.std.specs.Prelude.{◌≡◌, [], IfOk};
+ghost use Rattle.std.specs.Prelude.{◌≡◌};
 
-use std::alloc::AllocError;
 use std::marker::Model;
 
 /// Some rows in order.
-#[derive(Drop)]
+#[derive(Clone, Drop)]
 pub struct Rows<T> {
     items: Vec<T>,
 }
@@ -31,13 +30,6 @@ impl<T> Rows<T> {
         ensures { result.now ≡ self.now }
     {
         self.items.as_slice()
-    }
-
-    /// An empty vector with room for as many rows.
-    pub(crate) fn room(&self) -> Result<Vec<T>, AllocError>
-        ensures { IfOk result (λ v. v.items ≡ []) }
-    {
-        Vec::with_capacity(*self.items.allocator(), self.items.len())
     }
 
     /// The vector of all rows.

@@ -1,4 +1,5 @@
-//! The names that the office goes by: accounts, references, registry names, tokens and their digests.
+//! The names that the office goes by: accounts, references, registry names, tokens and their
+//! digests.
 ghost use Rattle.std.specs.Prelude.{◌≡◌};
 ghost use Rattle.std.specs.List.{list_all};
 ghost use Rattle.reg_core.specs.Names.{is_name_byte as name_byte, is_token_byte as token_byte, is_digest_byte as digest_byte, is_name as name, is_token, is_digest, ascii_name, ascii_token, ascii_digest};
@@ -47,7 +48,8 @@ impl Form for NameForm {
     }
 }
 
-/// 16 to 64 of letters, digits, `-`, `.`, `_` and `~`: a bearer token (RFC 6750 section 2.1, narrowed).
+/// 16 to 64 of letters, digits, `-`, `.`, `_` and `~`: a bearer token (RFC 6750 section 2.1,
+/// narrowed).
 #[derive(Clone, Copy, Debug)]
 pub struct TokenForm;
 

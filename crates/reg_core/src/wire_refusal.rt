@@ -4,7 +4,7 @@ ghost use Rattle.reg_core.specs.WireRefusal.{table_fault_text, fault_of_row, fau
 ghost use Rattle.reg_core.specs.declared.wire_refusal.ReadFault.TheVariants.{Memory};
 
 use crate::item::Item;
-use reg_ranges::file::{RowFault, RowPart};
+use reg_ranges::range_file::{RowFault, RowPart};
 use reg_ranges::table::RangeFault;
 use std::alloc::AllocError;
 use std::fmt;

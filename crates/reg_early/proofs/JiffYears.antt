@@ -8,9 +8,9 @@ use Rattle.jiff.proofs.ChainFacts.{IsOnly-forward}
 use Rattle.jiff.proofs.SpanFacts.{signed_arith, date_add-years}
 use Rattle.reg_early.specs.Calendar.{CivilDate, IsDate, IsDay, is_leap_year, day_number, date_of, date_a_year_after, year_after}
 use Rattle.reg_early.specs.Laws.{IsSameDate}
-use Rattle.reg_early.proofs.Dates.{IsDate-date_of}
-use Rattle.reg_early.proofs.JiffDates.{theirs, day_number_agrees, length_of_month, same_date}
-use Rattle.reg_early.proofs.YearsAfter.{not_leap_after, leap_day, other_day, cases_day, in_next_year, last_date, IsDate-last_date, IsDate-a_year_after, is_leap_from, month-a_year_after, year-a_year_after, year_after-last}
+use Rattle.reg_early.proofs.DaysAreDates.{IsDate-date_of}
+use Rattle.reg_early.proofs.CalendarIsJiffs.{theirs, day_number_agrees, length_of_month, same_date}
+use Rattle.reg_early.proofs.YearAfter.{not_leap_after, leap_day, other_day, cases_day, in_next_year, last_date, IsDate-last_date, IsDate-a_year_after, is_leap_from, month-a_year_after, year-a_year_after, year_after-last}
 
 -- the day of the month that jiff takes a year on
 jiffs_day : (date : CivilDate) → IsDate date → date.year < 9999 → min date.day (days_in_month (pos (date.year + 1)) date.month) ≡ (date_a_year_after date).day

@@ -1,9 +1,9 @@
-pub mod Starts
-pub mod Dates
-pub mod JiffDates
-pub mod YearsAfter
+pub mod StartsOfYears
+pub mod DaysAreDates
+pub mod CalendarIsJiffs
+pub mod YearAfter
 pub mod JiffYears
 pub mod DayTexts
-pub mod Moments
-pub mod DaysOfTerms
+pub mod MomentsHaveDays
+pub mod TermsHaveDays
 mod KnownDays

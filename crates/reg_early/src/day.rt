@@ -8,6 +8,7 @@ ghost use Rattle.reg_early.specs.DayText.{text_of_day};
 use crate::civil::{date_on, day_on};
 use jiff::tz::Offset;
 use jiff::{Timestamp, ToSpan};
+use reg_ranges::formed::Formed;
 use std::alloc::{AllocError, Global};
 use std::marker::Model;
 
@@ -57,6 +58,17 @@ impl Day {
         ensures in_range { IsDay result }
     {
         self.number
+    }
+}
+
+impl Formed for Day {
+    ghost use Rattle.reg_early.specs.Forms.{is_day};
+
+    ghost has_form = { is_day };
+
+    #[tactic(auto, using(std::proofs::lemmas::Bool::Decides::nat_tests))]
+    fn formed(&self) {
+        let _ = &self.number;
     }
 }
 

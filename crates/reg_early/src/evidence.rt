@@ -1,11 +1,12 @@
 //! What an early allocation asks for (RFC 7120, section 2).
 ghost use Rattle.std.specs.Prelude.{◌≡◌, IfOk};
 
-use reg_ranges::text::{Text, copy_optional};
+use reg_ranges::formed::Formed;
+use reg_ranges::text::Text;
 use std::alloc::AllocError;
 
 /// What an applicant shows for an early allocation.
-#[derive(Debug, Drop, PartialEq, Eq)]
+#[derive(Clone, Debug, Drop, PartialEq, Eq)]
 pub struct EarlyEvidence {
     /// The Internet-Draft that describes the value.
     pub draft: Option<Text>,
@@ -22,17 +23,22 @@ pub struct EarlyEvidence {
 }
 
 impl EarlyEvidence {
-    /// The same evidence again.
+    /// Equal evidence. Only want of memory is an error.
     pub fn copy(&self) -> Result<EarlyEvidence, AllocError>
         ensures { IfOk result (λ evidence. evidence ≡ self.now) }
     {
-        Ok(EarlyEvidence {
-            draft: copy_optional(&self.draft)?,
-            stable: self.stable,
-            interest: self.interest,
-            chair: copy_optional(&self.chair)?,
-            director: copy_optional(&self.director)?,
-            will_be_rfc: self.will_be_rfc,
-        })
+        self.clone()
+    }
+}
+
+impl Formed for EarlyEvidence {
+    ghost use Rattle.reg_early.specs.Forms.{has_early_form};
+
+    ghost has_form = { has_early_form };
+
+    fn formed(&self) {
+        self.draft.formed();
+        self.chair.formed();
+        self.director.formed();
     }
 }

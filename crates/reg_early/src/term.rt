@@ -2,6 +2,7 @@
 ghost use Rattle.std.specs.Prelude.{◌≡◌};
 
 use crate::day::{Day, year_after};
+use reg_ranges::formed::Formed;
 
 /// How long an entry stands.
 #[derive(Clone, Copy, Debug, PartialEq, Eq)]
@@ -107,6 +108,17 @@ impl Term {
             expires: None,
             ..*self
         })
+    }
+}
+
+impl Formed for Term {
+    ghost use Rattle.reg_early.specs.Forms.{has_term_form};
+
+    ghost has_form = { has_term_form };
+
+    fn formed(&self) {
+        self.first.formed();
+        self.expires.formed();
     }
 }
 

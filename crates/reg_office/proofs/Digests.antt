@@ -31,17 +31,21 @@ AllBytes-high_first (suc k) n = (is_byte-byte_at k n, AllBytes-high_first k n)
 AllBytes-digest : (h : List ℕ) (n : ℕ) → AllBytes (digest_bytes h n)
 unfolding digest_bytes
 AllBytes-digest h zero = tt
-AllBytes-digest h (suc n) = AllBytes-append (digest_bytes h n) (to_be_bytes w32 (slice_index h n)) (AllBytes-digest h n) (AllBytes-high_first 4 (slice_index h n))
+AllBytes-digest h (suc n) =
+    AllBytes-append (digest_bytes h n) (to_be_bytes w32 (slice_index h n)) (AllBytes-digest h n)
+    (AllBytes-high_first 4 (slice_index h n))
 
 AllBytes-sha256 : (m : List ℕ) → AllBytes (sha256 m)
 unfolding sha256
 AllBytes-sha256 m = AllBytes-digest (final_hash initial_hash_256 m) 8
 
 -- what passes everywhere passes at each place
-passes_at : (p : ℕ → Bool) (xs : List ℕ) (i : ℕ) → list_all p xs ≡ true → i < length xs → p (slice_index xs i) ≡ true
+passes_at : (p : ℕ → Bool) (xs : List ℕ) (i : ℕ) → list_all p xs ≡ true → i < length xs
+    → p (slice_index xs i) ≡ true
 passes_at p [] i h lt = absurd (omega arith)
 passes_at p (x ∷ xs) zero h lt = first_so (p x) (list_all p xs) h
-passes_at p (x ∷ xs) (suc i) h lt = passes_at p xs i (second_so (p x) (list_all p xs) h) (omega arith)
+passes_at p (x ∷ xs) (suc i) h lt =
+    passes_at p xs i (second_so (p x) (list_all p xs) h) (omega arith)
 
 both : (a b : Bool) → a ≡ true → b ≡ true → (a && b) ≡ true
 both a b p q = rw (p, q) refl
@@ -55,15 +59,18 @@ digits_pass (b ∷ rest) h =
     let low = passes_at is_digest_byte lower_digits (b % 16) refl (omega arith) in
     both _ _ high (both _ _ low (digits_pass rest h.1))
 
-is_digest-encode_lower : (xs : List ℕ) → AllBytes xs → length xs ≡ 32 → is_digest (encode_lower xs) ≡ true
+is_digest-encode_lower : (xs : List ℕ) → AllBytes xs → length xs ≡ 32
+    → is_digest (encode_lower xs) ≡ true
 is_digest-encode_lower xs h len =
-    let long : length (encode_lower xs) ≡ 64 = omega (arith, length-encode_with lower_digits xs, len) in
+    let long : length (encode_lower xs) ≡ 64 =
+    omega (arith, length-encode_with lower_digits xs, len) in
     both (is_within 64 64 (length (encode_lower xs))) _ (rw long refl) (digits_pass xs h)
 
 -- whatever the token
 pub is_digest-token_digest : (token : List ℕ) → is_digest (token_digest token) ≡ true
 unfolding token_digest
-is_digest-token_digest token = is_digest-encode_lower (sha256 token) (AllBytes-sha256 token) (length-sha256 token)
+is_digest-token_digest token =
+    is_digest-encode_lower (sha256 token) (AllBytes-sha256 token) (length-sha256 token)
 
 pub gives_digests : GivesDigests token_digest
 gives_digests token h = is_digest-token_digest token

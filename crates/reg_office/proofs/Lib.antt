@@ -1,6 +1,9 @@
 pub mod Admitted
-pub mod Advised
+pub mod Approvals
 pub mod Decided
 pub mod Digests
+pub mod Performing
 pub mod Prefixes
+pub mod Rows
+pub mod Submissions
 pub mod Values

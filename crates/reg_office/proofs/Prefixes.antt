@@ -11,5 +11,8 @@ any_same q [] = refl
 any_same q (k ∷ ks) = λ i. (nat_eq_equiv.symm k q ∙ sym (unsigned_tied q k)) i || any_same q ks i
 
 -- what a search among a set's keys finds is in the set
-pub found_in : (s : FinSet nat_cmp) (q : ℕ) (ks : List ℕ) (found : Bool) → ks ≡ keys s → found ≡ list_any (λ k. nat_eq k q) ks → found ≡ contains_key s q
-found_in s q ks found all among = among ∙ ap (list_any (λ k. nat_eq k q)) all ∙ any_same q (keys s) ∙ sym (contains_key-keys s q)
+pub found_in : (s : FinSet nat_cmp) (q : ℕ) (ks : List ℕ) (found : Bool) → ks ≡ keys s
+    → found ≡ list_any (λ k. nat_eq k q) ks → found ≡ contains_key s q
+found_in s q ks found all among =
+    among ∙ ap (list_any (λ k. nat_eq k q)) all ∙ any_same q (keys s)
+    ∙ sym (contains_key-keys s q)

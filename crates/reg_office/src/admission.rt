@@ -1,15 +1,16 @@
 //! Who may give a command.
-ghost use Rattle.std.specs.Prelude.{◌≡◌, None, Ok, Err, IfOk, IfErr};
+ghost use Rattle.std.specs.Prelude.{◌≡◌, None, Err};
 ghost use Rattle.std.specs.Option.{option_copied};
 ghost use Rattle.reg_core.specs.Answer.{admitted};
-ghost use Rattle.reg_store.specs.Keeper.{MayFault};
 ghost use Rattle.reg_office.specs.Caller.{admission, caller_of as caller};
+ghost use Rattle.reg_office.specs.Performs.{Finds};
 
 use crate::digest::caller_of;
+use crate::stop::Stop;
 use reg_core::capability::{Cap, Kind};
 use reg_core::refusal::Refusal;
 use reg_core::text::Digest;
-use reg_store::keeper::{Fault, Keeper};
+use reg_store::keeper::Keeper;
 use std::alloc::Global;
 
 /// A caller who is admitted.
@@ -29,30 +30,23 @@ pub fn admit<K: Keeper>(
     token: Option<&[u8]>,
     moment: u64,
     kind: Kind,
-) -> Result<Result<Caller, Refusal>, Fault>
-    ensures outcome { K.Holds keeper.new → IfOk result (λ outcome. outcome ≡ admission (K.world keeper.old) (caller (option_copied token.entry)) moment kind) }
-    ensures same { K.Holds keeper.new → K.world keeper.new ≡ K.world keeper.old }
-    ensures held { K.Holds keeper.new → K.Holds keeper.old }
-    ensures fault { IfErr result (MayFault K.FAILS) }
-    ensures nobody { caller (option_copied token.entry) ≡ None → result ≡ Ok (Err Refusal.Token) }
+) -> Result<Caller, Stop>
+    ensures caller { Finds K.world K.Holds K.FAILS keeper.old keeper.new result
+        (λ w. admission w (caller (option_copied token.entry)) moment kind) }
+    ensures nobody { caller (option_copied token.entry) ≡ None →
+        result ≡ Err (Stop.Refused Refusal.Token) }
 {
-    let Some(digest) = caller_of(alloc, token)? else {
-        return Ok(Err(Refusal::Token));
-    };
-    let found = keeper.cap(&digest)?;
-    match serving(found, moment, kind) {
-        Ok(cap) => Ok(Ok(Caller { digest, cap })),
-        Err(refusal) => Ok(Err(refusal)),
-    }
+    let digest = caller_of(alloc, token)?.ok_or(Refusal::Token)?;
+    let existing = keeper.cap(&digest)?;
+    let cap = serving(existing, moment, kind)?;
+    Ok(Caller { digest, cap })
 }
 
 // The capability by which a command of this kind may be given.
-fn serving(found: Option<Cap>, moment: u64, kind: Kind) -> Result<Cap, Refusal>
-    ensures { result ≡ admitted found moment kind }
+fn serving(existing: Option<Cap>, moment: u64, kind: Kind) -> Result<Cap, Refusal>
+    ensures { result ≡ admitted existing moment kind }
 {
-    let Some(cap) = found else {
-        return Err(Refusal::Token);
-    };
+    let cap = existing.ok_or(Refusal::Token)?;
     if cap.until.seconds() <= moment {
         return Err(Refusal::Token);
     }

@@ -1,22 +1,24 @@
 //! What an applicant may do, once admitted.
-ghost use Rattle.std.specs.Prelude.{◌≡◌, true, IfOk, IfErr, OnOk, OnErr};
+ghost use Rattle.std.specs.Prelude.{◌≡◌, true, IfOk};
 ghost use Rattle.reg_core.specs.Request.{request_row};
 ghost use Rattle.reg_core.specs.WellKept.{has_request_form};
-ghost use Rattle.reg_core.specs.World.{applied_if, pending as pending_filing};
-ghost use Rattle.reg_store.specs.Keeper.{MayFault};
-ghost use Rattle.reg_office.specs.Acts.{applicant_act, own_list, own_one, submission, withdrawal};
-ghost use Rattle.reg_office.specs.Rows.{row_or_refused as row_told};
+ghost use Rattle.reg_core.specs.World.{RequestName, pending as pending_case};
+ghost use Rattle.reg_core.specs.declared.command.ApplicantCommand.TheVariants as command;
+ghost use Rattle.reg_office.specs.Answers.{answer_to_account};
+ghost use Rattle.reg_office.specs.Performs.{Performs};
 
-use crate::carrying::{conclude, make};
+use crate::carrying::{conclude, row_after};
 use crate::ground::ground_if;
+use crate::stop::Stop;
 use reg_core::ask::Ask;
 use reg_core::command::ApplicantCommand;
-use reg_core::decide::{Decision, Deny, decide_submit, decide_withdraw};
+use reg_core::content::Content;
+use reg_core::decide::{decide_submit, decide_withdraw};
 use reg_core::refusal::Refusal;
-use reg_core::reply::Reply;
 use reg_core::request::{Request, State};
 use reg_core::text::{Account, Ref};
-use reg_store::keeper::{Fault, Keeper};
+use reg_ranges::formed::Formed;
+use reg_store::keeper::Keeper;
 use std::alloc::{AllocError, Global};
 
 /// What a command of this account's is answered.
@@ -25,12 +27,9 @@ pub fn perform<K: Keeper>(
     keeper: &mut K,
     account: &Account,
     command: &ApplicantCommand,
-) -> Result<Reply, Fault>
-    ensures reply { K.Holds keeper.new → IfOk result (λ r. r ≡ (applicant_act (K.world keeper.old) account.now command.now).reply) }
-    ensures made { K.Holds keeper.new → OnOk result (K.world keeper.new ≡ applied_if (K.world keeper.old) (applicant_act (K.world keeper.old) account.now command.now).change) }
-    ensures kept { K.Holds keeper.new → OnErr result (K.world keeper.new ≡ K.world keeper.old) }
-    ensures held { K.Holds keeper.new → K.Holds keeper.old }
-    ensures fault { IfErr result (MayFault K.FAILS) }
+) -> Result<Content, Stop>
+    ensures { Performs K.world K.Holds K.FAILS keeper.old keeper.new result
+        (answer_to_account account.now command.now) }
 {
     match command {
         ApplicantCommand::Own => list_own(keeper, account),
@@ -43,24 +42,20 @@ pub fn perform<K: Keeper>(
 }
 
 // The applicant's own requests.
-fn list_own<K: Keeper>(keeper: &mut K, account: &Account) -> Result<Reply, Fault>
-    ensures reply { K.Holds keeper.new → IfOk result (λ r. r ≡ (own_list (K.world keeper.old) account.now).reply) }
-    ensures same { K.Holds keeper.new → K.world keeper.new ≡ K.world keeper.old }
-    ensures held { K.Holds keeper.new → K.Holds keeper.old }
-    ensures fault { IfErr result (MayFault K.FAILS) }
+fn list_own<K: Keeper>(keeper: &mut K, account: &Account) -> Result<Content, Stop>
+    ensures { Performs K.world K.Holds K.FAILS keeper.old keeper.new result
+        (answer_to_account account.now command.Own) }
 {
-    Ok(Reply::Rows(keeper.own(account)?))
+    Ok(Content::Rows(keeper.own(account)?))
 }
 
 // One of the applicant's own requests.
-fn show_own<K: Keeper>(keeper: &mut K, account: &Account, reference: &Ref) -> Result<Reply, Fault>
-    ensures reply { K.Holds keeper.new → IfOk result (λ r. r ≡ (own_one (K.world keeper.old) account.now reference.now).reply) }
-    ensures same { K.Holds keeper.new → K.world keeper.new ≡ K.world keeper.old }
-    ensures held { K.Holds keeper.new → K.Holds keeper.old }
-    ensures fault { IfErr result (MayFault K.FAILS) }
+fn show_own<K: Keeper>(keeper: &mut K, account: &Account, reference: &Ref) -> Result<Content, Stop>
+    ensures { Performs K.world K.Holds K.FAILS keeper.old keeper.new result
+        (answer_to_account account.now (command.OwnOne reference.now)) }
 {
-    let found = keeper.own_one(account, reference)?;
-    Ok(row_or_refused(found))
+    let request = keeper.own_one(account, reference)?.ok_or(Refusal::Request)?;
+    Ok(Content::Row(request))
 }
 
 // A request of the applicant's. No registry is looked at for one that is there already.
@@ -70,57 +65,37 @@ fn submit<K: Keeper>(
     account: &Account,
     reference: &Ref,
     ask: &Ask,
-) -> Result<Reply, Fault>
-    ensures reply { K.Holds keeper.new → IfOk result (λ r. r ≡ (submission (K.world keeper.old) account.now reference.now ask.now).reply) }
-    ensures made { K.Holds keeper.new → OnOk result (K.world keeper.new ≡ applied_if (K.world keeper.old) (submission (K.world keeper.old) account.now reference.now ask.now).change) }
-    ensures kept { K.Holds keeper.new → OnErr result (K.world keeper.new ≡ K.world keeper.old) }
-    ensures held { K.Holds keeper.new → K.Holds keeper.old }
-    ensures fault { IfErr result (MayFault K.FAILS) }
+) -> Result<Content, Stop>
+    ensures { Performs K.world K.Holds K.FAILS keeper.old keeper.new result
+        (answer_to_account account.now (command.Submit reference.now ask.now)) }
 {
-    let found = keeper.own_one(account, reference)?;
-    let rows = ground_if(alloc, keeper, found.is_none(), ask)?;
-    match decide_submit(found.as_ref(), account, reference, ask, rows.ground()) {
-        Ok(Decision::Make(change)) => {
-            let row = pending(account, reference, ask)?;
-            make(keeper, change)?;
-            Ok(Reply::Made(row))
+    let existing = keeper.own_one(account, reference)?;
+    let rows = ground_if(alloc, keeper, existing.is_none(), ask)?;
+    request_formed(account, reference, ask);
+    let decision = decide_submit(existing.as_ref(), account, reference, ask, rows.ground())?;
+    match existing {
+        Some(request) => Ok(Content::Row(conclude(keeper, Ok(request), decision)?)),
+        None => {
+            let request = pending(account, reference, ask);
+            Ok(Content::Made(conclude(keeper, request, decision)?))
         }
-        Ok(Decision::Same) => Ok(row_or_refused(found)),
-        Err(Deny::Refused(refusal)) => Ok(Reply::Refused(refusal)),
-        Err(Deny::Memory) => Err(Fault::Memory),
     }
 }
 
 // Takes a request of the applicant's back.
-fn withdraw<K: Keeper>(keeper: &mut K, account: &Account, reference: &Ref) -> Result<Reply, Fault>
-    ensures reply { K.Holds keeper.new → IfOk result (λ r. r ≡ (withdrawal (K.world keeper.old) account.now reference.now).reply) }
-    ensures made { K.Holds keeper.new → OnOk result (K.world keeper.new ≡ applied_if (K.world keeper.old) (withdrawal (K.world keeper.old) account.now reference.now).change) }
-    ensures kept { K.Holds keeper.new → OnErr result (K.world keeper.new ≡ K.world keeper.old) }
-    ensures held { K.Holds keeper.new → K.Holds keeper.old }
-    ensures fault { IfErr result (MayFault K.FAILS) }
+fn withdraw<K: Keeper>(keeper: &mut K, account: &Account, reference: &Ref) -> Result<Content, Stop>
+    ensures { Performs K.world K.Holds K.FAILS keeper.old keeper.new result
+        (answer_to_account account.now (command.Withdraw reference.now)) }
 {
-    let Some(request) = keeper.own_one(account, reference)? else {
-        return Ok(Reply::Refused(Refusal::Request));
-    };
-    match decide_withdraw(&request) {
-        Ok(decision) => Ok(Reply::Row(conclude(keeper, request, decision)?)),
-        Err(Deny::Refused(refusal)) => Ok(Reply::Refused(refusal)),
-        Err(Deny::Memory) => Err(Fault::Memory),
-    }
-}
-
-fn row_or_refused(found: Option<Request>) -> Reply
-    ensures { result ≡ row_told found }
-{
-    match found {
-        Some(row) => Reply::Row(row),
-        None => Reply::Refused(Refusal::Request),
-    }
+    let request = keeper.own_one(account, reference)?.ok_or(Refusal::Request)?;
+    let decision = decide_withdraw(&request)?;
+    let row = row_after(request, &decision);
+    Ok(Content::Row(conclude(keeper, row, decision)?))
 }
 
 fn pending(account: &Account, reference: &Ref, ask: &Ask) -> Result<Request, AllocError>
-    ensures row { IfOk result (λ row. row ≡ request_row (account.now, reference.now) (pending_filing ask.now)) }
-    ensures form { IfOk result (λ _. has_request_form (account.now, reference.now) (pending_filing ask.now) ≡ true) }
+    ensures { let name : RequestName = (account.now, reference.now) in
+        IfOk result (λ row. row ≡ request_row name (pending_case ask.now)) }
 {
     Ok(Request {
         account: account.copy()?,
@@ -128,4 +103,13 @@ fn pending(account: &Account, reference: &Ref, ask: &Ask) -> Result<Request, All
         ask: ask.copy()?,
         state: State::Pending,
     })
+}
+
+// Does nothing: what it ensures is known by the types.
+fn request_formed(account: &Account, reference: &Ref, ask: &Ask)
+    ensures { has_request_form (account.now, reference.now) (pending_case ask.now) ≡ true }
+{
+    account.formed();
+    reference.formed();
+    ask.formed();
 }

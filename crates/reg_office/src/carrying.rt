@@ -1,10 +1,11 @@
 //! Carrying out what was decided.
-ghost use Rattle.std.specs.Prelude.{◌≡◌, IfOk, IfErr, OnOk, OnErr, unwrap_or};
+ghost use Rattle.std.specs.Prelude.{◌≡◌, Ok, IfOk, OnOk, unwrap_or};
+ghost use Rattle.reg_core.specs.Answer.{change_by};
 ghost use Rattle.reg_core.specs.Request.{state_by};
 ghost use Rattle.reg_core.specs.WellKept.{WellKept, CanApply};
-ghost use Rattle.reg_core.specs.World.{applied};
-ghost use Rattle.reg_store.specs.Keeper.{MayFault};
-ghost use Rattle.reg_office.specs.Decisions.{CanMake, made_by, row_by};
+ghost use Rattle.reg_core.specs.World.{applied, applied_if};
+ghost use Rattle.reg_store.specs.Keeper.{Makes};
+ghost use Rattle.reg_office.specs.Decisions.{CanMake, row_by};
 
 use reg_core::change::Change;
 use reg_core::decide::Decision;
@@ -14,11 +15,9 @@ use std::alloc::AllocError;
 
 /// Makes a change that fits every well kept world with the rows that it was decided over.
 pub fn make<K: Keeper>(keeper: &mut K, change: Change) -> Result<(), Fault>
-    requires { K.Holds keeper.old → WellKept (K.world keeper.old) → CanApply (K.world keeper.old) change }
-    ensures made { K.Holds keeper.new → OnOk result (K.world keeper.new ≡ applied (K.world keeper.old) change) }
-    ensures kept { K.Holds keeper.new → OnErr result (K.world keeper.new ≡ K.world keeper.old) }
-    ensures held { K.Holds keeper.new → K.Holds keeper.old }
-    ensures fault { IfErr result (MayFault K.FAILS) }
+    requires { K.Holds keeper.old →
+        WellKept (K.world keeper.old) → CanApply (K.world keeper.old) change }
+    ensures { Makes K.world K.Holds K.FAILS keeper.old keeper.new result (λ w. applied w change) }
 {
     keeper.well_kept();
     keeper.apply(change)
@@ -26,11 +25,10 @@ pub fn make<K: Keeper>(keeper: &mut K, change: Change) -> Result<(), Fault>
 
 /// Makes the change of a decision, if there is one.
 pub fn carry_out<K: Keeper>(keeper: &mut K, decision: Decision) -> Result<(), Fault>
-    requires { K.Holds keeper.old → WellKept (K.world keeper.old) → CanMake (K.world keeper.old) decision }
-    ensures made { K.Holds keeper.new → OnOk result (K.world keeper.new ≡ made_by (K.world keeper.old) decision) }
-    ensures kept { K.Holds keeper.new → OnErr result (K.world keeper.new ≡ K.world keeper.old) }
-    ensures held { K.Holds keeper.new → K.Holds keeper.old }
-    ensures fault { IfErr result (MayFault K.FAILS) }
+    requires { K.Holds keeper.old →
+        WellKept (K.world keeper.old) → CanMake (K.world keeper.old) decision }
+    ensures { Makes K.world K.Holds K.FAILS keeper.old keeper.new result
+        (λ w. applied_if w (change_by decision)) }
 {
     match decision {
         Decision::Make(change) => make(keeper, change),
@@ -38,26 +36,26 @@ pub fn carry_out<K: Keeper>(keeper: &mut K, decision: Decision) -> Result<(), Fa
     }
 }
 
-/// Makes the change of a decision about a request, if there is one, and gives the request as it is then.
-pub fn conclude<K: Keeper>(
+/// Makes the change of a decision, if there is one, where what is told of it is there, and gives
+/// that.
+pub fn conclude<K: Keeper, T: Drop>(
     keeper: &mut K,
-    request: Request,
+    told: Result<T, AllocError>,
     decision: Decision,
-) -> Result<Request, Fault>
-    requires { K.Holds keeper.old → WellKept (K.world keeper.old) → CanMake (K.world keeper.old) decision }
-    ensures row { IfOk result (λ row. row ≡ row_by decision request) }
-    ensures made { K.Holds keeper.new → OnOk result (K.world keeper.new ≡ made_by (K.world keeper.old) decision) }
-    ensures kept { K.Holds keeper.new → OnErr result (K.world keeper.new ≡ K.world keeper.old) }
-    ensures held { K.Holds keeper.new → K.Holds keeper.old }
-    ensures fault { IfErr result (MayFault K.FAILS) }
+) -> Result<T, Fault>
+    requires { OnOk told (K.Holds keeper.old →
+        WellKept (K.world keeper.old) → CanMake (K.world keeper.old) decision) }
+    ensures told { IfOk result (λ x. told ≡ Ok x) }
+    ensures change { Makes K.world K.Holds K.FAILS keeper.old keeper.new result
+        (λ w. applied_if w (change_by decision)) }
 {
-    let row = row_after(request, &decision)?;
+    let told = told?;
     carry_out(keeper, decision)?;
-    Ok(row)
+    Ok(told)
 }
 
-// A request as it is after a decision about it.
-fn row_after(request: Request, decision: &Decision) -> Result<Request, AllocError>
+/// A request as it is after a decision about it.
+pub fn row_after(request: Request, decision: &Decision) -> Result<Request, AllocError>
     ensures { IfOk result (λ row. row ≡ row_by decision.now request) }
 {
     match decision {

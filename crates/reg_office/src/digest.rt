@@ -27,8 +27,8 @@ fn digest_text(alloc: Global, hash: &[u8; 32]) -> Result<Digest, AllocError>
     Ok(Digest::read(alloc, text.as_bytes())?.unwrap())
 }
 
-/// Who calls with this token: nobody where there is none, or where it has not a token's form, for which
-/// no memory is taken.
+/// Who calls with this token: nobody where there is none, or where it has not a token's form, for
+/// which no memory is taken.
 pub fn caller_of(alloc: Global, token: Option<&[u8]>) -> Result<Option<Digest>, AllocError>
     ensures value { IfOk result (λ digest. digest ≡ caller (option_copied token.entry)) }
     ensures nobody { caller (option_copied token.entry) ≡ None → result ≡ Ok None }

@@ -1,20 +1,21 @@
 //! What an expert may do, once admitted.
-ghost use Rattle.std.specs.Prelude.{◌≡◌, true, IfOk, IfErr, OnOk, OnErr};
-ghost use Rattle.reg_core.specs.Advice.{has_advice_form};
-ghost use Rattle.reg_core.specs.World.{applied_if};
-ghost use Rattle.reg_store.specs.Keeper.{MayFault};
-ghost use Rattle.reg_office.specs.Acts.{advising, expert_act, own_queue};
+ghost use Rattle.std.specs.Prelude.{◌≡◌, IfOk};
+ghost use Rattle.reg_core.specs.declared.command.ExpertCommand.TheVariants as command;
+ghost use Rattle.reg_office.specs.Answers.{answer_to_expert};
+ghost use Rattle.reg_office.specs.Performs.{Performs};
 ghost use Rattle.reg_office.specs.Rows.{advised_row};
 
-use crate::carrying::make;
+use crate::carrying::conclude;
+use crate::stop::Stop;
 use reg_core::advice::Advice;
 use reg_core::command::ExpertCommand;
-use reg_core::decide::{Decision, Deny, decide_advise};
+use reg_core::content::Content;
+use reg_core::decide::decide_advise;
 use reg_core::queue::QueueRow;
 use reg_core::refusal::Refusal;
-use reg_core::reply::Reply;
 use reg_core::text::{Account, Ref};
-use reg_store::keeper::{Fault, Keeper};
+use reg_ranges::formed::Formed;
+use reg_store::keeper::Keeper;
 use std::alloc::AllocError;
 
 /// What a command of this expert's is answered.
@@ -22,12 +23,9 @@ pub fn perform<K: Keeper>(
     keeper: &mut K,
     expert: &Account,
     command: &ExpertCommand,
-) -> Result<Reply, Fault>
-    ensures reply { K.Holds keeper.new → IfOk result (λ r. r ≡ (expert_act (K.world keeper.old) expert.now command.now).reply) }
-    ensures made { K.Holds keeper.new → OnOk result (K.world keeper.new ≡ applied_if (K.world keeper.old) (expert_act (K.world keeper.old) expert.now command.now).change) }
-    ensures kept { K.Holds keeper.new → OnErr result (K.world keeper.new ≡ K.world keeper.old) }
-    ensures held { K.Holds keeper.new → K.Holds keeper.old }
-    ensures fault { IfErr result (MayFault K.FAILS) }
+) -> Result<Content, Stop>
+    ensures { Performs K.world K.Holds K.FAILS keeper.old keeper.new result
+        (answer_to_expert expert.now command.now) }
 {
     match command {
         ExpertCommand::Queue => list_queue(keeper, expert),
@@ -38,48 +36,37 @@ pub fn perform<K: Keeper>(
 }
 
 // The requests that are queued to the expert.
-fn list_queue<K: Keeper>(keeper: &mut K, expert: &Account) -> Result<Reply, Fault>
-    ensures reply { K.Holds keeper.new → IfOk result (λ r. r ≡ (own_queue (K.world keeper.old) expert.now).reply) }
-    ensures same { K.Holds keeper.new → K.world keeper.new ≡ K.world keeper.old }
-    ensures held { K.Holds keeper.new → K.Holds keeper.old }
-    ensures fault { IfErr result (MayFault K.FAILS) }
+fn list_queue<K: Keeper>(keeper: &mut K, expert: &Account) -> Result<Content, Stop>
+    ensures { Performs K.world K.Holds K.FAILS keeper.old keeper.new result
+        (answer_to_expert expert.now command.Queue) }
 {
-    Ok(Reply::Items(keeper.queue(expert)?))
+    Ok(Content::Items(keeper.queue(expert)?))
 }
 
-// Advice on a request that is queued to the expert. Whether there is one that is not is never looked at.
+// Advice on a request that is queued to the expert. Whether there is one that is not is never
+// looked at.
 fn advise<K: Keeper>(
     keeper: &mut K,
     expert: &Account,
     account: &Account,
     reference: &Ref,
     advice: &Advice,
-) -> Result<Reply, Fault>
-    ensures reply { K.Holds keeper.new → IfOk result (λ r. r ≡ (advising (K.world keeper.old) expert.now account.now reference.now advice.now).reply) }
-    ensures made { K.Holds keeper.new → OnOk result (K.world keeper.new ≡ applied_if (K.world keeper.old) (advising (K.world keeper.old) expert.now account.now reference.now advice.now).change) }
-    ensures kept { K.Holds keeper.new → OnErr result (K.world keeper.new ≡ K.world keeper.old) }
-    ensures held { K.Holds keeper.new → K.Holds keeper.old }
-    ensures fault { IfErr result (MayFault K.FAILS) }
+) -> Result<Content, Stop>
+    ensures { Performs K.world K.Holds K.FAILS keeper.old keeper.new result
+        (answer_to_expert expert.now (command.Advise account.now reference.now advice.now)) }
 {
-    let Some(row) = keeper.queue_one(expert, account, reference)? else {
-        return Ok(Reply::Refused(Refusal::Request));
-    };
-    match decide_advise(&row, expert, advice) {
-        Ok(Decision::Make(change)) => {
-            let advised = with_advice(row, advice)?;
-            make(keeper, change)?;
-            Ok(Reply::Item(advised))
-        }
-        Ok(Decision::Same) => Ok(Reply::Item(row)),
-        Err(Deny::Refused(refusal)) => Ok(Reply::Refused(refusal)),
-        Err(Deny::Memory) => Err(Fault::Memory),
-    }
+    let row = keeper
+        .queue_one(expert, account, reference)?
+        .ok_or(Refusal::Request)?;
+    let decision = decide_advise(&row, expert, advice)?;
+    advice.formed();
+    let advised = with_advice(row, advice);
+    Ok(Content::Item(conclude(keeper, advised, decision)?))
 }
 
 // A queued request after its expert gave this advice.
 fn with_advice(row: QueueRow, advice: &Advice) -> Result<QueueRow, AllocError>
-    ensures row { IfOk result (λ r. r ≡ advised_row advice.now row) }
-    ensures form { IfOk result (λ _. has_advice_form advice.now ≡ true) }
+    ensures { IfOk result (λ r. r ≡ advised_row advice.now row) }
 {
     let advice = advice.copy()?;
     Ok(QueueRow {

@@ -4,7 +4,8 @@ ghost use Rattle.reg_core.specs.Laws.{clerk_cap as first_clerk};
 ghost use Rattle.reg_core.specs.Names.{is_token};
 ghost use Rattle.reg_office.specs.Found.{WasFounded, IsCause, MayFound};
 
-use crate::clerk::give_cap;
+use crate::clerk::grant;
+use crate::stop::Stop;
 use reg_core::capability::{Cap, Kind, Until};
 use reg_core::text::{Account, Token};
 use reg_store::keeper::{Fault, Keeper};
@@ -21,17 +22,6 @@ pub enum FoundFault {
     Fault(Fault),
 }
 
-impl From<Fault> for FoundFault {
-    ghost use Rattle.std.specs.Prelude.{◌≡◌};
-    ghost use Rattle.reg_office.specs.declared.found.FoundFault.TheVariants.{Fault as OfKeeper};
-
-    ghost from_gives = { λ fault e. e ≡ OfKeeper fault };
-
-    fn from(fault: Fault) -> FoundFault {
-        FoundFault::Fault(fault)
-    }
-}
-
 impl From<AllocError> for FoundFault {
     ghost use Rattle.std.specs.Prelude.{◌≡◌};
     ghost use Rattle.reg_store.specs.declared.keeper.Fault.TheVariants.{Memory};
@@ -46,20 +36,20 @@ impl From<AllocError> for FoundFault {
 
 /// Gives a token the first clerk's capability.
 pub fn found<K: Keeper>(alloc: Global, keeper: &mut K, token: &[u8]) -> Result<(), FoundFault>
-    ensures founded { K.Holds keeper.new → OnOk result (WasFounded (K.world keeper.old) (K.world keeper.new) token.now) }
+    ensures founded { K.Holds keeper.new →
+        OnOk result (WasFounded (K.world keeper.old) (K.world keeper.new) token.now) }
     ensures ill_formed { is_token token.now ≡ false → result ≡ Err FoundFault.Token }
     ensures cause { K.Holds keeper.new → IfErr result (IsCause (K.world keeper.old) token.now) }
     ensures kept { K.Holds keeper.new → OnErr result (K.world keeper.new ≡ K.world keeper.old) }
-    ensures held { K.Holds keeper.new → K.Holds keeper.old }
+    ensures premise { K.Holds keeper.new → K.Holds keeper.old }
     ensures fault { IfErr result (MayFound K.FAILS) }
 {
-    let Some(token) = Token::read(alloc, token)? else {
-        return Err(FoundFault::Token);
-    };
+    let token = Token::read(alloc, token)?.ok_or(FoundFault::Token)?;
     let cap = clerk_cap(alloc)?;
-    match give_cap(alloc, keeper, &token, &cap)? {
+    match grant(alloc, keeper, &token, &cap) {
         Ok(_) => Ok(()),
-        Err(_) => Err(FoundFault::Exists),
+        Err(Stop::Refused(_)) => Err(FoundFault::Exists),
+        Err(Stop::Fault(fault)) => Err(FoundFault::Fault(fault)),
     }
 }
 

@@ -1,10 +1,10 @@
 //! The published rows that an ask needs, as a keeper gives them.
-ghost use Rattle.std.specs.Prelude.{◌≡◌, ◌↔◌, [], None, true, map, IfOk, IfErr, IsTrue};
+ghost use Rattle.std.specs.Prelude.{◌≡◌, ◌↔◌, [], None, true, map, IfOk, IsTrue};
 ghost use Rattle.std.specs.List.Sorted.{IsStrictlyIncreasing};
 ghost use Rattle.reg_core.specs.Allowance.{ground_of};
 ghost use Rattle.reg_core.specs.Ground.{seen};
 ghost use Rattle.reg_core.specs.View.{published};
-ghost use Rattle.reg_store.specs.Keeper.{MayFault};
+ghost use Rattle.reg_store.specs.Keeper.{Selects};
 ghost use Rattle.reg_office.specs.Values.{values_in};
 
 use reg_core::ask::{Ask, Want};
@@ -16,8 +16,8 @@ use reg_store::keeper::{Fault, Keeper};
 use std::alloc::{AllocError, Global};
 use std::marker::Model;
 
-/// The published rows that an ask needs: the ranges of its registry, the entry at the value that it names,
-/// and the values that have entries, ascending, where it wants the least.
+/// The published rows that an ask needs: the ranges of its registry, the entry at the value that
+/// it names, and the values that have entries, ascending, where it wants the least.
 #[derive(Drop)]
 pub struct GroundRows {
     table: Option<RangeTable>,
@@ -29,11 +29,15 @@ impl Model for GroundRows {
     ghost use Rattle.std.specs.Prelude.{option_map};
     ghost use Rattle.std.specs.List.Sorted.{IsStrictlyIncreasing};
     ghost use Rattle.reg_core.specs.Allowance.{Ground};
-    ghost use Rattle.reg_core.specs.Entry.{assignment_in};
+    ghost use Rattle.reg_core.specs.Entry.{registration_in};
 
     ghost Value = { Ground };
 
-    ghost view = { λ rows. record { table = rows.table; entry = option_map assignment_in rows.entry; taken = rows.taken.items } };
+    ghost view = { λ rows. record {
+      table = rows.table;
+      entry = option_map registration_in rows.entry;
+      taken = rows.taken.items;
+    } };
 
     ghost invariant = { λ rows. IsStrictlyIncreasing rows.taken.items };
 }
@@ -63,18 +67,16 @@ impl GroundRows {
     }
 }
 
-/// The published rows that an ask needs, where they are needed at all; else no rows, and the keeper is not
-/// asked.
+/// The published rows that an ask needs, where they are needed at all; else no rows, and the
+/// keeper is not asked.
 pub fn ground_if<K: Keeper>(
     alloc: Global,
     keeper: &mut K,
     is_needed: bool,
     ask: &Ask,
 ) -> Result<GroundRows, Fault>
-    ensures rows { K.Holds keeper.new → is_needed ≡ true → IfOk result (λ rows. rows ≡ ground_of (published (K.world keeper.old)) ask.now) }
-    ensures same { K.Holds keeper.new → K.world keeper.new ≡ K.world keeper.old }
-    ensures held { K.Holds keeper.new → K.Holds keeper.old }
-    ensures fault { IfErr result (MayFault K.FAILS) }
+    ensures { Selects K.world K.Holds K.FAILS keeper.old keeper.new result
+        (λ w rows. is_needed ≡ true → rows ≡ ground_of (published w) ask.now) }
 {
     if is_needed {
         ground_for(alloc, keeper, ask)
@@ -83,13 +85,11 @@ pub fn ground_if<K: Keeper>(
     }
 }
 
-// The published rows that an ask needs. The entries of a registry are listed only where the least value
-// is wanted.
+// The published rows that an ask needs. The entries of a registry are listed only where the least
+// value is wanted.
 fn ground_for<K: Keeper>(alloc: Global, keeper: &mut K, ask: &Ask) -> Result<GroundRows, Fault>
-    ensures rows { K.Holds keeper.new → IfOk result (λ rows. rows ≡ ground_of (published (K.world keeper.old)) ask.now) }
-    ensures same { K.Holds keeper.new → K.world keeper.new ≡ K.world keeper.old }
-    ensures held { K.Holds keeper.new → K.Holds keeper.old }
-    ensures fault { IfErr result (MayFault K.FAILS) }
+    ensures { Selects K.world K.Holds K.FAILS keeper.old keeper.new result
+        (λ w rows. rows ≡ ground_of (published w) ask.now) }
 {
     let Ask::Code(code) = ask;
     let table = keeper.ranges(&code.registry)?;
@@ -121,11 +121,9 @@ fn values_taken<K: Keeper>(
     keeper: &mut K,
     registry: &Name,
 ) -> Result<Vec<u32>, Fault>
-    ensures values { K.Holds keeper.new → IfOk result (λ values. values.items ≡ values_in registry.now (K.world keeper.old).entries) }
+    ensures values { Selects K.world K.Holds K.FAILS keeper.old keeper.new result
+        (λ w values. values.items ≡ values_in registry.now w.entries) }
     ensures ascending { IfOk result (λ values. IsStrictlyIncreasing values.items) }
-    ensures same { K.Holds keeper.new → K.world keeper.new ≡ K.world keeper.old }
-    ensures held { K.Holds keeper.new → K.Holds keeper.old }
-    ensures fault { IfErr result (MayFault K.FAILS) }
 {
     let entries = keeper.entries(registry)?;
     let values = values_of(alloc, entries.as_slice())?;
@@ -138,8 +136,8 @@ fn values_of(alloc: Global, entries: &[Entry]) -> Result<Vec<u32>, AllocError>
     entries.iter().map(|entry| entry.value).collect(alloc)
 }
 
-// The values in order, each once. Those of a registry's entries are so already, unless the keeper gave
-// back what was never kept.
+// The values in order, each once. Those of a registry's entries are so already, unless the keeper
+// gave back what was never kept.
 fn ascending(mut values: Vec<u32>) -> Vec<u32>
     ensures ascending { IsStrictlyIncreasing result.items }
     ensures same { IsStrictlyIncreasing values.items → result.items ≡ values.items }

@@ -1,21 +1,22 @@
-//! Laws of the office at the digest that it uses, the SHA-256 of a token: the contracts of functions that
-//! change nothing and take no memory.
+//! Laws of the office at the digest that it uses, the SHA-256 of a token: the contracts of
+//! functions that change nothing and take no memory.
 ghost use Rattle.reg_core.specs.Laws.{AnswersAreDone, ApprovalsAreAdvised, ApprovalsGiveWhatIsAllowed, ApprovalsStand, ChangesFit, FirstWorldsAreWellKept, GivenStays, RefusalsChangeNothing, RepeatsActOnce, RunsKeepWell, SubmissionsStand, TwoWorlds};
 ghost use Rattle.reg_core.specs.Striking.{StagesAreOfRun, UnseenLeaveNoTrace};
 ghost use Rattle.reg_office.specs.Caller.{token_digest};
 
-/// Isolation: two well kept offices that show a caller who is no clerk the same view answer its command
-/// alike, and then show it the same view again, whatever else they hold.
+/// Isolation: two well kept offices that show a caller who is no clerk the same view answer its
+/// command alike, and then show it the same view again, whatever else they hold.
 pub fn two_worlds()
     ensures { TwoWorlds token_digest }
 {
     reg_core::laws::two_worlds();
 }
 
-/// Striking: requests of others that an account never sees, and that are given nothing, can be struck from
-/// a run. Without the events about them (what the account itself does as an applicant or as an expert stays)
-/// every event that is left is answered alike, and finds and leaves the published registers and the account's
-/// views the same; only a list of all requests, or of another account's, may lack their rows. So too at the end.
+/// Striking: requests of others that an account never sees, and that are given nothing, can be
+/// struck from a run. Without the events about them (what the account itself does as an applicant
+/// or as an expert stays) every event that is left is answered alike, and finds and leaves the
+/// published registers and the account's views the same; only a list of all requests, or of
+/// another account's, may lack their rows. So too at the end.
 pub fn struck()
     ensures no_trace { UnseenLeaveNoTrace token_digest }
     ensures stages { StagesAreOfRun token_digest }
@@ -51,17 +52,17 @@ pub fn approvals_give_what_is_allowed()
     reg_core::laws::approvals_give_what_is_allowed();
 }
 
-/// An approval that changes something, of what experts review (RFC 8126 sections 4.5 and 4.6), is of a
-/// request that an expert is for to whom it is assigned.
+/// An approval that changes something, of what experts review (RFC 8126 sections 4.5 and 4.6), is
+/// of a request that an expert is for to whom it is assigned.
 pub fn approvals_are_advised()
     ensures { ApprovalsAreAdvised token_digest }
 {
     reg_core::laws::approvals_are_advised();
 }
 
-/// What was given stays: in every run from a well kept office an entry keeps its label, its assignee and
-/// its first day, a registry its ranges, a request its ask and, once it is not pending, its state; and none
-/// of them goes away, nor does a prefix of the pool.
+/// What was given stays: in every run from a well kept office an entry keeps its label, its
+/// assignee and its first day, a registry its ranges, a request its ask and, once it is not
+/// pending, its state; and none of them goes away, nor does a prefix of the pool.
 pub fn given_stays()
     ensures { GivenStays token_digest }
 {
@@ -75,8 +76,8 @@ pub fn refusals_change_nothing()
     reg_core::laws::refusals_change_nothing();
 }
 
-/// Repeats act once: an accepted command that is given again as the next step is accepted and changes
-/// nothing.
+/// Repeats act once: an accepted command that is given again as the next step is accepted and
+/// changes nothing.
 pub fn repeats_act_once()
     ensures { RepeatsActOnce token_digest }
 {

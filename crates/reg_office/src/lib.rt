@@ -14,6 +14,7 @@ pub mod laws;
 mod office;
 mod public;
 mod registers;
+mod stop;
 
 pub use found::FoundFault;
 pub use office::Office;

@@ -1,18 +1,23 @@
 //! The office over whatever keeps its content.
-ghost use Rattle.std.specs.Prelude.{◌≡◌, None, Err, IfOk, IfErr, OnOk, OnErr, IsOk, IsSome, false};
+ghost use Rattle.std.specs.Prelude.{◌≡◌, None, Err, IfOk, IfErr, IsErrAnd, OnOk, OnErr, IsOk, IsSome, false};
 ghost use Rattle.std.specs.Option.{option_copied};
 ghost use Rattle.reg_early.specs.Moment.{is_in_clock};
 ghost use Rattle.reg_core.specs.Command.{kind_of};
 ghost use Rattle.reg_core.specs.Names.{is_token};
+ghost use Rattle.reg_core.specs.Step.{answer_to};
 ghost use Rattle.reg_store.specs.Keeper.{MayFault};
-ghost use Rattle.reg_office.specs.Caller.{caller_of as caller, step_by};
+ghost use Rattle.reg_office.specs.Caller.{caller_of as caller, step_by, token_digest};
 ghost use Rattle.reg_office.specs.Found.{WasFounded, IsCause, MayFound};
+ghost use Rattle.reg_office.specs.Performs.{Performs};
+ghost use Rattle.reg_office.specs.Stops.{IsRefusal};
 
 use crate::admission::admit;
 use crate::found::{FoundFault, found};
+use crate::stop::Stop;
 use crate::{applicant, clerk, expert, public};
 use reg_core::capability::Kind;
 use reg_core::command::Command;
+use reg_core::content::Content;
 use reg_core::refusal::Refusal;
 use reg_core::reply::Reply;
 use reg_early::day::day_of;
@@ -48,75 +53,78 @@ impl<K: Keeper> Office<K> {
         self.keeper
     }
 
-    /// Gives a token the first clerk's capability: account `clerk`, until the year 3000. The same one
-    /// already there changes nothing. `Token` where the token is ill formed, for which no memory is
-    /// taken; `Exists` where it has another capability.
+    /// Gives a token the first clerk's capability: account `clerk`, until the year 3000. The same
+    /// one already there changes nothing. `Token` where the token is ill formed, for which no
+    /// memory is taken; `Exists` where it has another capability.
     pub fn found(&mut self, token: &[u8]) -> Result<(), FoundFault>
-        ensures founded { K.Holds self.new → OnOk result (WasFounded (K.world self.old) (K.world self.new) token.now) }
+        ensures founded { K.Holds self.new →
+            OnOk result (WasFounded (K.world self.old) (K.world self.new) token.now) }
         ensures ill_formed { is_token token.now ≡ false → result ≡ Err FoundFault.Token }
         ensures cause { K.Holds self.new → IfErr result (IsCause (K.world self.old) token.now) }
         ensures kept { K.Holds self.new → OnErr result (K.world self.new ≡ K.world self.old) }
-        ensures held { K.Holds self.new → K.Holds self.old }
+        ensures premise { K.Holds self.new → K.Holds self.old }
         ensures fault { IfErr result (MayFound K.FAILS) }
     {
         found(self.alloc, &mut self.keeper, token)
     }
 
-    /// Answers one command at a moment, in seconds since 1970-01-01T00:00:00Z, of the caller with this
-    /// token: exactly one step of the office. After a fault nothing has changed. At a command that is
-    /// anybody's the token is not looked at. A moment outside the years 2000 to 2999 is answered without
-    /// memory, and so is a command without a token that is not anybody's.
+    /// Answers one command at a moment, in seconds since 1970-01-01T00:00:00Z, of the caller with
+    /// this token: exactly one step of the office. After a fault nothing has changed. At a command
+    /// that is anybody's the token is not looked at. A moment outside the years 2000 to 2999 is
+    /// answered without memory, and so is a command without a token that is not anybody's.
     pub fn handle(
         &mut self,
         moment: u64,
         token: Option<&[u8]>,
         command: &Command,
     ) -> Result<Reply, Fault>
-        ensures reply { K.Holds self.new → IfOk result (λ r. r ≡ (step_by (K.world self.old) (option_copied token.entry) moment command.now).reply) }
-        ensures world { K.Holds self.new → OnOk result (K.world self.new ≡ (step_by (K.world self.old) (option_copied token.entry) moment command.now).world) }
+        ensures reply { let step = step_by (K.world self.old) (option_copied token.entry) in
+            K.Holds self.new → IfOk result (λ r. r ≡ (step moment command.now).reply) }
+        ensures world { let step = step_by (K.world self.old) (option_copied token.entry) in
+            K.Holds self.new → OnOk result (K.world self.new ≡ (step moment command.now).world) }
         ensures kept { K.Holds self.new → OnErr result (K.world self.new ≡ K.world self.old) }
-        ensures held { K.Holds self.new → K.Holds self.old }
+        ensures premise { K.Holds self.new → K.Holds self.old }
         ensures fault { IfErr result (MayFault K.FAILS) }
         ensures clock { is_in_clock moment ≡ false → IsOk result }
-        ensures nobody { IsSome (kind_of command.now) → caller (option_copied token.entry) ≡ None → IsOk result }
+        ensures nobody { IsSome (kind_of command.now) →
+            caller (option_copied token.entry) ≡ None → IsOk result }
     {
-        handle(self.alloc, &mut self.keeper, moment, token, command)
+        match answer(self.alloc, &mut self.keeper, moment, token, command) {
+            Ok(content) => Ok(Reply::Accepted(content)),
+            Err(Stop::Refused(refusal)) => Ok(Reply::Refused(refusal)),
+            Err(Stop::Fault(fault)) => Err(fault),
+        }
     }
 }
 
-fn handle<K: Keeper>(
+// What one command is answered at a moment, of the caller with this token.
+fn answer<K: Keeper>(
     alloc: Global,
     keeper: &mut K,
     moment: u64,
     token: Option<&[u8]>,
     command: &Command,
-) -> Result<Reply, Fault>
-    ensures reply { K.Holds keeper.new → IfOk result (λ r. r ≡ (step_by (K.world keeper.old) (option_copied token.entry) moment command.now).reply) }
-    ensures world { K.Holds keeper.new → OnOk result (K.world keeper.new ≡ (step_by (K.world keeper.old) (option_copied token.entry) moment command.now).world) }
-    ensures kept { K.Holds keeper.new → OnErr result (K.world keeper.new ≡ K.world keeper.old) }
-    ensures held { K.Holds keeper.new → K.Holds keeper.old }
-    ensures fault { IfErr result (MayFault K.FAILS) }
-    ensures clock { is_in_clock moment ≡ false → IsOk result }
-    ensures nobody { IsSome (kind_of command.now) → caller (option_copied token.entry) ≡ None → IsOk result }
+) -> Result<Content, Stop>
+    ensures answer { Performs K.world K.Holds K.FAILS keeper.old keeper.new result
+        (λ w. answer_to token_digest w (caller (option_copied token.entry)) moment command.now) }
+    ensures clock { is_in_clock moment ≡ false → result ≡ Err (Stop.Refused Refusal.Clock) }
+    ensures nobody { IsSome (kind_of command.now) →
+        caller (option_copied token.entry) ≡ None → IsErrAnd result IsRefusal }
 {
-    let Some(today) = day_of(moment) else {
-        return Ok(Reply::Refused(Refusal::Clock));
-    };
+    let today = day_of(moment).ok_or(Refusal::Clock)?;
     match command {
         Command::Public(command) => public::perform(alloc, keeper, today, command),
         Command::Applicant(command) => {
-            match admit(alloc, keeper, token, moment, Kind::Applicant)? {
-                Ok(caller) => applicant::perform(alloc, keeper, &caller.cap.account, command),
-                Err(refusal) => Ok(Reply::Refused(refusal)),
-            }
+            let caller = admit(alloc, keeper, token, moment, Kind::Applicant)?;
+            applicant::perform(alloc, keeper, &caller.cap.account, command)
         }
-        Command::Expert(command) => match admit(alloc, keeper, token, moment, Kind::Expert)? {
-            Ok(caller) => expert::perform(keeper, &caller.cap.account, command),
-            Err(refusal) => Ok(Reply::Refused(refusal)),
-        },
-        Command::Clerk(command) => match admit(alloc, keeper, token, moment, Kind::Clerk)? {
-            Ok(caller) => clerk::perform(alloc, keeper, &caller.digest, today, command),
-            Err(refusal) => Ok(Reply::Refused(refusal)),
-        },
+        Command::Expert(command) => {
+            let caller = admit(alloc, keeper, token, moment, Kind::Expert)?;
+            expert::perform(keeper, &caller.cap.account, command)
+        }
+        Command::Clerk(command) => {
+            let caller = admit(alloc, keeper, token, moment, Kind::Clerk)?;
+            clerk::perform(alloc, keeper, &caller.digest, today, command)
+        }
     }
 }

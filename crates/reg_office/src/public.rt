@@ -1,17 +1,19 @@
 //! What anybody may ask.
-ghost use Rattle.std.specs.Prelude.{◌≡◌, map, IfOk, IfErr};
+ghost use Rattle.std.specs.Prelude.{◌≡◌, map, IfOk};
+ghost use Rattle.reg_core.specs.Answer.{public_answer};
 ghost use Rattle.reg_core.specs.Page.{page_entries};
 ghost use Rattle.reg_core.specs.View.{published};
-ghost use Rattle.reg_core.specs.declared.command.PublicCommand.TheVariants.{Registries, Registry, RegistryCsv, PoolList};
-ghost use Rattle.reg_store.specs.Keeper.{MayFault};
-ghost use Rattle.reg_office.specs.Acts.{public_act};
+ghost use Rattle.reg_core.specs.declared.command.PublicCommand.TheVariants.{Registries, Registry, RegistryListing, PoolList};
+ghost use Rattle.reg_store.specs.Keeper.{Selects};
 ghost use Rattle.reg_office.specs.Pages.{page_on, shown_on};
+ghost use Rattle.reg_office.specs.Performs.{Finds, Performs};
 
+use crate::stop::Stop;
 use reg_core::command::PublicCommand;
+use reg_core::content::Content;
 use reg_core::entry::{Entry, PageEntry};
 use reg_core::page::Page;
 use reg_core::refusal::Refusal;
-use reg_core::reply::Reply;
 use reg_core::rows::Rows;
 use reg_core::text::Name;
 use reg_early::day::Day;
@@ -24,28 +26,24 @@ pub fn perform<K: Keeper>(
     keeper: &mut K,
     today: Day,
     command: &PublicCommand,
-) -> Result<Reply, Fault>
-    ensures reply { K.Holds keeper.new → IfOk result (λ r. r ≡ (public_act (K.world keeper.old) today command.now).reply) }
-    ensures same { K.Holds keeper.new → K.world keeper.new ≡ K.world keeper.old }
-    ensures held { K.Holds keeper.new → K.Holds keeper.old }
-    ensures fault { IfErr result (MayFault K.FAILS) }
+) -> Result<Content, Stop>
+    ensures { Performs K.world K.Holds K.FAILS keeper.old keeper.new result
+        (λ w. public_answer (published w) today command.now) }
 {
     match command {
         PublicCommand::Registries => list_registries(keeper),
         PublicCommand::Registry(name) => show_registry(alloc, keeper, today, name),
-        PublicCommand::RegistryCsv(name) => show_sheet(alloc, keeper, today, name),
+        PublicCommand::RegistryListing(name) => show_listing(alloc, keeper, today, name),
         PublicCommand::PoolList => list_pool(keeper),
     }
 }
 
 // The names of all registries.
-fn list_registries<K: Keeper>(keeper: &mut K) -> Result<Reply, Fault>
-    ensures reply { K.Holds keeper.new → IfOk result (λ r. r ≡ (public_act (K.world keeper.old) 0 Registries).reply) }
-    ensures same { K.Holds keeper.new → K.world keeper.new ≡ K.world keeper.old }
-    ensures held { K.Holds keeper.new → K.Holds keeper.old }
-    ensures fault { IfErr result (MayFault K.FAILS) }
+fn list_registries<K: Keeper>(keeper: &mut K) -> Result<Content, Stop>
+    ensures { Performs K.world K.Holds K.FAILS keeper.old keeper.new result
+        (λ w. public_answer (published w) 0 Registries) }
 {
-    Ok(Reply::Names(keeper.names()?))
+    Ok(Content::Names(keeper.names()?))
 }
 
 // A registry.
@@ -54,68 +52,47 @@ fn show_registry<K: Keeper>(
     keeper: &mut K,
     today: Day,
     name: &Name,
-) -> Result<Reply, Fault>
-    ensures reply { K.Holds keeper.new → IfOk result (λ r. r ≡ (public_act (K.world keeper.old) today (Registry name.now)).reply) }
-    ensures same { K.Holds keeper.new → K.world keeper.new ≡ K.world keeper.old }
-    ensures held { K.Holds keeper.new → K.Holds keeper.old }
-    ensures fault { IfErr result (MayFault K.FAILS) }
+) -> Result<Content, Stop>
+    ensures { Performs K.world K.Holds K.FAILS keeper.old keeper.new result
+        (λ w. public_answer (published w) today (Registry name.now)) }
 {
-    match page(alloc, keeper, today, name)? {
-        Some(page) => Ok(Reply::Page(page)),
-        None => Ok(Reply::Refused(Refusal::Registry)),
-    }
+    Ok(Content::Page(page(alloc, keeper, today, name)?))
 }
 
-// A registry as a table.
-fn show_sheet<K: Keeper>(
+// A registry as it is listed.
+fn show_listing<K: Keeper>(
     alloc: Global,
     keeper: &mut K,
     today: Day,
     name: &Name,
-) -> Result<Reply, Fault>
-    ensures reply { K.Holds keeper.new → IfOk result (λ r. r ≡ (public_act (K.world keeper.old) today (RegistryCsv name.now)).reply) }
-    ensures same { K.Holds keeper.new → K.world keeper.new ≡ K.world keeper.old }
-    ensures held { K.Holds keeper.new → K.Holds keeper.old }
-    ensures fault { IfErr result (MayFault K.FAILS) }
+) -> Result<Content, Stop>
+    ensures { Performs K.world K.Holds K.FAILS keeper.old keeper.new result
+        (λ w. public_answer (published w) today (RegistryListing name.now)) }
 {
-    match page(alloc, keeper, today, name)? {
-        Some(page) => Ok(Reply::Sheet(page)),
-        None => Ok(Reply::Refused(Refusal::Registry)),
-    }
+    Ok(Content::Listing(page(alloc, keeper, today, name)?))
 }
 
 // The prefixes of the pool.
-fn list_pool<K: Keeper>(keeper: &mut K) -> Result<Reply, Fault>
-    ensures reply { K.Holds keeper.new → IfOk result (λ r. r ≡ (public_act (K.world keeper.old) 0 PoolList).reply) }
-    ensures same { K.Holds keeper.new → K.world keeper.new ≡ K.world keeper.old }
-    ensures held { K.Holds keeper.new → K.Holds keeper.old }
-    ensures fault { IfErr result (MayFault K.FAILS) }
+fn list_pool<K: Keeper>(keeper: &mut K) -> Result<Content, Stop>
+    ensures { Performs K.world K.Holds K.FAILS keeper.old keeper.new result
+        (λ w. public_answer (published w) 0 PoolList) }
 {
-    Ok(Reply::Pool(keeper.pool()?))
+    Ok(Content::Pool(keeper.pool()?))
 }
 
-// The registry of this name as it is on a day, if there is one.
-fn page<K: Keeper>(
-    alloc: Global,
-    keeper: &mut K,
-    today: Day,
-    name: &Name,
-) -> Result<Option<Page>, Fault>
-    ensures page { K.Holds keeper.new → IfOk result (λ page. page ≡ page_on (published (K.world keeper.old)) name.now today) }
-    ensures same { K.Holds keeper.new → K.world keeper.new ≡ K.world keeper.old }
-    ensures held { K.Holds keeper.new → K.Holds keeper.old }
-    ensures fault { IfErr result (MayFault K.FAILS) }
+// The registry of this name as it is on a day.
+fn page<K: Keeper>(alloc: Global, keeper: &mut K, today: Day, name: &Name) -> Result<Page, Stop>
+    ensures { Finds K.world K.Holds K.FAILS keeper.old keeper.new result
+        (λ w. page_on (published w) name.now today) }
 {
-    let Some(table) = keeper.ranges(name)? else {
-        return Ok(None);
-    };
+    let table = keeper.ranges(name)?.ok_or(Refusal::Registry)?;
     let entries = entries_on(alloc, keeper, today, name)?;
     let name = name.copy()?;
-    Ok(Some(Page {
+    Ok(Page {
         name,
         table,
         entries,
-    }))
+    })
 }
 
 // A registry's entries as they are on a day.
@@ -125,10 +102,8 @@ fn entries_on<K: Keeper>(
     today: Day,
     name: &Name,
 ) -> Result<Rows<PageEntry>, Fault>
-    ensures entries { K.Holds keeper.new → IfOk result (λ entries. entries ≡ page_entries (published (K.world keeper.old)) name.now today) }
-    ensures same { K.Holds keeper.new → K.world keeper.new ≡ K.world keeper.old }
-    ensures held { K.Holds keeper.new → K.Holds keeper.old }
-    ensures fault { IfErr result (MayFault K.FAILS) }
+    ensures { Selects K.world K.Holds K.FAILS keeper.old keeper.new result
+        (λ w entries. entries ≡ page_entries (published w) name.now today) }
 {
     let entries = keeper.entries(name)?;
     Ok(Rows::from_vec(shown(alloc, entries.into_vec(), today)?))

@@ -1,52 +1,36 @@
 //! What a clerk does about what is published: registries, and the pool of prefixes.
-ghost use Rattle.std.specs.Prelude.{◌≡◌, IfOk, IfErr, OnOk, OnErr};
-ghost use Rattle.reg_core.specs.World.{applied_if};
-ghost use Rattle.reg_store.specs.Keeper.{MayFault};
-ghost use Rattle.reg_office.specs.Acts.{defining, pooling};
+ghost use Rattle.std.specs.Prelude.{◌≡◌};
+ghost use Rattle.reg_core.specs.declared.command.ClerkCommand.TheVariants.{Define, AddPool};
+ghost use Rattle.reg_office.specs.Answers.{answer_at_desk};
+ghost use Rattle.reg_office.specs.Performs.{Performs};
 
-use crate::carrying::carry_out;
-use reg_core::decide::{Deny, decide_define, decide_pool};
-use reg_core::page::see_table;
-use reg_core::reply::Reply;
+use crate::carrying::{carry_out, conclude};
+use crate::stop::Stop;
+use reg_core::content::Content;
+use reg_core::decide::{decide_define, decide_pool};
 use reg_core::text::Name;
+use reg_ranges::formed::Formed;
 use reg_ranges::table::RangeTable;
-use reg_store::keeper::{Fault, Keeper};
+use reg_store::keeper::Keeper;
 
 /// Opens a registry.
-pub fn define<K: Keeper>(keeper: &mut K, name: &Name, table: &RangeTable) -> Result<Reply, Fault>
-    ensures reply { K.Holds keeper.new → IfOk result (λ r. r ≡ (defining (K.world keeper.old) name.now table.now).reply) }
-    ensures made { K.Holds keeper.new → OnOk result (K.world keeper.new ≡ applied_if (K.world keeper.old) (defining (K.world keeper.old) name.now table.now).change) }
-    ensures kept { K.Holds keeper.new → OnErr result (K.world keeper.new ≡ K.world keeper.old) }
-    ensures held { K.Holds keeper.new → K.Holds keeper.old }
-    ensures fault { IfErr result (MayFault K.FAILS) }
+pub fn define<K: Keeper>(keeper: &mut K, name: &Name, table: &RangeTable) -> Result<Content, Stop>
+    ensures { Performs K.world K.Holds K.FAILS keeper.old keeper.new result
+        (answer_at_desk (Define name.now table.now)) }
 {
-    let found = keeper.ranges(name)?;
-    match decide_define(found.as_ref(), name, table) {
-        Ok(decision) => {
-            see_table(table);
-            let reply = Reply::Defined(name.copy()?);
-            carry_out(keeper, decision)?;
-            Ok(reply)
-        }
-        Err(Deny::Refused(refusal)) => Ok(Reply::Refused(refusal)),
-        Err(Deny::Memory) => Err(Fault::Memory),
-    }
+    let existing = keeper.ranges(name)?;
+    let decision = decide_define(existing.as_ref(), name, table)?;
+    table.formed();
+    Ok(Content::Defined(conclude(keeper, name.copy(), decision)?))
 }
 
 /// Adds a prefix to the pool.
-pub fn add_pool<K: Keeper>(keeper: &mut K, prefix: u32) -> Result<Reply, Fault>
-    ensures reply { K.Holds keeper.new → IfOk result (λ r. r ≡ (pooling (K.world keeper.old) prefix).reply) }
-    ensures made { K.Holds keeper.new → OnOk result (K.world keeper.new ≡ applied_if (K.world keeper.old) (pooling (K.world keeper.old) prefix).change) }
-    ensures kept { K.Holds keeper.new → OnErr result (K.world keeper.new ≡ K.world keeper.old) }
-    ensures held { K.Holds keeper.new → K.Holds keeper.old }
-    ensures fault { IfErr result (MayFault K.FAILS) }
+pub fn add_pool<K: Keeper>(keeper: &mut K, prefix: u32) -> Result<Content, Stop>
+    ensures { Performs K.world K.Holds K.FAILS keeper.old keeper.new result
+        (answer_at_desk (AddPool prefix)) }
 {
     let pool = keeper.pool()?;
-    match decide_pool(pool.prefixes().contains(&prefix), prefix) {
-        Ok(decision) => {
-            carry_out(keeper, decision)?;
-            Ok(Reply::Pooled(prefix))
-        }
-        Err(refusal) => Ok(Reply::Refused(refusal)),
-    }
+    let decision = decide_pool(pool.prefixes().contains(&prefix), prefix)?;
+    carry_out(keeper, decision)?;
+    Ok(Content::Pooled(prefix))
 }

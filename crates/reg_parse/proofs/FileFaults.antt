@@ -2,14 +2,14 @@
 use Rattle.std.proofs.Common.{◌≡◌, ℕ, ◌+◌, List, [], ◌∷◌, Bool, true, false, Result, Option, Some, None, Ok, Err, ap, cond}
 use Rattle.std.specs.Option.{ok_or}
 use Rattle.reg_ranges.specs.Numbers.{read_number}
-use Rattle.reg_ranges.specs.RangeFiles.{◌>>=◌, file_ranges, is_header, note_of, range_of, ranges_from, ranges_of}
+use Rattle.reg_ranges.specs.RangeFile.{◌>>=◌, file_ranges, is_header, note_of, range_of, ranges_from, ranges_of}
 use Rattle.reg_ranges.specs.RowReading.{text_rows}
 use Rattle.reg_ranges.specs.Texts.{is_text, read_text}
 use Rattle.reg_ranges.specs.Words.{read_treatment}
-use Rattle.reg_ranges.specs.declared.file.RowFault.{RowFault}
-use Rattle.reg_ranges.specs.declared.file.RowFault.TheVariants as fault
-use Rattle.reg_ranges.specs.declared.file.RowPart.{RowPart}
-use Rattle.reg_ranges.specs.declared.file.RowPart.TheVariants as part
+use Rattle.reg_ranges.specs.declared.range_file.RowFault.{RowFault}
+use Rattle.reg_ranges.specs.declared.range_file.RowFault.TheVariants as fault
+use Rattle.reg_ranges.specs.declared.range_file.RowPart.{RowPart}
+use Rattle.reg_ranges.specs.declared.range_file.RowPart.TheVariants as part
 
 -- whatever is read, its fault is not want of memory
 record Spared {A : Type 0} (read : Result A RowFault) : Type 0 where

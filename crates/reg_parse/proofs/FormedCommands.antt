@@ -183,7 +183,7 @@ command_of-passes : (o : Operation) (path body : List ℕ) → Passes has_comman
 unfolding registry_of registry_csv_of own_one_of submit_of withdraw_of advise_of one_request_of assign_expert_of approve_of decline_of define_of add_pool_of grant_of revoke_of
 command_of-passes operation.Registries path body = plain_parts (empty body) _ refl
 command_of-passes operation.Registry path body = named_parts (λ s. command.Public (public.Registry s)) (λ s h. h) (empty body) (name_at item.Name registry_path path) (name_at-passes item.Name registry_path path)
-command_of-passes operation.RegistryCsv path body = named_parts (λ s. command.Public (public.RegistryCsv s)) (λ s h. h) (empty body) (name_at item.Name listing_path path) (name_at-passes item.Name listing_path path)
+command_of-passes operation.RegistryListing path body = named_parts (λ s. command.Public (public.RegistryListing s)) (λ s h. h) (empty body) (name_at item.Name listing_path path) (name_at-passes item.Name listing_path path)
 command_of-passes operation.PoolList path body = plain_parts (empty body) _ refl
 command_of-passes operation.Own path body = plain_parts (empty body) _ refl
 command_of-passes operation.OwnOne path body = named_parts (λ s. command.Applicant (applicant.OwnOne s)) (λ s h. h) (empty body) (name_at item.Reference request_path path) (name_at-passes item.Reference request_path path)

@@ -4,14 +4,14 @@ use Rattle.std.specs.List.{list_all}
 use Rattle.std.specs.Option.{ok_or}
 use Rattle.reg_ranges.specs.Faults.{first_fault}
 use Rattle.reg_ranges.specs.Numbers.{read_number}
-use Rattle.reg_ranges.specs.RangeFiles.{◌>>=◌, file_ranges, is_header, note_of, range_of, ranges_from, ranges_of}
+use Rattle.reg_ranges.specs.RangeFile.{◌>>=◌, file_ranges, is_header, note_of, range_of, ranges_from, ranges_of}
 use Rattle.reg_ranges.specs.RowReading.{text_rows}
 use Rattle.reg_ranges.specs.Tables.{Table}
 use Rattle.reg_ranges.specs.Texts.{is_text, read_text}
 use Rattle.reg_ranges.specs.Words.{read_treatment}
-use Rattle.reg_ranges.specs.declared.file.RowFault.{RowFault}
-use Rattle.reg_ranges.specs.declared.file.RowFault.TheVariants as fault
-use Rattle.reg_ranges.specs.declared.file.RowPart.TheVariants as part
+use Rattle.reg_ranges.specs.declared.range_file.RowFault.{RowFault}
+use Rattle.reg_ranges.specs.declared.range_file.RowFault.TheVariants as fault
+use Rattle.reg_ranges.specs.declared.range_file.RowPart.TheVariants as part
 use Rattle.reg_ranges.specs.declared.policy.Treatment.{Treatment}
 use Rattle.reg_ranges.specs.declared.range.Range.{Range}
 use Rattle.reg_ranges.specs.declared.table.RangeFault.{RangeFault}

@@ -1,7 +1,7 @@
 -- The laws of what is read.
 use Rattle.std.specs.Prelude.{◌≢◌, ◌≡◌, ℕ, List, true, Ok, Err}
-use Rattle.reg_ranges.specs.RangeFiles.{file_ranges}
-use Rattle.reg_ranges.specs.declared.file.RowFault.TheVariants.{Memory}
+use Rattle.reg_ranges.specs.RangeFile.{file_ranges}
+use Rattle.reg_ranges.specs.declared.range_file.RowFault.TheVariants.{Memory}
 use Rattle.reg_core.specs.Command.{has_command_form}
 use Rattle.reg_core.specs.declared.command.Command.{Command}
 use Rattle.reg_parse.specs.Command.{asked}

@@ -1,10 +1,10 @@
 -- The range table that a body is, or its first fault.
 use Rattle.std.specs.Prelude.{ℕ, List, Option, Some, None, Result, Ok, Err}
 use Rattle.reg_ranges.specs.Faults.{first_fault}
-use Rattle.reg_ranges.specs.RangeFiles.{file_ranges}
+use Rattle.reg_ranges.specs.RangeFile.{file_ranges}
 use Rattle.reg_ranges.specs.Tables.{Table}
-use Rattle.reg_ranges.specs.declared.file.RowFault.{RowFault}
-use Rattle.reg_ranges.specs.declared.file.RowFault.TheVariants as row
+use Rattle.reg_ranges.specs.declared.range_file.RowFault.{RowFault}
+use Rattle.reg_ranges.specs.declared.range_file.RowFault.TheVariants as row
 use Rattle.reg_ranges.specs.declared.range.Range.{Range}
 use Rattle.reg_ranges.specs.declared.table.RangeFault.{RangeFault}
 use Rattle.reg_core.specs.declared.wire_refusal.TableFault.TheVariants as table

@@ -8,7 +8,7 @@ use Rattle.matchit.specs.Router.{RouteOf, route_from, nearest}
 use Rattle.matchit.specs.Seek.{first}
 use Rattle.matchit.specs.declared.error.InsertError.{InsertError}
 use Rattle.reg_parse.specs.declared.route.Operation.{Operation}
-use Rattle.reg_parse.specs.declared.route.Operation.TheVariants.{Registries, Registry, RegistryCsv, PoolList, Own, OwnOne, Submit, Withdraw, Queue, Advise, AllRequests, OneRequest, AssignExpert, Approve, Decline, Define, AddPool, Grant, Revoke}
+use Rattle.reg_parse.specs.declared.route.Operation.TheVariants.{Registries, Registry, RegistryListing, PoolList, Own, OwnOne, Submit, Withdraw, Queue, Advise, AllRequests, OneRequest, AssignExpert, Approve, Decline, Define, AddPool, Grant, Revoke}
 use Rattle.reg_parse.specs.declared.route.Methods.{Methods}
 
 abbrev pub operation_for : List ℕ → Methods → Option Operation
@@ -62,7 +62,7 @@ abbrev pub rows : List Row
 rows =
     row (codes "/registries") (Some Registries) None None
     ∷ row registry_path (Some Registry) None None
-    ∷ row listing_path (Some RegistryCsv) None None
+    ∷ row listing_path (Some RegistryListing) None None
     ∷ row (codes "/pool") (Some PoolList) None None
     ∷ row (codes "/requests") (Some Own) None None
     ∷ row request_path (Some OwnOne) (Some Submit) (Some Withdraw)

@@ -75,7 +75,7 @@ fn command_of(
     match operation {
         Operation::Registries => without_body(Command::Public(PublicCommand::Registries), body),
         Operation::Registry => read_registry(alloc, path, body),
-        Operation::RegistryCsv => read_registry_csv(alloc, path, body),
+        Operation::RegistryListing => read_registry_csv(alloc, path, body),
         Operation::PoolList => without_body(Command::Public(PublicCommand::PoolList), body),
         Operation::Own => without_body(Command::Applicant(ApplicantCommand::Own), body),
         Operation::OwnOne => read_own_one(alloc, path, body),
@@ -110,7 +110,7 @@ fn read_registry_csv(alloc: Global, path: &str, body: &[u8]) -> Result<Command, 
 {
     empty(body)?;
     let name = word_at(alloc, LISTING_PATH, path, Item::Name)?;
-    Ok(Command::Public(PublicCommand::RegistryCsv(name)))
+    Ok(Command::Public(PublicCommand::RegistryListing(name)))
 }
 
 #[tactic(auto, unfolding(crate::specs::Command::own_one_of))]

@@ -3,7 +3,7 @@ ghost use Rattle.reg_parse.specs.Bodies.Members.{Gives};
 ghost use Rattle.reg_parse.specs.RangeFile.{table_of};
 
 use reg_core::wire_refusal::ReadFault;
-use reg_ranges::file::read_ranges;
+use reg_ranges::range_file::read_ranges;
 use reg_ranges::table::RangeTable;
 use std::alloc::Global;
 

@@ -11,7 +11,7 @@ use std::marker::Model;
 pub enum Operation {
     Registries,
     Registry,
-    RegistryCsv,
+    RegistryListing,
     PoolList,
     Own,
     OwnOne,
@@ -118,7 +118,7 @@ const ROWS: [(&str, Methods); 17] = [
     (
         LISTING_PATH,
         Methods {
-            get: Some(Operation::RegistryCsv),
+            get: Some(Operation::RegistryListing),
             ..NONE
         },
     ),

@@ -10,6 +10,8 @@ use Rattle.reg_core.specs.declared.ask.Ask.{Ask}
 use Rattle.reg_core.specs.declared.ask.Ask.TheVariants.{Code}
 use Rattle.reg_core.specs.declared.ask.Want.{Want}
 use Rattle.reg_core.specs.declared.ask.Want.TheVariants.{Value, Least}
+use Rattle.reg_core.specs.declared.content.Content.{Content}
+use Rattle.reg_core.specs.declared.content.Content.TheVariants as content
 use Rattle.reg_core.specs.declared.entry.PageEntry.{PageEntry}
 use Rattle.reg_core.specs.declared.file.File.{File}
 use Rattle.reg_core.specs.declared.page.Page.{Page}
@@ -19,7 +21,7 @@ use Rattle.reg_core.specs.declared.reply.Reply.TheVariants as reply
 use Rattle.reg_core.specs.declared.request.Request.{Request}
 use Rattle.reg_core.specs.declared.request.State.{State}
 use Rattle.reg_core.specs.declared.request.State.TheVariants.{Pending, Approved, Declined, Withdrawn}
-use Rattle.reg_print.specs.Answer.{reply_body, answer_body}
+use Rattle.reg_print.specs.Answer.{content_body, reply_body, answer_body}
 use Rattle.reg_print.specs.Body.{Body, json, listing, IsPlain}
 use Rattle.reg_print.specs.Detail.{detail_text}
 use Rattle.reg_print.specs.Refusal.{Row, office_row, wire_row, storage_row}
@@ -120,23 +122,26 @@ IsPlainBody (listing page) = Unit {0}
 within : (d : Data) → is_plain 3 d ≡ true → is_plain 4 d ≡ true
 within d h = deeper 3 4 d (omega arith) h
 
+content-plain : (c : Content) → IsPlainBody (content_body c)
+content-plain (content.Names names) = array-plain 3 string (λ s. refl) names
+content-plain (content.Page page) = within (page_tree page) (page-plain page)
+content-plain (content.Listing page) = tt
+content-plain (content.Pool prefixes) = array-plain 3 prefix_tree (λ p. refl) prefixes
+content-plain (content.Made request) = within (request_tree request) (request-plain request)
+content-plain (content.Row request) = within (request_tree request) (request-plain request)
+content-plain (content.Rows requests) = array-plain 3 request_tree request-plain requests
+content-plain (content.Item row) = within (queue_tree row) (queue-plain row)
+content-plain (content.Items rows) = array-plain 3 queue_tree queue-plain rows
+content-plain (content.Desk request) = within (desk_tree request) (desk-plain request)
+content-plain (content.Desks requests) = array-plain 3 desk_tree desk-plain requests
+content-plain (content.Filed file) = within (file_tree file) (file-plain file)
+content-plain (content.Defined name) = refl
+content-plain (content.Pooled prefix) = refl
+content-plain (content.Granted granted) = object-plain 3 (cap_members granted) refl
+content-plain content.Revoked = refl
+
 reply-plain : (r : Reply) → IsPlainBody (reply_body r)
-reply-plain (reply.Names names) = array-plain 3 string (λ s. refl) names
-reply-plain (reply.Page page) = within (page_tree page) (page-plain page)
-reply-plain (reply.Sheet page) = tt
-reply-plain (reply.Pool prefixes) = array-plain 3 prefix_tree (λ p. refl) prefixes
-reply-plain (reply.Made request) = within (request_tree request) (request-plain request)
-reply-plain (reply.Row request) = within (request_tree request) (request-plain request)
-reply-plain (reply.Rows requests) = array-plain 3 request_tree request-plain requests
-reply-plain (reply.Item row) = within (queue_tree row) (queue-plain row)
-reply-plain (reply.Items rows) = array-plain 3 queue_tree queue-plain rows
-reply-plain (reply.Desk request) = within (desk_tree request) (desk-plain request)
-reply-plain (reply.Desks requests) = array-plain 3 desk_tree desk-plain requests
-reply-plain (reply.Filed file) = within (file_tree file) (file-plain file)
-reply-plain (reply.Defined name) = refl
-reply-plain (reply.Pooled prefix) = refl
-reply-plain (reply.Granted granted) = object-plain 3 (cap_members granted) refl
-reply-plain reply.Revoked = refl
+reply-plain (reply.Accepted told) = content-plain told
 reply-plain (reply.Refused refusal) = error-plain (office_row refusal)
 
 answer-plain : (a : Answer) → IsPlainBody (answer_body a)

@@ -1,7 +1,8 @@
 -- The status and the body of an answer.
 use Rattle.std.specs.Prelude.{ℕ, List}
+use Rattle.reg_core.specs.declared.content.Content.{Content}
+use Rattle.reg_core.specs.declared.content.Content.TheVariants.{Names, Page, Listing, Pool, Made, Row, Rows, Item, Items, Desk, Desks, Filed, Defined, Pooled, Granted, Revoked}
 use Rattle.reg_core.specs.declared.reply.Reply.{Reply}
-use Rattle.reg_core.specs.declared.reply.Reply.TheVariants.{Names, Page, Sheet, Pool, Made, Row, Rows, Item, Items, Desk, Desks, Filed, Defined, Pooled, Granted, Revoked}
 use Rattle.reg_core.specs.declared.reply.Reply.TheVariants as reply
 use Rattle.reg_print.specs.declared.answer.Answer.{Answer}
 use Rattle.reg_print.specs.declared.answer.Answer.TheVariants as answer
@@ -25,23 +26,26 @@ answer_to_fault Memory = answer.Storage
 
 -- ---- Status
 
+abbrev pub content_status : Content → ℕ
+content_status (Names names) = 200
+content_status (Page page) = 200
+content_status (Listing page) = 200
+content_status (Pool prefixes) = 200
+content_status (Made request) = 201
+content_status (Row request) = 200
+content_status (Rows requests) = 200
+content_status (Item row) = 200
+content_status (Items rows) = 200
+content_status (Desk request) = 200
+content_status (Desks requests) = 200
+content_status (Filed file) = 200
+content_status (Defined name) = 200
+content_status (Pooled prefix) = 200
+content_status (Granted cap) = 200
+content_status Revoked = 200
+
 abbrev pub reply_status : Reply → ℕ
-reply_status (Names names) = 200
-reply_status (Page page) = 200
-reply_status (Sheet page) = 200
-reply_status (Pool prefixes) = 200
-reply_status (Made request) = 201
-reply_status (Row request) = 200
-reply_status (Rows requests) = 200
-reply_status (Item row) = 200
-reply_status (Items rows) = 200
-reply_status (Desk request) = 200
-reply_status (Desks requests) = 200
-reply_status (Filed file) = 200
-reply_status (Defined name) = 200
-reply_status (Pooled prefix) = 200
-reply_status (Granted cap) = 200
-reply_status Revoked = 200
+reply_status (reply.Accepted content) = content_status content
 reply_status (reply.Refused refusal) = (office_row refusal).status
 
 abbrev pub status_of : Answer → ℕ
@@ -51,23 +55,26 @@ status_of answer.Storage = storage_row.status
 
 -- ---- Body
 
+abbrev pub content_body : Content → Body
+content_body (Names names) = json (names_tree names)
+content_body (Page page) = json (page_tree page)
+content_body (Listing page) = listing page
+content_body (Pool prefixes) = json (pool_tree prefixes)
+content_body (Made request) = json (request_tree request)
+content_body (Row request) = json (request_tree request)
+content_body (Rows requests) = json (requests_tree requests)
+content_body (Item row) = json (queue_tree row)
+content_body (Items rows) = json (queues_tree rows)
+content_body (Desk request) = json (desk_tree request)
+content_body (Desks requests) = json (desks_tree requests)
+content_body (Filed file) = json (file_tree file)
+content_body (Defined name) = json (defined_tree name)
+content_body (Pooled prefix) = json (pooled_tree prefix)
+content_body (Granted cap) = json (cap_tree cap)
+content_body Revoked = json revoked_tree
+
 abbrev pub reply_body : Reply → Body
-reply_body (Names names) = json (names_tree names)
-reply_body (Page page) = json (page_tree page)
-reply_body (Sheet page) = listing page
-reply_body (Pool prefixes) = json (pool_tree prefixes)
-reply_body (Made request) = json (request_tree request)
-reply_body (Row request) = json (request_tree request)
-reply_body (Rows requests) = json (requests_tree requests)
-reply_body (Item row) = json (queue_tree row)
-reply_body (Items rows) = json (queues_tree rows)
-reply_body (Desk request) = json (desk_tree request)
-reply_body (Desks requests) = json (desks_tree requests)
-reply_body (Filed file) = json (file_tree file)
-reply_body (Defined name) = json (defined_tree name)
-reply_body (Pooled prefix) = json (pooled_tree prefix)
-reply_body (Granted cap) = json (cap_tree cap)
-reply_body Revoked = json revoked_tree
+reply_body (reply.Accepted content) = content_body content
 reply_body (reply.Refused refusal) = json (error_tree (office_row refusal))
 
 abbrev pub answer_body : Answer → Body

@@ -6,10 +6,10 @@ use Rattle.serde_json.specs.View.{view}
 use Rattle.serde_json.specs.Written.{compact_text, has_float}
 use Rattle.reg_ranges.specs.RowReading.{text_rows}
 use Rattle.reg_core.specs.declared.page.Page.{Page}
-use Rattle.reg_print.specs.declared.content.Content.{Content}
-use Rattle.reg_print.specs.declared.content.Content.TheVariants.{Json, Csv}
-use Rattle.reg_print.specs.declared.content.Format.{Format}
-use Rattle.reg_print.specs.declared.content.Format.TheVariants as format
+use Rattle.reg_print.specs.declared.payload.Payload.{Payload}
+use Rattle.reg_print.specs.declared.payload.Payload.TheVariants.{Json, Csv}
+use Rattle.reg_print.specs.declared.payload.Format.{Format}
+use Rattle.reg_print.specs.declared.payload.Format.TheVariants as format
 use Rattle.reg_print.specs.Listing.{listing_records, listing_text}
 
 pub data Body : Type 0 where
@@ -17,7 +17,7 @@ pub data Body : Type 0 where
   listing : Page → Body
 
 -- a body without where it lies in memory
-abbrev pub body_view : Content → Body
+abbrev pub body_view : Payload → Body
 body_view (Json value) = json (view value)
 body_view (Csv page) = listing page.now
 

@@ -1,11 +1,12 @@
 //! Answers, and their status and body.
 ghost use Rattle.std.specs.Prelude.{◌≡◌, IfOk};
-ghost use Rattle.reg_print.specs.Answer.{status_of, reply_status, answer_body, body_text};
+ghost use Rattle.reg_print.specs.Answer.{status_of, reply_status, content_status, answer_body, body_text};
 ghost use Rattle.reg_print.specs.Body.{format_of, ReadsBack};
 
-pub use crate::content::Format;
-use crate::content::content_of;
+pub use crate::payload::Format;
+use crate::payload::payload_of;
 use crate::refusal::{office_row, storage_row, wire_row};
+use reg_core::content::Content;
 use reg_core::reply::Reply;
 use reg_core::wire_refusal::{ReadFault, WireRefusal};
 use std::alloc::{AllocError, Global};
@@ -27,7 +28,7 @@ impl Answer {
         ensures { result ≡ format_of (answer_body self.now) }
     {
         match self {
-            Answer::Reply(Reply::Sheet(_)) => Format::Csv,
+            Answer::Reply(Reply::Accepted(Content::Listing(_))) => Format::Csv,
             Answer::Reply(_) | Answer::Wire(_) | Answer::Storage => Format::Json,
         }
     }
@@ -52,7 +53,7 @@ pub fn body_of(alloc: Global, answer: &Answer) -> Result<(u16, Vec<u8>), AllocEr
     ensures body { IfOk result (λ r. r.1.items ≡ body_text answer.now) }
     ensures reads_back { IfOk result (λ r. ReadsBack (answer_body answer.now) r.1.items) }
 {
-    let body = content_of(alloc, answer)?.text(alloc)?;
+    let body = payload_of(alloc, answer)?.text(alloc)?;
     Ok((status_of(answer), body))
 }
 
@@ -70,23 +71,31 @@ fn reply_status(reply: &Reply) -> u16
     ensures { result ≡ reply_status reply.now }
 {
     match reply {
-        Reply::Made(_) => 201,
-        Reply::Names(_)
-        | Reply::Page(_)
-        | Reply::Sheet(_)
-        | Reply::Pool(_)
-        | Reply::Row(_)
-        | Reply::Rows(_)
-        | Reply::Item(_)
-        | Reply::Items(_)
-        | Reply::Desk(_)
-        | Reply::Desks(_)
-        | Reply::Filed(_)
-        | Reply::Defined(_)
-        | Reply::Pooled(_)
-        | Reply::Granted(_)
-        | Reply::Revoked => 200,
+        Reply::Accepted(content) => content_status(content),
         Reply::Refused(refusal) => office_row(*refusal).status,
+    }
+}
+
+fn content_status(content: &Content) -> u16
+    ensures { result ≡ content_status content.now }
+{
+    match content {
+        Content::Made(_) => 201,
+        Content::Names(_)
+        | Content::Page(_)
+        | Content::Listing(_)
+        | Content::Pool(_)
+        | Content::Row(_)
+        | Content::Rows(_)
+        | Content::Item(_)
+        | Content::Items(_)
+        | Content::Desk(_)
+        | Content::Desks(_)
+        | Content::Filed(_)
+        | Content::Defined(_)
+        | Content::Pooled(_)
+        | Content::Granted(_)
+        | Content::Revoked => 200,
     }
 }
 

@@ -2,10 +2,10 @@
 #![tactic(auto)]
 
 pub mod answer;
-mod content;
 pub mod detail;
 pub mod laws;
 mod listing;
 mod note;
+mod payload;
 pub mod refusal;
 mod trees;

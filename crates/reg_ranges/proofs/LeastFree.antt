@@ -11,10 +11,10 @@ use Rattle.reg_ranges.specs.declared.policy.Treatment.TheVariants as treatment
 use Rattle.reg_ranges.specs.Tables.{Table, IsPartition, lies_in, treatment_of}
 use Rattle.reg_ranges.specs.FreeValues.{IsUnder, IsLeastFree, IsLeastIn, is_under, is_free, least_value}
 use Rattle.reg_ranges.specs.Sameness.{same_treatment}
-use Rattle.reg_ranges.proofs.Sames.{option_decided, treatment_decided}
+use Rattle.reg_ranges.proofs.SamenessDecides.{option_decided, treatment_decided}
 use Rattle.reg_ranges.proofs.Partitions.{Chain, chain_from_partition}
 use Rattle.reg_ranges.proofs.Treatments.{treatment_in, treatment_above}
-use Rattle.reg_ranges.proofs.Gaps.{has_cases}
+use Rattle.reg_ranges.proofs.LeastGap.{has_cases}
 
 -- ---- the walk over the ranges
 
@@ -56,9 +56,9 @@ search_goes_on table p taken range rest partition has s full = record {
 
 search_finds : (table : Table) (p : Policy) (taken : List ℕ) (range : Range) (rest : List Range) (v : ℕ) → IsPartition table → Contains table.ranges range
     → Searched table p taken (range ∷ rest) → IsLeastIn range p taken (Some v) → IsLeastFree table p taken (Some v)
-search_finds table p taken range rest v partition has s found =
-    let gap = found.1 in
-    let under : IsUnder table p v = treatment_in table partition range v has (lies range v gap.0 gap.1) ∙ ap Some found.0 in (
+search_finds table p taken range rest v partition has s least =
+    let gap = least.1 in
+    let under : IsUnder table p v = treatment_in table partition range v has (lies range v gap.0 gap.1) ∙ ap Some least.0 in (
       under,
       gap.2,
       λ u lt at. elim (cases_lt u s.next) [
@@ -98,9 +98,9 @@ turn_goes_on table p taken items i range of partition lt is s full =
 
 pub turn_finds : (table : Table) (p : Policy) (taken : List ℕ) (items : List Range) (i : ℕ) (range : Range) (v : ℕ) → items ≡ table.ranges → IsPartition table → i < length items
     → range ≡ get_or items i range → Searched table p taken (drop i table.ranges) → IsLeastIn range p taken (Some v) → IsLeastFree table p taken (Some v)
-turn_finds table p taken items i range v of partition lt is s found =
+turn_finds table p taken items i range v of partition lt is s least =
     let at = search_at table p taken i range (rw of at lt) (rw of at is) s in
-    search_finds table p taken range (drop (i + 1) table.ranges) v partition at.has at.searched found
+    search_finds table p taken range (drop (i + 1) table.ranges) v partition at.has at.searched least
 
 pub turns_end : (table : Table) (p : Policy) (taken : List ℕ) (items : List Range) (i : ℕ) → items ≡ table.ranges → IsPartition table → length items ≤ i
     → Searched table p taken (drop i table.ranges) → IsLeastFree table p taken None
@@ -167,12 +167,12 @@ goes_on : (test : ℕ → Bool) (a n : ℕ) (o : Option ℕ) → test a ≡ fals
 goes_on test a n None h rest = λ u low high. elim (first_or_later test a u h low) [ inl here ↦ here | inr later ↦ rest u later (omega arith) ]
 goes_on test a n (Some v) h rest = (rest.0, λ u low high. elim (first_or_later test a u h low) [ inl here ↦ here | inr later ↦ rest.1 u later high ])
 
-first_found : (test : ℕ → Bool) (a n : ℕ) → IsFirst test a n (find test (range_with_len a n))
-first_found test a zero = λ u low high. absurd (omega arith)
-first_found test a (suc n) =
+first_is_first : (test : ℕ → Bool) (a n : ℕ) → IsFirst test a n (find test (range_with_len a n))
+first_is_first test a zero = λ u low high. absurd (omega arith)
+first_is_first test a (suc n) =
     elim (test a) as (λ b. test a ≡ b → IsFirst test a (suc n) (cond b (Some a) (find test (range_with_len (a + 1) n)))) [
       | true ↦ λ h. (h, λ u low high. absurd (omega arith))
-      | false ↦ λ h. goes_on test a n (find test (range_with_len (a + 1) n)) h (first_found test (a + 1) n)
+      | false ↦ λ h. goes_on test a n (find test (range_with_len (a + 1) n)) h (first_is_first test (a + 1) n)
     ] refl
 
 least_from : (table : Table) (p : Policy) (taken : List ℕ) (o : Option ℕ) → IsPartition table → IsFirst (is_free table p taken) 0 (table.max + 1) o → IsLeastFree table p taken o
@@ -185,7 +185,7 @@ least_from table p taken (Some v) partition first =
 pub least_value_is_least : (table : Table) → IsPartition table → (p : Policy) (taken : List ℕ) → IsLeastFree table p taken (least_value table p taken)
 unfolding least_value
 least_value_is_least table partition p taken =
-    least_from table p taken (find (is_free table p taken) (range_with_len 0 (table.max + 1))) partition (first_found (is_free table p taken) 0 (table.max + 1))
+    least_from table p taken (find (is_free table p taken) (range_with_len 0 (table.max + 1))) partition (first_is_first (is_free table p taken) 0 (table.max + 1))
 
 pub is_least_value : (table : Table) → IsPartition table → (p : Policy) (taken : List ℕ) (o : Option ℕ) → IsLeastFree table p taken o → o ≡ least_value table p taken
 is_least_value table partition p taken o is = one_least table p taken o (least_value table p taken) is (least_value_is_least table partition p taken)

@@ -1,11 +1,11 @@
-pub mod ReadWords
-pub mod Sames
+pub mod WordsReadBack
+pub mod SamenessDecides
 pub mod Increasing
 pub mod Partitions
 pub mod Treatments
-pub mod Gaps
+pub mod LeastGap
 pub mod LeastFree
 pub mod Numerals
-pub mod Fields
-pub mod FileRecords
-pub mod FileRanges
+pub mod FourFields
+pub mod ReachedRows
+pub mod RangeFileRows

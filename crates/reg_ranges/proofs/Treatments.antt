@@ -21,7 +21,7 @@ find_none p (r ∷ rs) h =
     ] refl
 
 -- a range that passes is among the ranges, and passes
-record IsFound (p : Range → Bool) (rs : List Range) (r : Range) : Type 0 where
+record FindGives (p : Range → Bool) (rs : List Range) (r : Range) : Type 0 where
   is : find p rs ≡ Some r
   place : ℕ
   below : place < length rs
@@ -34,10 +34,10 @@ find_first p r rs e = rw e refl
 find_later : (p : Range → Bool) (r x : Range) (rs : List Range) → p r ≡ false → find p rs ≡ Some x → find p (r ∷ rs) ≡ Some x
 find_later p r x rs e h = rw e h
 
-find_some : (p : Range → Bool) (rs : List Range) → count_by p rs ≡ 1 → (r : Range) × IsFound p rs r
+find_some : (p : Range → Bool) (rs : List Range) → count_by p rs ≡ 1 → (r : Range) × FindGives p rs r
 find_some p [] h = absurd (omega arith)
 find_some p (r ∷ rs) h =
-    elim (p r) as (λ b. p r ≡ b → (x : Range) × IsFound p (r ∷ rs) x) [
+    elim (p r) as (λ b. p r ≡ b → (x : Range) × FindGives p (r ∷ rs) x) [
       | true ↦ λ e. (r, record { is = find_first p r rs e; place = 0; below = omega arith; there = λ d. refl; passes = e })
       | false ↦ λ e.
           let more = find_some p rs (sym (count_no p r rs e) ∙ h) in
@@ -54,7 +54,7 @@ count_at p (x ∷ rs) (suc k) r lt is pass =
       | false ↦ λ e. let none = count_no p x rs e in omega arith
     ] refl
 
--- where one range passes, it is the one that is found
+-- where one range passes, it is the one that a search gives
 find_the : (p : Range → Bool) (rs : List Range) (k : ℕ) (r : Range) → count_by p rs ≡ 1 → k < length rs → get_or rs k r ≡ r → p r ≡ true → find p rs ≡ Some r
 find_the p [] k r one lt is pass = absurd (omega arith)
 find_the p (x ∷ rs) zero r one lt is pass = rw (is, pass) refl
@@ -68,9 +68,9 @@ pub one_range : (table : Table) → IsPartition table → (v : ℕ) → v ≤ ta
     → (range : Range) × Contains table.ranges range × IsTrue (lies_in v range)
     × ((other : Range) → Contains table.ranges other → IsTrue (lies_in v other) → other ≡ range)
 one_range table p v small =
-    let found = find_some (lies_in v) table.ranges (p.covered v small) in
-    let r = found.0 in
-    let f = found.1 in
+    let passing = find_some (lies_in v) table.ranges (p.covered v small) in
+    let r = passing.0 in
+    let f = passing.1 in
     (r, (f.place, f.below, f.there r), f.passes, λ other has lies. let same = find_the (lies_in v) table.ranges has.0 other (p.covered v small) has.1 has.2 lies in let is = f.is in cc)
 
 pub treatment_in : (table : Table) → IsPartition table → (range : Range) (v : ℕ) → Contains table.ranges range → IsTrue (lies_in v range) → treatment_of table v ≡ Some range.treatment
@@ -85,6 +85,6 @@ treatment_above table p v =
     elim (cases_lt table.max v) [
       | inl past ↦ (λ none. past, λ past. rw (find_none (lies_in v) table.ranges (p.no_other v past)) refl)
       | inr small ↦
-          let found = find_some (lies_in v) table.ranges (p.covered v small) in
-          (λ none. absurd (let none : IsNone (option_map (λ range. range.treatment) (Some found.0)) = rw found.1.is at none in cc), λ past. absurd (omega arith))
+          let passing = find_some (lies_in v) table.ranges (p.covered v small) in
+          (λ none. absurd (let none : IsNone (option_map (λ range. range.treatment) (Some passing.0)) = rw passing.1.is at none in cc), λ past. absurd (omega arith))
     ]

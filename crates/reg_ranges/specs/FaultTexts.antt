@@ -3,10 +3,10 @@ use Rattle.std.specs.Prelude.{ℕ, List, ◌++◌, codes}
 use Rattle.std.specs.Fmt.{decimal}
 use Rattle.reg_ranges.specs.declared.table.RangeFault.{RangeFault}
 use Rattle.reg_ranges.specs.declared.table.RangeFault.TheVariants as range
-use Rattle.reg_ranges.specs.declared.file.RowPart.{RowPart}
-use Rattle.reg_ranges.specs.declared.file.RowPart.TheVariants as part
-use Rattle.reg_ranges.specs.declared.file.RowFault.{RowFault}
-use Rattle.reg_ranges.specs.declared.file.RowFault.TheVariants as row
+use Rattle.reg_ranges.specs.declared.range_file.RowPart.{RowPart}
+use Rattle.reg_ranges.specs.declared.range_file.RowPart.TheVariants as part
+use Rattle.reg_ranges.specs.declared.range_file.RowFault.{RowFault}
+use Rattle.reg_ranges.specs.declared.range_file.RowFault.TheVariants as row
 
 abbrev pub range_fault_text : RangeFault → List ℕ
 range_fault_text range.Empty = codes "empty"

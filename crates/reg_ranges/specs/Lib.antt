@@ -5,10 +5,11 @@ pub mod Tables
 pub mod Sameness
 pub mod Equivalences
 pub mod Faults
+pub mod Forms
 pub mod Words
 pub mod FreeValues
 pub mod Numbers
 pub mod RowReading
-pub mod RangeFiles
+pub mod RangeFile
 pub mod FaultTexts
 pub mod Laws

@@ -1,8 +1,9 @@
 //! What an applicant shows for an assignment.
-ghost use Rattle.std.specs.Prelude.{◌≡◌, ◌↔◌, IfOk, IsTrue};
+ghost use Rattle.std.specs.Prelude.{◌≡◌, IfOk};
 ghost use Rattle.reg_ranges.specs.Words.{item_word, stream_word, read_stream, track_word, read_track};
 
-use crate::text::{Text, copy_optional};
+use crate::formed::Formed;
+use crate::text::Text;
 use std::alloc::AllocError;
 use std::marker::Model;
 
@@ -209,8 +210,18 @@ impl Rfc {
     }
 }
 
+impl Formed for Rfc {
+    ghost use Rattle.reg_ranges.specs.Forms.{is_rfc};
+
+    ghost has_form = { is_rfc };
+
+    fn formed(&self) {
+        let _ = &self.number;
+    }
+}
+
 /// What an applicant shows for an assignment; each part may be missing.
-#[derive(Debug, Drop)]
+#[derive(Clone, Debug, Drop, PartialEq, Eq)]
 pub struct Evidence {
     /// Who can be asked about the value.
     pub contact: Option<Text>,
@@ -223,43 +234,23 @@ pub struct Evidence {
 }
 
 impl Evidence {
+    /// Equal evidence. Only want of memory is an error.
     pub fn copy(&self) -> Result<Evidence, AllocError>
         ensures { IfOk result (λ c. c ≡ self.now) }
     {
-        Ok(Evidence {
-            contact: copy_optional(&self.contact)?,
-            spec: copy_optional(&self.spec)?,
-            rfc: self.rfc,
-            minute: copy_optional(&self.minute)?,
-        })
+        self.clone()
     }
 }
 
-impl PartialEq for Evidence {
-    ghost use Rattle.std.specs.Cmp.{partial_equiv_from_equiv};
-    ghost use Rattle.reg_ranges.specs.Equivalences.{evidence_equiv};
-    ghost use Rattle.reg_ranges.specs.Sameness.{same_evidence};
+impl Formed for Evidence {
+    ghost use Rattle.reg_ranges.specs.Forms.{has_evidence_form};
 
-    ghost eq = { same_evidence };
+    ghost has_form = { has_evidence_form };
 
-    ghost laws = { partial_equiv_from_equiv evidence_equiv };
-
-    fn eq(&self, other: &Self) -> bool {
-        self.contact == other.contact
-            && self.spec == other.spec
-            && same_rfcs(&self.rfc, &other.rfc)
-            && self.minute == other.minute
+    fn formed(&self) {
+        self.contact.formed();
+        self.spec.formed();
+        self.rfc.formed();
+        self.minute.formed();
     }
-}
-
-impl Eq for Evidence {
-    ghost use Rattle.reg_ranges.specs.Equivalences.{evidence_equiv};
-
-    ghost laws = { evidence_equiv };
-}
-
-fn same_rfcs(rfc: &Option<Rfc>, other: &Option<Rfc>) -> bool
-    ensures { IsTrue result ↔ (rfc.now ≡ other.now) }
-{
-    rfc == other
 }

@@ -2,12 +2,13 @@
 #![tactic(auto)]
 
 pub mod evidence;
-pub mod file;
+pub mod formed;
 pub mod free;
 pub mod laws;
 pub mod number;
 pub mod policy;
 pub mod range;
+pub mod range_file;
 pub mod requirements;
 pub mod table;
 #[cfg(test)]

@@ -1,12 +1,13 @@
 //! One range of a registry's values.
 ghost use Rattle.std.specs.Prelude.{◌≡◌, IfOk};
 
+use crate::formed::Formed;
 use crate::policy::Treatment;
-use crate::text::{Text, copy_optional};
+use crate::text::Text;
 use std::alloc::AllocError;
 
 /// The values `lo` to `hi`, both included, and how they are treated (RFC 8126 section 6).
-#[derive(Debug, Drop, PartialEq, Eq)]
+#[derive(Clone, Debug, Drop, PartialEq, Eq)]
 pub struct Range {
     pub lo: u32,
     pub hi: u32,
@@ -15,14 +16,20 @@ pub struct Range {
 }
 
 impl Range {
+    /// An equal range. Only want of memory is an error.
     pub fn copy(&self) -> Result<Range, AllocError>
         ensures { IfOk result (λ c. c ≡ self.now) }
     {
-        Ok(Range {
-            lo: self.lo,
-            hi: self.hi,
-            treatment: self.treatment,
-            note: copy_optional(&self.note)?,
-        })
+        self.clone()
+    }
+}
+
+impl Formed for Range {
+    ghost use Rattle.reg_ranges.specs.Forms.{has_range_form};
+
+    ghost has_form = { has_range_form };
+
+    fn formed(&self) {
+        self.note.formed();
     }
 }

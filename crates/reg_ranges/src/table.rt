@@ -5,6 +5,7 @@ ghost use Rattle.reg_ranges.specs.FaultTexts.{range_fault_text};
 ghost use Rattle.reg_ranges.specs.Faults.{fault_at, fault_from, first_fault};
 ghost use Rattle.reg_ranges.specs.Tables.{IsPartition, lies_in, treatment_of};
 
+use crate::formed::Formed;
 use crate::policy::Treatment;
 use crate::range::Range;
 use std::alloc::AllocError;
@@ -47,7 +48,7 @@ impl fmt::Display for RangeFault {
 impl Error for RangeFault {}
 
 /// 1 to 64 ranges in order, such that each value of 0 to a largest one lies in exactly one of them.
-#[derive(Debug, Drop)]
+#[derive(Clone, Debug, Drop)]
 pub struct RangeTable {
     max: u32,
     ranges: Vec<Range>,
@@ -103,17 +104,22 @@ impl RangeTable {
         treatment_in(self.ranges.as_slice(), value)
     }
 
+    /// An equal table. Only want of memory is an error.
     pub fn copy(&self) -> Result<RangeTable, AllocError>
         ensures { IfOk result (λ c. c ≡ self.now) }
     {
-        let mut ranges = Vec::with_capacity(*self.ranges.allocator(), self.ranges.len())?;
-        for range in &self.ranges {
-            ranges.push(range.copy()?)?;
-        }
-        Ok(RangeTable {
-            max: self.max,
-            ranges,
-        })
+        self.clone()
+    }
+}
+
+impl Formed for RangeTable {
+    ghost use Rattle.reg_ranges.specs.Forms.{has_table_form};
+
+    ghost has_form = { has_table_form };
+
+    fn formed(&self) {
+        let _max = self.max();
+        self.ranges.formed();
     }
 }
 

@@ -1,8 +1,8 @@
 //! Range files, tables, evidence and free values, with answers that come from the formats and from RFC 8126.
 use crate::evidence::{Evidence, Item, Rfc, Stream, Track};
-use crate::file::read_ranges;
 use crate::free::least_free;
 use crate::policy::{Policy, Treatment};
+use crate::range_file::read_ranges;
 use crate::requirements::{missing, needs_expert};
 use crate::table::RangeTable;
 use crate::text::Text;

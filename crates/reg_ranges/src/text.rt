@@ -8,6 +8,7 @@ ghost use Rattle.std.specs.List.{list_all};
 ghost use Rattle.std.specs.Str.{IsAscii};
 ghost use Rattle.reg_ranges.specs.Texts.{is_text_byte as text_byte, is_text, read_text, ascii_text};
 
+use crate::formed::Formed;
 use std::alloc::{AllocError, Global};
 use std::cmp::Ordering;
 use std::marker::{Model, PhantomData};
@@ -26,7 +27,7 @@ pub trait Form: Copy {
 }
 
 /// A text of the form `F`.
-#[derive(Debug, Drop)]
+#[derive(Clone, Debug, Drop)]
 pub struct Word<F: Form> {
     text: String,
     form: PhantomData<F>,
@@ -74,10 +75,16 @@ impl<F: Form> Word<F> {
         ensures equal { IfOk result (λ w. w ≡ self.now) }
         ensures form { F.fits self.now ≡ true }
     {
-        Ok(Word {
-            text: self.text.clone()?,
-            form: PhantomData,
-        })
+        self.formed();
+        self.clone()
+    }
+}
+
+impl<F: Form> Formed for Word<F> {
+    ghost has_form = { F.fits };
+
+    fn formed(&self) {
+        let _ = &self.text;
     }
 }
 
@@ -85,10 +92,7 @@ impl<F: Form> Word<F> {
 pub fn copy_optional<F: Form>(text: &Option<Word<F>>) -> Result<Option<Word<F>>, AllocError>
     ensures { IfOk result (λ o. o ≡ text.now) }
 {
-    match text {
-        Some(text) => Ok(Some(text.copy()?)),
-        None => Ok(None),
-    }
+    text.clone()
 }
 
 fn text_of(alloc: Global, bytes: &[u8]) -> Result<String, AllocError>

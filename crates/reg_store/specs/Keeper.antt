@@ -1,5 +1,6 @@
--- What a keeper's calls may answer.
-use Rattle.std.specs.Prelude.{Bool, IsTrue}
+-- What the calls of a keeper promise.
+use Rattle.std.specs.Prelude.{◌≡◌, Bool, IsTrue, Result, IfOk, IfErr, OnOk, OnErr}
+use Rattle.reg_core.specs.World.{World}
 use Rattle.reg_store.specs.declared.keeper.Fault.{Fault}
 use Rattle.reg_store.specs.declared.keeper.Fault.TheVariants.{Memory, Store}
 
@@ -7,3 +8,23 @@ use Rattle.reg_store.specs.declared.keeper.Fault.TheVariants.{Memory, Store}
 abbrev pub MayFault : Bool → Fault → Type 0
 MayFault fails Memory = Unit {0}
 MayFault fails Store = IsTrue fails
+
+-- A call that only looks. Under the premise after the call, what it gives is true of the content,
+-- which
+-- stays as it was, and the premise held before.
+pub record Selects {S T : Type 0} (world : S → World) (Holds : S → Type 0) (fails : Bool)
+    (old new : S) (result : Result T Fault) (Gives : World → T → Type 0) : Type 0 where
+  pub value : Holds new → IfOk result (Gives (world old))
+  pub same : Holds new → world new ≡ world old
+  pub premise : Holds new → Holds old
+  pub fault : IfErr result (MayFault fails)
+
+-- A call that makes a change. Under the premise after the call, the content is changed whole, or
+-- at a fault
+-- stays as it was, and the premise held before.
+pub record Makes {S T : Type 0} (world : S → World) (Holds : S → Type 0) (fails : Bool)
+    (old new : S) (result : Result T Fault) (changed : World → World) : Type 0 where
+  pub made : Holds new → OnOk result (world new ≡ changed (world old))
+  pub kept : Holds new → OnErr result (world new ≡ world old)
+  pub premise : Holds new → Holds old
+  pub fault : IfErr result (MayFault fails)

@@ -1,9 +1,4 @@
+pub mod Maps
 pub mod Groups
-pub mod Panels
-pub mod Pool
-pub mod Desks
-pub mod Kept
-pub mod Reviews
-pub mod Held
 pub mod Keeper
 pub mod Lists

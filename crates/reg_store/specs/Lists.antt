@@ -1,7 +1,17 @@
 -- The content of a keeper in memory.
 use Rattle.reg_core.specs.World.{World}
-use Rattle.reg_store.specs.Kept.{kept}
+use Rattle.reg_store.specs.Lists.Content.{content}
+use Rattle.reg_store.specs.Lists.Reviews.{world_of}
 use Rattle.reg_store.specs.declared.lists.ListKeeper.{ListKeeper}
+pub mod Entries
+pub mod Requests
+pub mod Opinions
+pub mod Panels
+pub mod Pool
+pub mod File
+pub mod Queues
+pub mod Reviews
+pub mod Content
 
 abbrev pub world_in : ListKeeper → World
-world_in k = kept k.caps k.registries k.entries k.reviews.requests k.reviews.panels k.reviews.opinions k.pool
+world_in k = content k.caps k.registries k.entries (world_of k.reviews) k.pool

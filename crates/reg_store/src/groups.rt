@@ -1,46 +1,81 @@
-//! Rows in ordered maps, and in groups: a map of maps.
-ghost use Rattle.std.specs.Prelude.{◌≡◌, ◌&&◌, cond, Some, option_map, IfSome, OnOk, OnErr};
+//! Rows in groups: a map of maps.
+ghost use Rattle.std.specs.Prelude.{◌≡◌, None, map, IfOk, OnOk, OnErr, option_and_then};
+ghost use Rattle.std.specs.Fn.{FnOnceReturnsAtMut};
 ghost use Rattle.std.specs.Option.{option_copied};
 ghost use Rattle.std.specs.BTreeMap as tree;
-ghost use Rattle.std.specs.BTreeMap.{IsOrdered, is_at};
-ghost use Rattle.reg_store.specs.Groups.{row_at};
+ghost use Rattle.std.specs.FinMap as fin;
+ghost use Rattle.reg_core.specs.Maps.{update};
+ghost use Rattle.reg_store.specs.Groups.{pair_map, group_at, group_rows, rows_of};
+ghost use Rattle.reg_store.specs.Maps.{Computes};
 
+use crate::maps::{Key, push_rows};
 use std::alloc::{AllocError, Global};
 use std::collections::BTreeMap;
 
-/// Adds a row or replaces the one at its key.
-pub fn set_row<K: Ord + Drop, V: Drop>(
-    map: &mut BTreeMap<K, V>,
-    key: K,
-    row: V,
-) -> Result<(), AllocError>
-    ensures ok { OnOk result ((q : K) → tree.get K.cmp map.new q ≡ cond (is_at (K.cmp key) q) (Some row) (tree.get K.cmp map.old q)) }
-    ensures err { OnErr result (map.new.entries ≡ map.old.entries) }
+/// The row at two keys.
+pub fn row_in<'a, A: Key, B: Key, V>(
+    groups: &'a BTreeMap<A, BTreeMap<B, V>>,
+    first: &A,
+    second: &B,
+) -> Option<&'a V>
+    ensures { option_copied result
+        ≡ fin.get (pair_map A.cmp B.cmp groups.now) (first.now, second.now) }
 {
-    map.insert(key, row)?;
-    Ok(())
+    let _groups = groups.len();
+    groups.get(first)?.get(second)
 }
 
-/// Takes the row at a key away, if there is one.
-pub fn take_row<K: Ord + Drop, V: Drop>(map: &mut BTreeMap<K, V>, key: &K)
-    ensures { (q : K) → tree.get K.cmp map.new q ≡ cond (is_at (K.cmp key.now) q) None (tree.get K.cmp map.old q) }
+/// A group, if there is one.
+pub fn group_in<'a, A: Key, B: Key, V>(
+    groups: &'a BTreeMap<A, BTreeMap<B, V>>,
+    first: &A,
+) -> Option<&'a BTreeMap<B, V>>
+    ensures rows { fin.entries (group_at A.cmp (pair_map A.cmp B.cmp groups.now) first.now)
+        ≡ group_rows first.now (rows_of (option_copied result)) }
+    ensures row { (second : B)
+        → option_and_then (λ group. tree.get B.cmp group second) (option_copied result)
+        ≡ fin.get (pair_map A.cmp B.cmp groups.now) (first.now, second) }
 {
-    map.remove(key);
+    let _groups = groups.len();
+    let group = groups.get(first)?;
+    let _rows = group.len();
+    Some(group)
 }
 
-/// Adds a row to a group, or replaces the one at its key.
-pub fn put_row<A: Ord + Drop, B: Ord + Drop, V: Drop>(
+/// What is made of each row of a group, in order.
+pub fn list_group<A: Key, B: Key, V, T: Drop, F: Fn(&B, &V) -> Result<T, AllocError> + Drop>(
+    alloc: Global,
+    groups: &BTreeMap<A, BTreeMap<B, V>>,
+    first: &A,
+    make: F,
+) -> Result<Vec<T>, AllocError>
+    requires { F.IsAlwaysCallable make }
+    ensures { (f : A × B → V → T) → Computes (F.post make) (λ second. f (first.now, second))
+        → IfOk result (λ made. made.items ≡ map (λ e. f e.0 e.1)
+        (fin.entries (group_at A.cmp (pair_map A.cmp B.cmp groups.now) first.now))) }
+{
+    let Some(group) = group_in(groups, first) else {
+        return Ok(Vec::new(alloc));
+    };
+    let mut made = Vec::with_capacity(alloc, group.len())?;
+    push_rows(&mut made, group, make)?;
+    Ok(made)
+}
+
+/// Adds a row to a group, or replaces the one at its key. Only a new row can fail.
+pub fn put_row<A: Key + Drop, B: Key + Drop, V: Drop>(
     alloc: Global,
     groups: &mut BTreeMap<A, BTreeMap<B, V>>,
     first: A,
     second: B,
     row: V,
 ) -> Result<(), AllocError>
-    ensures ok { OnOk result ((a : A) (b : B) → row_at A.cmp B.cmp groups.new a b ≡ cond (is_at (A.cmp first) a && is_at (B.cmp second) b) (Some row) (row_at A.cmp B.cmp groups.old a b)) }
-    ensures err { OnErr result ((a : A) (b : B) → row_at A.cmp B.cmp groups.new a b ≡ row_at A.cmp B.cmp groups.old a b) }
-    ensures absent { OnErr result (row_at A.cmp B.cmp groups.old first second ≡ None) }
-    ensures was_ordered { IsOrdered A.cmp groups.old }
-    ensures ordered { IsOrdered A.cmp groups.new }
+    ensures ok { OnOk result (pair_map A.cmp B.cmp groups.new
+        ≡ fin.insert (pair_map A.cmp B.cmp groups.old) (first, second) row) }
+    ensures err { OnErr result (pair_map A.cmp B.cmp groups.new
+        ≡ pair_map A.cmp B.cmp groups.old) }
+    ensures absent { OnErr result (fin.get (pair_map A.cmp B.cmp groups.old) (first, second)
+        ≡ None) }
 {
     match groups.get_mut(&first) {
         Some(group) => {
@@ -55,30 +90,36 @@ pub fn put_row<A: Ord + Drop, B: Ord + Drop, V: Drop>(
     Ok(())
 }
 
-/// The row at two keys.
-pub fn row_in<'a, A: Ord, B: Ord, V>(
-    groups: &'a BTreeMap<A, BTreeMap<B, V>>,
+/// Changes the row at two keys, if there is one.
+pub fn change_row<A: Key, B: Key, V, F: FnOnce(&mut V) + Drop>(
+    groups: &mut BTreeMap<A, BTreeMap<B, V>>,
     first: &A,
     second: &B,
-) -> Option<&'a V>
-    ensures row { option_copied result ≡ row_at A.cmp B.cmp groups.now first.now second.now }
-    ensures ordered { IsOrdered A.cmp groups.now }
+    change: F,
+)
+    requires { F.IsAlwaysCallable change }
+    ensures { (f : V → V)
+        → ((row left : V) → FnOnceReturnsAtMut F.FnOnce change row tt left → left ≡ f row)
+        → pair_map A.cmp B.cmp groups.new
+        ≡ update (pair_map A.cmp B.cmp groups.old) (first.now, second.now) f }
 {
-    let _groups = groups.len();
-    groups.get(first)?.get(second)
+    if let Some(group) = groups.get_mut(first) {
+        if let Some(row) = group.get_mut(second) {
+            change(row);
+        }
+    }
 }
 
-/// A group, if there is one.
-pub fn group_in<'a, A: Ord, B: Ord, V>(
-    groups: &'a BTreeMap<A, BTreeMap<B, V>>,
+/// Takes the row at two keys away, if there is one.
+pub fn take_row<A: Key, B: Key + Drop, V: Drop>(
+    groups: &mut BTreeMap<A, BTreeMap<B, V>>,
     first: &A,
-) -> Option<&'a BTreeMap<B, V>>
-    ensures group { option_copied result ≡ tree.get A.cmp groups.now first.now }
-    ensures ordered { IsOrdered A.cmp groups.now }
-    ensures rows_ordered { IfSome result (λ group. IsOrdered B.cmp group.now) }
+    second: &B,
+)
+    ensures { pair_map A.cmp B.cmp groups.new
+        ≡ fin.remove (pair_map A.cmp B.cmp groups.old) (first.now, second.now) }
 {
-    let _groups = groups.len();
-    let group = groups.get(first)?;
-    let _rows = group.len();
-    Some(group)
+    if let Some(group) = groups.get_mut(first) {
+        group.remove(second);
+    }
 }

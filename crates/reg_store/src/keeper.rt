@@ -1,5 +1,5 @@
 //! What keeps the content of an office.
-ghost use Rattle.std.specs.Prelude.{◌≡◌, Bool, IfOk, IfErr, OnOk, OnErr, option_map};
+ghost use Rattle.std.specs.Prelude.{◌≡◌, Bool, option_map};
 ghost use Rattle.std.specs.FinMap.{get, keys};
 ghost use Rattle.reg_core.specs.Entry.{entry_row};
 ghost use Rattle.reg_core.specs.File.{file as file_of};
@@ -9,7 +9,7 @@ ghost use Rattle.reg_core.specs.Request.{request_row, request_rows};
 ghost use Rattle.reg_core.specs.View.{entries_of, queue_of, requests_of};
 ghost use Rattle.reg_core.specs.WellKept.{WellKept, CanApply};
 ghost use Rattle.reg_core.specs.World.{World, applied};
-ghost use Rattle.reg_store.specs.Keeper.{MayFault};
+ghost use Rattle.reg_store.specs.Keeper.{Selects, Makes};
 
 use reg_blocks::pool::Pool;
 use reg_core::capability::Cap;
@@ -43,8 +43,8 @@ impl From<AllocError> for Fault {
     }
 }
 
-/// Keeps the content of an office. Each promise about the content stands under the keeper's premise
-/// after the call, as that a disk gave back what was written to it.
+/// Keeps the content of an office. Each promise about the content stands under the keeper's
+/// premise after the call, as that a disk gave back what was written to it.
 pub trait Keeper {
     /// The content.
     ghost world: { Self → World };
@@ -58,104 +58,83 @@ pub trait Keeper {
     /// Whether a call may answer `Store`.
     const FAILS: bool;
 
-    /// The content is well kept.
-    fn well_kept(&self)
-        ensures { Holds self.now → WellKept (world self.now) };
-
     /// The capability at a digest.
     fn cap(&mut self, digest: &Digest) -> Result<Option<Cap>, Fault>
-        ensures row { Holds self.new → IfOk result (λ cap. cap ≡ get (world self.old).caps digest.now) }
-        ensures same { Holds self.new → world self.new ≡ world self.old }
-        ensures held { Holds self.new → Holds self.old }
-        ensures fault { IfErr result (MayFault FAILS) };
+        ensures { Selects world Holds FAILS self.old self.new result
+            (λ w cap. cap ≡ get w.caps digest.now) };
 
     /// The names of all registries, in order.
     fn names(&mut self) -> Result<Rows<Name>, Fault>
-        ensures rows { Holds self.new → IfOk result (λ names. names ≡ keys (world self.old).registries) }
-        ensures same { Holds self.new → world self.new ≡ world self.old }
-        ensures held { Holds self.new → Holds self.old }
-        ensures fault { IfErr result (MayFault FAILS) };
+        ensures { Selects world Holds FAILS self.old self.new result
+            (λ w names. names ≡ keys w.registries) };
 
     /// The ranges of a registry, with its largest value.
     fn ranges(&mut self, name: &Name) -> Result<Option<RangeTable>, Fault>
-        ensures row { Holds self.new → IfOk result (λ table. table ≡ get (world self.old).registries name.now) }
-        ensures same { Holds self.new → world self.new ≡ world self.old }
-        ensures held { Holds self.new → Holds self.old }
-        ensures fault { IfErr result (MayFault FAILS) };
+        ensures { Selects world Holds FAILS self.old self.new result
+            (λ w table. table ≡ get w.registries name.now) };
 
     /// The entry of a registry at a value.
     fn entry(&mut self, registry: &Name, value: u32) -> Result<Option<Entry>, Fault>
-        ensures row { Holds self.new → IfOk result (λ entry. entry ≡ option_map (entry_row registry.now value) (get (world self.old).entries (registry.now, value))) }
-        ensures same { Holds self.new → world self.new ≡ world self.old }
-        ensures held { Holds self.new → Holds self.old }
-        ensures fault { IfErr result (MayFault FAILS) };
+        ensures { Selects world Holds FAILS self.old self.new result
+            (λ w entry. entry ≡
+            option_map (entry_row registry.now value) (get w.entries (registry.now, value))) };
 
     /// All entries of a registry, by value.
     fn entries(&mut self, registry: &Name) -> Result<Rows<Entry>, Fault>
-        ensures rows { Holds self.new → IfOk result (λ entries. entries ≡ entry_rows (entries_of registry.now (world self.old).entries)) }
-        ensures same { Holds self.new → world self.new ≡ world self.old }
-        ensures held { Holds self.new → Holds self.old }
-        ensures fault { IfErr result (MayFault FAILS) };
+        ensures { Selects world Holds FAILS self.old self.new result
+            (λ w entries. entries ≡ entry_rows (entries_of registry.now w.entries)) };
 
     /// The prefixes of the pool.
     fn pool(&mut self) -> Result<Pool, Fault>
-        ensures rows { Holds self.new → IfOk result (λ pool. pool ≡ keys (world self.old).pool) }
-        ensures same { Holds self.new → world self.new ≡ world self.old }
-        ensures held { Holds self.new → Holds self.old }
-        ensures fault { IfErr result (MayFault FAILS) };
+        ensures { Selects world Holds FAILS self.old self.new result
+            (λ w pool. pool ≡ keys w.pool) };
 
     /// All requests of an account, by reference.
     fn own(&mut self, account: &Account) -> Result<Rows<Request>, Fault>
-        ensures rows { Holds self.new → IfOk result (λ rows. rows ≡ request_rows (requests_of account.now (world self.old))) }
-        ensures same { Holds self.new → world self.new ≡ world self.old }
-        ensures held { Holds self.new → Holds self.old }
-        ensures fault { IfErr result (MayFault FAILS) };
+        ensures { Selects world Holds FAILS self.old self.new result
+            (λ w rows. rows ≡ request_rows (requests_of account.now w)) };
 
     /// The request of an account under a reference.
     fn own_one(&mut self, account: &Account, reference: &Ref) -> Result<Option<Request>, Fault>
-        ensures row { Holds self.new → IfOk result (λ row. row ≡ option_map (request_row (account.now, reference.now)) (get (world self.old).requests (account.now, reference.now))) }
-        ensures same { Holds self.new → world self.new ≡ world self.old }
-        ensures held { Holds self.new → Holds self.old }
-        ensures fault { IfErr result (MayFault FAILS) };
+        ensures { Selects world Holds FAILS self.old self.new result
+            (λ w row. row ≡ option_map (request_row (account.now, reference.now))
+            (get w.requests (account.now, reference.now))) };
 
     /// All requests, by account and then by reference.
     fn all(&mut self) -> Result<Rows<Request>, Fault>
-        ensures rows { Holds self.new → IfOk result (λ rows. rows ≡ request_rows (world self.old).requests) }
-        ensures same { Holds self.new → world self.new ≡ world self.old }
-        ensures held { Holds self.new → Holds self.old }
-        ensures fault { IfErr result (MayFault FAILS) };
+        ensures { Selects world Holds FAILS self.old self.new result
+            (λ w rows. rows ≡ request_rows w.requests) };
 
-    /// The request of an account under a reference, with its experts and all advice on it, by expert.
+    /// The request of an account under a reference, with its experts and all advice on it, by
+    /// expert.
     fn file(&mut self, account: &Account, reference: &Ref) -> Result<Option<File>, Fault>
-        ensures row { Holds self.new → IfOk result (λ row. row ≡ option_map (file_of (world self.old) (account.now, reference.now)) (get (world self.old).requests (account.now, reference.now))) }
-        ensures same { Holds self.new → world self.new ≡ world self.old }
-        ensures held { Holds self.new → Holds self.old }
-        ensures fault { IfErr result (MayFault FAILS) };
+        ensures { Selects world Holds FAILS self.old self.new result
+            (λ w row. row ≡ option_map (file_of w (account.now, reference.now))
+            (get w.requests (account.now, reference.now))) };
 
-    /// All requests that are assigned to an expert, with the expert's own advice, by account and then by reference.
+    /// All requests that are assigned to an expert, with the expert's own advice, by account and
+    /// then by reference.
     fn queue(&mut self, expert: &Account) -> Result<Rows<QueueRow>, Fault>
-        ensures rows { Holds self.new → IfOk result (λ rows. rows ≡ queue_rows (queue_of expert.now (world self.old))) }
-        ensures same { Holds self.new → world self.new ≡ world self.old }
-        ensures held { Holds self.new → Holds self.old }
-        ensures fault { IfErr result (MayFault FAILS) };
+        ensures { Selects world Holds FAILS self.old self.new result
+            (λ w rows. rows ≡ queue_rows (queue_of expert.now w)) };
 
-    /// The request of an account under a reference, with the expert's own advice, if it is assigned to the expert.
+    /// The request of an account under a reference, with the expert's own advice, if it is
+    /// assigned to the expert.
     fn queue_one(
         &mut self,
         expert: &Account,
         account: &Account,
         reference: &Ref,
     ) -> Result<Option<QueueRow>, Fault>
-        ensures row { Holds self.new → IfOk result (λ row. row ≡ option_map (queue_row (account.now, reference.now)) (get (queue_of expert.now (world self.old)) (account.now, reference.now))) }
-        ensures same { Holds self.new → world self.new ≡ world self.old }
-        ensures held { Holds self.new → Holds self.old }
-        ensures fault { IfErr result (MayFault FAILS) };
+        ensures { Selects world Holds FAILS self.old self.new result
+            (λ w row. row ≡ option_map (queue_row (account.now, reference.now))
+            (get (queue_of expert.now w) (account.now, reference.now))) };
 
     /// Makes a change whole, or not at all.
     fn apply(&mut self, change: Change) -> Result<(), Fault>
         requires { Holds self.old → CanApply (world self.old) change }
-        ensures made { Holds self.new → OnOk result (world self.new ≡ applied (world self.old) change) }
-        ensures kept { Holds self.new → OnErr result (world self.new ≡ world self.old) }
-        ensures held { Holds self.new → Holds self.old }
-        ensures fault { IfErr result (MayFault FAILS) };
+        ensures { Makes world Holds FAILS self.old self.new result (λ w. applied w change) };
+
+    /// The content is well kept.
+    ghost well_kept: { (keeper : Self) → Holds keeper → WellKept (world keeper) };
 }

@@ -4,3 +4,4 @@
 mod groups;
 pub mod keeper;
 pub mod lists;
+mod maps;

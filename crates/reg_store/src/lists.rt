@@ -2,21 +2,23 @@
 ghost use Rattle.std.specs.Prelude.{◌≡◌};
 ghost use Rattle.reg_core.specs.WellKept.{WellKept};
 ghost use Rattle.reg_core.specs.World.{empty_world};
-ghost use Rattle.reg_store.specs.Kept.{kept};
+ghost use Rattle.reg_store.specs.Lists.Content.{content};
+ghost use Rattle.reg_store.specs.Lists.Reviews.{world_of};
 
 mod caps;
-mod desks;
 mod entries;
 mod file;
 mod opinions;
 mod panels;
 mod pool;
+mod queues;
 mod registries;
 mod requests;
 mod reviews;
 
 use crate::keeper::{Fault, Keeper};
-use caps::{Caps, cap_in, put_cap, take_cap};
+use crate::maps::{set_row, unset_row};
+use caps::{Caps, cap_in};
 use entries::{Entries, entries_in, entry_in, put_entry};
 use pool::{pool_in, put_prefix};
 use reg_blocks::pool::Pool;
@@ -25,23 +27,25 @@ use reg_core::change::Change;
 use reg_core::entry::Entry;
 use reg_core::file::File;
 use reg_core::queue::QueueRow;
-use reg_core::request::{Given, Request, State};
+use reg_core::request::Request;
 use reg_core::rows::Rows;
 use reg_core::text::{Account, Digest, Name, Ref};
 use reg_ranges::table::RangeTable;
-use registries::{Registries, names_in, put_table, table_in};
+use registries::{Registries, names_in, table_in};
 use requests::{all_rows, own_rows, request_in};
 use reviews::Reviews;
 use std::alloc::Global;
 use std::collections::BTreeMap;
 
-/// The content of an office in memory: capabilities by digest, registries by name, entries by registry and
-/// value, requests by account and reference, their experts and the advice on them by request, and, once more, by
-/// expert, what is assigned to each as the expert sees it; and the prefixes of the pool. A row by its key and a
-/// change take O(log n), whatever else is held, but a change of a request's state O((1 + experts) log n), for the
-/// experts of that request; a registry's ranges, its entries, an account's own requests, a request's file and an
-/// expert's queue O(log n + rows); the names of all registries, the pool, a prefix more in it, and all requests
-/// O(rows).
+/// The content of an office in memory: capabilities by digest, registries by name, entries by
+/// registry and value, requests by account and reference, their experts and the advice on them by
+/// request, and, once more, by expert, what is assigned to each as the expert sees it; and the
+/// prefixes of the pool.
+///
+/// A row by its key and a change take O(log n), whatever else there is, but a change of a request's
+/// state O((1 + experts) log n), for the experts of that request; a registry's ranges, its entries,
+/// an account's own requests, a request's file and an expert's queue O(log n + rows); the names of
+/// all registries, the pool, a prefix more in it, and all requests O(rows).
 #[derive(Drop)]
 pub struct ListKeeper {
     alloc: Global,
@@ -50,7 +54,7 @@ pub struct ListKeeper {
     entries: Entries,
     reviews: Reviews,
     pool: Pool,
-    ghost well: { WellKept (kept caps registries entries reviews.requests reviews.panels reviews.opinions pool) },
+    ghost well: { WellKept (content caps registries entries (world_of reviews) pool) },
 }
 
 impl ListKeeper {
@@ -83,7 +87,7 @@ impl Keeper for ListKeeper {
 
     const FAILS: bool = false;
 
-    fn well_kept(&self) {}
+    ghost well_kept = { λ keeper holds. keeper.well };
 
     fn cap(&mut self, digest: &Digest) -> Result<Option<Cap>, Fault> {
         Ok(cap_in(&self.caps, digest)?)
@@ -135,14 +139,14 @@ impl Keeper for ListKeeper {
         account: &Account,
         reference: &Ref,
     ) -> Result<Option<QueueRow>, Fault> {
-        Ok(self.reviews.queued(expert, account, reference)?)
+        Ok(self.reviews.queue_one(expert, account, reference)?)
     }
 
     fn apply(&mut self, change: Change) -> Result<(), Fault> {
         match change {
-            Change::Grant(digest, cap) => put_cap(&mut self.caps, digest, cap)?,
-            Change::Revoke(digest) => take_cap(&mut self.caps, &digest),
-            Change::Define(name, table) => put_table(&mut self.registries, name, table)?,
+            Change::Grant(digest, cap) => set_row(&mut self.caps, digest, cap)?,
+            Change::Revoke(digest) => unset_row(&mut self.caps, &digest),
+            Change::Define(name, table) => set_row(&mut self.registries, name, table)?,
             Change::AddPool(prefix) => put_prefix(&mut self.pool, prefix)?,
             Change::Submit(account, reference, ask) => {
                 self.reviews.submit(self.alloc, account, reference, ask)?;
@@ -159,9 +163,9 @@ impl Keeper for ListKeeper {
                 self.reviews.advise(self.alloc, name, expert, advice)?;
             }
             Change::GiveValue(account, reference, entry) => {
-                let given = State::Approved(Given::Value(entry.value));
+                let approval = entry.approval();
                 put_entry(self.alloc, &mut self.entries, entry)?;
-                self.reviews.set_state(account, reference, given);
+                self.reviews.set_state(account, reference, approval);
             }
         }
         Ok(())

@@ -5,6 +5,7 @@ use crate::route::Routes;
 use reg_blocks::pool::{Pool, is_pool_prefix};
 use reg_core::ask::{Ask, CodeAsk, Want};
 use reg_core::command::{ApplicantCommand, ClerkCommand, Command, ExpertCommand, PublicCommand};
+use reg_core::content::Content;
 use reg_core::file::File;
 use reg_core::queue::QueueRow;
 use reg_core::refusal::Refusal;
@@ -33,13 +34,15 @@ fn answered(
 
 fn reply(alloc: Global, command: Command) -> Result<Reply, Fail> {
     match command {
-        Command::Public(PublicCommand::Registries) => Ok(Reply::Names(Rows::from_vec(Vec::new(
-            alloc,
-        )))),
-        Command::Public(PublicCommand::Registry(_) | PublicCommand::RegistryCsv(_)) => Ok(
+        Command::Public(PublicCommand::Registries) => Ok(Reply::Accepted(Content::Names(
+            Rows::from_vec(Vec::new(alloc)),
+        ))),
+        Command::Public(PublicCommand::Registry(_) | PublicCommand::RegistryListing(_)) => Ok(
             Reply::Refused(Refusal::Registry),
         ),
-        Command::Public(PublicCommand::PoolList) => Ok(Reply::Pool(Pool::new(alloc))),
+        Command::Public(PublicCommand::PoolList) => Ok(Reply::Accepted(Content::Pool(Pool::new(
+            alloc,
+        )))),
         Command::Applicant(command) => applicant_reply(alloc, command),
         Command::Expert(command) => expert_reply(alloc, command),
         Command::Clerk(command) => clerk_reply(alloc, command),
@@ -51,68 +54,70 @@ fn applicant_reply(alloc: Global, command: ApplicantCommand) -> Result<Reply, Fa
         return Err(Fail::from("account"));
     };
     match command {
-        ApplicantCommand::Own => Ok(Reply::Rows(Rows::from_vec(Vec::new(alloc)))),
+        ApplicantCommand::Own => Ok(Reply::Accepted(Content::Rows(Rows::from_vec(Vec::new(
+            alloc,
+        ))))),
         ApplicantCommand::OwnOne(_) => Ok(Reply::Refused(Refusal::Request)),
-        ApplicantCommand::Submit(reference, ask) => Ok(Reply::Made(Request {
+        ApplicantCommand::Submit(reference, ask) => Ok(Reply::Accepted(Content::Made(Request {
             account,
             reference,
             ask,
             state: State::Pending,
-        })),
-        ApplicantCommand::Withdraw(reference) => Ok(Reply::Row(request(
+        }))),
+        ApplicantCommand::Withdraw(reference) => Ok(Reply::Accepted(Content::Row(request(
             alloc,
             account,
             reference,
             State::Withdrawn,
-        )?)),
+        )?))),
     }
 }
 
 fn expert_reply(alloc: Global, command: ExpertCommand) -> Result<Reply, Fail> {
     match command {
-        ExpertCommand::Queue => Ok(Reply::Items(Rows::from_vec(Vec::new(alloc)))),
-        ExpertCommand::Advise(account, reference, advice) => Ok(Reply::Item(QueueRow {
-            account,
-            reference,
-            ask: ask(alloc)?,
-            word: StateWord::Pending,
-            advice: Some(advice),
-        })),
+        ExpertCommand::Queue => Ok(Reply::Accepted(Content::Items(Rows::from_vec(Vec::new(
+            alloc,
+        ))))),
+        ExpertCommand::Advise(account, reference, advice) => Ok(Reply::Accepted(Content::Item(
+            QueueRow {
+                account,
+                reference,
+                ask: ask(alloc)?,
+                word: StateWord::Pending,
+                advice: Some(advice),
+            },
+        ))),
     }
 }
 
 fn clerk_reply(alloc: Global, command: ClerkCommand) -> Result<Reply, Fail> {
     match command {
-        ClerkCommand::AllRequests => Ok(Reply::Desks(Rows::from_vec(Vec::new(alloc)))),
-        ClerkCommand::OneRequest(account, reference) => Ok(Reply::Filed(file(
-            alloc, account, reference, None,
-        )?)),
-        ClerkCommand::AssignExpert(account, reference, expert) => Ok(Reply::Filed(file(
+        ClerkCommand::AllRequests => Ok(Reply::Accepted(Content::Desks(Rows::from_vec(Vec::new(
             alloc,
-            account,
-            reference,
-            Some(expert),
-        )?)),
-        ClerkCommand::Approve(account, reference) => Ok(Reply::Desk(request(
+        ))))),
+        ClerkCommand::OneRequest(account, reference) => Ok(Reply::Accepted(Content::Filed(file(
+            alloc, account, reference, None,
+        )?))),
+        ClerkCommand::AssignExpert(account, reference, expert) => Ok(Reply::Accepted(Content::Filed(
+            file(alloc, account, reference, Some(expert))?,
+        ))),
+        ClerkCommand::Approve(account, reference) => Ok(Reply::Accepted(Content::Desk(request(
             alloc,
             account,
             reference,
             State::Approved(Given::Value(7)),
-        )?)),
-        ClerkCommand::Decline(account, reference, reason) => Ok(Reply::Desk(request(
-            alloc,
-            account,
-            reference,
-            State::Declined(reason),
-        )?)),
-        ClerkCommand::Define(name, _) => Ok(Reply::Defined(name)),
+        )?))),
+        ClerkCommand::Decline(account, reference, reason) => Ok(Reply::Accepted(Content::Desk(
+            request(alloc, account, reference, State::Declined(reason))?,
+        ))),
+        ClerkCommand::Define(name, _) => Ok(Reply::Accepted(Content::Defined(name))),
         ClerkCommand::AddPool(prefix) => Ok(if is_pool_prefix(prefix) {
-            Reply::Pooled(prefix)
+            Reply::Accepted(Content::Pooled(prefix))
         } else {
             Reply::Refused(Refusal::Bits)
         }),
-        ClerkCommand::Grant(_, cap) => Ok(Reply::Granted(cap)),
-        ClerkCommand::Revoke(_) => Ok(Reply::Revoked),
+        ClerkCommand::Grant(_, cap) => Ok(Reply::Accepted(Content::Granted(cap))),
+        ClerkCommand::Revoke(_) => Ok(Reply::Accepted(Content::Revoked)),
     }
 }
 

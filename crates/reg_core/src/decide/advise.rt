@@ -1,5 +1,6 @@
 //! An expert gives advice on a request.
-ghost use Rattle.reg_core.specs.Rules.{Follows, advise_rule, taken_rule};
+ghost use Rattle.reg_core.specs.Rules.{Follows, advise_rule, new_advice_rule};
+ghost use Rattle.reg_core.specs.World.{RequestName};
 
 use crate::advice::Advice;
 use crate::change::Change;
@@ -10,9 +11,11 @@ use crate::request::StateWord;
 use crate::text::Account;
 
 /// Decides an advice over the request as it is queued to the expert: the same advice again changes
-/// nothing; another one replaces it while the request is pending, and is refused as `Closed` after that.
+/// nothing; another one replaces it while the request is pending, and is refused as `Closed` after
+/// that.
 pub fn decide_advise(row: &QueueRow, expert: &Account, advice: &Advice) -> Result<Decision, Deny>
-    ensures { Follows (advise_rule (row.now.account, row.now.reference) expert.now advice.now row.now.advice row.now.word) result }
+    ensures { let name : RequestName = (row.now.account, row.now.reference) in
+        Follows (advise_rule name expert.now advice.now row.now.advice row.now.word) result }
 {
     match &row.advice {
         Some(old) if old == advice => Ok(Decision::Same),
@@ -22,7 +25,8 @@ pub fn decide_advise(row: &QueueRow, expert: &Account, advice: &Advice) -> Resul
 
 // The advice is taken while the request is pending.
 fn take_advice(row: &QueueRow, expert: &Account, advice: &Advice) -> Result<Decision, Deny>
-    ensures { Follows (taken_rule (row.now.account, row.now.reference) expert.now advice.now row.now.word) result }
+    ensures { let name : RequestName = (row.now.account, row.now.reference) in
+        Follows (new_advice_rule name expert.now advice.now row.now.word) result }
 {
     match row.word {
         StateWord::Pending => {

@@ -1,11 +1,10 @@
 //! Whether an ask meets the published registers.
 ghost use Rattle.std.specs.Prelude.{◌≡◌};
 ghost use Rattle.std.specs.List.{list_any};
-ghost use Rattle.std.specs.Option.{option_copied};
 ghost use Rattle.reg_ranges.specs.Requirements.{first_item, is_closed_policy, unmet};
 ghost use Rattle.reg_ranges.specs.Sameness.{same_treatment};
 ghost use Rattle.std.specs.List.Sorted.{IsStrictlyIncreasing};
-ghost use Rattle.reg_core.specs.Allowance.{allowed_on, is_met, is_reviewed as is_policy_reviewed, needs_advice as is_advice_needed, open_policy, policy_for, policy_in, policy_wanted, value_for as value_wanted};
+ghost use Rattle.reg_core.specs.Allowance.{allowance_on, allowed_on, is_met, open_policy, policy_for, policy_in, value_for as value_wanted};
 ghost use Rattle.reg_core.specs.Ground.{seen};
 
 use crate::ask::{Ask, Want};
@@ -31,12 +30,30 @@ pub struct Ground<'a> {
     pub taken: &'a [u32],
 }
 
+/// What an ask is allowed.
+#[derive(Clone, Copy)]
+pub struct Allowance {
+    /// What the ask is given.
+    pub given: Given,
+    /// Whether an expert's favourable advice is needed for it (RFC 8126 sections 4.5 and 4.6).
+    pub needs_advice: bool,
+}
+
 /// What an ask of an account would be given now, or the first refusal that it meets: `Registry`,
-/// `Range`, `Policy`, `Evidence` with its item, then `Taken` or `Exhausted`. Other requests are not
-/// looked at, and no memory is taken.
-pub fn check_ask(_account: &Account, ask: &Ask, rows: Ground<'_>) -> Result<Given, Refusal>
+/// `Range`, `Policy`, `Evidence` with its item, then `Taken` or `Exhausted`. Other requests are
+/// not looked at, and no memory is taken.
+pub fn check_ask(account: &Account, ask: &Ask, rows: Ground<'_>) -> Result<Given, Refusal>
     requires { IsStrictlyIncreasing rows.taken.now }
-    ensures { result ≡ allowed_on (seen rows.entry) _account.now ask.now }
+    ensures { result ≡ allowed_on (seen rows.entry) account.now ask.now }
+{
+    let allowance = allowance_for(account, ask, rows)?;
+    Ok(allowance.given)
+}
+
+/// What an ask of an account is allowed now, or the first refusal that it meets.
+pub fn allowance_for(_account: &Account, ask: &Ask, rows: Ground<'_>) -> Result<Allowance, Refusal>
+    requires { IsStrictlyIncreasing rows.taken.now }
+    ensures { result ≡ allowance_on (seen rows.entry) _account.now ask.now }
 {
     match ask {
         Ask::Code(code) => {
@@ -44,29 +61,11 @@ pub fn check_ask(_account: &Account, ask: &Ask, rows: Ground<'_>) -> Result<Give
             let policy = policy_for(table, code.want)?;
             check_evidence(policy, &code.evidence)?;
             let value = value_for(rows, table, code.want)?;
-            Ok(Given::Value(value))
+            Ok(Allowance {
+                given: Given::Value(value),
+                needs_advice: needs_expert(policy),
+            })
         }
-    }
-}
-
-/// Whether an expert's favourable advice is needed for an ask (RFC 8126 sections 4.5 and 4.6).
-pub fn needs_advice(ask: &Ask, rows: Ground<'_>) -> bool
-    ensures { result ≡ is_advice_needed (seen rows.entry) ask.now }
-{
-    match ask {
-        Ask::Code(code) => is_reviewed(rows.table, code.want),
-    }
-}
-
-fn is_reviewed(table: Option<&RangeTable>, want: Want) -> bool
-    ensures { result ≡ is_policy_reviewed (policy_wanted (option_copied table.entry) want) }
-{
-    let Some(table) = table else {
-        return false;
-    };
-    match policy_for(table, want) {
-        Ok(policy) => needs_expert(policy),
-        Err(_) => false,
     }
 }
 

@@ -1,16 +1,18 @@
 //! A clerk approves a request.
-ghost use Rattle.std.specs.Prelude.{◌≡◌, ◌&&◌, not, IfOk};
+ghost use Rattle.std.specs.Prelude.{◌≡◌, IfOk};
 ghost use Rattle.std.specs.List.Sorted.{IsStrictlyIncreasing};
 ghost use Rattle.reg_core.specs.Advice.{is_advised as given_advice};
-ghost use Rattle.reg_core.specs.Allowance.{allowed_on, needs_advice as wanting};
+ghost use Rattle.reg_core.specs.Allowance.{allowance_on};
 ghost use Rattle.reg_core.specs.Ground.{seen};
 ghost use Rattle.reg_core.specs.Rules.{Follows, approve_rule, award as awarded, give_rule};
+ghost use Rattle.reg_core.specs.World.{RequestName};
 
 use crate::advice::Opinion;
 use crate::ask::Ask;
 use crate::change::Change;
+use crate::decide::allowance::allowance_for;
 use crate::decide::review::is_advised;
-use crate::decide::{Decision, Deny, Ground, check_ask, needs_advice};
+use crate::decide::{Decision, Deny, Ground};
 use crate::entry::Entry;
 use crate::refusal::Refusal;
 use crate::request::{Given, Request, State};
@@ -19,10 +21,11 @@ use reg_early::day::Day;
 use reg_early::term::Term;
 use std::alloc::AllocError;
 
-/// Decides an approval on a day, over the request, the experts to whom it is assigned, all advice on it,
-/// and the published rows that its ask needs: one that is approved already stays so; one that was declined
-/// or withdrawn is refused as `Closed`; a pending one is given what its ask is allowed, or is refused where
-/// that is, or as `Advice` where experts review it and none of its experts is for it.
+/// Decides an approval on a day, over the request, the experts to whom it is assigned, all advice
+/// on it, and the published rows that its ask needs: one that is approved already stays so; one
+/// that was declined or withdrawn is refused as `Closed`; a pending one is given what its ask is
+/// allowed, or is refused where that is, or as `Advice` where experts review it and none of its
+/// experts is for it.
 pub fn decide_approve(
     request: &Request,
     experts: &[Account],
@@ -31,7 +34,10 @@ pub fn decide_approve(
     today: Day,
 ) -> Result<Decision, Deny>
     requires { IsStrictlyIncreasing rows.taken.now }
-    ensures { Follows (approve_rule (seen rows.entry) (given_advice experts.now opinions.now) (request.now.account, request.now.reference) request.now.ask today request.now.state) result }
+    ensures { let name : RequestName = (request.now.account, request.now.reference) in
+        let advised = given_advice experts.now opinions.now in
+        let rule = approve_rule (seen rows.entry) advised name request.now.ask today in
+        Follows (rule request.now.state) result }
 {
     match &request.state {
         State::Approved(_) => Ok(Decision::Same),
@@ -47,18 +53,21 @@ fn decide_pending(
     today: Day,
 ) -> Result<Decision, Deny>
     requires { IsStrictlyIncreasing rows.taken.now }
-    ensures { Follows (give_rule (request.now.account, request.now.reference) request.now.ask today (wanting (seen rows.entry) request.now.ask && not advised) (allowed_on (seen rows.entry) request.now.account request.now.ask)) result }
+    ensures { let name : RequestName = (request.now.account, request.now.reference) in
+        let allowance = allowance_on (seen rows.entry) request.now.account request.now.ask in
+        Follows (give_rule name request.now.ask today advised allowance) result }
 {
-    let given = check_ask(&request.account, &request.ask, rows)?;
-    if !advised && needs_advice(&request.ask, rows) {
+    let allowance = allowance_for(&request.account, &request.ask, rows)?;
+    if allowance.needs_advice && !advised {
         return Err(Deny::Refused(Refusal::Advice));
     }
-    Ok(Decision::Make(award(request, today, given)?))
+    Ok(Decision::Make(award(request, today, allowance.given)?))
 }
 
 // The change by which a request is given this.
 fn award(request: &Request, today: Day, given: Given) -> Result<Change, AllocError>
-    ensures { IfOk result (λ change. change ≡ awarded (request.now.account, request.now.reference) request.now.ask today given) }
+    ensures { let name : RequestName = (request.now.account, request.now.reference) in
+        IfOk result (λ change. change ≡ awarded name request.now.ask today given) }
 {
     let Ask::Code(code) = &request.ask;
     let Given::Value(value) = given;

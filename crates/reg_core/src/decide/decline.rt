@@ -1,5 +1,6 @@
 //! A clerk declines a request.
 ghost use Rattle.reg_core.specs.Rules.{Follows, decline_rule};
+ghost use Rattle.reg_core.specs.World.{RequestName};
 
 use crate::change::Change;
 use crate::decide::{Decision, Deny};
@@ -7,10 +8,11 @@ use crate::refusal::Refusal;
 use crate::request::{Request, State};
 use crate::text::Text;
 
-/// Decides that a request is given nothing, for a reason: one that was declined for this reason stays so,
-/// and one that was decided otherwise or withdrawn is refused as `Closed`.
+/// Decides that a request is given nothing, for a reason: one that was declined for this reason
+/// stays so, and one that was decided otherwise or withdrawn is refused as `Closed`.
 pub fn decide_decline(request: &Request, reason: &Text) -> Result<Decision, Deny>
-    ensures { Follows (decline_rule (request.now.account, request.now.reference) reason.now request.now.state) result }
+    ensures { let name : RequestName = (request.now.account, request.now.reference) in
+        Follows (decline_rule name reason.now request.now.state) result }
 {
     match &request.state {
         State::Declined(old) if old == reason => Ok(Decision::Same),

@@ -11,13 +11,13 @@ use reg_ranges::table::RangeTable;
 /// Decides a definition over the registry that has the name already: the same ranges again change
 /// nothing, and others are refused as `Exists`.
 pub fn decide_define(
-    found: Option<&RangeTable>,
+    existing: Option<&RangeTable>,
     name: &Name,
     table: &RangeTable,
 ) -> Result<Decision, Deny>
-    ensures { Follows (define_rule (option_copied found.entry) name.now table.now) result }
+    ensures { Follows (define_rule (option_copied existing.entry) name.now table.now) result }
 {
-    match found {
+    match existing {
         Some(old) if old == table => Ok(Decision::Same),
         Some(_) => Err(Deny::Refused(Refusal::Exists)),
         None => Ok(Decision::Make(Change::Define(name.copy()?, table.copy()?))),

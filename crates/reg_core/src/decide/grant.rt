@@ -10,10 +10,10 @@ use crate::text::Digest;
 
 /// Decides a grant over the capability that is at the digest already: the same one again changes
 /// nothing, and another one is refused as `Exists`.
-pub fn decide_grant(found: Option<&Cap>, digest: &Digest, cap: &Cap) -> Result<Decision, Deny>
-    ensures { Follows (grant_rule (option_copied found.entry) digest.now cap.now) result }
+pub fn decide_grant(existing: Option<&Cap>, digest: &Digest, cap: &Cap) -> Result<Decision, Deny>
+    ensures { Follows (grant_rule (option_copied existing.entry) digest.now cap.now) result }
 {
-    match found {
+    match existing {
         Some(old) if old == cap => Ok(Decision::Same),
         Some(_) => Err(Deny::Refused(Refusal::Exists)),
         None => Ok(Decision::Make(Change::Grant(digest.copy()?, cap.copy()?))),

@@ -7,8 +7,8 @@ use crate::decide::Decision;
 use crate::refusal::Refusal;
 use reg_blocks::pool::is_pool_prefix;
 
-/// Decides an addition to the pool: a number that may not be in a pool is refused as `Bits`, and a prefix
-/// that is there already stays so. It takes no memory.
+/// Decides an addition to the pool: a number that may not be in a pool is refused as `Bits`, and a
+/// prefix that is there already stays so. It takes no memory.
 pub fn decide_pool(there: bool, prefix: u32) -> Result<Decision, Refusal>
     ensures { result ≡ pool_rule there prefix }
 {

@@ -12,15 +12,15 @@ use crate::text::Digest;
 /// `Own`, and one without a capability changes nothing.
 pub fn decide_revoke(
     in_use: &Digest,
-    found: Option<&Cap>,
+    existing: Option<&Cap>,
     digest: &Digest,
 ) -> Result<Decision, Deny>
-    ensures { Follows (revoke_rule in_use.now (option_copied found.entry) digest.now) result }
+    ensures { Follows (revoke_rule in_use.now (option_copied existing.entry) digest.now) result }
 {
     if in_use == digest {
         return Err(Deny::Refused(Refusal::Own));
     }
-    match found {
+    match existing {
         Some(_) => Ok(Decision::Make(Change::Revoke(digest.copy()?))),
         None => Ok(Decision::Same),
     }

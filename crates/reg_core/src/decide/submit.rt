@@ -4,7 +4,7 @@ ghost use Rattle.std.specs.Option.{option_copied};
 ghost use Rattle.std.specs.List.Sorted.{IsStrictlyIncreasing};
 ghost use Rattle.reg_core.specs.Allowance.{allowed_on};
 ghost use Rattle.reg_core.specs.Ground.{seen};
-ghost use Rattle.reg_core.specs.Request.{filing_of};
+ghost use Rattle.reg_core.specs.Request.{case_of};
 ghost use Rattle.reg_core.specs.Rules.{Follows, submit_rule};
 
 use crate::ask::Ask;
@@ -14,11 +14,11 @@ use crate::refusal::Refusal;
 use crate::request::Request;
 use crate::text::{Account, Ref};
 
-/// Decides a submission over the applicant's own request under that reference and the published rows
-/// that the ask needs: the same ask again changes nothing, another one is refused as `Ref`, and a new
-/// one is refused where it is not allowed.
+/// Decides a submission over the applicant's own request under that reference and the published
+/// rows that the ask needs: the same ask again changes nothing, another one is refused as `Ref`,
+/// and a new one is refused where it is not allowed.
 pub fn decide_submit(
-    found: Option<&Request>,
+    existing: Option<&Request>,
     account: &Account,
     reference: &Ref,
     ask: &Ask,
@@ -26,10 +26,11 @@ pub fn decide_submit(
 ) -> Result<Decision, Deny>
     requires { IsStrictlyIncreasing rows.taken.now }
     ensures { let allowance = allowed_on (seen rows.entry) account.now ask.now in
-        Follows (submit_rule allowance (account.now, reference.now) ask.now (option_map filing_of (option_copied found.entry))) result }
+        Follows (submit_rule allowance (account.now, reference.now) ask.now
+        (option_map case_of (option_copied existing.entry))) result }
 {
-    match found {
-        Some(old) if old.ask == *ask => Ok(Decision::Same),
+    match existing {
+        Some(old) if old.ask.is_same(ask) => Ok(Decision::Same),
         Some(_) => Err(Deny::Refused(Refusal::Ref)),
         None => {
             check_ask(account, ask, rows)?;

@@ -1,15 +1,17 @@
 //! An applicant takes a request back.
 ghost use Rattle.reg_core.specs.Rules.{Follows, withdraw_rule};
+ghost use Rattle.reg_core.specs.World.{RequestName};
 
 use crate::change::Change;
 use crate::decide::{Decision, Deny};
 use crate::refusal::Refusal;
 use crate::request::{Request, State};
 
-/// Decides a withdrawal of a request of the applicant's: one that is withdrawn already stays so, and one
-/// that was decided is refused as `Closed`.
+/// Decides a withdrawal of a request of the applicant's: one that is withdrawn already stays so,
+/// and one that was decided is refused as `Closed`.
 pub fn decide_withdraw(request: &Request) -> Result<Decision, Deny>
-    ensures { Follows (withdraw_rule (request.now.account, request.now.reference) request.now.state) result }
+    ensures { let name : RequestName = (request.now.account, request.now.reference) in
+        Follows (withdraw_rule name request.now.state) result }
 {
     match &request.state {
         State::Withdrawn => Ok(Decision::Same),

@@ -15,7 +15,7 @@ use reg_core::wire_refusal::TableFault;
 use reg_early::day::Day;
 use reg_early::term::Term;
 use reg_ranges::evidence::{self, Evidence};
-use reg_ranges::file::{RowPart, read_ranges};
+use reg_ranges::range_file::{RowPart, read_ranges};
 use reg_ranges::table::{RangeFault, RangeTable};
 use std::test::Fail;
 
@@ -134,13 +134,13 @@ fn is_answered(alloc: Global, answer: Answer, status: u16, body: &str) -> Result
 #[test]
 fn registries(rt: HostRuntime) -> Result<(), Fail> {
     let alloc = rt.alloc();
-    let flags = Answer::Reply(Reply::Page(page(alloc, 255, FLAGS)?));
+    let flags = Answer::Reply(Reply::Accepted(Content::Page(page(alloc, 255, FLAGS)?)));
     assert!(rt; is_answered(alloc, flags, 200, FLAGS_JSON)?);
-    let flags = Answer::Reply(Reply::Sheet(page(alloc, 255, FLAGS)?));
+    let flags = Answer::Reply(Reply::Accepted(Content::Listing(page(alloc, 255, FLAGS)?)));
     assert!(rt; is_answered(alloc, flags, 200, FLAGS_CSV)?);
-    let notes = Answer::Reply(Reply::Page(page(alloc, 9, NOTES)?));
+    let notes = Answer::Reply(Reply::Accepted(Content::Page(page(alloc, 9, NOTES)?)));
     assert!(rt; is_answered(alloc, notes, 200, NOTES_JSON)?);
-    let notes = Answer::Reply(Reply::Sheet(page(alloc, 9, NOTES)?));
+    let notes = Answer::Reply(Reply::Accepted(Content::Listing(page(alloc, 9, NOTES)?)));
     assert!(rt; is_answered(alloc, notes, 200, NOTES_CSV)?);
     Ok(())
 }
@@ -150,10 +150,24 @@ fn registries_with_entries(rt: HostRuntime) -> Result<(), Fail> {
     let alloc = rt.alloc();
     let mut small = page(alloc, 64, SMALL)?;
     small.entries = entries(alloc)?;
-    assert!(rt; is_answered(alloc, Answer::Reply(Reply::Page(small)), 200, SMALL_JSON)?);
+    assert!(rt;
+        is_answered(
+            alloc,
+            Answer::Reply(Reply::Accepted(Content::Page(small))),
+            200,
+            SMALL_JSON
+        )?
+    );
     let mut small = page(alloc, 64, SMALL)?;
     small.entries = entries(alloc)?;
-    assert!(rt; is_answered(alloc, Answer::Reply(Reply::Sheet(small)), 200, SMALL_CSV)?);
+    assert!(rt;
+        is_answered(
+            alloc,
+            Answer::Reply(Reply::Accepted(Content::Listing(small))),
+            200,
+            SMALL_CSV
+        )?
+    );
     Ok(())
 }
 
@@ -192,12 +206,26 @@ fn ask(alloc: Global) -> Result<Ask, Fail> {
 fn requests(rt: HostRuntime) -> Result<(), Fail> {
     let alloc = rt.alloc();
     let approved = request(alloc, State::Approved(Given::Value(64)))?;
-    assert!(rt; is_answered(alloc, Answer::Reply(Reply::Desk(approved)), 200, APPROVED)?);
+    assert!(rt;
+        is_answered(
+            alloc,
+            Answer::Reply(Reply::Accepted(Content::Desk(approved))),
+            200,
+            APPROVED
+        )?
+    );
     let declined = request(alloc, State::Declined(text(alloc, b"no")?))?;
-    assert!(rt; is_answered(alloc, Answer::Reply(Reply::Row(declined)), 200, DECLINED)?);
+    assert!(rt;
+        is_answered(
+            alloc,
+            Answer::Reply(Reply::Accepted(Content::Row(declined))),
+            200,
+            DECLINED
+        )?
+    );
     let mut all = Vec::new(alloc);
     all.push(request(alloc, State::Pending)?)?;
-    let all = Answer::Reply(Reply::Desks(Rows::from_vec(all)));
+    let all = Answer::Reply(Reply::Accepted(Content::Desks(Rows::from_vec(all))));
     assert!(rt; is_answered(alloc, all, 200, PENDING)?);
     Ok(())
 }
@@ -235,13 +263,13 @@ fn advised(alloc: Global) -> Result<File, Fail> {
 #[test]
 fn files(rt: HostRuntime) -> Result<(), Fail> {
     let alloc = rt.alloc();
-    let advised = Answer::Reply(Reply::Filed(advised(alloc)?));
+    let advised = Answer::Reply(Reply::Accepted(Content::Filed(advised(alloc)?)));
     assert!(rt; is_answered(alloc, advised, 200, ADVISED)?);
-    let withdrawn = Answer::Reply(Reply::Filed(File {
+    let withdrawn = Answer::Reply(Reply::Accepted(Content::Filed(File {
         request: request(alloc, State::Withdrawn)?,
         experts: Rows::from_vec(Vec::new(alloc)),
         advice: Rows::from_vec(Vec::new(alloc)),
-    }));
+    })));
     assert!(rt; is_answered(alloc, withdrawn, 200, WITHDRAWN)?);
     Ok(())
 }
@@ -260,13 +288,17 @@ fn queued(alloc: Global, word: StateWord, advice: Option<Advice>) -> Result<Queu
 #[test]
 fn queues(rt: HostRuntime) -> Result<(), Fail> {
     let alloc = rt.alloc();
-    let row = Answer::Reply(Reply::Item(queued(alloc, StateWord::Withdrawn, None)?));
+    let row = Answer::Reply(Reply::Accepted(Content::Item(queued(
+        alloc,
+        StateWord::Withdrawn,
+        None,
+    )?)));
     assert!(rt; is_answered(alloc, row, 200, QUEUED)?);
     let mut rows = Vec::new(alloc);
     let against = advice(alloc, Verdict::Against, b"no")?;
     rows.push(queued(alloc, StateWord::Approved, Some(against))?)?;
     rows.push(queued(alloc, StateWord::Declined, None)?)?;
-    let rows = Answer::Reply(Reply::Items(Rows::from_vec(rows)));
+    let rows = Answer::Reply(Reply::Accepted(Content::Items(Rows::from_vec(rows))));
     assert!(rt; is_answered(alloc, rows, 200, QUEUE)?);
     Ok(())
 }
@@ -276,9 +308,9 @@ fn names(rt: HostRuntime) -> Result<(), Fail> {
     let alloc = rt.alloc();
     let mut all = Vec::new(alloc);
     all.push(name(alloc)?)?;
-    let names = Answer::Reply(Reply::Names(Rows::from_vec(all)));
+    let names = Answer::Reply(Reply::Accepted(Content::Names(Rows::from_vec(all))));
     assert!(rt; is_answered(alloc, names, 200, r#"["flags"]"#)?);
-    let defined = Answer::Reply(Reply::Defined(name(alloc)?));
+    let defined = Answer::Reply(Reply::Accepted(Content::Defined(name(alloc)?)));
     assert!(rt; is_answered(alloc, defined, 200, r#"{"defined":"flags"}"#)?);
     Ok(())
 }
@@ -290,11 +322,11 @@ fn pools(rt: HostRuntime) -> Result<(), Fail> {
     for prefix in [0x00_1A2C, 0xFC_00DE, 0x00_1A2B] {
         assert_eq!(rt; pool.add(prefix), Add::Added);
     }
-    let pool = Answer::Reply(Reply::Pool(pool));
+    let pool = Answer::Reply(Reply::Accepted(Content::Pool(pool)));
     assert!(rt; is_answered(alloc, pool, 200, r#"["001A2B","001A2C","FC00DE"]"#)?);
-    let empty = Answer::Reply(Reply::Pool(Pool::new(alloc)));
+    let empty = Answer::Reply(Reply::Accepted(Content::Pool(Pool::new(alloc))));
     assert!(rt; is_answered(alloc, empty, 200, "[]")?);
-    let pooled = Answer::Reply(Reply::Pooled(0x00_1A2B));
+    let pooled = Answer::Reply(Reply::Accepted(Content::Pooled(0x00_1A2B)));
     assert!(rt; is_answered(alloc, pooled, 200, r#"{"pool":"001A2B"}"#)?);
     Ok(())
 }

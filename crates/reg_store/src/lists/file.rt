@@ -3,8 +3,8 @@ ghost use Rattle.std.specs.Prelude.{◌≡◌, IfOk, option_map};
 ghost use Rattle.std.specs.FinMap as fin;
 ghost use Rattle.reg_core.specs.File.{file};
 ghost use Rattle.reg_core.specs.Maps.{text_cmp};
-ghost use Rattle.reg_store.specs.Groups.{grouped};
-ghost use Rattle.reg_store.specs.Reviews.{reviewed};
+ghost use Rattle.reg_store.specs.Groups.{pair_map};
+ghost use Rattle.reg_store.specs.Lists.File.{review_world};
 
 use crate::lists::opinions::{Opinions, opinions_in};
 use crate::lists::panels::{Panels, experts_in};
@@ -22,7 +22,9 @@ pub fn file_in(
     account: &Account,
     reference: &Ref,
 ) -> Result<Option<File>, AllocError>
-    ensures { IfOk result (λ found. found ≡ option_map (file (reviewed requests.now panels.now opinions.now) (account.now, reference.now)) (fin.get (grouped text_cmp text_cmp requests.now) (account.now, reference.now))) }
+    ensures { IfOk result (λ row. row ≡ option_map
+        (file (review_world requests.now panels.now opinions.now) (account.now, reference.now))
+        (fin.get (pair_map text_cmp text_cmp requests.now) (account.now, reference.now))) }
 {
     match request_in(requests, account, reference)? {
         Some(request) => {

@@ -2,23 +2,22 @@
 ghost use Rattle.std.specs.Prelude.{◌≡◌, IsTrue, IfOk, OnOk, OnErr};
 ghost use Rattle.std.specs.FinMap as fin;
 ghost use Rattle.reg_blocks.specs.Pool.{is_pool_prefix};
-ghost use Rattle.reg_store.specs.Pool.{pooled};
+ghost use Rattle.reg_store.specs.Lists.Pool.{prefix_set};
 
 use reg_blocks::pool::{Add, Pool};
 use std::alloc::AllocError;
 
 /// All prefixes, ascending.
 pub fn pool_in(pool: &Pool) -> Result<Pool, AllocError>
-    ensures { IfOk result (λ found. found ≡ fin.keys (pooled pool.now)) }
+    ensures { IfOk result (λ copy. copy ≡ fin.keys (prefix_set pool.now)) }
 {
-    let _prefixes = pool.prefixes();
     pool.copy()
 }
 
 /// Adds a prefix that may be in a pool; one that is there changes nothing.
 pub fn put_prefix(pool: &mut Pool, prefix: u32) -> Result<(), AllocError>
     requires { IsTrue (is_pool_prefix prefix) }
-    ensures ok { OnOk result (pooled pool.new ≡ fin.insert (pooled pool.old) prefix tt) }
+    ensures ok { OnOk result (prefix_set pool.new ≡ fin.insert (prefix_set pool.old) prefix tt) }
     ensures err { OnErr result (pool.new ≡ pool.old) }
 {
     match pool.add(prefix) {

@@ -1,6 +1,6 @@
 use Rattle.std.proofs.Common.{rules, ◌≡◌, ◌<◌, get_or, arith}
 use Rattle.std.specs.Char.{digit_value}
-use Rattle.reg_blocks.proofs.Writing.{room, IsRead-more}
+use Rattle.reg_blocks.proofs.HexDigits.{room, IsRead-more}
 use Rattle.reg_blocks.proofs.digits.hex_value.Goals as goal
 
 pub overflow_mul-value : goal.overflow_mul-value

@@ -1,4 +1,4 @@
-use Rattle.reg_blocks.proofs.Writing.{IsRead}
+use Rattle.reg_blocks.proofs.HexDigits.{IsRead}
 use Rattle.reg_blocks.proofs.digits.hex_value.Given as goal
 
 abbrev pub invariant-loop-digit : goal.invariant-loop-digit

@@ -1,7 +1,7 @@
 use Rattle.std.proofs.Common.{rules}
 use Rattle.std.proofs.lemmas.List.Sorted.{answers_always}
 use Rattle.reg_blocks.specs.Block.{first_address}
-use Rattle.reg_blocks.proofs.Order.{ascends-from_answer}
+use Rattle.reg_blocks.proofs.BlocksAscend.{ascends-from_answer}
 use Rattle.reg_blocks.proofs.due.ascends.Goals as goal
 
 pub returns : goal.returns

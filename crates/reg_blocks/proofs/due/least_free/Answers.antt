@@ -1,15 +1,15 @@
 use Rattle.std.proofs.Common.{◌≡◌, ◌∙◌, ◌<◌, [], ◌∷◌, length, get_or, refl}
 use Rattle.std.specs.Prelude.{Some, None}
 use Rattle.reg_blocks.specs.Due.{IsDue, block_due}
-use Rattle.reg_blocks.proofs.Ends.{sized}
-use Rattle.reg_blocks.proofs.Sweeping.{only_prefix}
-use Rattle.reg_blocks.proofs.Looking.{looking-next, looking-none, looking-due, made, due-Some, none-Some}
-use Rattle.reg_blocks.proofs.Trying.{IsAnswer-unique, block_due-IsAnswer}
+use Rattle.reg_blocks.proofs.EndsDecideClash.{sized}
+use Rattle.reg_blocks.proofs.SweptPrefix.{only_prefix}
+use Rattle.reg_blocks.proofs.BlockDue.{looking-next, looking-none, looking-due, made, due-Some, none-Some}
+use Rattle.reg_blocks.proofs.TrialFindsTheBlockDue.{IsAnswer-unique, block_due-IsAnswer}
 use Rattle.reg_blocks.proofs.due.least_free.Goals as goal
 
--- the candidate that the sweep found is the block due of the whole pool, and a block
-found : (c : goal.After-make) → (c.make.result ≡ Some (sized c.args.size c.in-Free.candidate)) × IsDue c.args.pool.now c.args.given.now c.args.size (sized c.args.size c.in-Free.candidate)
-found c =
+-- the candidate that the sweep gave is the block due of the whole pool, and a block
+due_there : (c : goal.After-make) → (c.make.result ≡ Some (sized c.args.size c.in-Free.candidate)) × IsDue c.args.pool.now c.args.given.now c.args.size (sized c.args.size c.in-Free.candidate)
+due_there c =
     let here : c.loop-prefix.prefix-index < length c.args.pool.now = rw c.prefixes-prefix-items.ensures.value at c.loop-prefix-test.true in
     let due : IsDue (get_or c.args.pool.now c.loop-prefix.prefix-index 0 ∷ []) c.args.given.now c.args.size (sized c.args.size c.in-Free.candidate) = rw c.prefixes-prefix-items.ensures.value at c.in-Free.ensures in (
       c.make.ensures ∙ made c.args.pool.now c.args.size c.in-Free.candidate c.loop-prefix.prefix-index c.prefixes-prefix-items.ensures.clear here (only_prefix _ _ due.free.in_pool),
@@ -18,12 +18,12 @@ found c =
 
 pub returns-in-Free-clause-due : goal.returns-in-Free-clause-due
 returns-in-Free-clause-due c =
-    let f = found c in
+    let f = due_there c in
     due-Some c.args.pool.now c.args.given.now c.args.size (sized c.args.size c.in-Free.candidate) c.make.result f.0 f.1
 
 pub returns-in-Free-clause-none : goal.returns-in-Free-clause-none
 returns-in-Free-clause-none c =
-    let f = found c in
+    let f = due_there c in
     none-Some c.args.pool.now c.args.given.now c.args.size (sized c.args.size c.in-Free.candidate) c.make.result f.0 f.1
 
 pub loop-prefix-preserved : goal.loop-prefix-preserved

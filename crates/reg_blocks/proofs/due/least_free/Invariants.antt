@@ -1,4 +1,4 @@
-use Rattle.reg_blocks.proofs.Looking.{IsLooking}
+use Rattle.reg_blocks.proofs.BlockDue.{IsLooking}
 use Rattle.reg_blocks.proofs.due.least_free.Given as goal
 
 abbrev pub invariant-loop-prefix : goal.invariant-loop-prefix

@@ -2,7 +2,7 @@ use Rattle.std.proofs.Common.{◌∙◌, subst, ◌≤◌, ◌+◌, ◌*◌, ari
 use Rattle.std.proofs.lemmas.List.{get_or_default}
 use Rattle.reg_blocks.specs.Size.{address_count}
 use Rattle.reg_blocks.specs.Block.{SizedPrefix, first_address}
-use Rattle.reg_blocks.proofs.Sweeping.{sweeping-free, sweeping-next, sweeping-full}
+use Rattle.reg_blocks.proofs.SweptPrefix.{sweeping-free, sweeping-next, sweeping-full}
 use Rattle.reg_blocks.proofs.due.sweep_prefix.Goals as goal
 
 pub returns-then-candidate-end : goal.returns-then-candidate-end

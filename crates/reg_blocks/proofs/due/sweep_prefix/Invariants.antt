@@ -1,4 +1,4 @@
-use Rattle.reg_blocks.proofs.Sweeping.{IsSweeping}
+use Rattle.reg_blocks.proofs.SweptPrefix.{IsSweeping}
 use Rattle.reg_blocks.proofs.due.sweep_prefix.Given as goal
 
 abbrev pub invariant-loop-i : goal.invariant-loop-i

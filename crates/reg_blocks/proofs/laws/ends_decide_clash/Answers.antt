@@ -1,4 +1,4 @@
-use Rattle.reg_blocks.proofs.Trying.{ends_meet-Decides}
+use Rattle.reg_blocks.proofs.TrialFindsTheBlockDue.{ends_meet-Decides}
 use Rattle.reg_blocks.proofs.laws.ends_decide_clash.Goals as goal
 
 pub returns : goal.returns

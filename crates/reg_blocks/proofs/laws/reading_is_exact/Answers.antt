@@ -1,4 +1,4 @@
-use Rattle.reg_blocks.proofs.Reading.{read_block-is_exact}
+use Rattle.reg_blocks.proofs.ReadingIsExact.{read_block-is_exact}
 use Rattle.reg_blocks.proofs.laws.reading_is_exact.Goals as goal
 
 pub returns : goal.returns

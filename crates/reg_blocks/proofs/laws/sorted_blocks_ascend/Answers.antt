@@ -1,4 +1,4 @@
-use Rattle.reg_blocks.proofs.Order.{ascends-from_sorted}
+use Rattle.reg_blocks.proofs.BlocksAscend.{ascends-from_sorted}
 use Rattle.reg_blocks.proofs.laws.sorted_blocks_ascend.Goals as goal
 
 pub returns : goal.returns

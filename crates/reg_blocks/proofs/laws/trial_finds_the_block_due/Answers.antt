@@ -1,4 +1,4 @@
-use Rattle.reg_blocks.proofs.Trying.{block_due-IsAnswer}
+use Rattle.reg_blocks.proofs.TrialFindsTheBlockDue.{block_due-IsAnswer}
 use Rattle.reg_blocks.proofs.laws.trial_finds_the_block_due.Goals as goal
 
 pub returns : goal.returns

@@ -2,7 +2,7 @@ use Rattle.std.proofs.Common.{rules, ◌≡◌, ◌^◌, ◌<◌}
 use Rattle.std.proofs.lemmas.Result.{IfOk-weaker}
 use Rattle.std.specs.Prelude.{string_bytes, Some}
 use Rattle.reg_blocks.specs.Digits.{read_prefix, prefix_text}
-use Rattle.reg_blocks.proofs.ReadsBack.{read_prefix-prefix_text}
+use Rattle.reg_blocks.proofs.TextReadsBack.{read_prefix-prefix_text}
 use Rattle.reg_blocks.proofs.prefix.text.Goals as goal
 
 pub returns-clause-back : goal.returns-clause-back

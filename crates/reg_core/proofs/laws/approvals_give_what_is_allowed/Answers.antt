@@ -1,4 +1,4 @@
-use Rattle.reg_core.proofs.Approving.{approvals_give}
+use Rattle.reg_core.proofs.Outcomes.ApprovalsGiveAndAreAdvised.{approvals_give}
 use Rattle.reg_core.proofs.laws.approvals_give_what_is_allowed.Goals as goal
 
 pub returns : goal.returns

@@ -1,4 +1,4 @@
-use Rattle.reg_core.proofs.Later.{approvals_stand}
+use Rattle.reg_core.proofs.Repeats.RequestsStand.{approvals_stand}
 use Rattle.reg_core.proofs.laws.approvals_stand.Goals as goal
 
 pub returns : goal.returns

@@ -1,4 +1,4 @@
-use Rattle.reg_core.proofs.Keeping.{steps_fit}
+use Rattle.reg_core.proofs.Fitting.{steps_fit}
 use Rattle.reg_core.proofs.laws.changes_fit.Goals as goal
 
 pub returns : goal.returns

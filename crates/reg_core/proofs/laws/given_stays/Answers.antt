@@ -1,4 +1,4 @@
-use Rattle.reg_core.proofs.Staying.{runs_stay}
+use Rattle.reg_core.proofs.GivenStays.{runs_stay}
 use Rattle.reg_core.proofs.laws.given_stays.Goals as goal
 
 pub returns : goal.returns

@@ -1,4 +1,4 @@
-use Rattle.reg_core.proofs.Repeating.{once}
+use Rattle.reg_core.proofs.Repeats.RepeatsActOnce.{once}
 use Rattle.reg_core.proofs.laws.repeats_act_once.Goals as goal
 
 pub returns : goal.returns

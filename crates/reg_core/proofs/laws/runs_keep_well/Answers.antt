@@ -1,4 +1,4 @@
-use Rattle.reg_core.proofs.Keeping.{runs_keep}
+use Rattle.reg_core.proofs.Keeping.RunsKeepWell.{runs_keep}
 use Rattle.reg_core.proofs.laws.runs_keep_well.Goals as goal
 
 pub returns : goal.returns

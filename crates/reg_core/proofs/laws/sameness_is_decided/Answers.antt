@@ -1,4 +1,4 @@
-use Rattle.reg_core.proofs.Sameness.{same_advice-decides, same_ask-decides, same_cap-decides, same_kind-decides}
+use Rattle.reg_core.proofs.SamenessIsDecided.{same_advice-decides, same_ask-decides, same_cap-decides, same_kind-decides}
 use Rattle.reg_core.proofs.laws.sameness_is_decided.Goals as goal
 
 pub returns-clause-asks : goal.returns-clause-asks

@@ -1,4 +1,4 @@
-use Rattle.reg_core.proofs.Later.{submissions_stand}
+use Rattle.reg_core.proofs.Repeats.RequestsStand.{submissions_stand}
 use Rattle.reg_core.proofs.laws.submissions_stand.Goals as goal
 
 pub returns : goal.returns

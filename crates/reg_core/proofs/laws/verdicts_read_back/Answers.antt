@@ -1,4 +1,4 @@
-use Rattle.reg_core.proofs.Verdicts.{verdicts_read}
+use Rattle.reg_core.proofs.VerdictsReadBack.{verdicts_read}
 use Rattle.reg_core.proofs.laws.verdicts_read_back.Goals as goal
 
 pub returns : goal.returns

@@ -1,7 +1,7 @@
 use Rattle.std.proofs.Common.{arith, FitsSigned, w64}
 use Rattle.std.proofs.lemmas.Int.{to_z-of_z}
 use Rattle.jiff.proofs.SpanFacts.{signed_arith, date_add-days, can_add-days}
-use Rattle.reg_early.proofs.JiffDates.{first_day}
+use Rattle.reg_early.proofs.CalendarIsJiffs.{first_day}
 use Rattle.reg_early.proofs.civil.date_on.Goals as goal
 
 pub unwrap-requires : goal.unwrap-requires

@@ -2,7 +2,7 @@ use Rattle.std.proofs.Common.{arith, sym, ap, ◌∙◌, ◌≡◌, pos, to_z, w
 use Rattle.std.proofs.lemmas.Int.{ints}
 use Rattle.jiff.specs.Words.{epoch_day}
 use Rattle.jiff.proofs.SpanFacts.{signed_arith}
-use Rattle.reg_early.proofs.Moments.{epoch_day-utc_day, in_clock, is_in_clock_from, day_of_moment-in_clock}
+use Rattle.reg_early.proofs.MomentsHaveDays.{epoch_day-utc_day, in_clock, is_in_clock_from, day_of_moment-in_clock}
 use Rattle.reg_early.proofs.day.day_of.Goals as goal
 
 pub day_on-requires : goal.day_on-requires

@@ -1,7 +1,7 @@
 use Rattle.std.proofs.Common.{arith}
 use Rattle.jiff.proofs.SpanFacts.{signed_arith}
 use Rattle.reg_early.proofs.JiffYears.{year_later}
-use Rattle.reg_early.proofs.YearsAfter.{IsDay-year_after}
+use Rattle.reg_early.proofs.YearAfter.{IsDay-year_after}
 use Rattle.reg_early.proofs.day.year_after.Goals as goal
 
 pub day_on-requires : goal.day_on-requires

@@ -1,4 +1,4 @@
-use Rattle.reg_early.proofs.JiffDates.{same_date, jiffs_day_of}
+use Rattle.reg_early.proofs.CalendarIsJiffs.{same_date, jiffs_day_of}
 use Rattle.reg_early.proofs.laws.calendar_is_jiffs.Goals as goal
 
 pub returns : goal.returns

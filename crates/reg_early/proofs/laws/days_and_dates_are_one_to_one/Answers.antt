@@ -1,4 +1,4 @@
-use Rattle.reg_early.proofs.Dates.{IsDate-date_of, day_number-date_of, date_of-day_number, placed}
+use Rattle.reg_early.proofs.DaysAreDates.{IsDate-date_of, day_number-date_of, date_of-day_number, placed}
 use Rattle.reg_early.proofs.laws.days_and_dates_are_one_to_one.Goals as goal
 
 pub returns : goal.returns

@@ -1,4 +1,4 @@
-use Rattle.reg_early.proofs.Moments.{IsDay-utc_day}
+use Rattle.reg_early.proofs.MomentsHaveDays.{IsDay-utc_day}
 use Rattle.reg_early.proofs.laws.moments_have_days.Goals as goal
 
 pub returns : goal.returns

@@ -1,6 +1,6 @@
 use Rattle.std.proofs.Common.{rules}
-use Rattle.reg_early.proofs.DaysOfTerms.{HasDays-renewed_term}
-use Rattle.reg_early.proofs.YearsAfter.{IsDay-year_after}
+use Rattle.reg_early.proofs.TermsHaveDays.{HasDays-renewed_term}
+use Rattle.reg_early.proofs.YearAfter.{IsDay-year_after}
 use Rattle.reg_early.proofs.laws.terms_have_days.Goals as goal
 
 pub returns : goal.returns

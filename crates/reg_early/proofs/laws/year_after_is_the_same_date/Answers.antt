@@ -1,5 +1,5 @@
 use Rattle.std.proofs.Common.{refl}
-use Rattle.reg_early.proofs.YearsAfter.{year_after-other_day, year_after-leap_day, year_after-last_year, IsDay-year_after, later}
+use Rattle.reg_early.proofs.YearAfter.{year_after-other_day, year_after-leap_day, year_after-last_year, IsDay-year_after, later}
 use Rattle.reg_early.specs.Calendar.{civil_date}
 use Rattle.reg_early.proofs.laws.year_after_is_the_same_date.Goals as goal
 

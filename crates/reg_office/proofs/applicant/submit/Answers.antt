@@ -1,114 +1,118 @@
-use Rattle.std.proofs.Common.{◌≡◌, Bool, true, false, not, refl, ap, sym, ◌∙◌, subst}
+use Rattle.std.proofs.Common.{◌≡◌, ℕ, Bool, true, false, not, List, Result, refl, sym, ap, ◌∙◌}
+use Rattle.std.specs.Prelude.{Option, None, option_map, is_some}
 use Rattle.std.specs.FinMap.{get}
 use Rattle.std.specs.Option.{option_copied}
-use Rattle.std.specs.Prelude.{None, option_map, is_some, Result, Ok, Err, OnErr}
 use Rattle.reg_core.specs.Allowance.{Ground, allowed, allowed_on, ground_of}
-use Rattle.reg_core.specs.Answer.{Answer}
+use Rattle.reg_core.specs.Answer.{by_rule}
 use Rattle.reg_core.specs.Ground.{seen}
-use Rattle.reg_core.specs.Request.{filing_of, request_row}
+use Rattle.reg_core.specs.Request.{case_of, request_row}
 use Rattle.reg_core.specs.Rules.{submit_rule}
 use Rattle.reg_core.specs.View.{published}
-use Rattle.reg_core.specs.WellKept.{WellKept, CanApply}
-use Rattle.reg_core.specs.World.{World, applied, applied_if}
-use Rattle.reg_core.specs.declared.reply.Reply.TheVariants.{Made}
-use Rattle.reg_office.specs.Rows.{row_or_refused}
-use Rattle.reg_office.proofs.Decided.{submission_rule, submission_rule_read, submit_carried, submission_made, submission_there, submission_denied}
+use Rattle.reg_core.specs.World.{World, RequestName, pending}
+use Rattle.reg_core.specs.declared.ask.Ask.{Ask}
+use Rattle.reg_core.specs.declared.command.ApplicantCommand.TheVariants.{Submit}
+use Rattle.reg_core.specs.declared.content.Content.TheVariants.{Made, Row}
+use Rattle.reg_core.specs.declared.refusal.Refusal.{Refusal}
+use Rattle.reg_core.specs.declared.request.Given.{Given}
+use Rattle.reg_core.specs.declared.request.Request.{Request}
+use Rattle.reg_core.proofs.Fitting.{submit_fits}
+use Rattle.reg_office.specs.Answers.{answer_to_account, content_made}
+use Rattle.reg_office.proofs.Decided.{Decides, always, the_value, makes_fitting, performs_denied, performs_decided}
+use Rattle.reg_office.proofs.Rows.{selected_after, still_after}
+use Rattle.reg_office.proofs.Submissions.{case_looked_up, submission_answered}
 use Rattle.reg_office.proofs.applicant.submit.Given.{Over}
 use Rattle.reg_office.proofs.applicant.submit.Goals.{After-decide_submit}
 use Rattle.reg_office.proofs.applicant.submit.Goals as goal
 
+-- where there is no request, the published rows are looked up
 wanted : (b : Bool) → false ≡ not b → b ≡ true
 wanted true h = refl
 wanted false h = absurd (cc)
 
--- what holds is also said of a fault
-of_fault : {A B P : Type 0} (r : Result A B) → P → OnErr r P
-of_fault (Ok x) h = tt
-of_fault (Err e) h = h
+module _ (g : Over) (c : After-decide_submit g) where
+  abbrev w : World
+  w = g.K.Keeper.world c.ground_if.new.keeper
 
--- what is known of the rows where a decision was taken
-module _ (g : Over) (c : After-decide_submit g) (h : g.K.Keeper.Holds c.ground_if.new.keeper) where
-  same_world : g.K.Keeper.world c.ground_if.new.keeper ≡ g.K.Keeper.world c.args.keeper.now
-  same_world = c.in_ok-rows.ensures.same h ∙ c.in_ok-found.ensures.same (c.in_ok-rows.ensures.held h)
+  abbrev name : RequestName
+  name = (c.args.account.now, c.args.reference.now)
 
-  -- the own request is that of the world
-  row_read : option_copied c.as_ref.result
-      ≡ option_map (request_row (c.args.account.now, c.args.reference.now)) (get (g.K.Keeper.world c.args.keeper.now).requests (c.args.account.now, c.args.reference.now))
-  row_read = c.as_ref.ensures.value ∙ c.in_ok-found.ensures.row (c.in_ok-rows.ensures.held h)
+  abbrev ask : Ask
+  ask = c.args.ask.now
 
-  -- and where there is none, so are the published rows
-  ground_read : option_copied c.as_ref.result ≡ None
-      → allowed_on (seen c.ground.result) c.args.account.now c.args.ask.now
-      ≡ allowed (published (g.K.Keeper.world c.args.keeper.now)) c.args.account.now c.args.ask.now
-  ground_read none =
-      let needed : c.is_none.result ≡ true = wanted c.is_none.result (sym (ap is_some (sym c.as_ref.ensures.value ∙ none)) ∙ c.is_none.ensures) in
-      ap (λ (rows : Ground). allowed_on rows c.args.account.now c.args.ask.now)
-      (c.ground.ensures.rows ∙ c.in_ok-rows.ensures.rows h needed
-      ∙ ap (λ (w : World). ground_of (published w) c.args.ask.now) (c.in_ok-found.ensures.same (c.in_ok-rows.ensures.held h)))
+  abbrev existing : Option Request
+  existing = c.in_ok-existing.existing
 
-  rule_read : submit_rule (allowed_on (seen c.ground.result) c.args.account.now c.args.ask.now) (c.args.account.now, c.args.reference.now) c.args.ask.now
-      (option_map filing_of (option_copied c.as_ref.result)) ≡ submission_rule (g.K.Keeper.world c.args.keeper.now) c.args.account.now c.args.reference.now c.args.ask.now
-  rule_read = submission_rule_read (g.K.Keeper.world c.args.keeper.now) c.args.account.now c.args.reference.now c.args.ask.now _ (option_copied c.as_ref.result) row_read ground_read
+  abbrev allowance : Result Given Refusal
+  allowance = allowed_on (seen c.ground.result) c.args.account.now ask
 
-pub make-requires : goal.make-requires
-make-requires g c = λ h kept.
-    let w = g.K.Keeper.world c.args.keeper.now in
-    let read = (goal.at.make-requires g c).After-decide_submit in
-    let same = same_world g read h in
-    let follows = rw c.in-Ok-Make.field-0-is at c.in-Ok-Make.ensures in
-    subst (λ (v : World). CanApply v c.in-Ok-Make.change) (sym same)
-    (submit_carried w _ _ _ _ (rule_read g read h) c.in-Ok-Make.change follows (subst WellKept same kept) c.in_ok-row-in-Ok-Make.ensures.form)
+  module _ (h : g.K.Keeper.Holds c.ground_if.new.keeper) where
+    -- the request that was looked up is that of the content
+    found : existing ≡ option_map (request_row name) (get w.requests name)
+    found = still_after c.in_ok-existing.ensures c.in_ok-rows.ensures h
 
-pub returns-in-Ok-Make-clause-reply : goal.returns-in-Ok-Make-clause-reply
-returns-in-Ok-Make-clause-reply g c = λ h.
-    let w = g.K.Keeper.world c.args.keeper.now in
-    let read = (goal.at.returns-in-Ok-Make-clause-reply g c).After-decide_submit in
-    let follows = rw c.in-Ok-Make.field-0-is at c.in-Ok-Make.ensures in
-    ap Made c.in_ok-row-in-Ok-Make.ensures.row
-    ∙ ap (λ (a : Answer). a.reply) (sym (submission_made w _ _ _ _ (rule_read g read (c.in_ok-make-in-Ok-Make.ensures.held h)) c.in-Ok-Make.change follows))
+    -- and where there is none, so are the published rows
+    allowed_there : existing ≡ None → allowance ≡ allowed (published w) c.args.account.now ask
+    allowed_there none =
+        let needed : c.is_none.result ≡ true =
+        wanted c.is_none.result (sym (ap is_some none) ∙ c.is_none.ensures) in
+        ap (λ (rows : Ground). allowed_on rows c.args.account.now ask)
+        (c.ground.ensures.rows ∙ selected_after c.in_ok-rows.ensures h needed)
 
-pub returns-in-Ok-Make-clause-made : goal.returns-in-Ok-Make-clause-made
-returns-in-Ok-Make-clause-made g c = λ h.
-    let w = g.K.Keeper.world c.args.keeper.now in
-    let read = (goal.at.returns-in-Ok-Make-clause-made g c).After-decide_submit in
-    let before = c.in_ok-make-in-Ok-Make.ensures.held h in
-    let follows = rw c.in-Ok-Make.field-0-is at c.in-Ok-Make.ensures in
-    c.in_ok-make-in-Ok-Make.ensures.made h ∙ ap (λ (v : World). applied v c.in-Ok-Make.change) (same_world g read before)
-    ∙ ap (λ (a : Answer). applied_if w a.change) (sym (submission_made w _ _ _ _ (rule_read g read before) c.in-Ok-Make.change follows))
+  decides : Decides g.K.Keeper.world g.K.Keeper.Holds c.args.keeper.now c.ground_if.new.keeper
+      (answer_to_account c.args.account.now (Submit c.args.reference.now ask))
+      (submit_rule allowance name ask (option_map case_of (option_copied c.as_ref.result)))
+      (λ decision. content_made name ask existing)
+  decides = record {
+    answered = λ h.
+        submission_answered c.args.account.now c.args.reference.now ask w allowance existing
+        (found h) (allowed_there h)
+        ∙ ap (λ o.
+        by_rule (submit_rule allowance name ask (option_map case_of o))
+        (λ decision. content_made name ask existing))
+        (sym c.as_ref.ensures.value);
+    fits = λ h kept change made.
+        submit_fits w allowance name ask change kept c.request_formed.ensures
+        (ap (submit_rule allowance name ask)
+        (sym (case_looked_up name _ _ (c.as_ref.ensures.value ∙ found h))) ∙ made);
+    same = λ h.
+        c.in_ok-rows.ensures.same h
+        ∙ c.in_ok-existing.ensures.same (c.in_ok-rows.ensures.premise h);
+    premise = λ h. c.in_ok-existing.ensures.premise (c.in_ok-rows.ensures.premise h);
+  }
 
-pub returns-in_err-make-in-Ok-Make-clause-kept : goal.returns-in_err-make-in-Ok-Make-clause-kept
-returns-in_err-make-in-Ok-Make-clause-kept g c = λ h.
-    let read = (goal.at.returns-in_err-make-in-Ok-Make-clause-kept g c).After-decide_submit in
-    of_fault c.from_residual-in_err-make-in-Ok-Make.result
-    (c.in_err-make-in-Ok-Make.ensures.kept h ∙ same_world g read (c.in_err-make-in-Ok-Make.ensures.held h))
+pub returns-in_err-decision : goal.returns-in_err-decision
+returns-in_err-decision g c =
+    performs_denied c.in_err-decision.field-0.0
+    (decides g (goal.at.returns-in_err-decision g c).After-decide_submit)
+    c.in_err-decision.ensures c.from_residual-in_err-decision.ensures.1
 
-pub returns-in-Ok-Same-clause-reply : goal.returns-in-Ok-Same-clause-reply
-returns-in-Ok-Same-clause-reply g c = λ h.
-    let w = g.K.Keeper.world c.args.keeper.now in
-    let read = (goal.at.returns-in-Ok-Same-clause-reply g c).After-decide_submit in
-    let follows = rw c.in-Ok-Same.field-0-is at c.in-Ok-Same.ensures in
-    c.row_or_refused.ensures ∙ ap row_or_refused (sym c.as_ref.ensures.value)
-    ∙ ap (λ (a : Answer). a.reply) (sym (submission_there w _ _ _ _ (rule_read g read h) (option_copied c.as_ref.result) (row_read g read h) follows))
+pub conclude-requires : goal.conclude-requires
+conclude-requires g c =
+    makes_fitting c.in_ok-decision.decision
+    (decides g (goal.at.conclude-requires g c).After-decide_submit) c.in_ok-decision.ensures
 
-pub returns-in-Ok-Same-clause-made : goal.returns-in-Ok-Same-clause-made
-returns-in-Ok-Same-clause-made g c = λ h.
-    let w = g.K.Keeper.world c.args.keeper.now in
-    let read = (goal.at.returns-in-Ok-Same-clause-made g c).After-decide_submit in
-    let follows = rw c.in-Ok-Same.field-0-is at c.in-Ok-Same.ensures in
-    same_world g read h ∙ ap (λ (a : Answer). applied_if w a.change)
-    (sym (submission_there w _ _ _ _ (rule_read g read h) (option_copied c.as_ref.result) (row_read g read h) follows))
+pub returns-in-Some : goal.returns-in-Some
+returns-in-Some g c =
+    let d = (goal.at.returns-in-Some g c).After-decide_submit in
+    let concluded = c.in_ok-conclude-in-Some.ensures in
+    let told = concluded.told in
+    let same : c.in-Some.request ≡ c.in_ok-conclude-in-Some.field-0 = cc in
+    performs_decided c.in_ok-decision.decision (decides g d) c.in_ok-decision.ensures
+    (ap (content_made (name g d) (ask g d)) c.in-Some.is ∙ ap Row same) concluded.change
 
-pub returns-in-Err-Refused-clause-reply : goal.returns-in-Err-Refused-clause-reply
-returns-in-Err-Refused-clause-reply g c = λ h.
-    let w = g.K.Keeper.world c.args.keeper.now in
-    let read = (goal.at.returns-in-Err-Refused-clause-reply g c).After-decide_submit in
-    let follows = rw c.in-Err-Refused.field-0-is at c.in-Err-Refused.ensures in
-    ap (λ (a : Answer). a.reply) (sym (submission_denied w _ _ _ _ (rule_read g read h) c.in-Err-Refused.refusal follows))
+pub conclude-requires-in-None : goal.conclude-requires-in-None
+conclude-requires-in-None g c =
+    always c.pending-request.result
+    (makes_fitting c.in_ok-decision.decision
+    (decides g (goal.at.conclude-requires-in-None g c).After-decide_submit)
+    c.in_ok-decision.ensures)
 
-pub returns-in-Err-Refused-clause-made : goal.returns-in-Err-Refused-clause-made
-returns-in-Err-Refused-clause-made g c = λ h.
-    let w = g.K.Keeper.world c.args.keeper.now in
-    let read = (goal.at.returns-in-Err-Refused-clause-made g c).After-decide_submit in
-    let follows = rw c.in-Err-Refused.field-0-is at c.in-Err-Refused.ensures in
-    same_world g read h ∙ ap (λ (a : Answer). applied_if w a.change)
-    (sym (submission_denied w _ _ _ _ (rule_read g read h) c.in-Err-Refused.refusal follows))
+pub returns : goal.returns
+returns g c =
+    let d = (goal.at.returns g c).After-decide_submit in
+    let concluded = c.in_ok-conclude-in-None.ensures in
+    performs_decided c.in_ok-decision.decision (decides g d) c.in_ok-decision.ensures
+    (ap (content_made (name g d) (ask g d)) c.in-None.is
+    ∙ ap Made (the_value (request_row (name g d) (pending (ask g d))) concluded.told
+    c.pending-request.ensures))
+    concluded.change

@@ -1,60 +1,69 @@
-use Rattle.std.proofs.Common.{◌≡◌, sym, ap, subst, ◌∙◌}
-use Rattle.std.specs.Prelude.{Some, option_map}
-use Rattle.std.specs.FinMap.{get}
-use Rattle.reg_core.specs.Answer.{Answer}
-use Rattle.reg_core.specs.Request.{request_row}
+use Rattle.std.proofs.Common.{◌≡◌, sym, ap, ◌∙◌}
+use Rattle.reg_core.specs.Answer.{by_rule, case_by, own_row}
+use Rattle.reg_core.specs.Request.{case_of}
 use Rattle.reg_core.specs.Rules.{withdraw_rule}
-use Rattle.reg_core.specs.WellKept.{WellKept}
-use Rattle.reg_core.specs.World.{World, applied_if}
-use Rattle.reg_core.specs.declared.reply.Reply.TheVariants.{Row}
-use Rattle.reg_office.specs.Decisions.{CanMake}
-use Rattle.reg_office.proofs.Decided.{reply_made, world_made, answer_denied, withdraw_carried}
+use Rattle.reg_core.specs.World.{World, RequestName}
+use Rattle.reg_core.specs.declared.command.ApplicantCommand.TheVariants.{Withdraw}
+use Rattle.reg_core.specs.declared.content.Content.TheVariants.{Row}
+use Rattle.reg_core.specs.declared.request.Request.{Request}
+use Rattle.reg_core.proofs.Fitting.{withdraw_fits}
+use Rattle.reg_office.specs.Answers.{answer_to_account}
+use Rattle.reg_office.specs.Decisions.{row_by}
+use Rattle.reg_office.proofs.Decided.{Decides, always, the_value, makes_fitting, performs_denied, performs_decided}
+use Rattle.reg_office.proofs.Rows.{IsRowOf, answer_about, selected_after, there}
 use Rattle.reg_office.proofs.applicant.withdraw.Given.{Over}
 use Rattle.reg_office.proofs.applicant.withdraw.Goals.{After-decide_withdraw}
 use Rattle.reg_office.proofs.applicant.withdraw.Goals as goal
 
--- the request that was found is that of the world
-there : (g : Over) (c : After-decide_withdraw g) → g.K.Keeper.Holds c.own_one.new.self
-    → Some c.in-Some.request ≡ option_map (request_row (c.args.account.now, c.args.reference.now)) (get (g.K.Keeper.world c.args.keeper.now).requests (c.args.account.now, c.args.reference.now))
-there g c h = sym c.in-Some.is ∙ c.in_ok-request.ensures.row h
+module _ (g : Over) (c : After-decide_withdraw g) where
+  abbrev w : World
+  w = g.K.Keeper.world c.own_one.new.self
+
+  abbrev asked : RequestName
+  asked = (c.args.account.now, c.args.reference.now)
+
+  abbrev row : Request
+  row = c.in_ok-request.request
+
+  abbrev name : RequestName
+  name = (row.account, row.reference)
+
+  found : g.K.Keeper.Holds c.own_one.new.self → IsRowOf w asked row
+  found h = sym c.in_ok-request.ensures.ok_part ∙ selected_after c.in_ok-own_one.ensures h
+
+  decides : Decides g.K.Keeper.world g.K.Keeper.Holds c.args.keeper.now c.own_one.new.self
+      (answer_to_account c.args.account.now (Withdraw c.args.reference.now))
+      (withdraw_rule name row.state)
+      (λ decision. own_row name (case_by decision (case_of row)))
+  decides = record {
+    answered = λ h.
+        answer_about w asked row
+        (λ name case.
+        by_rule (withdraw_rule name case.state) (λ decision. own_row name (case_by decision case)))
+        (found h);
+    fits = λ h kept change made.
+        withdraw_fits w name (case_of row) change kept (there w asked row (found h)) made;
+    same = c.in_ok-own_one.ensures.same;
+    premise = c.in_ok-own_one.ensures.premise;
+  }
+
+pub returns-in_err-decision : goal.returns-in_err-decision
+returns-in_err-decision g c =
+    performs_denied c.in_err-decision.field-0.0
+    (decides g (goal.at.returns-in_err-decision g c).After-decide_withdraw)
+    c.in_err-decision.ensures c.from_residual-in_err-decision.ensures.1
 
 pub conclude-requires : goal.conclude-requires
-conclude-requires g c = λ h kept.
-    let w = g.K.Keeper.world c.args.keeper.now in
-    let found = there g (goal.at.conclude-requires g c).After-decide_withdraw h in
-    let same = c.in_ok-request.ensures.same h in
-    subst (λ (w : World). CanMake w c.in-Ok.decision) (sym same)
-    (withdraw_carried w (c.args.account.now, c.args.reference.now) c.in-Some.request c.in-Ok.decision found (subst WellKept same kept) c.in-Ok.ensures)
+conclude-requires g c =
+    always c.row_after-row.result
+    (makes_fitting c.in_ok-decision.decision
+    (decides g (goal.at.conclude-requires g c).After-decide_withdraw) c.in_ok-decision.ensures)
 
-pub returns-in-Ok-clause-reply : goal.returns-in-Ok-clause-reply
-returns-in-Ok-clause-reply g c = λ h.
-    let w = g.K.Keeper.world c.args.keeper.now in
-    let found = there g (goal.at.returns-in-Ok-clause-reply g c).After-decide_withdraw (c.in_ok-conclude-in-Ok.ensures.held h) in
-    reply_made w (c.args.account.now, c.args.reference.now) (λ name filing. withdraw_rule name filing.state) Row c.in-Some.request found
-    c.in-Ok.decision c.in_ok-conclude-in-Ok.field-0 c.in-Ok.ensures c.in_ok-conclude-in-Ok.ensures.row
-
-pub returns-in-Ok-clause-made : goal.returns-in-Ok-clause-made
-returns-in-Ok-clause-made g c = λ h.
-    let w = g.K.Keeper.world c.args.keeper.now in
-    let before = c.in_ok-conclude-in-Ok.ensures.held h in
-    let found = there g (goal.at.returns-in-Ok-clause-made g c).After-decide_withdraw before in
-    c.in_ok-conclude-in-Ok.ensures.made h
-    ∙ world_made w (c.args.account.now, c.args.reference.now) (λ name filing. withdraw_rule name filing.state) Row c.in-Some.request found
-    (g.K.Keeper.world c.own_one.new.self) c.in-Ok.decision (c.in_ok-request.ensures.same before) c.in-Ok.ensures
-
-pub returns-in-Err-Refused-clause-reply : goal.returns-in-Err-Refused-clause-reply
-returns-in-Err-Refused-clause-reply g c = λ h.
-    let w = g.K.Keeper.world c.args.keeper.now in
-    let found = there g (goal.at.returns-in-Err-Refused-clause-reply g c).After-decide_withdraw h in
-    let follows = rw c.in-Err-Refused.field-0-is at c.in-Err-Refused.ensures in
-    ap (λ (a : Answer). a.reply)
-    (sym (answer_denied w (c.args.account.now, c.args.reference.now) (λ name filing. withdraw_rule name filing.state) Row c.in-Some.request found c.in-Err-Refused.refusal follows))
-
-pub returns-in-Err-Refused-clause-made : goal.returns-in-Err-Refused-clause-made
-returns-in-Err-Refused-clause-made g c = λ h.
-    let w = g.K.Keeper.world c.args.keeper.now in
-    let found = there g (goal.at.returns-in-Err-Refused-clause-made g c).After-decide_withdraw h in
-    let follows = rw c.in-Err-Refused.field-0-is at c.in-Err-Refused.ensures in
-    c.in_ok-request.ensures.same h
-    ∙ ap (λ (a : Answer). applied_if w a.change)
-    (sym (answer_denied w (c.args.account.now, c.args.reference.now) (λ name filing. withdraw_rule name filing.state) Row c.in-Some.request found c.in-Err-Refused.refusal follows))
+pub returns : goal.returns
+returns g c =
+    let d = (goal.at.returns g c).After-decide_withdraw in
+    let concluded = c.in_ok-conclude.ensures in
+    performs_decided c.in_ok-decision.decision (decides g d) c.in_ok-decision.ensures
+    (ap Row (the_value (row_by c.in_ok-decision.decision (row g d)) concluded.told
+    c.row_after-row.ensures))
+    concluded.change

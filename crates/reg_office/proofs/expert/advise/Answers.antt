@@ -1,64 +1,90 @@
-use Rattle.std.proofs.Common.{◌≡◌, sym, ap, subst, ◌∙◌}
-use Rattle.std.specs.Prelude.{Some, option_map}
+use Rattle.std.proofs.Common.{◌≡◌, ℕ, List, sym, ap, ◌∙◌}
+use Rattle.std.specs.Prelude.{Some}
 use Rattle.std.specs.FinMap.{get}
-use Rattle.reg_core.specs.Answer.{Answer}
-use Rattle.reg_core.specs.Queue.{queue_row}
-use Rattle.reg_core.specs.View.{queue_of}
-use Rattle.reg_core.specs.WellKept.{WellKept, CanApply}
-use Rattle.reg_core.specs.World.{World, applied, applied_if}
-use Rattle.reg_core.specs.declared.reply.Reply.TheVariants.{Item}
-use Rattle.reg_office.proofs.Advised.{advice_carried, advice_made, advice_denied}
+use Rattle.reg_core.specs.Allowance.{◌>>=◌, or_refusal}
+use Rattle.reg_core.specs.Answer.{Answer, by_rule, item}
+use Rattle.reg_core.specs.Queue.{with_advice}
+use Rattle.reg_core.specs.Rules.{advise_rule}
+use Rattle.reg_core.specs.View.{Queued, queue_of}
+use Rattle.reg_core.specs.World.{World, RequestName}
+use Rattle.reg_core.specs.declared.advice.Advice.{Advice as AdviceOf}
+use Rattle.reg_core.specs.declared.command.ExpertCommand.TheVariants.{Advise}
+use Rattle.reg_core.specs.declared.content.Content.TheVariants.{Item}
+use Rattle.reg_core.specs.declared.queue.QueueRow.{QueueRow}
+use Rattle.reg_core.specs.declared.refusal.Refusal.TheVariants as no
+use Rattle.reg_core.proofs.Fitting.{advise_fits}
+use Rattle.reg_core.proofs.Queues.{queued_found}
+use Rattle.reg_office.specs.Answers.{answer_to_expert}
+use Rattle.reg_office.specs.Rows.{advised_row}
+use Rattle.reg_office.proofs.Decided.{Decides, always, the_value, makes_fitting, performs_denied, performs_decided}
+use Rattle.reg_office.proofs.Rows.{queued_in, queued_is, selected_after}
 use Rattle.reg_office.proofs.expert.advise.Given.{Over}
 use Rattle.reg_office.proofs.expert.advise.Goals.{After-decide_advise}
 use Rattle.reg_office.proofs.expert.advise.Goals as goal
 
--- the row that was found is that of the world
-there : (g : Over) (c : After-decide_advise g) → g.K.Keeper.Holds c.queue_one.new.self
-    → Some c.in-Some.row ≡ option_map (queue_row (c.args.account.now, c.args.reference.now)) (get (queue_of c.args.expert.now (g.K.Keeper.world c.args.keeper.now)) (c.args.account.now, c.args.reference.now))
-there g c h = sym c.in-Some.is ∙ c.in_ok-row.ensures.row h
+-- what an expert is answered about a queued request
+abbrev advised : List ℕ → AdviceOf → RequestName → Queued → Answer
+advised expert advice name queued =
+    by_rule (advise_rule name expert advice queued.advice queued.word)
+    (λ decision. item name (with_advice advice queued))
 
-pub make-requires : goal.make-requires
-make-requires g c = λ h kept.
-    let w = g.K.Keeper.world c.args.keeper.now in
-    let found = there g (goal.at.make-requires g c).After-decide_advise h in
-    let same = c.in_ok-row.ensures.same h in
-    let follows = rw c.in-Ok-Make.field-0-is at c.in-Ok-Make.ensures in
-    subst (λ (v : World). CanApply v c.in-Ok-Make.change) (sym same)
-    (advice_carried w c.args.expert.now c.args.account.now c.args.reference.now c.args.advice.now c.in-Some.row found c.in-Ok-Make.change
-    (subst WellKept same kept) c.in_ok-advised-in-Ok-Make.ensures.form follows)
+module _ (g : Over) (c : After-decide_advise g) where
+  abbrev w : World
+  w = g.K.Keeper.world c.queue_one.new.self
 
-pub returns-in-Ok-Make-clause-reply : goal.returns-in-Ok-Make-clause-reply
-returns-in-Ok-Make-clause-reply g c = λ h.
-    let w = g.K.Keeper.world c.args.keeper.now in
-    let found = there g (goal.at.returns-in-Ok-Make-clause-reply g c).After-decide_advise (c.in_ok-make-in-Ok-Make.ensures.held h) in
-    let follows = rw c.in-Ok-Make.field-0-is at c.in-Ok-Make.ensures in
-    ap Item c.in_ok-advised-in-Ok-Make.ensures.row
-    ∙ ap (λ (a : Answer). a.reply)
-    (sym (advice_made w c.args.expert.now c.args.account.now c.args.reference.now c.args.advice.now c.in-Some.row found c.in-Ok-Make.change follows))
+  abbrev asked : RequestName
+  asked = (c.args.account.now, c.args.reference.now)
 
-pub returns-in-Ok-Make-clause-made : goal.returns-in-Ok-Make-clause-made
-returns-in-Ok-Make-clause-made g c = λ h.
-    let w = g.K.Keeper.world c.args.keeper.now in
-    let before = c.in_ok-make-in-Ok-Make.ensures.held h in
-    let found = there g (goal.at.returns-in-Ok-Make-clause-made g c).After-decide_advise before in
-    let follows = rw c.in-Ok-Make.field-0-is at c.in-Ok-Make.ensures in
-    c.in_ok-make-in-Ok-Make.ensures.made h ∙ ap (λ (v : World). applied v c.in-Ok-Make.change) (c.in_ok-row.ensures.same before)
-    ∙ ap (λ (a : Answer). applied_if w a.change)
-    (sym (advice_made w c.args.expert.now c.args.account.now c.args.reference.now c.args.advice.now c.in-Some.row found c.in-Ok-Make.change follows))
+  abbrev row : QueueRow
+  row = c.in_ok-row.row
 
-pub returns-in-Err-Refused-clause-reply : goal.returns-in-Err-Refused-clause-reply
-returns-in-Err-Refused-clause-reply g c = λ h.
-    let w = g.K.Keeper.world c.args.keeper.now in
-    let found = there g (goal.at.returns-in-Err-Refused-clause-reply g c).After-decide_advise h in
-    let follows = rw c.in-Err-Refused.field-0-is at c.in-Err-Refused.ensures in
-    ap (λ (a : Answer). a.reply)
-    (sym (advice_denied w c.args.expert.now c.args.account.now c.args.reference.now c.args.advice.now c.in-Some.row found c.in-Err-Refused.refusal follows))
+  abbrev name : RequestName
+  name = (row.account, row.reference)
 
-pub returns-in-Err-Refused-clause-made : goal.returns-in-Err-Refused-clause-made
-returns-in-Err-Refused-clause-made g c = λ h.
-    let w = g.K.Keeper.world c.args.keeper.now in
-    let found = there g (goal.at.returns-in-Err-Refused-clause-made g c).After-decide_advise h in
-    let follows = rw c.in-Err-Refused.field-0-is at c.in-Err-Refused.ensures in
-    c.in_ok-row.ensures.same h
-    ∙ ap (λ (a : Answer). applied_if w a.change)
-    (sym (advice_denied w c.args.expert.now c.args.account.now c.args.reference.now c.args.advice.now c.in-Some.row found c.in-Err-Refused.refusal follows))
+  abbrev expert : List ℕ
+  expert = c.args.expert.now
+
+  found : g.K.Keeper.Holds c.queue_one.new.self
+      → (get (queue_of expert w) asked ≡ Some (queued_in row)) × (asked ≡ name)
+  found h =
+      queued_is asked (get (queue_of expert w) asked) row
+      (sym c.in_ok-row.ensures.ok_part ∙ selected_after c.in_ok-queue_one.ensures h)
+
+  decides : Decides g.K.Keeper.world g.K.Keeper.Holds c.args.keeper.now c.queue_one.new.self
+      (answer_to_expert expert
+      (Advise c.args.account.now c.args.reference.now c.args.advice.now))
+      (advise_rule name expert c.args.advice.now row.advice row.word)
+      (λ decision. Item (advised_row c.args.advice.now row))
+  decides = record {
+    answered = λ h.
+        ap (λ o. or_refusal no.Request o >>= advised expert c.args.advice.now asked) (found h).0
+        ∙ ap (λ n. advised expert c.args.advice.now n (queued_in row)) (found h).1;
+    fits = λ h kept change made.
+        advise_fits w name expert c.args.advice.now (queued_in row) change kept
+        (queued_found expert w name (queued_in row)
+        (ap (get (queue_of expert w)) (sym (found h).1) ∙ (found h).0))
+        c.formed.ensures made;
+    same = c.in_ok-queue_one.ensures.same;
+    premise = c.in_ok-queue_one.ensures.premise;
+  }
+
+pub returns-in_err-decision : goal.returns-in_err-decision
+returns-in_err-decision g c =
+    performs_denied c.in_err-decision.field-0.0
+    (decides g (goal.at.returns-in_err-decision g c).After-decide_advise)
+    c.in_err-decision.ensures c.from_residual-in_err-decision.ensures.1
+
+pub conclude-requires : goal.conclude-requires
+conclude-requires g c =
+    always c.with_advice-advised.result
+    (makes_fitting c.in_ok-decision.decision
+    (decides g (goal.at.conclude-requires g c).After-decide_advise) c.in_ok-decision.ensures)
+
+pub returns : goal.returns
+returns g c =
+    let d = (goal.at.returns g c).After-decide_advise in
+    let concluded = c.in_ok-conclude.ensures in
+    performs_decided c.in_ok-decision.decision (decides g d) c.in_ok-decision.ensures
+    (ap Item (the_value (advised_row c.args.advice.now (row g d)) concluded.told
+    c.with_advice-advised.ensures))
+    concluded.change

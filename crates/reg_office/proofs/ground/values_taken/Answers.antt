@@ -7,9 +7,22 @@ use Rattle.reg_office.proofs.Values.{values_ascend, values_given}
 use Rattle.reg_office.proofs.ground.values_taken.Goals as goal
 
 pub returns-clause-values : goal.returns-clause-values
-returns-clause-values g c = λ h.
+returns-clause-values g c =
     let registry = c.args.registry.now in
     let entries = (g.K.Keeper.world c.args.keeper.now).entries in
-    let read : c.in_ok-values.values.items ≡ values_in registry entries =
-    c.in_ok-values.ensures ∙ ap (map (λ (e : Entry). e.value)) (c.as_slice.ensures ∙ c.in_ok-entries.ensures.rows h) ∙ values_given registry entries in
-    c.ascending.ensures.same (subst IsStrictlyIncreasing (sym read) (values_ascend registry entries)) ∙ read
+    let read = c.in_ok-entries.ensures in
+    let values : g.K.Keeper.Holds c.entries.new.self
+    → c.in_ok-values.values.items ≡ values_in registry entries =
+    λ h.
+    c.in_ok-values.ensures
+    ∙ ap (map (λ (e : Entry). e.value)) (c.as_slice.ensures ∙ read.value h)
+    ∙ values_given registry entries in
+    record {
+      value = λ h.
+          c.ascending.ensures.same
+          (subst IsStrictlyIncreasing (sym (values h)) (values_ascend registry entries))
+          ∙ values h;
+      same = read.same;
+      premise = read.premise;
+      fault = tt;
+    }

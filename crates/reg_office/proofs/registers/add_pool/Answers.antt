@@ -1,23 +1,52 @@
-use Rattle.std.proofs.Common.{◌≡◌, ap, sym, ◌∙◌}
-use Rattle.std.specs.FinMap.{keys}
+use Rattle.std.proofs.Common.{◌≡◌, refl, sym, ap, ◌∙◌}
+use Rattle.std.specs.FinMap.{contains_key}
+use Rattle.reg_core.specs.Answer.{by_rule}
+use Rattle.reg_core.specs.Rules.{pool_rule}
 use Rattle.reg_core.specs.World.{World}
-use Rattle.reg_office.proofs.Decided.{pool_carried, pool_made}
+use Rattle.reg_core.specs.declared.command.ClerkCommand.TheVariants.{AddPool}
+use Rattle.reg_core.specs.declared.content.Content.TheVariants.{Pooled}
+use Rattle.reg_core.proofs.Fitting.{pool_fits}
+use Rattle.reg_office.specs.Answers.{answer_at_desk}
+use Rattle.reg_office.proofs.Decided.{Decides, follows, makes_fitting, performs_decided}
 use Rattle.reg_office.proofs.Prefixes.{found_in}
+use Rattle.reg_office.proofs.Rows.{selected_after}
+use Rattle.reg_office.proofs.registers.add_pool.Given.{Over}
+use Rattle.reg_office.proofs.registers.add_pool.Goals.{After-decide_pool}
 use Rattle.reg_office.proofs.registers.add_pool.Goals as goal
 
-pub carry_out-requires : goal.carry_out-requires
-carry_out-requires g c = λ h kept.
-    let w = g.K.Keeper.world c.pool.new.self in
-    let prefixes : c.prefixes.result.now ≡ keys w.pool =
-    c.prefixes.ensures.value ∙ c.in_ok-pool.ensures.rows h ∙ ap (λ (v : World). keys v.pool) (sym (c.in_ok-pool.ensures.same h)) in
-    let found = found_in w.pool c.args.prefix c.prefixes.result.now c.contains.result prefixes c.contains.ensures.value in
-    pool_carried w c.contains.result c.args.prefix c.in-Ok.decision found kept (sym c.in-Ok.ensures)
+module _ (g : Over) (c : After-decide_pool g) where
+  abbrev w : World
+  w = g.K.Keeper.world c.pool.new.self
 
-pub returns-in-Ok-clause-made : goal.returns-in-Ok-clause-made
-returns-in-Ok-clause-made g c = λ h.
-    let w = g.K.Keeper.world c.args.keeper.now in
-    let made = c.in_ok-carry_out-in-Ok.ensures in
-    let pool = c.in_ok-pool.ensures in
-    let before = made.held h in
-    let found = found_in w.pool c.args.prefix c.prefixes.result.now c.contains.result (c.prefixes.ensures.value ∙ pool.rows before) c.contains.ensures.value in
-    made.made h ∙ pool_made w (g.K.Keeper.world c.pool.new.self) c.contains.result c.args.prefix c.in-Ok.decision (pool.same before) found (sym c.in-Ok.ensures)
+  -- what was looked up is whether the pool has the prefix
+  found : g.K.Keeper.Holds c.pool.new.self
+      → contains_key w.pool c.args.prefix ≡ c.contains.result
+  found h =
+      sym (found_in w.pool c.args.prefix c.prefixes.result.now c.contains.result
+      (c.prefixes.ensures.value ∙ selected_after c.in_ok-pool.ensures h) c.contains.ensures.value)
+
+  decides : Decides g.K.Keeper.world g.K.Keeper.Holds c.args.keeper.now c.pool.new.self
+      (answer_at_desk (AddPool c.args.prefix)) (pool_rule c.contains.result c.args.prefix)
+      (λ decision. Pooled c.args.prefix)
+  decides = record {
+    answered = λ h.
+        ap (λ b. by_rule (pool_rule b c.args.prefix) (λ decision. Pooled c.args.prefix)) (found h);
+    fits = λ h kept change made.
+        pool_fits w c.args.prefix change kept
+        (ap (λ b. pool_rule b c.args.prefix) (found h) ∙ made);
+    same = c.in_ok-pool.ensures.same;
+    premise = c.in_ok-pool.ensures.premise;
+  }
+
+pub carry_out-requires : goal.carry_out-requires
+carry_out-requires g c =
+    makes_fitting c.in_ok-decision.decision
+    (decides g (goal.at.carry_out-requires g c).After-decide_pool)
+    (follows _ c.in_ok-decision.decision (sym c.in_ok-decision.ensures))
+
+pub returns : goal.returns
+returns g c =
+    performs_decided c.in_ok-decision.decision
+    (decides g (goal.at.returns g c).After-decide_pool)
+    (follows _ c.in_ok-decision.decision (sym c.in_ok-decision.ensures)) refl
+    c.in_ok-carry_out.ensures

@@ -1,4 +1,4 @@
-use Rattle.reg_ranges.proofs.Gaps.{walk_starts, walk_at_goes_on, walk_finds, walk_ends, walk_at_fills, walk_at, walk_past}
+use Rattle.reg_ranges.proofs.LeastGap.{walk_starts, walk_at_goes_on, walk_finds, walk_ends, walk_at_fills, walk_at, walk_past}
 use Rattle.reg_ranges.proofs.free.least_gap.Goals as goal
 
 pub loop-value-init : goal.loop-value-init

@@ -1,5 +1,5 @@
 use Rattle.std.proofs.Common.{drop}
-use Rattle.reg_ranges.proofs.Gaps.{Walked}
+use Rattle.reg_ranges.proofs.LeastGap.{Walked}
 use Rattle.reg_ranges.proofs.free.least_gap.Given as goal
 
 abbrev pub invariant-loop-value : goal.invariant-loop-value

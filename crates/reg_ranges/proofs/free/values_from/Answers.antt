@@ -1,7 +1,7 @@
 use Rattle.std.proofs.Common.{◌∙◌, ◌-◌, nat_lt, arith, rules, length-drop, drop, length}
 use Rattle.std.proofs.lemmas.List.{take_all}
 use Rattle.std.proofs.lemmas.List.Sorted.{IsPartitionPoint-from_clause, IsPartitionedBy-ltb}
-use Rattle.reg_ranges.proofs.Gaps.{drop_is_filter, never_falls}
+use Rattle.reg_ranges.proofs.LeastGap.{drop_is_filter, never_falls}
 use Rattle.reg_ranges.proofs.free.values_from.Goals as goal
 
 pub returns : goal.returns

@@ -1,4 +1,4 @@
-use Rattle.reg_ranges.proofs.Sames.{policy_decided, treatment_decided, stream_decided, track_decided, rfc_decided, evidence_decided, range_decided, table_decided}
+use Rattle.reg_ranges.proofs.SamenessDecides.{policy_decided, treatment_decided, stream_decided, track_decided, rfc_decided, evidence_decided, range_decided, table_decided}
 use Rattle.reg_ranges.proofs.laws.sameness_is_equality.Goals as goal
 
 pub returns : goal.returns

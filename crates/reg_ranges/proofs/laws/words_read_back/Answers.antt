@@ -1,4 +1,4 @@
-use Rattle.reg_ranges.proofs.ReadWords.{policies_read, streams_read, tracks_read, treatments_read}
+use Rattle.reg_ranges.proofs.WordsReadBack.{policies_read, streams_read, tracks_read, treatments_read}
 use Rattle.reg_ranges.proofs.laws.words_read_back.Goals as goal
 
 pub returns : goal.returns

@@ -3,7 +3,7 @@ use Rattle.std.proofs.lemmas.Result.{IfOk-weaker}
 use Rattle.std.specs.Prelude.{string_bytes, Some, IsTrue}
 use Rattle.reg_blocks.specs.Block.{is_block}
 use Rattle.reg_blocks.specs.Digits.{read_block, block_text}
-use Rattle.reg_blocks.proofs.ReadsBack.{read_block-block_text}
+use Rattle.reg_blocks.proofs.TextReadsBack.{read_block-block_text}
 use Rattle.reg_blocks.proofs.block.Block.text.Goals as goal
 
 pub returns-clause-back : goal.returns-clause-back

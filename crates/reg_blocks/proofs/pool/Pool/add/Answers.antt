@@ -1,6 +1,6 @@
 use Rattle.std.proofs.Common.{ℕ, List, sym, subst}
 use Rattle.std.specs.Prelude.{Contains}
-use Rattle.reg_blocks.proofs.Inserting.{place-from_search, not_there, IsPool-insert, AddsPrefix-insert}
+use Rattle.reg_blocks.proofs.InsertedPrefixes.{place-from_search, not_there, IsPool-insert, AddsPrefix-insert}
 use Rattle.reg_blocks.proofs.pool.Pool.add.Goals as goal
 
 pub returns-then-is_err-clause-there : goal.returns-then-is_err-clause-there

@@ -2,7 +2,7 @@ use Rattle.std.specs.Cmp.Lexicographic.{pointwise}
 use Rattle.std.proofs.lemmas.Bool.{eq-eqb}
 use Rattle.std.proofs.lemmas.Bool.Decides.{same_from_decides}
 use Rattle.reg_ranges.specs.Sameness.{same_range}
-use Rattle.reg_ranges.proofs.Sames.{ranges_decided}
+use Rattle.reg_ranges.proofs.SamenessDecides.{ranges_decided}
 use Rattle.reg_ranges.proofs.table.RangeTablePartialEq.eq.Goals as goal
 
 pub returns-then-self-other : goal.returns-then-self-other

@@ -1,11 +1,13 @@
-use Rattle.reg_store.proofs.Tables.{empty-kept}
+use Rattle.std.proofs.Common.{◌≡◌, sym, subst, rules}
+use Rattle.reg_core.specs.WellKept.{WellKept}
+use Rattle.reg_core.specs.World.{empty_world}
+use Rattle.reg_core.proofs.Keeping.RunsKeepWell.{first_worlds_kept}
+use Rattle.reg_store.specs.Lists.Content.{content}
+use Rattle.reg_store.specs.Lists.Reviews.{world_of}
 use Rattle.reg_store.proofs.lists.ListKeeper.new.Goals as goal
 
 pub invariant_of-result : goal.invariant_of-result
 invariant_of-result c =
-    let reviews = c.new-4.result in
-    let e = c.new-4.ensures in
-    record {
-      well = empty-kept c.new.result c.new-2.result c.new-3.result reviews.requests reviews.panels reviews.opinions c.new-5.result c.new-3.ensures.ordered e.requests_ordered e.panels_ordered e.opinions_ordered
-          c.new.ensures.empty c.new-2.ensures.empty c.new-3.ensures.empty e.no_request e.no_seat e.no_advice c.new-5.ensures;
-    }
+    let empty : content c.new.result c.new-2.result c.new-3.result
+    (world_of c.new-4.result) c.new-5.result ≡ empty_world = search rules in
+    record { well = subst WellKept (sym empty) first_worlds_kept.0 }

@@ -1,5 +1,5 @@
 use Rattle.std.proofs.Common.{inl, inr}
-use Rattle.reg_store.proofs.Pools.{pooled-add, pooled-there}
+use Rattle.reg_store.proofs.PrefixSets.{prefix_set-add, prefix_set-there}
 use Rattle.reg_store.proofs.lists.pool.put_prefix.Goals as goal
 
 pub returns-in-Added-clause-ok : goal.returns-in-Added-clause-ok
@@ -8,6 +8,7 @@ returns-in-Added-clause-ok c =
     let new = c.add.new.self in
     let prefix = c.args.prefix in
     elim c.in-Added.is [
-      | inl added ↦ pooled-add old new prefix (c.add.ensures.added added)
-      | inr there ↦ pooled-there old new prefix (c.add.ensures.there.0 there).1 (c.add.ensures.same (λ added. cc))
+      | inl added ↦ prefix_set-add old new prefix (c.add.ensures.added added)
+      | inr there ↦ prefix_set-there old new prefix (c.add.ensures.there.0 there).1
+          (c.add.ensures.same (λ added. cc))
     ]

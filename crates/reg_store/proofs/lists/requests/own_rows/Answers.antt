@@ -1,22 +1,14 @@
-use Rattle.std.proofs.Common.{◌++◌, ap, sym, ◌∙◌, map}
-use Rattle.std.specs.Prelude.{Some, None}
-use Rattle.reg_core.specs.Request.{request_row}
-use Rattle.reg_core.proofs.MapLaws.{text_keys}
-use Rattle.reg_store.specs.Groups.{group_rows}
-use Rattle.reg_store.proofs.Listings.{own-group}
+use Rattle.std.proofs.Common.{ap, sym, ◌∙◌, rules}
+use Rattle.reg_core.specs.Maps.{text_cmp}
+use Rattle.reg_core.specs.Request.{request_row, request_rows}
+use Rattle.reg_store.specs.Groups.{pair_map}
+use Rattle.reg_store.proofs.FiniteMaps.InOrder.{text_group}
 use Rattle.reg_store.proofs.lists.requests.own_rows.Goals as goal
-use Rattle.reg_store.proofs.lists.requests.own_rows.Goals.{in-Some+in_ok-push_rows, in_default}
 
 pub returns : goal.returns
 returns c =
-    let own = own-group text_keys c.args.requests.now c.group_in.ensures.ordered c.args.account.now in
-    elim c.match-group_in.branch [
-      | in-Some+in_ok-push_rows w ↦
-          let group = w.in-Some.group.now in
-          c.from_vec.ensures ∙ ap (λ v. v.items) w.rows-is ∙ w.in_ok-push_rows.ensures.ok
-          ∙ ap (λ rows. rows ++ map (λ e. request_row e.0 e.1) (group_rows c.args.account.now group.entries)) c.new-rows.ensures.items
-          ∙ sym (ap (map (λ e. request_row e.0 e.1)) (own (Some group) (sym w.in-Some.ensures.group) w.in-Some.ensures.rows_ordered))
-      | in_default w ↦
-          c.from_vec.ensures ∙ ap (λ v. v.items) w.rows-is ∙ c.new-rows.ensures.items
-          ∙ sym (ap (map (λ e. request_row e.0 e.1)) (own None (sym w.in_default.ensures.group) tt))
-    ]
+    c.from_vec.ensures
+    ∙ c.in_ok-list_group.ensures (λ name case. request_row name case)
+    (λ reference case row made. search rules)
+    ∙ ap request_rows
+    (sym (text_group (pair_map text_cmp text_cmp c.args.requests.now) c.args.account.now))

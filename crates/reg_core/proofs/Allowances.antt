@@ -1,0 +1,274 @@
+-- What is allowed is a free value that is assigned one by one.
+use Rattle.std.proofs.Common.{◌≡◌, ℕ, ◌<◌, ◌^◌, zero, suc, slice_index_or, Bool, true, false, cond, ◌&&◌, List, [], ◌∷◌, length, map, refl, sym, ap, subst, ◌∙◌, arith}
+use Rattle.std.specs.Prelude.{Option, Some, None, Result, Ok, Err, Contains, is_some, is_none, is_ok, nat_lt, option_and_then}
+use Rattle.std.specs.List.{list_all, list_any}
+use Rattle.std.specs.declared.cmp.Ordering.{Ordering}
+use Rattle.std.specs.Ordering.{eq_by_cmp}
+use Rattle.std.specs.FinMap.{FinMap, get, entries, get-entries, find}
+use Rattle.std.specs.Cmp.{first_so, second_so}
+use Rattle.std.proofs.lemmas.Bool.Decides.{nat_tests}
+use Rattle.reg_ranges.specs.FreeValues.{IsLeastFree, least_value}
+use Rattle.reg_ranges.specs.Requirements.{first_item, is_expert_policy, unmet}
+use Rattle.reg_ranges.specs.Sameness.{same_treatment}
+use Rattle.reg_ranges.specs.Tables.{Table, IsPartition, treatment_of}
+use Rattle.reg_ranges.specs.Faults.{first_fault}
+use Rattle.reg_ranges.proofs.LeastFree.{least_value_is_least}
+use Rattle.reg_ranges.proofs.Partitions.{partition_from_none}
+use Rattle.reg_ranges.proofs.Treatments.{treatment_above}
+use Rattle.reg_ranges.specs.declared.policy.Policy.{Policy}
+use Rattle.reg_ranges.specs.declared.policy.Treatment.{Treatment}
+use Rattle.reg_ranges.specs.declared.policy.Treatment.TheVariants.{Under}
+use Rattle.reg_core.specs.Allowance.{Ground, ◌>>=◌, or_refusal, open_policy, policy_for, is_met, value_for, allowance_on, allowed, ground_of, entry_wanted, values_taken, is_reviewed, policy_wanted, needs_advice}
+use Rattle.reg_core.specs.Ask.{has_note_form}
+use Rattle.reg_core.specs.Maps.{same_text, only_if}
+use Rattle.reg_core.specs.Names.{is_name}
+use Rattle.reg_core.specs.Registry.{has_table_form, is_partition}
+use Rattle.reg_core.specs.View.{published, entries_of}
+use Rattle.reg_core.specs.WellKept.{WellKept, is_open_at}
+use Rattle.reg_core.specs.World.{World, Place, place_cmp}
+use Rattle.reg_core.specs.declared.ask.Ask.{Ask}
+use Rattle.reg_core.specs.declared.ask.Ask.TheVariants.{Code}
+use Rattle.reg_core.specs.declared.ask.CodeAsk.{CodeAsk}
+use Rattle.reg_core.specs.declared.ask.Want.{Want}
+use Rattle.reg_core.specs.declared.ask.Want.TheVariants.{Value, Least}
+use Rattle.reg_core.specs.declared.decide.allowance.Allowance.{Allowance}
+use Rattle.reg_core.specs.declared.entry.Registration.{Registration}
+use Rattle.reg_core.specs.declared.refusal.Refusal.{Refusal}
+use Rattle.reg_core.specs.declared.refusal.Refusal.TheVariants as no
+use Rattle.reg_core.specs.declared.request.Given.TheVariants as given
+use Rattle.reg_core.proofs.Cases.{by_test}
+use Rattle.reg_core.proofs.MapLaws.{IsKeyOrder, place_keys, get-select, tied}
+use Rattle.reg_core.proofs.SamenessIsDecided.{same_text-itself}
+
+-- ---- Checks in turn
+
+went_on : {A B : Type 0} (x : Result A Refusal) (f : A → Result B Refusal) (y : B) → x >>= f ≡ Ok y
+    → (a : A) × (x ≡ Ok a) × (f a ≡ Ok y)
+went_on (Err e) f y h = absurd (cc)
+went_on (Ok a) f y h = (a, refl, h)
+
+was_some : {A : Type 0} (o : Option A) (refusal : Refusal) (x : A) → or_refusal refusal o ≡ Ok x
+    → o ≡ Some x
+was_some None refusal x h = absurd (cc)
+was_some (Some y) refusal x h = let same : y ≡ x = cc in ap Some same
+
+not_some : {A : Type 0} (o : Option A) → is_some o ≡ false → o ≡ None
+not_some None h = refl
+not_some (Some x) h = absurd (cc)
+
+-- ---- Values that are assigned one by one
+
+value_open : (table : Table) (v : ℕ) (policy : Policy) → policy_for table (Value v) ≡ Ok policy
+    → is_ok (open_policy (treatment_of table v)) ≡ true
+value_open table v policy =
+    by_test (λ r. r ≡ Ok policy → is_ok (open_policy (treatment_of table v)) ≡ true)
+    (nat_lt table.max v) (Err no.Range) (open_policy (treatment_of table v))
+    (λ above h. absurd (cc)) (λ inside h. ap is_ok h)
+
+under_open : (table : Table) (policy p : Policy) → policy_for table (Least policy) ≡ Ok p
+    → is_ok (open_policy (Some (Under policy))) ≡ true
+under_open table policy p =
+    by_test (λ o. open_policy o ≡ Ok p → is_ok (open_policy (Some (Under policy))) ≡ true)
+    (list_any (λ range. same_treatment range.treatment (Under policy)) table.ranges)
+    (Some (Under policy)) None
+    (λ there h. ap is_ok h) (λ gone h. absurd (cc))
+
+-- a table has no fault, and is a partition
+pub table_partition : (table : Table) → has_table_form table ≡ true → IsPartition table
+table_partition table form =
+    let no_fault =
+    second_so (nat_lt table.max (2 ^ 32)) (is_partition table)
+    (first_so (nat_lt table.max (2 ^ 32) && is_partition table)
+    (list_all (λ range. has_note_form range.note) table.ranges) form) in
+    partition_from_none table.max table.ranges
+    (none_of (first_fault table.max table.ranges) no_fault)
+  where
+    none_of : {A : Type 0} (o : Option A) → is_none o ≡ true → o ≡ None
+    none_of None h = refl
+    none_of (Some x) h = absurd (cc)
+
+no_treatment : (o : Option Treatment) → is_some o ≡ false → is_ok (open_policy o) ≡ true → ⊥
+no_treatment None none is_open = absurd (cc)
+no_treatment (Some t) none is_open = absurd (cc)
+
+-- a value that is assigned one by one is at most the largest
+pub open_below : (table : Table) (v : ℕ) → has_table_form table ≡ true
+    → is_ok (open_policy (treatment_of table v)) ≡ true → v < 2 ^ 32
+open_below table v form is_open =
+    let bounded =
+    first_so (nat_lt table.max (2 ^ 32)) (is_partition table)
+    (first_so (nat_lt table.max (2 ^ 32) && is_partition table)
+    (list_all (λ range. has_note_form range.note) table.ranges) form) in
+    below (nat_lt table.max v) refl bounded
+  where
+    above : nat_lt table.max v ≡ true → ⊥
+    above h =
+        let larger : table.max < v = grind (arith, nat_tests, h) in
+        let none = (treatment_above table (table_partition table form) v).1 larger in
+        no_treatment (treatment_of table v) none is_open
+
+    below : (b : Bool) → nat_lt table.max v ≡ b → nat_lt table.max (2 ^ 32) ≡ true → v < 2 ^ 32
+    below true h bounded = absurd (above h)
+    below false h bounded = grind (arith, nat_tests, h, bounded)
+
+-- ---- Values that have entries
+
+module _ {A : Type 0} where
+  is_first : (x : A) (xs : List A) → Contains (x ∷ xs) x
+  is_first x xs = (0, omega arith, refl)
+
+  is_later : (y x : A) (xs : List A) → Contains xs x → Contains (y ∷ xs) x
+  is_later y x xs h = let inside = h.1 in (suc h.0, omega (arith, inside), h.2)
+
+map_at : {A B : Type 0} (f : A → B) (xs : List A) (x : A) (k : ℕ) → k < length xs
+    → slice_index_or xs k x ≡ x → Contains (map f xs) (f x)
+map_at f [] x k inside is = absurd (omega (arith, inside))
+map_at f (y ∷ ys) x zero inside is =
+    subst (λ z. Contains (f y ∷ map f ys) (f z)) is (is_first (f y) (map f ys))
+map_at f (y ∷ ys) x (suc k) inside is =
+    is_later (f y) (f x) (map f ys) (map_at f ys x k (omega (arith, inside)) is)
+
+pub Contains-map : {A B : Type 0} (f : A → B) (xs : List A) (x : A) → Contains xs x
+    → Contains (map f xs) (f x)
+Contains-map f xs x h = map_at f xs x h.0 h.1 h.2
+
+-- the row at a key is among the entries
+pub Contains-entries : {K X : Type 0} {R : K → K → Ordering} → IsKeyOrder R
+    → (m : FinMap R X) (k : K) (x : X) → get m k ≡ Some x → Contains (entries m) (k, x)
+Contains-entries {K} {X} {R} o m k x is_there =
+    among (entries m) (sym (get-entries m k) ∙ is_there)
+  where
+    among : (es : List (K × X)) → find R k es ≡ Some x → Contains es (k, x)
+    among [] h = absurd (cc)
+    among (e ∷ es) h =
+        elim (eq_by_cmp R k e.0) as
+        (λ b. eq_by_cmp R k e.0 ≡ b → cond b (Some e.1) (find R k es) ≡ Some x
+        → Contains (e ∷ es) (k, x)) [
+          | true ↦ λ t h.
+              let value : e.1 ≡ x = cc in
+              let key = tied o k e.0 t in
+              subst (λ (p : K × X). Contains (e ∷ es) p) (λ i. (sym key i, value i))
+              (is_first e es)
+          | false ↦ λ t h. is_later e (k, x) es (among es h)
+        ] refl h
+
+-- a value that is not among those that have entries has none
+none_at : (m : FinMap place_cmp Registration) (registry : List ℕ) (v : ℕ)
+    → ¬ (Contains (map (λ (e : Place × Registration). e.0.1) (entries (entries_of registry m))) v)
+    → get m (registry, v) ≡ None
+none_at m registry v free =
+    elim (get m (registry, v)) as (λ o. get m (registry, v) ≡ o → o ≡ None) [
+      | None ↦ λ is. refl
+      | Some a ↦ λ is.
+          let kept : get (entries_of registry m) (registry, v) ≡ Some a =
+          get-select place_keys (λ place a. only_if (same_text place.0 registry) a) m (registry, v)
+          ∙ ap (option_and_then (λ a. only_if (same_text registry registry) a)) is
+          ∙ ap (λ b. only_if b a) (same_text-itself registry) in
+          absurd (free
+          (Contains-map (λ (e : Place × Registration). e.0.1) (entries (entries_of registry m))
+          ((registry, v), a)
+          (Contains-entries place_keys (entries_of registry m) (registry, v) a kept)))
+    ] refl
+
+-- ---- Free values
+
+-- the value is assigned one by one, and has no entry
+pub record IsFree (w : World) (registry : List ℕ) (v : ℕ) : Type 0 where
+  pub is_open : is_open_at (get w.registries registry) v ≡ true
+  pub is_new : get w.entries (registry, v) ≡ None
+  pub below : v < 2 ^ 32
+
+module _ (w : World) (kept : WellKept w) (registry : List ℕ) (table : Table)
+    (is_there : get w.registries registry ≡ Some table) where
+  form : has_table_form table ≡ true
+  form = second_so (is_name registry) (has_table_form table)
+      (kept.registries registry table is_there)
+
+  is_free : (v : ℕ) → is_ok (open_policy (treatment_of table v)) ≡ true
+      → get w.entries (registry, v) ≡ None → IsFree w registry v
+  is_free v is_open is_new = record {
+    is_open = ap (λ o. is_open_at o v) is_there ∙ is_open;
+    is_new = is_new;
+    below = open_below table v form is_open;
+  }
+
+  wanted_free : (want : Want) (policy : Policy) (v : ℕ) → policy_for table want ≡ Ok policy
+      → value_for (record {
+        table = get w.registries registry;
+        entry = entry_wanted (published w) registry want;
+        taken = values_taken (published w) registry want;
+      }) table want ≡ Ok v
+      → IsFree w registry v
+  wanted_free (Value u) policy v by h =
+      by_test (λ r. r ≡ Ok v → IsFree w registry v) (is_some (get w.entries (registry, u)))
+      (Err no.Taken) (Ok u)
+      (λ there h. absurd (cc))
+      (λ gone h. let same : u ≡ v = cc in
+      subst (IsFree w registry) same
+      (is_free u (value_open table u policy by) (not_some (get w.entries (registry, u)) gone)))
+      h
+  wanted_free (Least least) policy v by h =
+      let taken = values_taken (published w) registry (Least least) in
+      let is : least_value table least taken ≡ Some v =
+      was_some (least_value table least taken) no.Exhausted v h in
+      let facts : IsLeastFree table least taken (Some v) =
+      subst (IsLeastFree table least taken) is
+      (least_value_is_least table (table_partition table form) least taken) in
+      is_free v (ap (λ t. is_ok (open_policy t)) facts.0 ∙ under_open table least policy by)
+      (none_at w.entries registry v facts.1)
+
+-- ---- What is allowed
+
+-- the checks of an allowance for a value, each of which was met
+record Allows (rows : Ground) (ask : CodeAsk) (allowance : Allowance) : Type 0 where
+  table : Table
+  is_there : rows.table ≡ Some table
+  policy : Policy
+  decides : policy_for table ask.want ≡ Ok policy
+  value : ℕ
+  chosen : value_for rows table ask.want ≡ Ok value
+  given_it : given.Value value ≡ allowance.given
+  needs : is_expert_policy policy ≡ allowance.needs_advice
+
+allows : (rows : Ground) (account : List ℕ) (ask : CodeAsk) (allowance : Allowance)
+    → allowance_on rows account (Code ask) ≡ Ok allowance → Allows rows ask allowance
+allows rows account ask allowance h =
+    let there = went_on (or_refusal no.Registry rows.table) _ allowance h in
+    let policy = went_on (policy_for there.0 ask.want) _ allowance there.2 in
+    let met = went_on (is_met (first_item (unmet policy.0 ask.evidence))) _ allowance policy.2 in
+    let last = went_on (value_for rows there.0 ask.want) _ allowance met.2 in
+    record {
+      table = there.0;
+      is_there = was_some rows.table no.Registry there.0 there.1;
+      policy = policy.0;
+      decides = policy.1;
+      value = last.0;
+      chosen = last.1;
+      given_it = ap (λ r. (unwrap_ok r allowance).given) last.2;
+      needs = ap (λ r. (unwrap_ok r allowance).needs_advice) last.2;
+    }
+  where
+    unwrap_ok : Result Allowance Refusal → Allowance → Allowance
+    unwrap_ok (Ok a) other = a
+    unwrap_ok (Err refusal) other = other
+
+-- what is allowed to an ask for a value is a free value of its registry
+pub allowed_free : (w : World) → WellKept w → (account : List ℕ) (ask : CodeAsk) (v : ℕ)
+    → allowed (published w) account (Code ask) ≡ Ok (given.Value v)
+    → IsFree w ask.registry v
+allowed_free w kept account ask v h =
+    let whole = went_on (allowance_on (ground_of (published w) (Code ask)) account (Code ask)) _
+    (given.Value v) h in
+    let is = allows (ground_of (published w) (Code ask)) account ask whole.0 whole.1 in
+    let of = is.given_it in
+    let same : is.value ≡ v = cc in
+    subst (IsFree w ask.registry) same
+    (wanted_free w kept ask.registry is.table is.is_there ask.want is.policy is.value is.decides is.chosen)
+
+-- an allowance says whether an expert has to approve
+pub allowance_needs : (rows : Ground) (account : List ℕ) (ask : Ask) (allowance : Allowance)
+    → allowance_on rows account ask ≡ Ok allowance
+    → needs_advice rows ask ≡ allowance.needs_advice
+allowance_needs rows account (Code ask) allowance h =
+    let is = allows rows account ask allowance h in
+    ap is_reviewed (ap (λ o. policy_wanted o ask.want) is.is_there ∙ is.decides) ∙ is.needs

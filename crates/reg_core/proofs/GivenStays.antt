@@ -1,0 +1,231 @@
+-- What a well kept world has stays in every run.
+use Rattle.std.proofs.Common.{◌≡◌, ℕ, Bool, true, false, cond, List, [], ◌∷◌, refl, sym, ap, subst, ◌∙◌}
+use Rattle.std.specs.Prelude.{Option, Some, None, option_map}
+use Rattle.std.specs.Cmp.{first_so, second_so}
+use Rattle.std.specs.declared.cmp.Ordering.{Ordering}
+use Rattle.std.specs.Ordering.{eq_by_cmp}
+use Rattle.std.specs.FinMap.{FinMap, get, insert, remove}
+use Rattle.std.specs.FinSet.{FinSet}
+use Rattle.reg_early.specs.Moment.{utc_day}
+use Rattle.reg_ranges.specs.Tables.{Table}
+use Rattle.reg_core.specs.Command.{has_command_form}
+use Rattle.reg_core.specs.Entry.{registration_in, entry_for}
+use Rattle.reg_core.specs.Laws.{GivesDigests, GivenStays, Stays, StillGiven, StillStands, StillAsks}
+use Rattle.reg_core.specs.Maps.{text_cmp, update}
+use Rattle.reg_core.specs.Run.{Event, have_forms, step_of, world_after}
+use Rattle.reg_core.specs.WellKept.{WellKept}
+use Rattle.reg_core.specs.World.{World, RequestName, name_cmp, seat_cmp, in_state, pending, applied, applied_if}
+use Rattle.reg_core.specs.declared.advice.Advice.{Advice}
+use Rattle.reg_core.specs.declared.ask.Ask.{Ask}
+use Rattle.reg_core.specs.declared.change.Change.{Change}
+use Rattle.reg_core.specs.declared.capability.Cap.{Cap}
+use Rattle.reg_core.specs.declared.entry.Registration.{Registration}
+use Rattle.reg_core.specs.declared.entry.Entry.{Entry}
+use Rattle.reg_core.specs.declared.request.Case.{Case}
+use Rattle.reg_core.specs.declared.request.Given.TheVariants.{Value}
+use Rattle.reg_core.specs.declared.request.State.{State}
+use Rattle.reg_core.specs.declared.request.State.TheVariants.{Pending, Approved, Declined, Withdrawn}
+use Rattle.reg_core.proofs.Keeping.RunsKeepWell.{step_keeps_well}
+use Rattle.reg_core.proofs.KeySets.{still_in}
+use Rattle.reg_core.proofs.MapLaws.{IsKeyOrder, number_keys, text_keys, name_keys, place_keys, tied, get-at_insert, get-update}
+use Rattle.reg_core.specs.declared.change.Change.TheVariants.{Grant, Revoke, Define, AddPool, Submit, Close, Assign, Advise, GiveValue}
+use Rattle.reg_core.proofs.Allowances.{allowed_free}
+use Rattle.reg_core.proofs.Outcomes.Dues.{WasPending, Due, each_step}
+
+-- ---- Nothing goes away
+
+stands_itself : (state : State) → StillStands state state
+stands_itself Pending = tt
+stands_itself (Approved given) = refl
+stands_itself (Declined reason) = refl
+stands_itself Withdrawn = refl
+
+given_itself : (a : Registration) (existing : Option Registration) → existing ≡ Some a
+    → StillGiven a existing
+given_itself a existing is = subst (StillGiven a) (sym is) (refl, refl, refl)
+
+asks_itself : (case : Case) (existing : Option Case) → existing ≡ Some case
+    → StillAsks case existing
+asks_itself case existing is = subst (StillAsks case) (sym is) (refl, stands_itself case.state)
+
+pub stays_itself : (w : World) → Stays w w
+stays_itself w = record {
+  registries = λ name table is. is;
+  entries = λ place a is. given_itself a (get w.entries place) is;
+  requests = λ name case is. asks_itself case (get w.requests name) is;
+  pool = λ prefix there. there;
+}
+
+-- ---- What stays goes on to stay
+
+stands_on : (before now later : State) → StillStands before now → StillStands now later
+    → StillStands before later
+stands_on Pending now later h k = tt
+stands_on (Approved given) now later h k = subst (λ s. StillStands s later) h k
+stands_on (Declined reason) now later h k = subst (λ s. StillStands s later) h k
+stands_on Withdrawn now later h k = subst (λ s. StillStands s later) h k
+
+given_on : (a : Registration) (now later : Option Registration) → StillGiven a now
+    → ((b : Registration) → now ≡ Some b → StillGiven b later) → StillGiven a later
+given_on a None later h k = absurd h
+given_on a (Some b) later h k = on later (k b refl)
+  where
+    on : (later : Option Registration) → StillGiven b later → StillGiven a later
+    on None k = k
+    on (Some c) k = (k.0 ∙ h.0, k.1 ∙ h.1, k.2 ∙ h.2)
+
+asks_on : (case : Case) (now later : Option Case) → StillAsks case now
+    → ((b : Case) → now ≡ Some b → StillAsks b later) → StillAsks case later
+asks_on case None later h k = absurd h
+asks_on case (Some b) later h k = on later (k b refl)
+  where
+    on : (later : Option Case) → StillAsks b later → StillAsks case later
+    on None k = k
+    on (Some c) k = (k.0 ∙ h.0, stands_on case.state b.state c.state h.1 k.1)
+
+pub stays_on : (w v u : World) → Stays w v → Stays v u → Stays w u
+stays_on w v u first then = record {
+  registries = λ name table is. then.registries name table (first.registries name table is);
+  entries = λ place a is.
+      given_on a (get v.entries place) (get u.entries place) (first.entries place a is)
+      (λ b at. then.entries place b at);
+  requests = λ name case is.
+      asks_on case (get v.requests name) (get u.requests name) (first.requests name case is)
+      (λ b at. then.requests name b at);
+  pool = λ prefix there. then.pool prefix (first.pool prefix there);
+}
+
+-- ---- One change
+
+-- a row that is there stays after another is added
+module _ {K X : Type 0} {R : K → K → Ordering} (o : IsKeyOrder R) (m : FinMap R X) (k : K) (v : X)
+    (free : get m k ≡ None) where
+  stays_there : (q : K) (x : X) → get m q ≡ Some x → get (insert m k v) q ≡ Some x
+  stays_there q x is = by (eq_by_cmp R q k) refl
+    where
+      by : (b : Bool) → eq_by_cmp R q k ≡ b → get (insert m k v) q ≡ Some x
+      by true t = let none : get m q ≡ None = ap (get m) (tied o q k t) ∙ free in absurd (cc)
+      by false t = get-at_insert o m k v q ∙ ap (λ b. cond b (Some v) (get m q)) t ∙ is
+
+-- of capabilities, assignments and advice nothing is said
+registers_stay : (w : World) (caps : FinMap text_cmp Cap) (queue : FinSet seat_cmp)
+    (advice : FinMap seat_cmp Advice)
+    → Stays w (record w { caps = caps; queue = queue; advice = advice })
+registers_stay w caps queue advice = record {
+  registries = λ name table is. is;
+  entries = λ place a is. given_itself a (get w.entries place) is;
+  requests = λ name case is. asks_itself case (get w.requests name) is;
+  pool = λ prefix there. there;
+}
+
+define_stays : (w : World) (name : List ℕ) (table : Table) → get w.registries name ≡ None
+    → Stays w (applied w (Define name table))
+define_stays w name table free = record {
+  registries = stays_there text_keys w.registries name table free;
+  entries = λ place a is. given_itself a (get w.entries place) is;
+  requests = λ name case is. asks_itself case (get w.requests name) is;
+  pool = λ prefix there. there;
+}
+
+pool_stays : (w : World) (prefix : ℕ) → Stays w (applied w (AddPool prefix))
+pool_stays w prefix = record {
+  registries = λ name table is. is;
+  entries = λ place a is. given_itself a (get w.entries place) is;
+  requests = λ name case is. asks_itself case (get w.requests name) is;
+  pool = still_in number_keys w.pool prefix tt;
+}
+
+submit_stays : (w : World) (name : RequestName) (ask : Ask) → get w.requests name ≡ None
+    → Stays w (applied w (Submit name.0 name.1 ask))
+submit_stays w name ask free = record {
+  registries = λ name table is. is;
+  entries = λ place a is. given_itself a (get w.entries place) is;
+  requests = λ other case is.
+      asks_itself case _ (stays_there name_keys w.requests name (pending ask) free other case is);
+  pool = λ prefix there. there;
+}
+
+-- a pending request may go into any state
+state_stays : (w : World) (name : RequestName) (state : State) → WasPending w name
+    → (other : RequestName) (old : Case) → get w.requests other ≡ Some old
+    → StillAsks old (get (update w.requests name (in_state state)) other)
+state_stays w name state was other old is =
+    subst (StillAsks old) (sym (get-update name_keys w.requests name (in_state state) other))
+    (by (eq_by_cmp name_cmp other name) refl)
+  where
+    replaced_row : other ≡ name → old ≡ was.case
+    replaced_row same = let both : Some old ≡ Some was.case =
+        sym is ∙ ap (get w.requests) same ∙ was.is_there in cc
+
+    by : (b : Bool) → eq_by_cmp name_cmp other name ≡ b
+        → StillAsks old
+        (cond b (option_map (in_state state) (get w.requests name)) (get w.requests other))
+    by true t =
+        let itself = replaced_row (tied name_keys other name t) in
+        subst (λ o. StillAsks old (option_map (in_state state) o)) (sym was.is_there) (
+          ap (λ (f : Case). f.ask) (sym itself),
+          subst (λ (f : Case). StillStands f.state state) (sym itself)
+              (subst (λ s. StillStands s state) (sym was.state) tt),
+        )
+    by false t = asks_itself old (get w.requests other) is
+
+close_stays : (w : World) (name : RequestName) (state : State) → WasPending w name
+    → Stays w (applied w (Close name.0 name.1 state))
+close_stays w name state was = record {
+  registries = λ name table is. is;
+  entries = λ place a is. given_itself a (get w.entries place) is;
+  requests = state_stays w name state was;
+  pool = λ prefix there. there;
+}
+
+give_stays : (w : World) (name : RequestName) (entry : Entry) → WasPending w name
+    → get w.entries (entry.registry, entry.value) ≡ None
+    → Stays w (applied w (GiveValue name.0 name.1 entry))
+give_stays w name entry was free = record {
+  registries = λ name table is. is;
+  entries = λ place a is.
+      given_itself a _
+      (stays_there place_keys w.entries (entry.registry, entry.value)
+      (registration_in entry) free place a is);
+  requests = state_stays w name (Approved (Value entry.value)) was;
+  pool = λ prefix there. there;
+}
+
+-- ---- Each change of a step
+
+-- a line for each change
+module _ (w : World) (kept : WellKept w) (caller : Option (List ℕ)) (moment : ℕ) where
+  due_stays : (change : Change) → Due w caller moment change → Stays w (applied w change)
+  due_stays (Grant digest cap) due = registers_stay w (insert w.caps digest cap) w.queue w.advice
+  due_stays (Revoke digest) due = registers_stay w (remove w.caps digest) w.queue w.advice
+  due_stays (Define name table) due = define_stays w name table due.1
+  due_stays (AddPool prefix) due = pool_stays w prefix
+  due_stays (Submit account reference ask) due = submit_stays w (account, reference) ask due.1
+  due_stays (Close account reference state) due = close_stays w (account, reference) state due.0
+  due_stays (Assign account reference expert) due =
+      registers_stay w w.caps (insert w.queue ((account, reference), expert) tt) w.advice
+  due_stays (Advise account reference expert advice) due =
+      registers_stay w w.caps w.queue (insert w.advice ((account, reference), expert) advice)
+  due_stays (GiveValue account reference entry) due =
+      let is = due.1 in
+      subst (λ e. Stays w (applied w (GiveValue account reference e))) is.is
+      (give_stays w (account, reference)
+      (entry_for account is.ask (utc_day moment) entry.value) is.pending
+      (allowed_free w kept account is.ask entry.value is.allows).is_new)
+
+-- ---- Steps and runs
+
+module _ (digest_of : List ℕ → List ℕ) where
+  step_stays : (w : World) → WellKept w → (e : Event) → Stays w (step_of digest_of w e).world
+  step_stays w kept e =
+      each_step digest_of w e.caller e.moment e.command (λ change. Stays w (applied_if w change))
+      (stays_itself w) (λ change is. due_stays w kept e.caller e.moment change is.due)
+
+  pub runs_stay : GivesDigests digest_of → GivenStays digest_of
+  runs_stay digests w [] kept forms = stays_itself w
+  runs_stay digests w (e ∷ events) kept forms =
+      let first = first_so (has_command_form e.command) (have_forms events) forms in
+      let rest = second_so (has_command_form e.command) (have_forms events) forms in
+      let v = (step_of digest_of w e).world in
+      stays_on w v (world_after digest_of v events) (step_stays w kept e)
+      (runs_stay digests v events (step_keeps_well digest_of digests w kept e first) rest)

@@ -1,0 +1,362 @@
+-- Changes that fit a well kept world.
+use Rattle.std.proofs.Common.{◌≡◌, ℕ, ◌^◌, Bool, true, false, cond, ◌&&◌, List, refl, sym, ap, subst, ◌∙◌, nat_lt, arith}
+use Rattle.std.specs.Prelude.{Some, None, IsSome, is_some, not}
+use Rattle.std.specs.Cmp.{first_so, second_so}
+use Rattle.std.specs.Cmp.Derive.{both_true}
+use Rattle.std.specs.FinMap.{FinMap, get, insert, contains_key}
+use Rattle.std.specs.Ordering.{eq_by_cmp}
+use Rattle.std.proofs.lemmas.Bool.Decides.{nat_tests}
+use Rattle.reg_blocks.specs.Pool.{is_pool_prefix}
+use Rattle.reg_ranges.specs.Tables.{Table}
+use Rattle.reg_ranges.specs.Texts.{is_text}
+use Rattle.reg_core.specs.Advice.{has_advice_form}
+use Rattle.reg_core.specs.Ask.{has_want_form, has_evidence_form, has_code_form, has_ask_form}
+use Rattle.reg_core.specs.Entry.{registration_in, has_day_form, has_registration_form, entry_for}
+use Rattle.reg_core.specs.Maps.{text_cmp, same_text}
+use Rattle.reg_core.specs.Names.{is_name}
+use Rattle.reg_core.specs.Request.{has_state_form}
+use Rattle.reg_core.specs.WellKept.{WellKept, CanApply, has_grant_form, has_registry_form, has_entry_form, has_request_form, has_seat_form, is_open_at, is_registered_to, stands_in}
+use Rattle.reg_core.specs.World.{World, RequestName, Place, place_cmp, in_state, pending}
+use Rattle.reg_core.specs.declared.advice.Advice.{Advice}
+use Rattle.reg_core.specs.declared.ask.Ask.{Ask}
+use Rattle.reg_core.specs.declared.ask.Ask.TheVariants.{Code}
+use Rattle.reg_core.specs.declared.ask.CodeAsk.{CodeAsk}
+use Rattle.reg_core.specs.declared.capability.Cap.{Cap}
+use Rattle.reg_core.specs.declared.change.Change.TheVariants.{Grant, Revoke, Define, AddPool, Submit, Close, Assign, Advise, GiveValue}
+use Rattle.reg_core.specs.declared.entry.Registration.{Registration}
+use Rattle.reg_core.specs.declared.request.Case.{Case}
+use Rattle.reg_core.specs.declared.request.Given.TheVariants.{Value}
+use Rattle.reg_core.specs.declared.request.State.{State}
+use Rattle.reg_core.specs.declared.request.State.TheVariants.{Pending, Approved, Declined, Withdrawn}
+use Rattle.reg_core.proofs.Allowances.{IsFree}
+use Rattle.reg_core.proofs.KeySets.{each_key, still_in, still_at}
+use Rattle.reg_core.proofs.MapLaws.{number_keys, text_keys, name_keys, place_keys, seat_keys, tied, get-at_insert, get-inserted, insert_keeps, remove_keeps, update_keeps}
+use Rattle.reg_core.proofs.SamenessIsDecided.{same_text-itself}
+
+-- ---- Capabilities and registries
+
+pub can_grant : (w : World) (digest : List ℕ) (cap : Cap) → WellKept w
+    → has_grant_form digest cap ≡ true → get w.caps digest ≡ None → CanApply w (Grant digest cap)
+can_grant w digest cap kept form free = (
+  free,
+  record {
+    caps = insert_keeps text_keys
+        (λ digest cap. has_grant_form digest cap ≡ true) w.caps digest cap kept.caps form;
+    registries = kept.registries;
+    entries = kept.entries;
+    open_values = kept.open_values;
+    requests = kept.requests;
+    given = kept.given;
+    queue = kept.queue;
+    queued = kept.queued;
+    advice = kept.advice;
+    advised = kept.advised;
+    pool = kept.pool;
+  },
+)
+
+pub can_revoke : (w : World) (digest : List ℕ) → WellKept w → CanApply w (Revoke digest)
+can_revoke w digest kept = (
+  tt,
+  record {
+    caps = remove_keeps text_keys
+        (λ digest cap. has_grant_form digest cap ≡ true) w.caps digest kept.caps;
+    registries = kept.registries;
+    entries = kept.entries;
+    open_values = kept.open_values;
+    requests = kept.requests;
+    given = kept.given;
+    queue = kept.queue;
+    queued = kept.queued;
+    advice = kept.advice;
+    advised = kept.advised;
+    pool = kept.pool;
+  },
+)
+
+pub can_define : (w : World) (name : List ℕ) (table : Table) → WellKept w
+    → has_registry_form name table ≡ true → get w.registries name ≡ None
+    → CanApply w (Define name table)
+can_define w name table kept form free = (
+  free,
+  record {
+    caps = kept.caps;
+    registries =
+        insert_keeps text_keys
+        (λ name table.
+        has_registry_form name table ≡ true) w.registries name table kept.registries form;
+    entries = kept.entries;
+    open_values =
+        λ place a is_there. opened place a is_there (eq_by_cmp text_cmp place.0 name) refl;
+    requests = kept.requests;
+    given = kept.given;
+    queue = kept.queue;
+    queued = kept.queued;
+    advice = kept.advice;
+    advised = kept.advised;
+    pool = kept.pool;
+  },
+)
+  where
+    -- each entry's registry is there, and so not the one that is new
+    opened : (place : Place) (a : Registration) → get w.entries place ≡ Some a → (b : Bool)
+        → eq_by_cmp text_cmp place.0 name ≡ b
+        → is_open_at (get (insert w.registries name table) place.0) place.1 ≡ true
+    opened place a is_there true t =
+        let none : get w.registries place.0 ≡ None =
+        ap (get w.registries) (tied text_keys place.0 name t) ∙ free in
+        let shut : is_open_at (get w.registries place.0) place.1 ≡ false =
+        ap (λ o. is_open_at o place.1) none in
+        let is_open = kept.open_values place a is_there in
+        absurd (cc)
+    opened place a is_there false t =
+        ap (λ o. is_open_at o place.1)
+        (get-at_insert text_keys w.registries name table place.0
+        ∙ ap (λ b. cond b (Some table) (get w.registries place.0)) t)
+        ∙ kept.open_values place a is_there
+
+-- ---- The pool
+
+pub can_add_pool : (w : World) (prefix : ℕ) → WellKept w → is_pool_prefix prefix ≡ true
+    → contains_key w.pool prefix ≡ false → CanApply w (AddPool prefix)
+can_add_pool w prefix kept form free = (
+  free,
+  record {
+    caps = kept.caps;
+    registries = kept.registries;
+    entries = kept.entries;
+    open_values = kept.open_values;
+    requests = kept.requests;
+    given = kept.given;
+    queue = kept.queue;
+    queued = kept.queued;
+    advice = kept.advice;
+    advised = kept.advised;
+    pool = each_key number_keys w.pool prefix
+        (λ prefix. is_pool_prefix prefix ≡ true) tt kept.pool form;
+  },
+)
+
+-- ---- Requests
+
+pub can_submit : (w : World) (name : RequestName) (ask : Ask) → WellKept w
+    → has_request_form name (pending ask) ≡ true → get w.requests name ≡ None
+    → CanApply w (Submit name.0 name.1 ask)
+can_submit w name ask kept form free = (
+  free,
+  record {
+    caps = kept.caps;
+    registries = kept.registries;
+    entries = kept.entries;
+    open_values = kept.open_values;
+    requests = insert_keeps name_keys
+        (λ name case. has_request_form name case ≡ true) w.requests name
+        (pending ask) kept.requests form;
+    given = insert_keeps name_keys
+        (λ name case. stands_in w.entries name.0 case.ask case.state ≡ true) w.requests name
+        (pending ask) kept.given refl;
+    queue = kept.queue;
+    queued = λ seat there.
+        still_in name_keys w.requests name (pending ask) seat.0 (kept.queued seat there);
+    advice = kept.advice;
+    advised = kept.advised;
+    pool = kept.pool;
+  },
+)
+
+-- a request keeps its form in a state that has its own
+new_state : (name : RequestName) (case : Case) (state : State) → has_request_form name case ≡ true
+    → has_state_form state ≡ true
+    → has_request_form name (in_state state case) ≡ true
+new_state name case state form state_form =
+    both_true (first_so (is_name name.0 && is_name name.1 && has_ask_form case.ask)
+    (has_state_form case.state) form) state_form
+
+-- a request is closed in a state in which it was given nothing
+abbrev pub GivesNothing : State → Type 0
+GivesNothing Pending = ⊥
+GivesNothing (Approved given) = ⊥
+GivesNothing (Declined reason) = Unit {0}
+GivesNothing Withdrawn = Unit {0}
+
+nothing_stands : (entries : FinMap place_cmp Registration) (account : List ℕ) (ask : Ask)
+    (state : State) → GivesNothing state → stands_in entries account ask state ≡ true
+nothing_stands entries account ask Pending h = absurd h
+nothing_stands entries account ask (Approved given) h = absurd h
+nothing_stands entries account ask (Declined reason) h = refl
+nothing_stands entries account ask Withdrawn h = refl
+
+pub can_close : (w : World) (name : RequestName) (case : Case) (state : State) → WellKept w
+    → get w.requests name ≡ Some case
+    → GivesNothing state → has_state_form state ≡ true → CanApply w (Close name.0 name.1 state)
+can_close w name case state kept is_there nothing form = (
+  ap is_some is_there,
+  record {
+    caps = kept.caps;
+    registries = kept.registries;
+    entries = kept.entries;
+    open_values = kept.open_values;
+    requests = update_keeps name_keys
+        (λ name case. has_request_form name case ≡ true) w.requests name
+        (in_state state) kept.requests
+        (λ old is. new_state name old state (kept.requests name old is) form);
+    given = update_keeps name_keys
+        (λ name case. stands_in w.entries name.0 case.ask case.state ≡ true) w.requests name
+        (in_state state) kept.given
+        (λ old is. nothing_stands w.entries name.0 old.ask state nothing);
+    queue = kept.queue;
+    queued = λ seat there.
+        still_at name_keys w.requests name (in_state state) seat.0 (kept.queued seat there);
+    advice = kept.advice;
+    advised = kept.advised;
+    pool = kept.pool;
+  },
+)
+
+-- ---- Experts
+
+pub can_assign : (w : World) (name : RequestName) (case : Case) (expert : List ℕ) → WellKept w
+    → get w.requests name ≡ Some case
+    → is_name expert ≡ true → same_text expert name.0 ≡ false
+    → contains_key w.queue (name, expert) ≡ false → CanApply w (Assign name.0 name.1 expert)
+can_assign w name case expert kept is_there form other free = (
+  free,
+  record {
+    caps = kept.caps;
+    registries = kept.registries;
+    entries = kept.entries;
+    open_values = kept.open_values;
+    requests = kept.requests;
+    given = kept.given;
+    queue = each_key seat_keys w.queue (name, expert)
+        (λ seat. has_seat_form seat ≡ true) tt kept.queue (both_true form (ap not other));
+    queued = each_key seat_keys w.queue (name, expert)
+        (λ seat. IsSome (get w.requests seat.0)) tt kept.queued (ap is_some is_there);
+    advice = kept.advice;
+    advised = λ seat advice is.
+        still_in seat_keys w.queue (name, expert) tt seat (kept.advised seat advice is);
+    pool = kept.pool;
+  },
+)
+
+pub can_advise : (w : World) (name : RequestName) (expert : List ℕ) (advice : Advice) → WellKept w
+    → contains_key w.queue (name, expert) ≡ true
+    → has_advice_form advice ≡ true → CanApply w (Advise name.0 name.1 expert advice)
+can_advise w name expert advice kept assigned form = (
+  tt,
+  record {
+    caps = kept.caps;
+    registries = kept.registries;
+    entries = kept.entries;
+    open_values = kept.open_values;
+    requests = kept.requests;
+    given = kept.given;
+    queue = kept.queue;
+    queued = kept.queued;
+    advice = insert_keeps seat_keys (λ seat advice. has_advice_form advice ≡ true) w.advice
+        (name, expert) advice kept.advice form;
+    advised = insert_keeps seat_keys (λ seat advice. contains_key w.queue seat ≡ true) w.advice
+        (name, expert) advice kept.advised assigned;
+    pool = kept.pool;
+  },
+)
+
+-- ---- Entries
+
+-- what stands in the registers stands after an entry more
+module _ (entries : FinMap place_cmp Registration) (place : Place) (a : Registration)
+    (free : get entries place ≡ None) where
+  assigned_still : (account : List ℕ) (there : Place)
+      → is_registered_to account (get entries there) ≡ true
+      → is_registered_to account (get (insert entries place a) there) ≡ true
+  assigned_still account there h = by (eq_by_cmp place_cmp there place) refl
+    where
+      by : (b : Bool) → eq_by_cmp place_cmp there place ≡ b
+          → is_registered_to account (get (insert entries place a) there) ≡ true
+      by true t =
+          let none : is_registered_to account (get entries there) ≡ false =
+          ap (is_registered_to account)
+          (ap (get entries) (tied place_keys there place t) ∙ free) in
+          absurd (cc)
+      by false t =
+          ap (is_registered_to account)
+          (get-at_insert place_keys entries place a there
+          ∙ ap (λ b. cond b (Some a) (get entries there)) t) ∙ h
+
+  stands_still : (account : List ℕ) (ask : Ask) (state : State)
+      → stands_in entries account ask state ≡ true
+      → stands_in (insert entries place a) account ask state ≡ true
+  stands_still account ask Pending h = refl
+  stands_still account (Code ask) (Approved (Value v)) h =
+      assigned_still account (ask.registry, v) h
+  stands_still account ask (Declined reason) h = refl
+  stands_still account ask Withdrawn h = refl
+
+pub can_give : (w : World) (name : RequestName) (case : Case) (ask : CodeAsk) (today v : ℕ)
+    → WellKept w → get w.requests name ≡ Some case → case.ask ≡ Code ask
+    → IsFree w ask.registry v → has_day_form today ≡ true
+    → CanApply w (GiveValue name.0 name.1 (entry_for name.0 ask today v))
+can_give w name case ask today v kept is_there asks free day =
+    let place : Place = (ask.registry, v) in
+    let a = registration_in (entry_for name.0 ask today v) in
+    let state = Approved (Value v) in
+    let form = kept.requests name case is_there in
+    let names = first_so (is_name name.0 && is_name name.1) (has_ask_form case.ask)
+    (first_so (is_name name.0 && is_name name.1 && has_ask_form case.ask)
+    (has_state_form case.state) form) in
+    let account_form = first_so (is_name name.0) (is_name name.1) names in
+    let ask_form : has_code_form ask ≡ true =
+    subst (λ x. has_ask_form x ≡ true) asks
+    (second_so (is_name name.0 && is_name name.1) (has_ask_form case.ask)
+    (first_so (is_name name.0 && is_name name.1 && has_ask_form case.ask)
+    (has_state_form case.state) form)) in
+    let labelled =
+    first_so (is_name ask.registry && has_want_form ask.want && is_text ask.label)
+    (has_evidence_form ask.evidence) ask_form in
+    let label_form =
+    second_so (is_name ask.registry && has_want_form ask.want) (is_text ask.label) labelled in
+    let registry_form =
+    first_so (is_name ask.registry) (has_want_form ask.want)
+    (first_so (is_name ask.registry && has_want_form ask.want) (is_text ask.label) labelled) in
+    let below = free.below in
+    let value_form : nat_lt v (2 ^ 32) ≡ true = grind (arith, nat_tests, below) in
+    let registration_form : has_registration_form a ≡ true =
+    both_true (both_true label_form account_form) (both_true day refl) in
+    let asked : (old : Case) → get w.requests name ≡ Some old → old.ask ≡ Code ask = λ old is.
+    let same : Some old ≡ Some case = sym is ∙ is_there in let itself : old ≡ case = cc in
+    ap (λ (f : Case). f.ask) itself ∙ asks in (
+      ap is_some is_there,
+      record {
+        caps = kept.caps;
+        registries = kept.registries;
+        entries = insert_keeps place_keys
+            (λ place a. has_entry_form place a ≡ true) w.entries place a kept.entries
+            (both_true (both_true registry_form value_form) registration_form);
+        open_values =
+            insert_keeps place_keys
+            (λ place a. is_open_at (get w.registries place.0) place.1
+            ≡ true) w.entries place a kept.open_values free.is_open;
+        requests = update_keeps name_keys
+            (λ name case. has_request_form name case ≡ true) w.requests name
+            (in_state state) kept.requests
+            (λ old is. new_state name old state (kept.requests name old is) value_form);
+        given = update_keeps name_keys
+            (λ name case.
+            stands_in (insert w.entries place a) name.0 case.ask case.state ≡ true) w.requests name
+            (in_state state)
+            (λ other old is.
+            stands_still w.entries place a free.is_new other.0 old.ask old.state
+            (kept.given other old is))
+            (λ old is.
+            subst (λ x. stands_in (insert w.entries place a) name.0 x state ≡ true)
+            (sym (asked old is))
+            (ap (is_registered_to name.0) (get-inserted place_keys w.entries place a)
+            ∙ same_text-itself name.0));
+        queue = kept.queue;
+        queued = λ seat there.
+            still_at name_keys w.requests name (in_state state) seat.0 (kept.queued seat there);
+        advice = kept.advice;
+        advised = kept.advised;
+        pool = kept.pool;
+      },
+    )

@@ -1,0 +1,65 @@
+-- Every run from a well kept world ends in one, and the first worlds are.
+use Rattle.std.proofs.Common.{◌≡◌, true, List, [], ◌∷◌, ℕ, refl, ap}
+use Rattle.std.specs.Prelude.{Option, Some, None, IsSome, is_some}
+use Rattle.std.specs.Cmp.{first_so, second_so}
+use Rattle.std.specs.Cmp.Derive.{both_true}
+use Rattle.std.specs.FinMap.{get-empty}
+use Rattle.std.specs.Ordering.{nat_cmp}
+use Rattle.reg_core.specs.Command.{has_command_form}
+use Rattle.reg_core.specs.Laws.{GivesDigests, RunsKeepWell, FirstWorldsAreWellKept, clerk_cap}
+use Rattle.reg_core.specs.Maps.{text_cmp}
+use Rattle.reg_core.specs.Run.{Event, have_forms, step_of}
+use Rattle.reg_core.specs.WellKept.{WellKept}
+use Rattle.reg_core.specs.World.{World, name_cmp, place_cmp, seat_cmp, empty_world, applied_if}
+use Rattle.reg_core.proofs.Keeping.Changes.{can_grant}
+use Rattle.reg_core.proofs.Fitting.{due_fits}
+use Rattle.reg_core.proofs.Outcomes.Dues.{each_step}
+
+module _ (digest_of : List ℕ → List ℕ) (digests : GivesDigests digest_of) where
+  pub step_keeps_well : (w : World) → WellKept w → (e : Event) → has_command_form e.command ≡ true
+      → WellKept (step_of digest_of w e).world
+  step_keeps_well w kept e form =
+      each_step digest_of w e.caller e.moment e.command
+      (λ change. WellKept (applied_if w change)) kept
+      (λ change is.
+      (due_fits w kept e.caller e.moment is.is_open change is.due (is.form digests form)).1)
+
+  pub runs_keep : RunsKeepWell digest_of
+  runs_keep w [] kept forms = kept
+  runs_keep w (e ∷ events) kept forms =
+      let here = step_keeps_well w kept e
+      (first_so (has_command_form e.command) (have_forms events) forms) in
+      runs_keep (step_of digest_of w e).world events here
+      (second_so (has_command_form e.command) (have_forms events) forms)
+
+-- ---- The first worlds
+
+-- a map without rows has none
+absent : {A P : Type 0} {o : Option A} {x : A} → o ≡ None → o ≡ Some x → P
+absent none is_there = absurd (cc)
+
+no_key : {A P : Type 0} {o : Option A} → o ≡ None → IsSome o → P
+no_key none there = let gone = ap is_some none in absurd (cc)
+
+empty_kept : WellKept empty_world
+empty_kept = record {
+  caps = λ digest cap is_there. absent (get-empty text_cmp digest) is_there;
+  registries = λ name table is_there. absent (get-empty text_cmp name) is_there;
+  entries = λ place a is_there. absent (get-empty place_cmp place) is_there;
+  open_values = λ place a is_there. absent (get-empty place_cmp place) is_there;
+  requests = λ name case is_there. absent (get-empty name_cmp name) is_there;
+  given = λ name case is_there. absent (get-empty name_cmp name) is_there;
+  queue = λ seat there. no_key (get-empty seat_cmp seat) there;
+  queued = λ seat there. no_key (get-empty seat_cmp seat) there;
+  advice = λ seat advice is_there. absent (get-empty seat_cmp seat) is_there;
+  advised = λ seat advice is_there. absent (get-empty seat_cmp seat) is_there;
+  pool = λ prefix there. no_key (get-empty nat_cmp prefix) there;
+}
+
+pub first_worlds_kept : FirstWorldsAreWellKept
+first_worlds_kept = (
+  empty_kept,
+  λ digest form.
+      (can_grant empty_world digest clerk_cap empty_kept (both_true form refl)
+      (get-empty text_cmp digest)).1,
+)

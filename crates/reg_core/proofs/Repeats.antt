@@ -1,0 +1,3 @@
+-- The same command again, at once and later.
+pub mod RepeatsActOnce
+pub mod RequestsStand

@@ -1,0 +1,130 @@
+-- The tests of sameness decide equality.
+use Rattle.std.proofs.Common.{◌≡◌, ℕ, Bool, true, ◌&&◌, List, refl, subst, ap, rules}
+use Rattle.std.proofs.lemmas.Bool.{eqb-true, eq-eqb}
+use Rattle.std.specs.Bool.{Decides}
+use Rattle.std.specs.Str.{bytes_eq}
+use Rattle.std.proofs.lemmas.Slice.Eq.{bytes_eq-Decides}
+use Rattle.std.specs.Prelude.{Option, Some, None}
+use Rattle.reg_core.specs.Advice.{same_advice, is_given}
+use Rattle.reg_core.specs.Ask.{same_want, same_code, same_ask}
+use Rattle.reg_core.specs.declared.ask.Want.{Want}
+use Rattle.reg_core.specs.declared.ask.Want.TheVariants.{Value, Least}
+use Rattle.reg_core.specs.Capability.{same_cap, same_kind}
+use Rattle.reg_core.specs.Laws.{DecidesSame}
+use Rattle.reg_core.specs.Maps.{same_text}
+use Rattle.reg_ranges.specs.Sameness.{same_evidence, same_table}
+use Rattle.reg_ranges.specs.Tables.{Table}
+use Rattle.reg_ranges.proofs.SamenessDecides.{policy_decided, both_decided, evidence_decided, table_decided}
+use Rattle.reg_core.specs.declared.advice.Advice.{Advice}
+use Rattle.reg_core.specs.declared.ask.Ask.{Ask}
+use Rattle.reg_core.specs.declared.ask.Ask.TheVariants.{Code}
+use Rattle.reg_core.specs.declared.ask.CodeAsk.{CodeAsk}
+use Rattle.reg_core.specs.declared.capability.Cap.{Cap}
+use Rattle.reg_core.specs.declared.capability.Kind.{Kind}
+
+pub same_text-itself : (x : List ℕ) → same_text x x ≡ true
+same_text-itself x = (bytes_eq-Decides x x).1 refl
+
+-- a test that holds of equal values alone, and of each value with itself
+from_both : {A : Type 0} (same : A → A → Bool) → ((a b : A) → same a b ≡ true → a ≡ b)
+    → ((a : A) → same a a ≡ true) → DecidesSame same
+from_both same is itself a b = (is a b, λ e. subst (λ x. same a x ≡ true) e (itself a))
+
+-- ---- Kinds
+
+pub same_kind-is : (a b : Kind) → same_kind a b ≡ true → a ≡ b
+same_kind-is a b = search rules
+
+same_kind-itself : (kind : Kind) → same_kind kind kind ≡ true
+same_kind-itself kind = search rules
+
+pub same_kind-decides : DecidesSame same_kind
+same_kind-decides = from_both same_kind same_kind-is same_kind-itself
+
+-- ---- Capabilities
+
+pub same_cap-is : (a b : Cap) → same_cap a b ≡ true → a ≡ b
+same_cap-is a b = search rules
+
+pub same_cap-itself : (cap : Cap) → same_cap cap cap ≡ true
+same_cap-itself cap = search rules
+
+pub same_cap-decides : DecidesSame same_cap
+same_cap-decides = from_both same_cap same_cap-is same_cap-itself
+
+-- ---- Advice
+
+same_advice-is : (a b : Advice) → same_advice a b ≡ true → a ≡ b
+same_advice-is a b = search rules
+
+pub same_advice-itself : (advice : Advice) → same_advice advice advice ≡ true
+same_advice-itself advice = search rules
+
+pub same_advice-decides : DecidesSame same_advice
+same_advice-decides = from_both same_advice same_advice-is same_advice-itself
+
+-- what was given already is this advice
+pub is_given-is : (old : Option Advice) (advice : Advice) → is_given old advice ≡ true
+    → old ≡ Some advice
+is_given-is None advice h = absurd (cc)
+is_given-is (Some old) advice h = ap Some (same_advice-is old advice h)
+
+-- ---- Asks
+
+want_decided : (a b : Want) → Decides (same_want a b) (a ≡ b)
+want_decided (Value v) (Value u) = (λ h. ap Value (eqb-true v u h), λ e. eq-eqb v u (cc))
+want_decided (Least p) (Least q) =
+    (λ h. ap Least ((policy_decided p q).0 h), λ e. (policy_decided p q).1 (cc))
+want_decided (Value v) (Least q) = (λ h. absurd (cc), λ e. absurd (cc))
+want_decided (Least p) (Value u) = (λ h. absurd (cc), λ e. absurd (cc))
+
+code_decided : (a b : CodeAsk) → Decides (same_code a b) (a ≡ b)
+code_decided a b =
+    let registry = bytes_eq-Decides a.registry b.registry in
+    let want = want_decided a.want b.want in
+    let label = bytes_eq-Decides a.label b.label in
+    let evidence = evidence_decided a.evidence b.evidence in
+    let parts = both_decided (bytes_eq a.registry b.registry)
+    (same_want a.want b.want
+    && (bytes_eq a.label b.label && same_evidence a.evidence b.evidence)) registry
+    (both_decided (same_want a.want b.want)
+    (bytes_eq a.label b.label && same_evidence a.evidence b.evidence) want
+    (both_decided (bytes_eq a.label b.label)
+    (same_evidence a.evidence b.evidence) label evidence)) in (
+      λ h. let e = parts.0 h in
+          λ i. record {
+            registry = e.0 i;
+            want = e.1.0 i;
+            label = e.1.1.0 i;
+            evidence =
+                e.1.1.1 i;
+          },
+      λ e. parts.1 (
+        ap (λ (x : CodeAsk). x.registry) e,
+        (
+          ap (λ (x : CodeAsk). x.want) e,
+          (ap (λ (x : CodeAsk). x.label) e, ap (λ (x : CodeAsk). x.evidence) e),
+        ),
+      ),
+    )
+
+ask_decided : (a b : Ask) → Decides (same_ask a b) (a ≡ b)
+ask_decided (Code a) (Code b) =
+    (λ h. ap Code ((code_decided a b).0 h), λ e. (code_decided a b).1 (cc))
+
+pub same_ask-is : (a b : Ask) → same_ask a b ≡ true → a ≡ b
+same_ask-is a b h = (ask_decided a b).0 h
+
+pub same_ask-itself : (ask : Ask) → same_ask ask ask ≡ true
+same_ask-itself ask = (ask_decided ask ask).1 refl
+
+pub same_ask-decides : DecidesSame same_ask
+same_ask-decides = from_both same_ask same_ask-is same_ask-itself
+
+-- ---- Tables
+
+pub same_table-is : (a b : Table) → same_table a b ≡ true → a ≡ b
+same_table-is a b h = (table_decided a b).0 h
+
+pub same_table-itself : (table : Table) → same_table table table ≡ true
+same_table-itself table = (table_decided table table).1 refl

@@ -1,0 +1,3 @@
+-- Steps of an office, worked out.
+mod FirstLines
+mod Advice

@@ -1,0 +1,222 @@
+-- The first lines of an office, worked out. A token stands for its own digest here.
+use Rattle.std.proofs.Common.{◌≡◌, ℕ, true, false, List, [], ◌∷◌, refl, sym, ap, ◌∙◌, length, arith}
+use Rattle.std.specs.Prelude.{Option, Some, None, codes, filter_map}
+use Rattle.std.specs.FinMap as map
+use Rattle.std.specs.FinMap.{get, entries, entries-insert, put, get-insert, get-empty, len-entries, len-empty}
+use Rattle.std.specs.Ordering.{nat_cmp}
+use Rattle.reg_early.specs.Moment.{is_in_clock}
+use Rattle.reg_core.specs.Laws.{clerk_cap, founded_world}
+use Rattle.reg_core.specs.Maps.{text_cmp, keyed, same_text, only_if}
+use Rattle.reg_core.specs.Run.{Event, run}
+use Rattle.reg_core.specs.Step.{Stepped, step}
+use Rattle.reg_core.specs.View.{requests_of}
+use Rattle.reg_core.specs.World.{World, name_cmp, applied}
+use Rattle.reg_core.specs.declared.capability.Cap.{Cap}
+use Rattle.reg_core.specs.declared.capability.Kind.TheVariants.{Applicant}
+use Rattle.reg_core.specs.declared.change.Change.TheVariants as change
+use Rattle.reg_core.specs.declared.command.Command.{Command}
+use Rattle.reg_core.specs.declared.command.Command.TheVariants.{Public, Applicant, Expert, Clerk}
+use Rattle.reg_core.specs.declared.command.ApplicantCommand.TheVariants.{Own}
+use Rattle.reg_core.specs.declared.command.ClerkCommand.TheVariants.{AddPool, Grant, Revoke}
+use Rattle.reg_core.specs.declared.command.PublicCommand.TheVariants.{PoolList}
+use Rattle.reg_core.specs.declared.refusal.Refusal.TheVariants as no
+use Rattle.reg_core.specs.declared.content.Content.TheVariants.{Rows, Pool, Pooled, Granted}
+use Rattle.reg_core.specs.declared.reply.Reply.TheVariants.{Accepted, Refused}
+use Rattle.reg_core.specs.declared.request.Case.{Case}
+use Rattle.reg_core.proofs.MapLaws.{number_keys, name_keys, text_keys, get-inserted, entries-select}
+
+abbrev clerk : List ℕ
+clerk = codes "clerk-token-00001"
+
+abbrev alice : List ℕ
+alice = codes "alice-token-00001"
+
+abbrev alice_cap : Cap
+alice_cap = record { account = codes "alice"; kind = Applicant; until = 1800000000 }
+
+abbrev bob_cap : Cap
+bob_cap = record alice_cap { account = codes "bob" }
+
+abbrev office : World
+office = founded_world clerk
+
+-- the office after the first grant
+abbrev granted : World
+granted = applied office (change.Grant alice alice_cap)
+
+abbrev given : World → Option (List ℕ) → ℕ → Command → Stepped
+given = step (λ token. token)
+
+-- ---- What the maps have
+
+office-clerk : get office.caps clerk ≡ Some clerk_cap
+office-clerk = get-inserted text_keys map.empty clerk clerk_cap
+
+office-alice : get office.caps alice ≡ None
+office-alice =
+    get-insert text_keys.total map.empty clerk clerk_cap alice ∙ get-empty text_cmp alice
+
+granted-clerk : get granted.caps clerk ≡ Some clerk_cap
+granted-clerk = get-insert text_keys.total office.caps alice alice_cap clerk ∙ office-clerk
+
+granted-alice : get granted.caps alice ≡ Some alice_cap
+granted-alice = get-inserted text_keys office.caps alice alice_cap
+
+none_long : {A : Type 0} (xs : List A) → length xs ≡ 0 → xs ≡ []
+none_long [] h = refl
+none_long (x ∷ xs) h = absurd (omega arith)
+
+no_requests : entries (requests_of (codes "alice") granted) ≡ []
+no_requests =
+    let none = none_long (entries granted.requests)
+    (sym (len-entries granted.requests) ∙ len-empty name_cmp Case) in
+    entries-select name_keys
+    (λ name case. only_if (same_text name.0 (codes "alice")) case) granted.requests
+    ∙ ap (filter_map (λ e. keyed e.0 (only_if (same_text e.0.0 (codes "alice")) e.1))) none
+
+-- ---- The lines
+
+without_a_token : given office None 1700000000 (Applicant Own)
+    ≡ record { reply = Refused no.Token; world = office }
+without_a_token = refl
+
+first_grant : given office (Some clerk) 1700000000 (Clerk (Grant alice alice_cap))
+    ≡ record { reply = Accepted (Granted alice_cap); world = granted }
+first_grant = rw (office-clerk, office-alice) refl
+
+empty_list : given granted (Some alice) 1700000000 (Applicant Own)
+    ≡ record { reply = Accepted (Rows []); world = granted }
+empty_list = rw (granted-alice, no_requests) refl
+
+same_grant : given granted (Some clerk) 1700000000 (Clerk (Grant alice alice_cap))
+    ≡ record { reply = Accepted (Granted alice_cap); world = granted }
+same_grant = rw (granted-clerk, granted-alice) refl
+
+other_grant : given granted (Some clerk) 1700000000 (Clerk (Grant alice bob_cap))
+    ≡ record { reply = Refused no.Exists; world = granted }
+other_grant = rw (granted-clerk, granted-alice) refl
+
+last_second : given granted (Some alice) 1799999999 (Applicant Own)
+    ≡ record { reply = Accepted (Rows []); world = granted }
+last_second = rw (granted-alice, no_requests) refl
+
+too_late : given granted (Some alice) 1800000000 (Applicant Own)
+    ≡ record { reply = Refused no.Token; world = granted }
+too_late = rw granted-alice refl
+
+clerks_own_list : given granted (Some clerk) 1700000000 (Applicant Own)
+    ≡ record { reply = Refused no.Kind; world = granted }
+clerks_own_list = rw granted-clerk refl
+
+grant_by_an_applicant : given granted (Some alice) 1700000000
+    (Clerk (Grant (codes "other-token-00001") bob_cap))
+    ≡ record { reply = Refused no.Kind; world = granted }
+grant_by_an_applicant = rw granted-alice refl
+
+token_in_use : given granted (Some clerk) 1700000000 (Clerk (Revoke clerk))
+    ≡ record { reply = Refused no.Own; world = granted }
+token_in_use = rw granted-clerk refl
+
+clock : (is_in_clock 946684799 ≡ false) × (is_in_clock 946684800 ≡ true)
+    × (is_in_clock 32503679999 ≡ true) × (is_in_clock 32503680000 ≡ false)
+clock = (refl, refl, refl, refl)
+
+-- outside those years every command of every caller is refused, whatever the world
+closed : (w : World) (caller : Option (List ℕ)) (command : Command)
+    → given w caller 946684799 command ≡ record { reply = Refused no.Clock; world = w }
+closed w caller (Public command) = refl
+closed w caller (Applicant command) = refl
+closed w caller (Expert command) = refl
+closed w None (Clerk command) = refl
+closed w (Some digest) (Clerk command) = refl
+
+-- ---- The pool
+
+-- 00-1A-2B, and FC-00-00 after it
+abbrev low : ℕ
+low = 0x00_1A2B
+
+abbrev high : ℕ
+high = 0xFC_0000
+
+-- the office after a prefix is added, and after one that is lower
+abbrev pooled : World
+pooled = applied office (change.AddPool high)
+
+abbrev both_pooled : World
+both_pooled = applied pooled (change.AddPool low)
+
+no_prefix : (prefix : ℕ) → get office.pool prefix ≡ None
+no_prefix prefix = get-empty nat_cmp prefix
+
+pooled-high : get pooled.pool high ≡ Some tt
+pooled-high = get-inserted number_keys office.pool high tt
+
+pooled-low : get pooled.pool low ≡ None
+pooled-low = get-insert number_keys.total office.pool high tt low ∙ no_prefix low
+
+no_prefixes : entries office.pool ≡ []
+no_prefixes =
+    none_long (entries office.pool) (sym (len-entries office.pool) ∙ len-empty nat_cmp (Unit {0}))
+
+high_alone : entries pooled.pool ≡ (high, tt) ∷ []
+high_alone =
+    entries-insert number_keys.total office.pool high tt ∙ ap (put nat_cmp high tt) no_prefixes
+
+low_and_high : entries both_pooled.pool ≡ (low, tt) ∷ (high, tt) ∷ []
+low_and_high =
+    entries-insert number_keys.total pooled.pool low tt ∙ ap (put nat_cmp low tt) high_alone
+
+empty_pool : given office None 1700000000 (Public PoolList)
+    ≡ record { reply = Accepted (Pool []); world = office }
+empty_pool = rw no_prefixes refl
+
+first_prefix : given office (Some clerk) 1700000000 (Clerk (AddPool high))
+    ≡ record { reply = Accepted (Pooled high); world = pooled }
+first_prefix = rw (office-clerk, no_prefix high) refl
+
+same_prefix : given pooled (Some clerk) 1700000000 (Clerk (AddPool high))
+    ≡ record { reply = Accepted (Pooled high); world = pooled }
+same_prefix = rw (office-clerk, pooled-high) refl
+
+lower_prefix : given pooled (Some clerk) 1700000000 (Clerk (AddPool low))
+    ≡ record { reply = Accepted (Pooled low); world = both_pooled }
+lower_prefix = rw (office-clerk, pooled-low) refl
+
+-- anybody is shown them ascending
+full_pool : given both_pooled None 1700000000 (Public PoolList)
+    ≡ record { reply = Accepted (Pool (low ∷ high ∷ [])); world = both_pooled }
+full_pool = rw low_and_high refl
+
+-- 01-1A-2B has the I/G bit, 02-1A-2B the U/L bit, and 2^24 is no 24-bit number
+group_prefix : given office (Some clerk) 1700000000 (Clerk (AddPool 0x01_1A2B))
+    ≡ record { reply = Refused no.Bits; world = office }
+group_prefix = rw office-clerk refl
+
+local_prefix : given office (Some clerk) 1700000000 (Clerk (AddPool 0x02_1A2B))
+    ≡ record { reply = Refused no.Bits; world = office }
+local_prefix = rw office-clerk refl
+
+long_prefix : given office (Some clerk) 1700000000 (Clerk (AddPool 0x100_0000))
+    ≡ record { reply = Refused no.Bits; world = office }
+long_prefix = rw office-clerk refl
+
+prefix_by_an_applicant : given granted (Some alice) 1700000000 (Clerk (AddPool low))
+    ≡ record { reply = Refused no.Kind; world = granted }
+prefix_by_an_applicant = rw granted-alice refl
+
+-- ---- The three lines of a new office in turn
+
+abbrev at : Option (List ℕ) → Command → Event
+at caller command = record { caller = caller; moment = 1700000000; command = command }
+
+first_lines : run (λ token. token) office
+    (at None (Applicant Own) ∷ at (Some clerk) (Clerk (Grant alice alice_cap)) ∷ at (Some alice)
+    (Applicant Own) ∷ [])
+    ≡ Refused no.Token ∷ Accepted (Granted alice_cap) ∷ Accepted (Rows []) ∷ []
+first_lines =
+    ap (λ (s : Stepped).
+    Refused no.Token ∷ s.reply ∷ run (λ token. token) s.world
+    (at (Some alice) (Applicant Own) ∷ [])) first_grant
+    ∙ ap (λ (s : Stepped).
+    Refused no.Token ∷ Accepted (Granted alice_cap) ∷ s.reply ∷ []) empty_list

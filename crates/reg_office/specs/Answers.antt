@@ -1,0 +1,51 @@
+-- What a caller who is admitted is answered over the content.
+use Rattle.std.specs.Prelude.{ℕ, List, [], Option, Some, None}
+use Rattle.reg_core.specs.Answer.{Answer, own_answer, expert_answer}
+use Rattle.reg_core.specs.Request.{request_row}
+use Rattle.reg_core.specs.Step.{clerk_answer}
+use Rattle.reg_core.specs.View.{Personal, published, personal}
+use Rattle.reg_core.specs.World.{World, RequestName, pending}
+use Rattle.reg_core.specs.declared.ask.Ask.{Ask}
+use Rattle.reg_core.specs.declared.command.ApplicantCommand.{ApplicantCommand}
+use Rattle.reg_core.specs.declared.command.ApplicantCommand.TheVariants.{Own, OwnOne, Submit, Withdraw}
+use Rattle.reg_core.specs.declared.command.ClerkCommand.{ClerkCommand}
+use Rattle.reg_core.specs.declared.command.ExpertCommand.{ExpertCommand}
+use Rattle.reg_core.specs.declared.content.Content.{Content}
+use Rattle.reg_core.specs.declared.content.Content.TheVariants.{Made, Row}
+use Rattle.reg_core.specs.declared.request.Request.{Request}
+use Rattle.reg_office.specs.Caller.{token_digest}
+
+-- ---- An applicant
+
+-- under its own names an account finds its requests among all
+abbrev pub by_name : List ℕ → World → Personal
+by_name account w = record (personal account w) { requests = w.requests }
+
+abbrev pub answer_to_account : List ℕ → ApplicantCommand → World → Answer
+answer_to_account account Own w = own_answer (published w) account (personal account w) Own
+answer_to_account account (OwnOne reference) w =
+    own_answer (published w) account (by_name account w) (OwnOne reference)
+answer_to_account account (Submit reference ask) w =
+    own_answer (published w) account (by_name account w) (Submit reference ask)
+answer_to_account account (Withdraw reference) w =
+    own_answer (published w) account (by_name account w) (Withdraw reference)
+
+-- what is told of a request that is made, or that is there already
+abbrev pub content_made : RequestName → Ask → Option Request → Content
+content_made name ask None = Made (request_row name (pending ask))
+content_made name ask (Some row) = Row row
+
+-- ---- An expert
+
+abbrev pub answer_to_expert : List ℕ → ExpertCommand → World → Answer
+answer_to_expert expert command w = expert_answer expert (personal expert w) command
+
+-- ---- A clerk
+
+-- on a day; in_use is the digest of the token in use
+abbrev pub answer_to_clerk : List ℕ → ℕ → ClerkCommand → World → Answer
+answer_to_clerk in_use today command w = clerk_answer token_digest w in_use today command
+
+-- where neither the token in use nor the day makes a difference
+abbrev pub answer_at_desk : ClerkCommand → World → Answer
+answer_at_desk command w = answer_to_clerk [] 0 command w

@@ -1,0 +1,9 @@
+use Rattle.csv.specs.Reading.{owned_rows_left}
+use Rattle.reg_ranges.proofs.RangeFileRows.{Reads}
+use Rattle.reg_ranges.proofs.range_file.read_ranges.Given as goal
+
+abbrev pub invariant-loop-ranges : goal.invariant-loop-ranges
+invariant-loop-ranges l = Reads l.fn.file l.rows l.ranges.items
+
+abbrev pub decreases-loop-ranges : goal.decreases-loop-ranges
+decreases-loop-ranges l = owned_rows_left l.rows

@@ -1,0 +1,29 @@
+-- A request's file, as its panel and the advice on it are held.
+use Rattle.std.proofs.Common.{◌≡◌, ℕ, List, [], ◌∷◌, refl, ap, map}
+use Rattle.std.specs.Prelude.{Option, Some, None, option_map}
+use Rattle.std.specs.Map.{keys_of}
+use Rattle.reg_core.specs.File.{experts_of, opinion, opinions_of, file}
+use Rattle.reg_core.specs.Request.{request_row}
+use Rattle.reg_core.specs.World.{World, RequestName, Seat}
+use Rattle.reg_core.specs.declared.advice.Advice.{Advice}
+use Rattle.reg_core.specs.declared.request.Case.{Case}
+use Rattle.reg_core.specs.declared.request.Request.{Request}
+use Rattle.reg_store.specs.Groups.{group_rows}
+
+-- a request that is there, with its experts and the advice on it
+pub file-there : (w : World) (name : RequestName) (o : Option Case) (request : Request)
+    → option_map (request_row name) o ≡ Some request
+    → option_map (file w name) o
+    ≡ Some (record { request = request; experts = experts_of w name; advice = opinions_of w name })
+file-there w name None request h = absurd (cc)
+file-there w name (Some case) request h =
+    let same : request_row name case ≡ request = cc in
+    ap (λ r. Some
+    (record { request = r; experts = experts_of w name; advice = opinions_of w name }))
+    same
+
+-- and one that is not there
+pub file-absent : (w : World) (name : RequestName) (o : Option Case)
+    → option_map (request_row name) o ≡ None → option_map (file w name) o ≡ None
+file-absent w name None h = refl
+file-absent w name (Some case) h = absurd (cc)

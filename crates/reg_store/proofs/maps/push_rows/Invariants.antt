@@ -1,0 +1,9 @@
+use Rattle.std.proofs.Common.{◌≡◌, ◌++◌, map}
+use Rattle.std.specs.Map.Iter.{deref_pair}
+use Rattle.reg_store.specs.Maps.{Computes}
+use Rattle.reg_store.proofs.maps.push_rows.Given as goal
+
+abbrev pub invariant-loop-key : goal.invariant-loop-key
+invariant-loop-key g l =
+    (f : g.row.K.Denot → g.row.V.Denot → g.row.T.Denot) → Computes (goal.F-post g l.make) f
+    → l.made.items ≡ l.fn.made.items ++ map (λ e. f e.0 e.1) (map deref_pair l.yielded)

@@ -1,0 +1,15 @@
+-- Requests with their experts and the advice on them.
+use Rattle.reg_core.specs.Maps.{text_cmp}
+use Rattle.reg_core.specs.World.{World, name_cmp, empty_world}
+use Rattle.reg_store.specs.Groups.{pair_map}
+use Rattle.reg_store.specs.Lists.Opinions.{Opinions}
+use Rattle.reg_store.specs.Lists.Panels.{Panels, seats}
+use Rattle.reg_store.specs.Lists.Requests.{Requests}
+
+-- the world of these requests, experts and advice alone
+abbrev pub review_world : Requests → Panels → Opinions → World
+review_world requests panels opinions = record empty_world {
+  requests = pair_map text_cmp text_cmp requests;
+  queue = seats panels;
+  advice = pair_map name_cmp text_cmp opinions;
+}

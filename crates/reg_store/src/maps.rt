@@ -1,0 +1,72 @@
+//! Rows in ordered maps.
+ghost use Rattle.std.specs.Prelude.{◌≡◌, ◌++◌, map as each, OnOk, OnErr};
+ghost use Rattle.std.specs.Option.{option_copied};
+ghost use Rattle.std.specs.FinMap as fin;
+ghost use Rattle.reg_core.proofs.MapLaws.{IsKeyOrder, number_keys, text_keys, pair_keys};
+ghost use Rattle.reg_store.specs.Maps.{finite_map, Computes};
+
+use reg_core::text::{Form, Word};
+use std::alloc::AllocError;
+use std::collections::BTreeMap;
+
+/// Keys of which only equal ones tie.
+pub trait Key: Ord {
+    /// Only equal ones tie.
+    ghost order: { IsKeyOrder Self.cmp };
+}
+
+impl Key for u32 {
+    ghost order = { number_keys };
+}
+
+impl<F: Form> Key for Word<F> {
+    ghost order = { text_keys };
+}
+
+impl<A: Key, B: Key> Key for (A, B) {
+    ghost order = { pair_keys A.order B.order };
+}
+
+/// The row at a key.
+pub fn row_at<'a, K: Key, V>(map: &'a BTreeMap<K, V>, key: &K) -> Option<&'a V>
+    ensures { option_copied result ≡ fin.get (finite_map K.cmp map.now) key.now }
+{
+    map.get(key)
+}
+
+/// Adds a row or replaces the one at its key.
+pub fn set_row<K: Key + Drop, V: Drop>(
+    map: &mut BTreeMap<K, V>,
+    key: K,
+    row: V,
+) -> Result<(), AllocError>
+    ensures ok { OnOk result (finite_map K.cmp map.new
+        ≡ fin.insert (finite_map K.cmp map.old) key row) }
+    ensures err { OnErr result (finite_map K.cmp map.new ≡ finite_map K.cmp map.old) }
+{
+    map.insert(key, row)?;
+    Ok(())
+}
+
+/// Takes the row at a key away, if there is one.
+pub fn unset_row<K: Key + Drop, V: Drop>(map: &mut BTreeMap<K, V>, key: &K)
+    ensures { finite_map K.cmp map.new ≡ fin.remove (finite_map K.cmp map.old) key.now }
+{
+    map.remove(key);
+}
+
+/// Pushes what is made of each row, in order.
+pub fn push_rows<K: Ord, V, T: Drop, F: Fn(&K, &V) -> Result<T, AllocError>>(
+    made: &mut Vec<T>,
+    map: &BTreeMap<K, V>,
+    make: F,
+) -> Result<(), AllocError>
+    requires { F.IsAlwaysCallable make }
+    ensures { (f : K → V → T) → Computes (F.post make) f
+        → OnOk result (made.new.items ≡ made.old.items ++ each (λ e. f e.0 e.1) map.now.entries) }
+{
+    for (key, row) in map {
+        made.push(make(key, row)?)?;
+    }
+    Ok(())
+}
