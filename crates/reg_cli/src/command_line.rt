@@ -3,8 +3,8 @@ use crate::jobs::{Job, JobFault};
 use clap::{Arg, ArgAction, Command};
 use std::alloc::Global;
 
-/// The job that the words of a command line ask for, the program's own name first. `Line` where they are
-/// no command line of the program.
+/// The job that the words of a command line ask for, the program's own name first. `Line` where
+/// they are no command line of the program.
 pub fn job(alloc: Global, words: &[&str]) -> Result<Job, JobFault> {
     let clerk = Arg::new(alloc, "clerk")
         .long("clerk")

@@ -7,8 +7,8 @@ use reg_wire::script::run;
 use std::alloc::Global;
 use std::io::{Read, Write};
 
-/// Does a job over the given standard input, output and error, and gives the exit status: 0, or 1 with
-/// one line on standard error that begins `fault: ` and says why.
+/// Does a job over the given standard input, output and error, and gives the exit status: 0, or 1
+/// with one line on standard error that begins `fault: ` and says why.
 pub fn perform<H: AllocGlobal, R: Read, W: Write, E: Write>(
     rt: &H,
     job: Job,
@@ -28,8 +28,8 @@ pub fn perform<H: AllocGlobal, R: Read, W: Write, E: Write>(
     }
 }
 
-/// Says on standard error that there is no job, and gives the exit status: 2 for words that are no command
-/// line, else 1.
+/// Says on standard error that there is no job, and gives the exit status: 2 for words that are no
+/// command line, else 1.
 pub fn refuse<E: Write>(fault: JobFault, errors: &mut E) -> u8 {
     match fault {
         JobFault::Line => {

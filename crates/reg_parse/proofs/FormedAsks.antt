@@ -30,19 +30,33 @@ use Rattle.reg_parse.proofs.Formed.{Passes, Gives, ok-passes, err-passes, guard,
 abbrev is_numbered : PublishedRfc → Bool
 is_numbered rfc = is_within 1 99999 rfc.number
 
-among-gives : (b : Bool) (n : ℕ) (s : Stream) (t : Track) (y : PublishedRfc) → cond b (rfc_with n s t) None ≡ Some y → is_numbered y ≡ true
+among-gives : (b : Bool) (n : ℕ) (s : Stream) (t : Track) (y : PublishedRfc)
+    → cond b (rfc_with n s t) None ≡ Some y → is_numbered y ≡ true
 among-gives true n s t y e = guard is_numbered (record { number = n; stream = s; track = t }) y e
 among-gives false n s t y e = cc
 
 rfc_form-gives : Gives is_numbered rfc_form
 unfolding rfc_form
 rfc_form-gives json =
-    after is_numbered _ (λ n. after is_numbered _ (λ s. after is_numbered _ (λ t. among-gives (is_among rfc_items (as_object json)) n s t) (member_in item.Track track_form json)) (member_in item.Stream stream_form json)) (member_in item.Number number_form json)
+    after is_numbered _
+    (λ n. after is_numbered _
+    (λ s. after is_numbered _ (λ t. among-gives (is_among rfc_items (as_object json)) n s t)
+    (member_in item.Track track_form json)) (member_in item.Stream stream_form json))
+    (member_in item.Number number_form json)
 
-evidence_parts : (c : Reading (Option (List ℕ))) (s : Reading (Option (List ℕ))) (r : Reading (Option PublishedRfc)) (m : Reading (Option (List ℕ)))
-    → Passes has_note_form c → Passes has_note_form s → Passes has_rfc_form r → Passes has_note_form m
-    → Passes has_evidence_form (c >>= (λ contact. s >>= (λ specification. r >>= (λ rfc. m >>= (λ minute. Ok (record { contact = contact; spec = specification; rfc = rfc; minute = minute }))))))
-evidence_parts (Ok c) (Ok s) (Ok r) (Ok m) hc hs hr hm = ok-passes has_evidence_form _ (rw (hc.passed c refl, hs.passed s refl, hr.passed r refl, hm.passed m refl) refl)
+evidence_parts : (c : Reading (Option (List ℕ))) (s : Reading (Option (List ℕ)))
+    (r : Reading (Option PublishedRfc)) (m : Reading (Option (List ℕ)))
+    → Passes has_note_form c → Passes has_note_form s → Passes has_rfc_form r
+    → Passes has_note_form m
+    → Passes has_evidence_form
+    (c >>= (λ contact. s
+    >>= (λ specification. r
+    >>= (λ rfc. m
+    >>= (λ minute. Ok
+    (record { contact = contact; spec = specification; rfc = rfc; minute = minute }))))))
+evidence_parts (Ok c) (Ok s) (Ok r) (Ok m) hc hs hr hm =
+    ok-passes has_evidence_form _
+    (rw (hc.passed c refl, hs.passed s refl, hr.passed r refl, hm.passed m refl) refl)
 evidence_parts (Ok c) (Ok s) (Ok r) (Err e) hc hs hr hm = err-passes _ e
 evidence_parts (Ok c) (Ok s) (Err e) m hc hs hr hm = err-passes _ e
 evidence_parts (Ok c) (Err e) r m hc hs hr hm = err-passes _ e
@@ -51,21 +65,38 @@ evidence_parts (Err e) s r m hc hs hr hm = err-passes _ e
 evidence_of-passes : (json : Data) → Passes has_evidence_form (evidence_of json)
 unfolding evidence_of
 evidence_of-passes json =
-    evidence_parts (optional item.Contact (text_form is_text) json) (optional item.Specification (text_form is_text) json) (optional item.Rfc rfc_form json) (optional item.Minute (text_form is_text) json)
-    (note-passes item.Contact json) (note-passes item.Specification json) (optional-passes has_rfc_form item.Rfc rfc_form json refl rfc_form-gives) (note-passes item.Minute json)
+    evidence_parts (optional item.Contact (text_form is_text) json)
+    (optional item.Specification (text_form is_text) json) (optional item.Rfc rfc_form json)
+    (optional item.Minute (text_form is_text) json)
+    (note-passes item.Contact json) (note-passes item.Specification json)
+    (optional-passes has_rfc_form item.Rfc rfc_form json refl rfc_form-gives)
+    (note-passes item.Minute json)
 
 -- ---- asks
 
 want_by-passes : (value least : Option Data) → Passes has_want_form (want_by value least)
-want_by-passes (Some value) None = or_refusal-passes has_want_form (refusal.Field item.Value) _ (mapped has_want_form want.Value (number_form value) (number_form-gives value))
-want_by-passes None (Some least) = or_refusal-passes has_want_form (refusal.Field item.Least) _ (mapped has_want_form want.Least (policy_form least) (λ policy e. refl))
+want_by-passes (Some value) None =
+    or_refusal-passes has_want_form (refusal.Field item.Value) _
+    (mapped has_want_form want.Value (number_form value) (number_form-gives value))
+want_by-passes None (Some least) =
+    or_refusal-passes has_want_form (refusal.Field item.Least) _
+    (mapped has_want_form want.Least (policy_form least) (λ policy e. refl))
 want_by-passes (Some value) (Some least) = err-passes _ (refusal.Field item.Value)
 want_by-passes None None = err-passes _ (refusal.Field item.Value)
 
-code_parts : (r : Reading (List ℕ)) (w : Reading Want) (l : Reading (List ℕ)) (v : Reading Evidence) (o : Reading ⊤)
+code_parts : (r : Reading (List ℕ)) (w : Reading Want) (l : Reading (List ℕ)) (v : Reading Evidence)
+    (o : Reading ⊤)
     → Passes is_name r → Passes has_want_form w → Passes is_text l → Passes has_evidence_form v
-    → Passes has_code_form (r >>= (λ registry. w >>= (λ wanted. l >>= (λ label. v >>= (λ evidence. o >>= (λ others. Ok (record { registry = registry; want = wanted; label = label; evidence = evidence })))))))
-code_parts (Ok r) (Ok w) (Ok l) (Ok v) (Ok o) hr hw hl hv = ok-passes has_code_form _ (rw (hr.passed r refl, hw.passed w refl, hl.passed l refl, hv.passed v refl) refl)
+    → Passes has_code_form
+    (r >>= (λ registry. w
+    >>= (λ wanted. l
+    >>= (λ label. v
+    >>= (λ evidence. o
+    >>= (λ others. Ok
+    (record { registry = registry; want = wanted; label = label; evidence = evidence })))))))
+code_parts (Ok r) (Ok w) (Ok l) (Ok v) (Ok o) hr hw hl hv =
+    ok-passes has_code_form _
+    (rw (hr.passed r refl, hw.passed w refl, hl.passed l refl, hv.passed v refl) refl)
 code_parts (Ok r) (Ok w) (Ok l) (Ok v) (Err e) hr hw hl hv = err-passes _ e
 code_parts (Ok r) (Ok w) (Ok l) (Err e) o hr hw hl hv = err-passes _ e
 code_parts (Ok r) (Ok w) (Err e) v o hr hw hl hv = err-passes _ e
@@ -75,15 +106,19 @@ code_parts (Err e) w l v o hr hw hl hv = err-passes _ e
 code_of-passes : (json : Data) → Passes has_code_form (code_of json)
 unfolding code_of
 code_of-passes json =
-    code_parts (needed item.Registry (text_form is_name) json) (want_of json) (needed item.Label (text_form is_text) json) (evidence_of json) (only code_items json)
-    (needed-passes is_name item.Registry _ json (text_form-gives is_name)) (want_by-passes (get (item_name item.Value) json) (get (item_name item.Least) json))
+    code_parts (needed item.Registry (text_form is_name) json) (want_of json)
+    (needed item.Label (text_form is_text) json) (evidence_of json) (only code_items json)
+    (needed-passes is_name item.Registry _ json (text_form-gives is_name))
+    (want_by-passes (get (item_name item.Value) json) (get (item_name item.Least) json))
     (needed-passes is_text item.Label _ json (text_form-gives is_text)) (evidence_of-passes json)
 
-code_ask : (code : Reading CodeAsk) → Passes has_code_form code → Passes has_ask_form (code >>= (λ c. Ok (Code c)))
+code_ask : (code : Reading CodeAsk) → Passes has_code_form code
+    → Passes has_ask_form (code >>= (λ c. Ok (Code c)))
 code_ask (Ok code) h = ok-passes has_ask_form (Code code) (h.passed code refl)
 code_ask (Err e) h = err-passes _ e
 
-ask_of-passes_at : (k : Reading AskKind) (json : Data) → Passes has_ask_form (k >>= (λ asked. ask_of_kind asked json))
+ask_of-passes_at : (k : Reading AskKind) (json : Data)
+    → Passes has_ask_form (k >>= (λ asked. ask_of_kind asked json))
 ask_of-passes_at (Ok kind.Code) json = code_ask (code_of json) (code_of-passes json)
 ask_of-passes_at (Err e) json = err-passes _ e
 

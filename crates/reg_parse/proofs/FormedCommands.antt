@@ -44,17 +44,25 @@ use Rattle.reg_parse.proofs.FormedTables.{table_of-passes}
 
 -- ---- segments
 
-segment-passes : {A : Type 0} (test : A → Bool) (part : Item) (form : List ℕ → Option A) (pattern path : List ℕ) → Gives test form → Passes test (segment part form pattern path)
-segment-passes test part form pattern path h = or_refusal-passes test (refusal.Field part) _ (after test form h _)
+segment-passes : {A : Type 0} (test : A → Bool) (part : Item) (form : List ℕ → Option A)
+    (pattern path : List ℕ) → Gives test form → Passes test (segment part form pattern path)
+segment-passes test part form pattern path h =
+    or_refusal-passes test (refusal.Field part) _ (after test form h _)
 
 name_at-passes : (part : Item) (pattern path : List ℕ) → Passes is_name (name_at part pattern path)
-name_at-passes part pattern path = segment-passes is_name part (read_text is_name) pattern path (λ s t. guard is_name s t)
+name_at-passes part pattern path =
+    segment-passes is_name part (read_text is_name) pattern path (λ s t. guard is_name s t)
 
 -- ---- capabilities
 
-cap_parts : (a : Reading (List ℕ)) (k : Reading Kind) (u : Reading ℕ) → Passes is_name a → Passes is_until u
-    → Passes has_cap_form (a >>= (λ account. k >>= (λ kind. u >>= (λ until. Ok (record { account = account; kind = kind; until = until })))))
-cap_parts (Ok a) (Ok k) (Ok u) ha hu = ok-passes has_cap_form _ (rw (ha.passed a refl, hu.passed u refl) refl)
+cap_parts : (a : Reading (List ℕ)) (k : Reading Kind) (u : Reading ℕ) → Passes is_name a
+    → Passes is_until u
+    → Passes has_cap_form
+    (a >>= (λ account. k
+    >>= (λ kind. u
+    >>= (λ until. Ok (record { account = account; kind = kind; until = until })))))
+cap_parts (Ok a) (Ok k) (Ok u) ha hu =
+    ok-passes has_cap_form _ (rw (ha.passed a refl, hu.passed u refl) refl)
 cap_parts (Ok a) (Ok k) (Err e) ha hu = err-passes _ e
 cap_parts (Ok a) (Err e) u ha hu = err-passes _ e
 cap_parts (Err e) k u ha hu = err-passes _ e
@@ -62,35 +70,51 @@ cap_parts (Err e) k u ha hu = err-passes _ e
 cap_of-passes : (json : Data) → Passes has_cap_form (cap_of json)
 unfolding cap_of
 cap_of-passes json =
-    cap_parts (needed item.Account (text_form is_name) json) (needed item.Kind kind_form json) (needed item.Until until_form json)
-    (needed-passes is_name item.Account _ json (text_form-gives is_name)) (needed-passes is_until item.Until _ json until_form-gives)
+    cap_parts (needed item.Account (text_form is_name) json) (needed item.Kind kind_form json)
+    (needed item.Until until_form json)
+    (needed-passes is_name item.Account _ json (text_form-gives is_name))
+    (needed-passes is_until item.Until _ json until_form-gives)
 
 -- ---- of names
 
-plain_parts : (n : Reading ⊤) (c : Command) → has_command_form c ≡ true → Passes has_command_form (n >>= (λ nothing. Ok c))
+plain_parts : (n : Reading ⊤) (c : Command) → has_command_form c ≡ true
+    → Passes has_command_form (n >>= (λ nothing. Ok c))
 plain_parts (Ok n) c h = ok-passes has_command_form c h
 plain_parts (Err e) c h = err-passes _ e
 
 -- a command that is about a name
-named_parts : (make : List ℕ → Command) → ((s : List ℕ) → is_name s ≡ true → has_command_form (make s) ≡ true) → (n : Reading ⊤) (r : Reading (List ℕ)) → Passes is_name r
+named_parts : (make : List ℕ → Command)
+    → ((s : List ℕ) → is_name s ≡ true → has_command_form (make s) ≡ true)
+    → (n : Reading ⊤) (r : Reading (List ℕ)) → Passes is_name r
     → Passes has_command_form (n >>= (λ nothing. r >>= (λ name. Ok (make name))))
 named_parts make h (Ok n) (Ok r) p = ok-passes has_command_form (make r) (h r (p.passed r refl))
 named_parts make h (Ok n) (Err e) p = err-passes _ e
 named_parts make h (Err e) r p = err-passes _ e
 
 -- an account and a reference
-two_parts : (make : List ℕ → List ℕ → Command) → ((a r : List ℕ) → (is_name a && is_name r) ≡ true → has_command_form (make a r) ≡ true)
-    → (n : Reading ⊤) (a : Reading (List ℕ)) (r : Reading (List ℕ)) → Passes is_name a → Passes is_name r
-    → Passes has_command_form (n >>= (λ nothing. a >>= (λ account. r >>= (λ reference. Ok (make account reference)))))
-two_parts make form (Ok n) (Ok a) (Ok r) ha hr = ok-passes has_command_form _ (form a r (both_true (ha.passed a refl) (hr.passed r refl)))
+two_parts : (make : List ℕ → List ℕ → Command)
+    → ((a r : List ℕ) → (is_name a && is_name r) ≡ true → has_command_form (make a r) ≡ true)
+    → (n : Reading ⊤) (a : Reading (List ℕ)) (r : Reading (List ℕ)) → Passes is_name a
+    → Passes is_name r
+    → Passes has_command_form
+    (n >>= (λ nothing. a >>= (λ account. r >>= (λ reference. Ok (make account reference)))))
+two_parts make form (Ok n) (Ok a) (Ok r) ha hr =
+    ok-passes has_command_form _ (form a r (both_true (ha.passed a refl) (hr.passed r refl)))
 two_parts make form (Ok n) (Ok a) (Err e) ha hr = err-passes _ e
 two_parts make form (Ok n) (Err e) r ha hr = err-passes _ e
 two_parts make form (Err e) a r ha hr = err-passes _ e
 
 -- an account, a reference and an expert
-assign_parts : (n : Reading ⊤) (a r x : Reading (List ℕ)) → Passes is_name a → Passes is_name r → Passes is_name x
-    → Passes has_command_form (n >>= (λ nothing. a >>= (λ account. r >>= (λ reference. x >>= (λ adviser. Ok (command.Clerk (clerk.AssignExpert account reference adviser)))))))
-assign_parts (Ok n) (Ok a) (Ok r) (Ok x) ha hr hx = ok-passes has_command_form _ (both_true (both_true (ha.passed a refl) (hr.passed r refl)) (hx.passed x refl))
+assign_parts : (n : Reading ⊤) (a r x : Reading (List ℕ)) → Passes is_name a → Passes is_name r
+    → Passes is_name x
+    → Passes has_command_form
+    (n >>= (λ nothing. a
+    >>= (λ account. r
+    >>= (λ reference. x
+    >>= (λ adviser. Ok (command.Clerk (clerk.AssignExpert account reference adviser)))))))
+assign_parts (Ok n) (Ok a) (Ok r) (Ok x) ha hr hx =
+    ok-passes has_command_form _
+    (both_true (both_true (ha.passed a refl) (hr.passed r refl)) (hx.passed x refl))
 assign_parts (Ok n) (Ok a) (Ok r) (Err e) ha hr hx = err-passes _ e
 assign_parts (Ok n) (Ok a) (Err e) x ha hr hx = err-passes _ e
 assign_parts (Ok n) (Err e) r x ha hr hx = err-passes _ e
@@ -98,126 +122,228 @@ assign_parts (Err e) a r x ha hr hx = err-passes _ e
 
 -- ---- with a body
 
-advice_parts : (v : Reading Verdict) (t : Reading (List ℕ)) → Passes is_text t → Passes has_advice_form (v >>= (λ verdict. t >>= (λ text. Ok (record { verdict = verdict; text = text }))))
+advice_parts : (v : Reading Verdict) (t : Reading (List ℕ)) → Passes is_text t
+    → Passes has_advice_form
+    (v >>= (λ verdict. t >>= (λ text. Ok (record { verdict = verdict; text = text }))))
 advice_parts (Ok v) (Ok t) ht = ok-passes has_advice_form _ (ht.passed t refl)
 advice_parts (Ok v) (Err e) ht = err-passes _ e
 advice_parts (Err e) t ht = err-passes _ e
 
 advice_of-passes : (json : Data) → Passes has_advice_form (advice_of json)
 unfolding advice_of
-advice_of-passes json = advice_parts (needed item.Verdict verdict_form json) (needed item.Text (text_form is_text) json) (needed-passes is_text item.Text _ json (text_form-gives is_text))
+advice_of-passes json =
+    advice_parts (needed item.Verdict verdict_form json) (needed item.Text (text_form is_text) json)
+    (needed-passes is_text item.Text _ json (text_form-gives is_text))
 
-advise_last : (account reference : List ℕ) (v : Reading Advice) (o : Reading ⊤) → is_name account ≡ true → is_name reference ≡ true → Passes has_advice_form v
-    → Passes has_command_form (v >>= (λ advice. o >>= (λ others. Ok (command.Expert (expert.Advise account reference advice)))))
-advise_last account reference (Ok v) (Ok o) ha hr hv = ok-passes has_command_form _ (both_true (both_true ha hr) (hv.passed v refl))
+advise_last : (account reference : List ℕ) (v : Reading Advice) (o : Reading ⊤)
+    → is_name account ≡ true → is_name reference ≡ true → Passes has_advice_form v
+    → Passes has_command_form
+    (v >>= (λ advice. o
+    >>= (λ others. Ok (command.Expert (expert.Advise account reference advice)))))
+advise_last account reference (Ok v) (Ok o) ha hr hv =
+    ok-passes has_command_form _ (both_true (both_true ha hr) (hv.passed v refl))
 advise_last account reference (Ok v) (Err e) ha hr hv = err-passes _ e
 advise_last account reference (Err e) o ha hr hv = err-passes _ e
 
-advise_parts : (j : Reading Data) (a : Reading (List ℕ)) (r : Reading (List ℕ)) → Passes is_name a → Passes is_name r
-    → Passes has_command_form (j >>= (λ json. a >>= (λ account. r >>= (λ reference. advice_of json >>= (λ advice. only (item.Verdict ∷ item.Text ∷ []) json >>= (λ others. Ok (command.Expert (expert.Advise account reference advice))))))))
-advise_parts (Ok json) (Ok a) (Ok r) ha hr = advise_last a r (advice_of json) (only (item.Verdict ∷ item.Text ∷ []) json) (ha.passed a refl) (hr.passed r refl) (advice_of-passes json)
+advise_parts : (j : Reading Data) (a : Reading (List ℕ)) (r : Reading (List ℕ)) → Passes is_name a
+    → Passes is_name r
+    → Passes has_command_form
+    (j >>= (λ json. a
+    >>= (λ account. r
+    >>= (λ reference. advice_of json
+    >>= (λ advice. only (item.Verdict ∷ item.Text ∷ []) json
+    >>= (λ others. Ok (command.Expert (expert.Advise account reference advice))))))))
+advise_parts (Ok json) (Ok a) (Ok r) ha hr =
+    advise_last a r (advice_of json) (only (item.Verdict ∷ item.Text ∷ []) json) (ha.passed a refl)
+    (hr.passed r refl) (advice_of-passes json)
 advise_parts (Ok json) (Ok a) (Err e) ha hr = err-passes _ e
 advise_parts (Ok json) (Err e) r ha hr = err-passes _ e
 advise_parts (Err e) a r ha hr = err-passes _ e
 
-decline_last : (account reference : List ℕ) (t : Reading (List ℕ)) (o : Reading ⊤) → is_name account ≡ true → is_name reference ≡ true → Passes is_text t
-    → Passes has_command_form (t >>= (λ reason. o >>= (λ others. Ok (command.Clerk (clerk.Decline account reference reason)))))
-decline_last account reference (Ok t) (Ok o) ha hr ht = ok-passes has_command_form _ (both_true (both_true ha hr) (ht.passed t refl))
+decline_last : (account reference : List ℕ) (t : Reading (List ℕ)) (o : Reading ⊤)
+    → is_name account ≡ true → is_name reference ≡ true → Passes is_text t
+    → Passes has_command_form
+    (t >>= (λ reason. o
+    >>= (λ others. Ok (command.Clerk (clerk.Decline account reference reason)))))
+decline_last account reference (Ok t) (Ok o) ha hr ht =
+    ok-passes has_command_form _ (both_true (both_true ha hr) (ht.passed t refl))
 decline_last account reference (Ok t) (Err e) ha hr ht = err-passes _ e
 decline_last account reference (Err e) o ha hr ht = err-passes _ e
 
-decline_parts : (j : Reading Data) (a : Reading (List ℕ)) (r : Reading (List ℕ)) → Passes is_name a → Passes is_name r
-    → Passes has_command_form (j >>= (λ json. a >>= (λ account. r >>= (λ reference. needed item.Reason (text_form is_text) json >>= (λ reason. only (item.Reason ∷ []) json >>= (λ others. Ok (command.Clerk (clerk.Decline account reference reason))))))))
+decline_parts : (j : Reading Data) (a : Reading (List ℕ)) (r : Reading (List ℕ)) → Passes is_name a
+    → Passes is_name r
+    → Passes has_command_form
+    (j >>= (λ json. a
+    >>= (λ account. r
+    >>= (λ reference. needed item.Reason (text_form is_text) json
+    >>= (λ reason. only (item.Reason ∷ []) json
+    >>= (λ others. Ok (command.Clerk (clerk.Decline account reference reason))))))))
 decline_parts (Ok json) (Ok a) (Ok r) ha hr =
-    decline_last a r (needed item.Reason (text_form is_text) json) (only (item.Reason ∷ []) json) (ha.passed a refl) (hr.passed r refl)
+    decline_last a r (needed item.Reason (text_form is_text) json) (only (item.Reason ∷ []) json)
+    (ha.passed a refl) (hr.passed r refl)
     (needed-passes is_text item.Reason _ json (text_form-gives is_text))
 decline_parts (Ok json) (Ok a) (Err e) ha hr = err-passes _ e
 decline_parts (Ok json) (Err e) r ha hr = err-passes _ e
 decline_parts (Err e) a r ha hr = err-passes _ e
 
-submit_last : (r : List ℕ) (a : Reading Ask) → is_name r ≡ true → Passes has_ask_form a → Passes has_command_form (a >>= (λ asked. Ok (command.Applicant (applicant.Submit r asked))))
+submit_last : (r : List ℕ) (a : Reading Ask) → is_name r ≡ true → Passes has_ask_form a
+    → Passes has_command_form (a >>= (λ asked. Ok (command.Applicant (applicant.Submit r asked))))
 submit_last r (Ok a) hr ha = ok-passes has_command_form _ (rw (hr, ha.passed a refl) refl)
 submit_last r (Err e) hr ha = err-passes _ e
 
-submit_parts : (j : Reading Data) (r : Reading (List ℕ)) → Passes is_name r → Passes has_command_form (j >>= (λ json. r >>= (λ reference. ask_of json >>= (λ asked. Ok (command.Applicant (applicant.Submit reference asked))))))
+submit_parts : (j : Reading Data) (r : Reading (List ℕ)) → Passes is_name r
+    → Passes has_command_form
+    (j >>= (λ json. r
+    >>= (λ reference. ask_of json
+    >>= (λ asked. Ok (command.Applicant (applicant.Submit reference asked))))))
 submit_parts (Ok json) (Ok r) h = submit_last r (ask_of json) (h.passed r refl) (ask_of-passes json)
 submit_parts (Ok json) (Err e) h = err-passes _ e
 submit_parts (Err e) r h = err-passes _ e
 
-define_last : (name : List ℕ) (t : Reading Table) → is_name name ≡ true → Passes has_table_form t → Passes has_command_form (t >>= (λ table. Ok (command.Clerk (clerk.Define name table))))
+define_last : (name : List ℕ) (t : Reading Table) → is_name name ≡ true → Passes has_table_form t
+    → Passes has_command_form (t >>= (λ table. Ok (command.Clerk (clerk.Define name table))))
 define_last name (Ok t) hn ht = ok-passes has_command_form _ (rw (hn, ht.passed t refl) refl)
 define_last name (Err e) hn ht = err-passes _ e
 
-define_parts : (n : Reading (List ℕ)) (m : Reading ℕ) (body : List ℕ) → Passes is_name n → Passes is_below m
-    → Passes has_command_form (n >>= (λ name. m >>= (λ max. table_of max body >>= (λ table. Ok (command.Clerk (clerk.Define name table))))))
-define_parts (Ok name) (Ok max) body hn hm = define_last name (table_of max body) (hn.passed name refl) (table_of-passes max body (hm.passed max refl))
+define_parts : (n : Reading (List ℕ)) (m : Reading ℕ) (body : List ℕ) → Passes is_name n
+    → Passes is_below m
+    → Passes has_command_form
+    (n >>= (λ name. m
+    >>= (λ max. table_of max body >>= (λ table. Ok (command.Clerk (clerk.Define name table))))))
+define_parts (Ok name) (Ok max) body hn hm =
+    define_last name (table_of max body) (hn.passed name refl)
+    (table_of-passes max body (hm.passed max refl))
 define_parts (Ok name) (Err e) body hn hm = err-passes _ e
 define_parts (Err e) m body hn hm = err-passes _ e
 
-add_pool_parts : (n : Reading ⊤) (p : Reading ℕ) → Passes has_command_form (n >>= (λ nothing. p >>= (λ prefix. Ok (command.Clerk (clerk.AddPool prefix)))))
+add_pool_parts : (n : Reading ⊤) (p : Reading ℕ)
+    → Passes has_command_form
+    (n >>= (λ nothing. p >>= (λ prefix. Ok (command.Clerk (clerk.AddPool prefix)))))
 add_pool_parts (Ok n) (Ok prefix) = ok-passes has_command_form _ refl
 add_pool_parts (Ok n) (Err e) = err-passes _ e
 add_pool_parts (Err e) p = err-passes _ e
 
-grant_last : (t : Reading (List ℕ)) (c : Reading Cap) (o : Reading ⊤) → Passes is_token t → Passes has_cap_form c
-    → Passes has_command_form (t >>= (λ token. c >>= (λ cap. o >>= (λ others. Ok (command.Clerk (clerk.Grant token cap))))))
-grant_last (Ok t) (Ok c) (Ok o) ht hc = ok-passes has_command_form _ (rw (ht.passed t refl, hc.passed c refl) refl)
+grant_last : (t : Reading (List ℕ)) (c : Reading Cap) (o : Reading ⊤) → Passes is_token t
+    → Passes has_cap_form c
+    → Passes has_command_form
+    (t >>= (λ token. c >>= (λ cap. o >>= (λ others. Ok (command.Clerk (clerk.Grant token cap))))))
+grant_last (Ok t) (Ok c) (Ok o) ht hc =
+    ok-passes has_command_form _ (rw (ht.passed t refl, hc.passed c refl) refl)
 grant_last (Ok t) (Ok c) (Err e) ht hc = err-passes _ e
 grant_last (Ok t) (Err e) o ht hc = err-passes _ e
 grant_last (Err e) c o ht hc = err-passes _ e
 
-grant_of-passes_at : (j : Reading Data) → Passes has_command_form (j >>= (λ json. needed item.Token (text_form is_token) json >>= (λ token. cap_of json >>= (λ cap. only (item.Token ∷ item.Account ∷ item.Kind ∷ item.Until ∷ []) json >>= (λ others. Ok (command.Clerk (clerk.Grant token cap)))))))
-grant_of-passes_at (Ok json) = grant_last (needed item.Token (text_form is_token) json) (cap_of json) (only (item.Token ∷ item.Account ∷ item.Kind ∷ item.Until ∷ []) json) (needed-passes is_token item.Token _ json (text_form-gives is_token)) (cap_of-passes json)
+grant_of-passes_at : (j : Reading Data)
+    → Passes has_command_form
+    (j >>= (λ json. needed item.Token (text_form is_token) json
+    >>= (λ token. cap_of json
+    >>= (λ cap. only (item.Token ∷ item.Account ∷ item.Kind ∷ item.Until ∷ []) json
+    >>= (λ others. Ok (command.Clerk (clerk.Grant token cap)))))))
+grant_of-passes_at (Ok json) =
+    grant_last (needed item.Token (text_form is_token) json) (cap_of json)
+    (only (item.Token ∷ item.Account ∷ item.Kind ∷ item.Until ∷ []) json)
+    (needed-passes is_token item.Token _ json (text_form-gives is_token))
+    (cap_of-passes json)
 grant_of-passes_at (Err e) = err-passes _ e
 
-revoke_last : (t : Reading (List ℕ)) (o : Reading ⊤) → Passes is_token t → Passes has_command_form (t >>= (λ token. o >>= (λ others. Ok (command.Clerk (clerk.Revoke token)))))
+revoke_last : (t : Reading (List ℕ)) (o : Reading ⊤) → Passes is_token t
+    → Passes has_command_form
+    (t >>= (λ token. o >>= (λ others. Ok (command.Clerk (clerk.Revoke token)))))
 revoke_last (Ok t) (Ok o) ht = ok-passes has_command_form _ (ht.passed t refl)
 revoke_last (Ok t) (Err e) ht = err-passes _ e
 revoke_last (Err e) o ht = err-passes _ e
 
-revoke_of-passes_at : (j : Reading Data) → Passes has_command_form (j >>= (λ json. needed item.Token (text_form is_token) json >>= (λ token. only (item.Token ∷ []) json >>= (λ others. Ok (command.Clerk (clerk.Revoke token))))))
-revoke_of-passes_at (Ok json) = revoke_last (needed item.Token (text_form is_token) json) (only (item.Token ∷ []) json) (needed-passes is_token item.Token _ json (text_form-gives is_token))
+revoke_of-passes_at : (j : Reading Data)
+    → Passes has_command_form
+    (j >>= (λ json. needed item.Token (text_form is_token) json
+    >>= (λ token. only (item.Token ∷ []) json
+    >>= (λ others. Ok (command.Clerk (clerk.Revoke token))))))
+revoke_of-passes_at (Ok json) =
+    revoke_last (needed item.Token (text_form is_token) json) (only (item.Token ∷ []) json)
+    (needed-passes is_token item.Token _ json (text_form-gives is_token))
 revoke_of-passes_at (Err e) = err-passes _ e
 
-command_of-passes : (o : Operation) (path body : List ℕ) → Passes has_command_form (command_of o path body)
-unfolding registry_of registry_csv_of own_one_of submit_of withdraw_of advise_of one_request_of assign_expert_of approve_of decline_of define_of add_pool_of grant_of revoke_of
+command_of-passes : (o : Operation) (path body : List ℕ)
+    → Passes has_command_form (command_of o path body)
+unfolding registry_of registry_csv_of own_one_of submit_of withdraw_of advise_of one_request_of
+    assign_expert_of approve_of decline_of define_of add_pool_of grant_of revoke_of
 command_of-passes operation.Registries path body = plain_parts (empty body) _ refl
-command_of-passes operation.Registry path body = named_parts (λ s. command.Public (public.Registry s)) (λ s h. h) (empty body) (name_at item.Name registry_path path) (name_at-passes item.Name registry_path path)
-command_of-passes operation.RegistryListing path body = named_parts (λ s. command.Public (public.RegistryListing s)) (λ s h. h) (empty body) (name_at item.Name listing_path path) (name_at-passes item.Name listing_path path)
+command_of-passes operation.Registry path body =
+    named_parts (λ s. command.Public (public.Registry s)) (λ s h. h) (empty body)
+    (name_at item.Name registry_path path) (name_at-passes item.Name registry_path path)
+command_of-passes operation.RegistryListing path body =
+    named_parts (λ s. command.Public (public.RegistryListing s)) (λ s h. h) (empty body)
+    (name_at item.Name listing_path path) (name_at-passes item.Name listing_path path)
 command_of-passes operation.PoolList path body = plain_parts (empty body) _ refl
 command_of-passes operation.Own path body = plain_parts (empty body) _ refl
-command_of-passes operation.OwnOne path body = named_parts (λ s. command.Applicant (applicant.OwnOne s)) (λ s h. h) (empty body) (name_at item.Reference request_path path) (name_at-passes item.Reference request_path path)
-command_of-passes operation.Submit path body = submit_parts (object_of body) (name_at item.Reference request_path path) (name_at-passes item.Reference request_path path)
-command_of-passes operation.Withdraw path body = named_parts (λ s. command.Applicant (applicant.Withdraw s)) (λ s h. h) (empty body) (name_at item.Reference request_path path) (name_at-passes item.Reference request_path path)
+command_of-passes operation.OwnOne path body =
+    named_parts (λ s. command.Applicant (applicant.OwnOne s)) (λ s h. h) (empty body)
+    (name_at item.Reference request_path path) (name_at-passes item.Reference request_path path)
+command_of-passes operation.Submit path body =
+    submit_parts (object_of body) (name_at item.Reference request_path path)
+    (name_at-passes item.Reference request_path path)
+command_of-passes operation.Withdraw path body =
+    named_parts (λ s. command.Applicant (applicant.Withdraw s)) (λ s h. h) (empty body)
+    (name_at item.Reference request_path path) (name_at-passes item.Reference request_path path)
 command_of-passes operation.Queue path body = plain_parts (empty body) _ refl
-command_of-passes operation.Advise path body = advise_parts (object_of body) (name_at item.Account review_path path) (name_at item.Reference review_path path) (name_at-passes item.Account review_path path) (name_at-passes item.Reference review_path path)
+command_of-passes operation.Advise path body =
+    advise_parts (object_of body) (name_at item.Account review_path path)
+    (name_at item.Reference review_path path) (name_at-passes item.Account review_path path)
+    (name_at-passes item.Reference review_path path)
 command_of-passes operation.AllRequests path body = plain_parts (empty body) _ refl
-command_of-passes operation.OneRequest path body = two_parts (λ a r. command.Clerk (clerk.OneRequest a r)) (λ a r h. h) (empty body) (name_at item.Account case_path path) (name_at item.Reference case_path path) (name_at-passes item.Account case_path path) (name_at-passes item.Reference case_path path)
+command_of-passes operation.OneRequest path body =
+    two_parts (λ a r. command.Clerk (clerk.OneRequest a r)) (λ a r h. h) (empty body)
+    (name_at item.Account case_path path) (name_at item.Reference case_path path)
+    (name_at-passes item.Account case_path path)
+    (name_at-passes item.Reference case_path path)
 command_of-passes operation.AssignExpert path body =
-    assign_parts (empty body) (name_at item.Account expert_path path) (name_at item.Reference expert_path path) (name_at item.Expert expert_path path)
-    (name_at-passes item.Account expert_path path) (name_at-passes item.Reference expert_path path) (name_at-passes item.Expert expert_path path)
-command_of-passes operation.Approve path body = two_parts (λ a r. command.Clerk (clerk.Approve a r)) (λ a r h. h) (empty body) (name_at item.Account approval_path path) (name_at item.Reference approval_path path) (name_at-passes item.Account approval_path path) (name_at-passes item.Reference approval_path path)
-command_of-passes operation.Decline path body = decline_parts (object_of body) (name_at item.Account decline_path path) (name_at item.Reference decline_path path) (name_at-passes item.Account decline_path path) (name_at-passes item.Reference decline_path path)
-command_of-passes operation.Define path body = define_parts (name_at item.Name definition_path path) (segment item.Max read_number definition_path path) body (name_at-passes item.Name definition_path path) (segment-passes is_below item.Max read_number definition_path path read_number-gives)
-command_of-passes operation.AddPool path body = add_pool_parts (empty body) (segment item.Prefix read_prefix prefix_path path)
+    assign_parts (empty body) (name_at item.Account expert_path path)
+    (name_at item.Reference expert_path path) (name_at item.Expert expert_path path)
+    (name_at-passes item.Account expert_path path) (name_at-passes item.Reference expert_path path)
+    (name_at-passes item.Expert expert_path path)
+command_of-passes operation.Approve path body =
+    two_parts (λ a r. command.Clerk (clerk.Approve a r)) (λ a r h. h) (empty body)
+    (name_at item.Account approval_path path) (name_at item.Reference approval_path path)
+    (name_at-passes item.Account approval_path path)
+    (name_at-passes item.Reference approval_path path)
+command_of-passes operation.Decline path body =
+    decline_parts (object_of body) (name_at item.Account decline_path path)
+    (name_at item.Reference decline_path path) (name_at-passes item.Account decline_path path)
+    (name_at-passes item.Reference decline_path path)
+command_of-passes operation.Define path body =
+    define_parts (name_at item.Name definition_path path)
+    (segment item.Max read_number definition_path path) body
+    (name_at-passes item.Name definition_path path)
+    (segment-passes is_below item.Max read_number definition_path path
+    read_number-gives)
+command_of-passes operation.AddPool path body =
+    add_pool_parts (empty body) (segment item.Prefix read_prefix prefix_path path)
 command_of-passes operation.Grant path body = grant_of-passes_at (object_of body)
 command_of-passes operation.Revoke path body = revoke_of-passes_at (object_of body)
 
 -- ---- whole
 
-operation_passes : (o : Option Operation) (path body : List ℕ) → Passes has_command_form (or_refusal refusal.Method o >>= (λ operation. command_of operation path body))
+operation_passes : (o : Option Operation) (path body : List ℕ)
+    → Passes has_command_form
+    (or_refusal refusal.Method o >>= (λ operation. command_of operation path body))
 operation_passes None path body = err-passes _ refusal.Method
 operation_passes (Some o) path body = command_of-passes o path body
 
-asked_at : (m : Option Methods) (method path body : List ℕ) → Passes has_command_form (or_refusal refusal.Route m >>= (λ methods. or_refusal refusal.Method (operation_for method methods) >>= (λ operation. command_of operation path body)))
+asked_at : (m : Option Methods) (method path body : List ℕ)
+    → Passes has_command_form
+    (or_refusal refusal.Route m
+    >>= (λ methods. or_refusal refusal.Method (operation_for method methods)
+    >>= (λ operation. command_of operation path body)))
 asked_at None method path body = err-passes _ refusal.Route
 asked_at (Some m) method path body = operation_passes (operation_for method m) path body
 
-pub asked-formed : (method path body : List ℕ) (c : Command) → asked method path body ≡ Ok c → has_command_form c ≡ true
+pub asked-formed : (method path body : List ℕ) (c : Command) → asked method path body ≡ Ok c
+    → has_command_form c ≡ true
 unfolding asked
 asked-formed method path body c e = (asked_at (routed path) method path body).passed c e
 
 -- what a call gave has its form
-pub command_of-formed : (o : Operation) (path body : List ℕ) (r : Result Command ReadFault) → GivesSeen (λ x. x) r (command_of o path body) → IfOk r (λ c. has_command_form c ≡ true)
+pub command_of-formed : (o : Operation) (path body : List ℕ) (r : Result Command ReadFault)
+    → GivesSeen (λ x. x) r (command_of o path body) → IfOk r (λ c. has_command_form c ≡ true)
 command_of-formed o path body (Ok c) h = (command_of-passes o path body).passed c h
 command_of-formed o path body (Err e) h = tt

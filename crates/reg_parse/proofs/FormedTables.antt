@@ -26,7 +26,8 @@ has_form range = has_note_form range.note
 
 -- ---- rows
 
-note_at : (n : ℕ) (o : Option (List ℕ)) → ((s : List ℕ) → o ≡ Some s → is_text s ≡ true) → Passes has_note_form (ok_or o (fault.Row n part.Text) >>= (λ text. Ok (Some text)))
+note_at : (n : ℕ) (o : Option (List ℕ)) → ((s : List ℕ) → o ≡ Some s → is_text s ≡ true)
+    → Passes has_note_form (ok_or o (fault.Row n part.Text) >>= (λ text. Ok (Some text)))
 note_at n None h = err-passes _ (fault.Row n part.Text)
 note_at n (Some s) h = ok-passes has_note_form (Some s) (h s refl)
 
@@ -34,8 +35,13 @@ note_of-passes : (n : ℕ) (field : List ℕ) → Passes has_note_form (note_of 
 note_of-passes n [] = ok-passes has_note_form None refl
 note_of-passes n (b ∷ rest) = note_at n (read_text is_text (b ∷ rest)) (guard is_text (b ∷ rest))
 
-range_parts : (l : Result ℕ RowFault) (h : Result ℕ RowFault) (t : Result Treatment RowFault) (n : Result (Option (List ℕ)) RowFault) → Passes has_note_form n
-    → Passes has_form (l >>= (λ lo. h >>= (λ hi. t >>= (λ treatment. n >>= (λ note. Ok (record { lo = lo; hi = hi; treatment = treatment; note = note }))))))
+range_parts : (l : Result ℕ RowFault) (h : Result ℕ RowFault) (t : Result Treatment RowFault)
+    (n : Result (Option (List ℕ)) RowFault) → Passes has_note_form n
+    → Passes has_form
+    (l >>= (λ lo. h
+    >>= (λ hi. t
+    >>= (λ treatment. n
+    >>= (λ note. Ok (record { lo = lo; hi = hi; treatment = treatment; note = note }))))))
 range_parts (Ok l) (Ok h) (Ok t) (Ok n) p = ok-passes has_form _ (p.passed n refl)
 range_parts (Ok l) (Ok h) (Ok t) (Err e) p = err-passes _ e
 range_parts (Ok l) (Ok h) (Err e) n p = err-passes _ e
@@ -44,7 +50,10 @@ range_parts (Err e) h t n p = err-passes _ e
 
 range_of-passes : (n : ℕ) (fields : List (List ℕ)) → Passes has_form (range_of n fields)
 range_of-passes n (first ∷ last ∷ word ∷ remark ∷ []) =
-    range_parts (ok_or (read_number first) (fault.Row n part.Number)) (ok_or (read_number last) (fault.Row n part.Number)) (ok_or (read_treatment word) (fault.Row n part.Treatment)) (note_of n remark) (note_of-passes n remark)
+    range_parts (ok_or (read_number first) (fault.Row n part.Number))
+    (ok_or (read_number last) (fault.Row n part.Number))
+    (ok_or (read_treatment word) (fault.Row n part.Treatment)) (note_of n remark)
+    (note_of-passes n remark)
 range_of-passes n [] = err-passes _ (fault.Row n part.Columns)
 range_of-passes n (a ∷ []) = err-passes _ (fault.Row n part.Columns)
 range_of-passes n (a ∷ b ∷ []) = err-passes _ (fault.Row n part.Columns)
@@ -56,16 +65,22 @@ range_of-passes n (a ∷ b ∷ c ∷ d ∷ e ∷ more) = err-passes _ (fault.Row
 abbrev have_form : List Range → Bool
 have_form ranges = list_all has_form ranges
 
-rows_parts : (r : Result Range RowFault) (rs : Result (List Range) RowFault) → Passes has_form r → Passes have_form rs → Passes have_form (r >>= (λ range. rs >>= (λ ranges. Ok (range ∷ ranges))))
-rows_parts (Ok r) (Ok rs) h hs = ok-passes have_form (r ∷ rs) (rw (h.passed r refl) (hs.passed rs refl))
+rows_parts : (r : Result Range RowFault) (rs : Result (List Range) RowFault) → Passes has_form r
+    → Passes have_form rs → Passes have_form
+    (r >>= (λ range. rs >>= (λ ranges. Ok (range ∷ ranges))))
+rows_parts (Ok r) (Ok rs) h hs =
+    ok-passes have_form (r ∷ rs) (rw (h.passed r refl) (hs.passed rs refl))
 rows_parts (Ok r) (Err e) h hs = err-passes _ e
 rows_parts (Err e) rs h hs = err-passes _ e
 
 ranges_from-passes : (n : ℕ) (rows : List (List (List ℕ))) → Passes have_form (ranges_from n rows)
 ranges_from-passes n [] = ok-passes have_form [] refl
-ranges_from-passes n (row ∷ rows) = rows_parts (range_of n row) (ranges_from (n + 1) rows) (range_of-passes n row) (ranges_from-passes (n + 1) rows)
+ranges_from-passes n (row ∷ rows) =
+    rows_parts (range_of n row) (ranges_from (n + 1) rows) (range_of-passes n row)
+    (ranges_from-passes (n + 1) rows)
 
-headed : (b : Bool) (rows : List (List (List ℕ))) → Passes have_form (cond b (ranges_from 0 rows) (Err fault.Header))
+headed : (b : Bool) (rows : List (List (List ℕ)))
+    → Passes have_form (cond b (ranges_from 0 rows) (Err fault.Header))
 headed true rows = ranges_from-passes 0 rows
 headed false rows = err-passes _ fault.Header
 
@@ -82,16 +97,23 @@ file_ranges-passes text = ranges_of-passes (text_rows text)
 abbrev table_at : ℕ → List Range → Table
 table_at max ranges = record { max = max; ranges = ranges }
 
-unless_fault-passes : (max : ℕ) (ranges : List Range) (o : Option RangeFault) → first_fault max ranges ≡ o → is_below max ≡ true → have_form ranges ≡ true
+unless_fault-passes : (max : ℕ) (ranges : List Range) (o : Option RangeFault)
+    → first_fault max ranges ≡ o → is_below max ≡ true → have_form ranges ≡ true
     → Passes has_table_form (unless_fault o (table_at max ranges))
-unless_fault-passes max ranges None e hm hr = ok-passes has_table_form (table_at max ranges) (rw (hm, e, hr) refl)
+unless_fault-passes max ranges None e hm hr =
+    ok-passes has_table_form (table_at max ranges) (rw (hm, e, hr) refl)
 unless_fault-passes max ranges (Some f) e hm hr = err-passes _ _
 
-table_parts : (max : ℕ) (r : Result (List Range) RowFault) → is_below max ≡ true → Passes have_form r
-    → Passes has_table_form (members.◌>>=◌ (or_row_refusal r) (λ ranges. unless_fault (first_fault max ranges) (table_at max ranges)))
-table_parts max (Ok ranges) hm hr = unless_fault-passes max ranges (first_fault max ranges) refl hm (hr.passed ranges refl)
+table_parts : (max : ℕ) (r : Result (List Range) RowFault) → is_below max ≡ true
+    → Passes have_form r
+    → Passes has_table_form
+    (members.◌>>=◌ (or_row_refusal r)
+    (λ ranges. unless_fault (first_fault max ranges) (table_at max ranges)))
+table_parts max (Ok ranges) hm hr =
+    unless_fault-passes max ranges (first_fault max ranges) refl hm (hr.passed ranges refl)
 table_parts max (Err e) hm hr = err-passes _ (refusal_of_row e)
 
-pub table_of-passes : (max : ℕ) (body : List ℕ) → is_below max ≡ true → Passes has_table_form (table_of max body)
+pub table_of-passes : (max : ℕ) (body : List ℕ) → is_below max ≡ true
+    → Passes has_table_form (table_of max body)
 unfolding table_of
 table_of-passes max body h = table_parts max (file_ranges body) h (file_ranges-passes body)

@@ -31,25 +31,34 @@ if_object-none (string s) h = refl
 if_object-none (array items) h = refl
 
 -- an object was read
-pub object_of-object : (body : List ℕ) (json : Data) → IsUtf8 body → read body ≡ Some json → is_some (as_object json) ≡ true → object_of body ≡ Ok json
+pub object_of-object : (body : List ℕ) (json : Data) → IsUtf8 body → read body ≡ Some json
+    → is_some (as_object json) ≡ true → object_of body ≡ Ok json
 unfolding object_of
-object_of-object body json utf8 is here = rw (is_utf8-from_IsUtf8 body utf8, is, if_object-some json here) refl
+object_of-object body json utf8 is here =
+    rw (is_utf8-from_IsUtf8 body utf8, is, if_object-some json here) refl
 
 -- another value was read
-pub object_of-other : (body : List ℕ) (json : Data) → IsUtf8 body → read body ≡ Some json → is_some (as_object json) ≡ false → object_of body ≡ Err Body
+pub object_of-other : (body : List ℕ) (json : Data) → IsUtf8 body → read body ≡ Some json
+    → is_some (as_object json) ≡ false → object_of body ≡ Err Body
 unfolding object_of
-object_of-other body json utf8 is here = rw (is_utf8-from_IsUtf8 body utf8, is, if_object-none json here) refl
+object_of-other body json utf8 is here =
+    rw (is_utf8-from_IsUtf8 body utf8, is, if_object-none json here) refl
 
-at_test : (body : List ℕ) (b : Bool) → (b ≡ true → read body ≡ None) → or_refusal Body (cond b (option_and_then if_object (read body)) None) ≡ Err Body
+at_test : (body : List ℕ) (b : Bool) → (b ≡ true → read body ≡ None)
+    → or_refusal Body (cond b (option_and_then if_object (read body)) None) ≡ Err Body
 at_test body true h = rw (h refl) refl
 at_test body false h = refl
 
 -- nothing was read
-pub object_of-nothing : (body : List ℕ) → (IsUtf8 body → read body ≡ None) → object_of body ≡ Err Body
+pub object_of-nothing : (body : List ℕ) → (IsUtf8 body → read body ≡ None)
+    → object_of body ≡ Err Body
 unfolding object_of
 object_of-nothing body h = at_test body (is_utf8 body) (λ e. h (IsUtf8-from_is_utf8 body e))
 
 -- the test of the keys is the test of the members
-pub all_among-members_view : (items : List Item) (entries : List (String Global × Value)) → list_all (λ key. names_any items (string_bytes key)) (map (λ e. e.0) entries) ≡ all_among items (members_view entries)
+pub all_among-members_view : (items : List Item) (entries : List (String Global × Value))
+    → list_all (λ key. names_any items (string_bytes key)) (map (λ e. e.0) entries)
+    ≡ all_among items (members_view entries)
 all_among-members_view items [] = refl
-all_among-members_view items (e ∷ entries) = ap (λ b. names_any items (string_bytes e.0) && b) (all_among-members_view items entries)
+all_among-members_view items (e ∷ entries) =
+    ap (λ b. names_any items (string_bytes e.0) && b) (all_among-members_view items entries)

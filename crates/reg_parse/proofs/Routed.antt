@@ -13,5 +13,6 @@ at_test path false e h = refl
 pub routed-no_text : (path : List ℕ) → (IsUtf8 path → ⊥) → routed path ≡ None
 routed-no_text path h = rw (at_test path (is_utf8 path) refl h) refl
 
-pub routed-whole : (path : List ℕ) → IsUtf8 path → has_empty_segment path ≡ false → routed path ≡ methods_at path
+pub routed-whole : (path : List ℕ) → IsUtf8 path → has_empty_segment path ≡ false
+    → routed path ≡ methods_at path
 routed-whole path utf8 whole = rw (is_utf8-from_IsUtf8 path utf8, whole) refl

@@ -36,7 +36,8 @@ without_body spelled body = do
 
 -- the segment where the pattern of a route names this part, in its form
 abbrev pub segment : {A : Type 0} → Item → (List ℕ → Option A) → List ℕ → List ℕ → Reading A
-segment part form pattern path = or_refusal (Field part) (option_and_then form (segment_named part pattern path))
+segment part form pattern path =
+    or_refusal (Field part) (option_and_then form (segment_named part pattern path))
 
 abbrev pub name_at : Item → List ℕ → List ℕ → Reading (List ℕ)
 name_at part pattern path = segment part (read_text is_name) pattern path

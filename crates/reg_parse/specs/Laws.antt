@@ -8,7 +8,9 @@ use Rattle.reg_parse.specs.Command.{asked}
 
 -- the texts and numbers of a command have their forms
 abbrev pub CommandsHaveForm : Type 0
-CommandsHaveForm = (method path body : List ℕ) (command : Command) → asked method path body ≡ Ok command → has_command_form command ≡ true
+CommandsHaveForm =
+    (method path body : List ℕ) (command : Command) → asked method path body ≡ Ok command
+    → has_command_form command ≡ true
 
 -- want of memory is a fault of a call, and of no range file
 abbrev pub FilesHaveOwnFaults : Type 0

@@ -21,4 +21,5 @@ stands_for part segment = bytes_eq segment (codes "{" ++ item_name part ++ codes
 
 -- the segment of a path at the place where its pattern names this part
 abbrev pub segment_named : Item → List ℕ → List ℕ → Option (List ℕ)
-segment_named part pattern path = option_and_then (slice_get (segments path)) (position (stands_for part) (segments pattern))
+segment_named part pattern path =
+    option_and_then (slice_get (segments path)) (position (stands_for part) (segments pattern))

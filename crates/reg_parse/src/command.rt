@@ -23,9 +23,10 @@ use reg_core::wire_refusal::{ReadFault, WireRefusal};
 use reg_ranges::number::read_number;
 use std::alloc::Global;
 
-/// The command that these bytes spell. What is wrong with them is looked for in this order: `Route`,
-/// `Method`, `Body`, then `Field` of the segments of the path from left to right, of the members of the
-/// body, and of a member too many, and `Ranges`. `Memory` comes only where there was none for the reading.
+/// The command that these bytes spell. What is wrong with them is looked for in this order:
+/// `Route`, `Method`, `Body`, then `Field` of the segments of the path from left to right, of the
+/// members of the body, and of a member too many, and `Ranges`. `Memory` comes only where there was
+/// none for the reading.
 #[tactic(auto, unfolding(crate::specs::Command::asked))]
 pub fn read_command(
     alloc: Global,
@@ -39,7 +40,9 @@ pub fn read_command(
 
     // A path or a method that is refused takes no memory.
     ensures no_route { routed path.now ≡ None → result ≡ Err (ReadFault.Refused WireRefusal.Route) }
-    ensures no_method { IfSome (routed path.now) (λ methods. operation_for method.now methods ≡ None → result ≡ Err (ReadFault.Refused WireRefusal.Method)) }
+    ensures no_method { IfSome (routed path.now)
+        (λ methods. operation_for method.now methods ≡ None
+        → result ≡ Err (ReadFault.Refused WireRefusal.Method)) }
 {
     let Some((path, methods)) = routed(routes, path) else {
         return Err(ReadFault::Refused(WireRefusal::Route));
@@ -274,7 +277,8 @@ fn word_at<F: Form>(
     }
 }
 
-// The number of 0 to 4294967295 where the pattern names this part, in decimal without leading zeros.
+// The number of 0 to 4294967295 where the pattern names this part, in decimal without leading
+// zeros.
 fn number_at(pattern: &str, path: &str, part: Item) -> Result<u32, ReadFault>
     ensures { Gives result (segment part read_number pattern.now path.now) }
 {

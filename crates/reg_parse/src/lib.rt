@@ -1,4 +1,5 @@
-//! Reads commands from bytes: which command a method, a path and a body spell, or the first refusal.
+//! Reads commands from bytes: which command a method, a path and a body spell, or the first
+//! refusal.
 #![tactic(auto)]
 
 mod bodies;

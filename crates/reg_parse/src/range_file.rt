@@ -7,8 +7,8 @@ use reg_ranges::range_file::read_ranges;
 use reg_ranges::table::RangeTable;
 use std::alloc::Global;
 
-/// The table of 0 to `max` whose ranges this range file lists. `Ranges` with the first fault of the file, or
-/// else of its ranges.
+/// The table of 0 to `max` whose ranges this range file lists. `Ranges` with the first fault of the
+/// file, or else of its ranges.
 #[tactic(auto, unfolding(crate::specs::RangeFile::table_of))]
 pub fn read_table(alloc: Global, max: u32, file: &[u8]) -> Result<RangeTable, ReadFault>
     ensures { Gives result (table_of max file.now) }

@@ -21,13 +21,16 @@ unfolding next_record
 next_record-nothing = refl
 
 -- records that are written are read back, by so many readings at least
-read-csv_text : (n : ℕ) (rows : List (List (List ℕ))) → length rows ≤ n → HaveFields rows → records_from default_config n st.StartRecord (csv_text rows) ≡ rows
+read-csv_text : (n : ℕ) (rows : List (List (List ℕ))) → length rows ≤ n → HaveFields rows
+    → records_from default_config n st.StartRecord (csv_text rows) ≡ rows
 unfolding records_from
 read-csv_text zero [] h f = refl
 read-csv_text (suc n) [] h f = rw next_record-nothing refl
 read-csv_text zero (row ∷ rows) h f = absurd (omega arith)
 read-csv_text (suc n) ([] ∷ rows) h f = absurd f
-read-csv_text (suc n) ((x ∷ xs) ∷ rows) h f = rw (read-write (x ∷ xs) (csv_text rows)) (ap (λ (t : List (List (List ℕ))). (x ∷ xs) ∷ t) (read-csv_text n rows (omega arith) f))
+read-csv_text (suc n) ((x ∷ xs) ∷ rows) h f =
+    rw (read-write (x ∷ xs) (csv_text rows))
+    (ap (λ (t : List (List (List ℕ))). (x ∷ xs) ∷ t) (read-csv_text n rows (omega arith) f))
 
 -- a record has a byte at least, its line feed
 row_text-long : (row : List (List ℕ)) → 1 ≤ length (row_text default_writer row)
@@ -45,7 +48,8 @@ rows_have_fields [] = tt
 rows_have_fields (row ∷ rows) = rows_have_fields rows
 
 -- a listing has no byte order mark
-strip_bom-listing : (rows : List (List (List ℕ))) → strip_bom (csv_text (header ∷ rows)) ≡ csv_text (header ∷ rows)
+strip_bom-listing : (rows : List (List (List ℕ)))
+    → strip_bom (csv_text (header ∷ rows)) ≡ csv_text (header ∷ rows)
 unfolding strip_bom fields_text is_blank escaped
 strip_bom-listing rows = refl
 
@@ -55,4 +59,5 @@ unfolding listing_text
 text_rows-listing_text page =
     let records = listing_records page in
     rw (strip_bom-listing (map row_fields (page_rows page)))
-    (read-csv_text (length (csv_text records) + 1) records (let long = csv_text-long records in omega arith) (rows_have_fields (page_rows page)))
+    (read-csv_text (length (csv_text records) + 1) records
+    (let long = csv_text-long records in omega arith) (rows_have_fields (page_rows page)))

@@ -57,12 +57,15 @@ ask-plain (Code ask) =
     let e = ask.evidence in
     let texts = option-plain 1 string (λ s. refl) in
     object-plain 1 (code_members ask)
-    (and_from _ _ (texts e.contact) (and_from _ _ (least-plain ask.want) (and_from _ _ (texts e.minute)
-    (and_from _ _ (option-plain 1 rfc_tree rfc-plain e.rfc) (and_from _ _ (texts e.spec) (and_from _ _ (value-plain ask.want) refl))))))
+    (and_from _ _ (texts e.contact)
+    (and_from _ _ (least-plain ask.want) (and_from _ _ (texts e.minute)
+    (and_from _ _ (option-plain 1 rfc_tree rfc-plain e.rfc)
+    (and_from _ _ (texts e.spec) (and_from _ _ (value-plain ask.want) refl))))))
 
 -- ---- requests
 
-standing-plain : (s : State) → (is_plain_if 2 (given_if s) && (is_plain_if 2 (reason_if s) && true)) ≡ true
+standing-plain : (s : State)
+    → (is_plain_if 2 (given_if s) && (is_plain_if 2 (reason_if s) && true)) ≡ true
 standing-plain Pending = refl
 standing-plain (Approved given) = refl
 standing-plain (Declined reason) = refl
@@ -86,12 +89,16 @@ opinion-plain : (o : Opinion) → is_plain 1 (opinion_tree o) ≡ true
 opinion-plain o = object-plain 0 (opinion_members o) refl
 
 queue-plain : (r : QueueRow) → is_plain 3 (queue_tree r) ≡ true
-queue-plain r = object-plain 2 (queue_members r) (and_from _ _ (option-plain 2 advice_tree advice-plain r.advice) (and_from _ _ (ask-plain r.ask) refl))
+queue-plain r =
+    object-plain 2 (queue_members r)
+    (and_from _ _ (option-plain 2 advice_tree advice-plain r.advice)
+    (and_from _ _ (ask-plain r.ask) refl))
 
 file-plain : (f : File) → is_plain 3 (file_tree f) ≡ true
 file-plain f =
     object-plain 2 (file_members f)
-    (and_from _ _ (array-plain 1 opinion_tree opinion-plain f.advice) (and_from _ _ (ask-plain f.request.ask)
+    (and_from _ _ (array-plain 1 opinion_tree opinion-plain f.advice)
+    (and_from _ _ (ask-plain f.request.ask)
     (and_from _ _ (array-plain 1 string (λ s. refl) f.experts) (standing-plain f.request.state))))
 
 -- ---- registries
@@ -102,17 +109,23 @@ range-plain r = object-plain 0 (range_members r) refl
 entry-plain : (e : PageEntry) → is_plain 1 (entry_tree e) ≡ true
 entry-plain e =
     object-plain 0 (entry_members e)
-    (and_from _ _ (option-plain 0 day_data (λ day. refl) e.term.expires) (and_from _ _ (option-plain 0 (λ day. boolean e.term.renewed) (λ day. refl) e.term.expires) refl))
+    (and_from _ _ (option-plain 0 day_data (λ day. refl) e.term.expires)
+    (and_from _ _ (option-plain 0 (λ day. boolean e.term.renewed) (λ day. refl) e.term.expires)
+    refl))
 
 page-plain : (p : Page) → is_plain 3 (page_tree p) ≡ true
 page-plain p =
     object-plain 2 (page_members p)
-    (and_from _ _ (array-plain 1 entry_tree entry-plain p.entries) (and_from _ _ (array-plain 1 range_tree range-plain p.table.ranges) refl))
+    (and_from _ _ (array-plain 1 entry_tree entry-plain p.entries)
+    (and_from _ _ (array-plain 1 range_tree range-plain p.table.ranges) refl))
 
 -- ---- answers
 
 error-plain : (row : Row) → is_plain 4 (error_tree row) ≡ true
-error-plain row = object-plain 3 (error_members row) (and_from _ _ (option-plain 3 (λ (d : Detail). string (detail_text d)) (λ d. refl) row.item) refl)
+error-plain row =
+    object-plain 3 (error_members row)
+    (and_from _ _ (option-plain 3 (λ (d : Detail). string (detail_text d)) (λ d. refl) row.item)
+    refl)
 
 -- a body that is JSON is plain
 abbrev IsPlainBody : Body → Type 0

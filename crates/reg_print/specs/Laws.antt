@@ -9,11 +9,15 @@ abbrev pub Ascend : ℕ → List PageEntry → Type 0
 Ascend least [] = Unit {0}
 Ascend least (e ∷ es) = (least ≤ e.value) × Ascend (e.value + 1) es
 
--- the rows have the values from `next` on and below `end`, each in one row, and each row has one at least
+-- the rows have the values from `next` on and below `end`, each in one row, and each row has one at
+-- least
 abbrev pub Cover : ℕ → ℕ → List ListedRow → Type 0
 Cover next end [] = next ≡ end
-Cover next end (row ∷ rows) = (row.values.lo ≡ next) × (next ≤ row.values.hi) × Cover (row.values.hi + 1) end rows
+Cover next end (row ∷ rows) =
+    (row.values.lo ≡ next) × (next ≤ row.values.hi) × Cover (row.values.hi + 1) end rows
 
 -- the rows of a range have its values, each in one row
 abbrev pub RowsCoverRanges : Type 0
-RowsCoverRanges = (entries : List PageEntry) (range : Range) → Ascend 0 entries → range.lo ≤ range.hi → Cover range.lo (range.hi + 1) (range_rows entries range)
+RowsCoverRanges =
+    (entries : List PageEntry) (range : Range) → Ascend 0 entries → range.lo ≤ range.hi
+    → Cover range.lo (range.hi + 1) (range_rows entries range)

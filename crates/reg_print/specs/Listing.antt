@@ -32,7 +32,14 @@ pub record ListedRow : Type 0 where
 -- a row without where its texts lie in memory
 abbrev pub row_view : ListingRow → ListedRow
 row_view row =
-    record { values = row.values; description = row.description.now; status = row.status; policy = row.policy; entry = option_map (λ e. e.now) row.entry }
+    record {
+      values = row.values;
+      description = row.description.now;
+      status = row.status;
+      policy =
+          row.policy;
+      entry = option_map (λ e. e.now) row.entry;
+    }
 
 -- how all values under a policy stand that assigns no single values (RFC 8126 sections 4.1 to 4.3)
 abbrev pub closed_under : Policy → Option Status
@@ -63,10 +70,18 @@ whole range = record { lo = range.lo; hi = range.hi }
 -- values without an entry
 abbrev pub without_entry : Run → List ℕ → Status → Option Policy → ListedRow
 without_entry run description status policy =
-    record { values = run; description = description; status = status; policy = policy; entry = None }
+    record {
+      values = run;
+      description = description;
+      status = status;
+      policy = policy;
+      entry =
+          None;
+    }
 
 abbrev pub closed_row : Status → Range → ListedRow
-closed_row status range = without_entry (whole range) (unwrap_or range.note []) status (policy_of range.treatment)
+closed_row status range =
+    without_entry (whole range) (unwrap_or range.note []) status (policy_of range.treatment)
 
 abbrev pub free_row : Range → Run → ListedRow
 free_row range run = without_entry run [] Unassigned (policy_of range.treatment)
@@ -86,18 +101,22 @@ is_in range entry = lies_in entry.value range
 
 -- one row for the values from `next` on and below `end`, if there are any
 abbrev pub free_rows : Range → ℕ → ℕ → List ListedRow
-free_rows range next end = if nat_lt next end then free_row range (record { lo = next; hi = end - 1 }) ∷ [] else []
+free_rows range next end =
+    if nat_lt next end then free_row range (record { lo = next; hi = end - 1 }) ∷ [] else []
 
--- the rows of a range from `next` on, of which these are the entries: one for each entry, and one for each run between
+-- the rows of a range from `next` on, of which these are the entries: one for each entry, and one
+-- for each run between
 abbrev pub rows_from : Range → ℕ → List PageEntry → List ListedRow
 rows_from range next [] = free_rows range next (range.hi + 1)
-rows_from range next (e ∷ es) = free_rows range next e.value ++ entry_row range e ∷ rows_from range (e.value + 1) es
+rows_from range next (e ∷ es) =
+    free_rows range next e.value ++ entry_row range e ∷ rows_from range (e.value + 1) es
 
 -- the rows of a range whose values are assigned one by one
 abbrev pub open_rows : Range → List PageEntry → List ListedRow
 open_rows range entries = rows_from range range.lo (filter (is_in range) entries)
 
--- one row with the note where no values are assigned one by one, and else those of the entries and the runs between
+-- one row with the note where no values are assigned one by one, and else those of the entries and
+-- the runs between
 abbrev pub rows_by : Option Status → List PageEntry → Range → List ListedRow
 rows_by (Some status) entries range = closed_row status range ∷ []
 rows_by None entries range = open_rows range entries
@@ -120,10 +139,13 @@ status_word (Entry status) = term.status_word status
 
 -- one value alone, or the first and the last of more
 abbrev pub run_text : Run → List ℕ
-run_text run = if run.lo == run.hi then decimal run.lo else decimal run.lo ++ codes "-" ++ decimal run.hi
+run_text run =
+    if run.lo == run.hi then decimal run.lo else decimal run.lo ++ codes "-" ++ decimal run.hi
 
 abbrev pub header : List (List ℕ)
-header = codes "Value" ∷ codes "Description" ∷ codes "Status" ∷ codes "Policy" ∷ codes "First" ∷ codes "Expires" ∷ codes "Assignee" ∷ []
+header =
+    codes "Value" ∷ codes "Description" ∷ codes "Status" ∷ codes "Policy" ∷ codes "First"
+    ∷ codes "Expires" ∷ codes "Assignee" ∷ []
 
 -- nothing where there is no policy
 abbrev pub policy_text : Option Policy → List ℕ

@@ -30,7 +30,8 @@ storage_is = refl
 pub refusal_is_another : bytes_eq refusal storage ≡ false
 refusal_is_another = refl
 
-refused_is_another : (why : Refusal) → bytes_eq (answer_line (answer.Reply (Refused why))) storage ≡ false
+refused_is_another : (why : Refusal)
+    → bytes_eq (answer_line (answer.Reply (Refused why))) storage ≡ false
 unfolding body_text digits serde_json_on_literals
 refused_is_another no.Clock = refl
 refused_is_another no.Token = refl
@@ -49,7 +50,8 @@ refused_is_another no.Own = refl
 refused_is_another no.Exists = refl
 refused_is_another no.Bits = refl
 
-content_is_another : (c : Content) → bytes_eq (answer_line (answer.Reply (Accepted c))) storage ≡ false
+content_is_another : (c : Content)
+    → bytes_eq (answer_line (answer.Reply (Accepted c))) storage ≡ false
 unfolding digits
 content_is_another (Names names) = refl
 content_is_another (Page page) = refl
@@ -92,10 +94,15 @@ glyph_is_no_feed d = grind (arith, nat_tests)
 
 digits_line : (k n : ℕ) (more : List ℕ) → IsOneLine more → IsOneLine (digits_onto k 10 false n more)
 digits_line zero n more h = h
-digits_line (suc k) n more h = elim (n / 10 == 0) as (λ b. IsOneLine (cond b (digit_glyph false (n % 10) ∷ more) (digits_onto k 10 false (n / 10) (digit_glyph false (n % 10) ∷ more)))) [
-  | true ↦ (glyph_is_no_feed (n % 10), h)
-  | false ↦ digits_line k (n / 10) (digit_glyph false (n % 10) ∷ more) (glyph_is_no_feed (n % 10), h)
-]
+digits_line (suc k) n more h =
+    elim (n / 10 == 0) as
+    (λ b. IsOneLine
+    (cond b (digit_glyph false (n % 10) ∷ more)
+    (digits_onto k 10 false (n / 10) (digit_glyph false (n % 10) ∷ more)))) [
+      | true ↦ (glyph_is_no_feed (n % 10), h)
+      | false ↦
+          digits_line k (n / 10) (digit_glyph false (n % 10) ∷ more) (glyph_is_no_feed (n % 10), h)
+    ]
 
 decimal_line : (n : ℕ) → IsOneLine (decimal n)
 unfolding digits
@@ -112,4 +119,6 @@ above_a_feed : (b : ℕ) → 10 < b → b ≢ 10
 above_a_feed b h e = omega arith
 
 pub answer_is_line : (a : Answer) → IsOneLine (answer_line a)
-answer_is_line a = both_lines (decimal (status_of a)) (32 ∷ map tab_of (body_text a)) (decimal_line (status_of a)) (above_a_feed 32 (lit< tt), tabs_line (body_text a))
+answer_is_line a =
+    both_lines (decimal (status_of a)) (32 ∷ map tab_of (body_text a)) (decimal_line (status_of a))
+    (above_a_feed 32 (lit< tt), tabs_line (body_text a))

@@ -73,19 +73,27 @@ value_readable (Least p) h = tt
 
 least_readable : (w : Want) → IfReadable 1 (least_if w)
 least_readable (Value v) = tt
-least_readable (Least p) = string-readable 1 (policy_word p) (ascii_word (policy_word p) (policy_ascii p))
+least_readable (Least p) =
+    string-readable 1 (policy_word p) (ascii_word (policy_word p) (policy_ascii p))
 
 small : (n : ℕ) → is_within 1 99999 n ≡ true → n < 2 ^ 64
 small n h = grind (arith, nat_tests)
 
-rfc_tree-readable : (rfc : PublishedRfc) → is_within 1 99999 rfc.number ≡ true → Readable 1 (rfc_tree rfc)
+rfc_tree-readable : (rfc : PublishedRfc) → is_within 1 99999 rfc.number ≡ true
+    → Readable 1 (rfc_tree rfc)
 rfc_tree-readable rfc h = object_with-readable 0 (rfc_members rfc) refl (
   ascii_word (codes "number") refl,
   number-readable 0 rfc.number (small rfc.number h),
   (
     ascii_word (codes "stream") refl,
-    string-readable 0 (stream_word rfc.stream) (ascii_word (stream_word rfc.stream) (stream_ascii rfc.stream)),
-    (ascii_word (codes "track") refl, string-readable 0 (track_word rfc.track) (ascii_word (track_word rfc.track) (track_ascii rfc.track)), tt),
+    string-readable 0 (stream_word rfc.stream)
+        (ascii_word (stream_word rfc.stream) (stream_ascii rfc.stream)),
+    (
+      ascii_word (codes "track") refl,
+      string-readable 0 (track_word rfc.track)
+          (ascii_word (track_word rfc.track) (track_ascii rfc.track)),
+      tt,
+    ),
   ),
 )
 
@@ -108,19 +116,33 @@ record IsFormed (ask : CodeAsk) : Type 0 where
 formed : (ask : CodeAsk) → has_code_form ask ≡ true → IsFormed ask
 formed ask h =
     let e = ask.evidence in
-    let shown = second_so (is_name ask.registry && has_want_form ask.want && is_text ask.label) (has_evidence_form e) h in
-    let before_evidence = first_so (is_name ask.registry && has_want_form ask.want && is_text ask.label) (has_evidence_form e) h in
-    let before_label = first_so (is_name ask.registry && has_want_form ask.want) (is_text ask.label) before_evidence in
-    let before_minute = first_so (has_note_form e.contact && has_note_form e.spec && has_rfc_form e.rfc) (has_note_form e.minute) shown in
-    let before_rfc = first_so (has_note_form e.contact && has_note_form e.spec) (has_rfc_form e.rfc) before_minute in
+    let shown =
+    second_so (is_name ask.registry && has_want_form ask.want && is_text ask.label)
+    (has_evidence_form e) h in
+    let before_evidence =
+    first_so (is_name ask.registry && has_want_form ask.want && is_text ask.label)
+    (has_evidence_form e) h in
+    let before_label =
+    first_so (is_name ask.registry && has_want_form ask.want) (is_text ask.label)
+    before_evidence in
+    let before_minute =
+    first_so (has_note_form e.contact && has_note_form e.spec && has_rfc_form e.rfc)
+    (has_note_form e.minute) shown in
+    let before_rfc =
+    first_so (has_note_form e.contact && has_note_form e.spec) (has_rfc_form e.rfc)
+    before_minute in
     record {
       registry = first_so (is_name ask.registry) (has_want_form ask.want) before_label;
       want = second_so (is_name ask.registry) (has_want_form ask.want) before_label;
-      label = second_so (is_name ask.registry && has_want_form ask.want) (is_text ask.label) before_evidence;
+      label = second_so (is_name ask.registry && has_want_form ask.want) (is_text ask.label)
+          before_evidence;
       contact = first_so (has_note_form e.contact) (has_note_form e.spec) before_rfc;
       spec = second_so (has_note_form e.contact) (has_note_form e.spec) before_rfc;
-      rfc = second_so (has_note_form e.contact && has_note_form e.spec) (has_rfc_form e.rfc) before_minute;
-      minute = second_so (has_note_form e.contact && has_note_form e.spec && has_rfc_form e.rfc) (has_note_form e.minute) shown;
+      rfc = second_so (has_note_form e.contact && has_note_form e.spec) (has_rfc_form e.rfc)
+          before_minute;
+      minute =
+          second_so (has_note_form e.contact && has_note_form e.spec && has_rfc_form e.rfc)
+          (has_note_form e.minute) shown;
     }
 
 code_readable : (ask : CodeAsk) → IsFormed ask → AllReadable 1 (code_members ask)
@@ -141,7 +163,8 @@ code_readable ask h = (
           note_readable ask.evidence.minute h.minute,
           (
             ascii_word (codes "registry") refl,
-            string-readable 1 ask.registry (IsUtf8-from_ascii ask.registry (ascii_name ask.registry h.registry)),
+            string-readable 1 ask.registry
+                (IsUtf8-from_ascii ask.registry (ascii_name ask.registry h.registry)),
             (
               ascii_word (codes "rfc") refl,
               rfc_readable ask.evidence.rfc h.rfc,
@@ -159,5 +182,8 @@ code_readable ask h = (
 )
 
 -- the bytes that are printed of an ask are one JSON object, the ask's
-pub object_of-ask_text : (ask : Ask) → has_ask_form ask ≡ true → object_of (compact_text (ask_tree ask)) ≡ Ok (ask_tree ask)
-object_of-ask_text (Code ask) h = object_of-compact_text 2 (code_members ask) (lit≤ tt) (object_with-readable 1 (code_members ask) refl (code_readable ask (formed ask h)))
+pub object_of-ask_text : (ask : Ask) → has_ask_form ask ≡ true
+    → object_of (compact_text (ask_tree ask)) ≡ Ok (ask_tree ask)
+object_of-ask_text (Code ask) h =
+    object_of-compact_text 2 (code_members ask) (lit≤ tt)
+    (object_with-readable 1 (code_members ask) refl (code_readable ask (formed ask h)))

@@ -64,36 +64,64 @@ track_back track.Historic = refl
 
 -- ---- evidence
 
-note_back : (part : Item) (note : Option (List ℕ)) → has_note_form note ≡ true → formed part (text_form is_text) (text_if note) ≡ Ok note
+note_back : (part : Item) (note : Option (List ℕ)) → has_note_form note ≡ true
+    → formed part (text_form is_text) (text_if note) ≡ Ok note
 note_back part None h = refl
 note_back part (Some s) h = rw h refl
 
 small : (n : ℕ) → is_within 1 99999 n ≡ true → nat_lt n (2 ^ 32) ≡ true
 small n h = grind (arith, nat_tests)
 
-rfc_form-rfc_tree : (rfc : PublishedRfc) → is_within 1 99999 rfc.number ≡ true → rfc_form (rfc_tree rfc) ≡ Some rfc
+rfc_form-rfc_tree : (rfc : PublishedRfc) → is_within 1 99999 rfc.number ≡ true
+    → rfc_form (rfc_tree rfc) ≡ Some rfc
 unfolding rfc_form
-rfc_form-rfc_tree rfc h = rw (small rfc.number h, stream_back rfc.stream, track_back rfc.track, h) refl
+rfc_form-rfc_tree rfc h =
+    rw (small rfc.number h, stream_back rfc.stream, track_back rfc.track, h) refl
 
-rfc_back : (rfc : Option PublishedRfc) → has_rfc_form rfc ≡ true → formed item.Rfc rfc_form (rfc_if rfc) ≡ Ok rfc
+rfc_back : (rfc : Option PublishedRfc) → has_rfc_form rfc ≡ true
+    → formed item.Rfc rfc_form (rfc_if rfc) ≡ Ok rfc
 rfc_back None h = refl
 rfc_back (Some rfc) h = rw (rfc_form-rfc_tree rfc h) refl
 
-evidence_joined : (e : Evidence) (c s m : Reading (Option (List ℕ))) (r : Reading (Option PublishedRfc)) → c ≡ Ok e.contact → s ≡ Ok e.spec → r ≡ Ok e.rfc → m ≡ Ok e.minute
-    → (c >>= (λ contact. s >>= (λ specification. r >>= (λ rfc. m >>= (λ minute. Ok (record { contact = contact; spec = specification; rfc = rfc; minute = minute })))))) ≡ Ok e
+evidence_joined : (e : Evidence) (c s m : Reading (Option (List ℕ)))
+    (r : Reading (Option PublishedRfc)) → c ≡ Ok e.contact → s ≡ Ok e.spec → r ≡ Ok e.rfc
+    → m ≡ Ok e.minute
+    → (c >>= (λ contact. s
+    >>= (λ specification. r
+    >>= (λ rfc. m
+    >>= (λ minute. Ok
+    (record { contact = contact; spec = specification; rfc = rfc; minute = minute })))))) ≡ Ok e
 evidence_joined e c s m r hc hs hr hm = rw (hc, hs, hr, hm) refl
 
-evidence_back : (ask : CodeAsk) → has_evidence_form ask.evidence ≡ true → evidence_of (code_tree ask) ≡ Ok ask.evidence
+evidence_back : (ask : CodeAsk) → has_evidence_form ask.evidence ≡ true
+    → evidence_of (code_tree ask) ≡ Ok ask.evidence
 unfolding evidence_of
 evidence_back ask h =
     let e = ask.evidence in
-    let before_minute = first_so (has_note_form e.contact && has_note_form e.spec && has_rfc_form e.rfc) (has_note_form e.minute) h in
-    let before_rfc = first_so (has_note_form e.contact && has_note_form e.spec) (has_rfc_form e.rfc) before_minute in
-    evidence_joined e (optional item.Contact (text_form is_text) (code_tree ask)) (optional item.Specification (text_form is_text) (code_tree ask)) (optional item.Minute (text_form is_text) (code_tree ask)) (optional item.Rfc rfc_form (code_tree ask))
-    (optional-object_with item.Contact (text_form is_text) e.contact (code_members ask) refl (note_back item.Contact e.contact (first_so (has_note_form e.contact) (has_note_form e.spec) before_rfc)))
-    (optional-object_with item.Specification (text_form is_text) e.spec (code_members ask) refl (note_back item.Specification e.spec (second_so (has_note_form e.contact) (has_note_form e.spec) before_rfc)))
-    (optional-object_with item.Rfc rfc_form e.rfc (code_members ask) refl (rfc_back e.rfc (second_so (has_note_form e.contact && has_note_form e.spec) (has_rfc_form e.rfc) before_minute)))
-    (optional-object_with item.Minute (text_form is_text) e.minute (code_members ask) refl (note_back item.Minute e.minute (second_so (has_note_form e.contact && has_note_form e.spec && has_rfc_form e.rfc) (has_note_form e.minute) h)))
+    let before_minute =
+    first_so (has_note_form e.contact && has_note_form e.spec && has_rfc_form e.rfc)
+    (has_note_form e.minute) h in
+    let before_rfc =
+    first_so (has_note_form e.contact && has_note_form e.spec) (has_rfc_form e.rfc)
+    before_minute in
+    evidence_joined e (optional item.Contact (text_form is_text) (code_tree ask))
+    (optional item.Specification (text_form is_text) (code_tree ask))
+    (optional item.Minute (text_form is_text) (code_tree ask))
+    (optional item.Rfc rfc_form (code_tree ask))
+    (optional-object_with item.Contact (text_form is_text) e.contact (code_members ask) refl
+    (note_back item.Contact e.contact
+    (first_so (has_note_form e.contact) (has_note_form e.spec) before_rfc)))
+    (optional-object_with item.Specification (text_form is_text) e.spec (code_members ask) refl
+    (note_back item.Specification e.spec
+    (second_so (has_note_form e.contact) (has_note_form e.spec) before_rfc)))
+    (optional-object_with item.Rfc rfc_form e.rfc (code_members ask) refl
+    (rfc_back e.rfc
+    (second_so (has_note_form e.contact && has_note_form e.spec) (has_rfc_form e.rfc)
+    before_minute)))
+    (optional-object_with item.Minute (text_form is_text) e.minute (code_members ask) refl
+    (note_back item.Minute e.minute
+    (second_so (has_note_form e.contact && has_note_form e.spec && has_rfc_form e.rfc)
+    (has_note_form e.minute) h)))
 
 -- ---- asks
 
@@ -102,31 +130,60 @@ want_by_back (Value v) h = rw h refl
 want_by_back (Least p) h = rw (policy_back p) refl
 
 want_back : (ask : CodeAsk) → has_want_form ask.want ≡ true → want_of (code_tree ask) ≡ Ok ask.want
-want_back ask h = rw (get-object_with (item_name item.Value) (code_members ask) refl, get-object_with (item_name item.Least) (code_members ask) refl) (want_by_back ask.want h)
+want_back ask h =
+    rw (
+      get-object_with (item_name item.Value) (code_members ask) refl,
+      get-object_with (item_name item.Least) (code_members ask) refl,
+    ) (want_by_back ask.want h)
 
-named_back : (form : List ℕ → Bool) (s : List ℕ) → form s ≡ true → text_form form (string s) ≡ Some s
+named_back : (form : List ℕ → Bool) (s : List ℕ) → form s ≡ true
+    → text_form form (string s) ≡ Some s
 named_back form s h = rw h refl
 
-code_joined : (ask : CodeAsk) (r l : Reading (List ℕ)) (w : Reading Want) (v : Reading Evidence) (o : Reading ⊤) → r ≡ Ok ask.registry → w ≡ Ok ask.want → l ≡ Ok ask.label → v ≡ Ok ask.evidence → o ≡ Ok tt
-    → (r >>= (λ registry. w >>= (λ wanted. l >>= (λ label. v >>= (λ evidence. o >>= (λ others. Ok (record { registry = registry; want = wanted; label = label; evidence = evidence }))))))) ≡ Ok ask
+code_joined : (ask : CodeAsk) (r l : Reading (List ℕ)) (w : Reading Want) (v : Reading Evidence)
+    (o : Reading ⊤) → r ≡ Ok ask.registry → w ≡ Ok ask.want → l ≡ Ok ask.label → v ≡ Ok ask.evidence
+    → o ≡ Ok tt
+    → (r >>= (λ registry. w
+    >>= (λ wanted. l
+    >>= (λ label. v
+    >>= (λ evidence. o
+    >>= (λ others. Ok
+    (record { registry = registry; want = wanted; label = label; evidence = evidence })))))))
+    ≡ Ok ask
 code_joined ask r l w v o hr hw hl hv ho = rw (hr, hw, hl, hv, ho) refl
 
 code_back : (ask : CodeAsk) → has_code_form ask ≡ true → code_of (code_tree ask) ≡ Ok ask
 unfolding code_of
 code_back ask h =
-    let before_evidence = first_so (is_name ask.registry && has_want_form ask.want && is_text ask.label) (has_evidence_form ask.evidence) h in
-    let before_label = first_so (is_name ask.registry && has_want_form ask.want) (is_text ask.label) before_evidence in
-    code_joined ask (needed item.Registry (text_form is_name) (code_tree ask)) (needed item.Label (text_form is_text) (code_tree ask)) (want_of (code_tree ask)) (evidence_of (code_tree ask)) (only code_items (code_tree ask))
-    (needed-object_with item.Registry (text_form is_name) ask.registry (code_members ask) refl (named_back is_name ask.registry (first_so (is_name ask.registry) (has_want_form ask.want) before_label)))
+    let before_evidence =
+    first_so (is_name ask.registry && has_want_form ask.want && is_text ask.label)
+    (has_evidence_form ask.evidence) h in
+    let before_label =
+    first_so (is_name ask.registry && has_want_form ask.want) (is_text ask.label)
+    before_evidence in
+    code_joined ask (needed item.Registry (text_form is_name) (code_tree ask))
+    (needed item.Label (text_form is_text) (code_tree ask)) (want_of (code_tree ask))
+    (evidence_of (code_tree ask)) (only code_items (code_tree ask))
+    (needed-object_with item.Registry (text_form is_name) ask.registry (code_members ask) refl
+    (named_back is_name ask.registry
+    (first_so (is_name ask.registry) (has_want_form ask.want) before_label)))
     (want_back ask (second_so (is_name ask.registry) (has_want_form ask.want) before_label))
-    (needed-object_with item.Label (text_form is_text) ask.label (code_members ask) refl (named_back is_text ask.label (second_so (is_name ask.registry && has_want_form ask.want) (is_text ask.label) before_evidence)))
-    (evidence_back ask (second_so (is_name ask.registry && has_want_form ask.want && is_text ask.label) (has_evidence_form ask.evidence) h))
+    (needed-object_with item.Label (text_form is_text) ask.label (code_members ask) refl
+    (named_back is_text ask.label
+    (second_so (is_name ask.registry && has_want_form ask.want) (is_text ask.label)
+    before_evidence)))
+    (evidence_back ask
+    (second_so (is_name ask.registry && has_want_form ask.want && is_text ask.label)
+    (has_evidence_form ask.evidence) h))
     (only-object_with code_items (code_members ask) refl refl)
 
-kind_joined : (ask : CodeAsk) (json : Data) (k : Reading AskKind) → k ≡ Ok kind.Code → code_of json ≡ Ok ask → (k >>= (λ asked. ask_of_kind asked json)) ≡ Ok (Code ask)
+kind_joined : (ask : CodeAsk) (json : Data) (k : Reading AskKind) → k ≡ Ok kind.Code
+    → code_of json ≡ Ok ask → (k >>= (λ asked. ask_of_kind asked json)) ≡ Ok (Code ask)
 kind_joined ask json k hk hc = rw (hk, hc) refl
 
 pub ask_of-ask_tree : (ask : Ask) → has_ask_form ask ≡ true → ask_of (ask_tree ask) ≡ Ok ask
 unfolding ask_of
 ask_of-ask_tree (Code ask) h =
-    kind_joined ask (code_tree ask) (needed item.Kind ask_kind_form (code_tree ask)) (needed-object_with item.Kind ask_kind_form kind.Code (code_members ask) refl refl) (code_back ask h)
+    kind_joined ask (code_tree ask) (needed item.Kind ask_kind_form (code_tree ask))
+    (needed-object_with item.Kind ask_kind_form kind.Code (code_members ask) refl refl)
+    (code_back ask h)

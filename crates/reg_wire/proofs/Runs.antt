@@ -19,23 +19,32 @@ module _ {S : Type 0} (Serves : S → Call → List ℕ → S → Type 0) where
   pub refused : (w : S) (line : List ℕ) → line_of line ≡ None → Answered Serves w line refusal w
   refused w line none = rw none (refl, refl)
 
-  pub served : (w v : S) (line answer : List ℕ) (asked : Call) → Some asked ≡ line_of line → Serves w asked answer v → Answered Serves w line answer v
+  pub served : (w v : S) (line answer : List ℕ) (asked : Call) → Some asked ≡ line_of line
+      → Serves w asked answer v → Answered Serves w line answer v
   served w v line answer asked some h = rw (← some) h
 
-  ran_more : (lines : List (List ℕ)) (line : List ℕ) (w : S) (answers : List (List ℕ)) (answer : List ℕ) (v u : S)
-      → Ran Serves w lines answers v → Answered Serves v line answer u → Ran Serves w (lines ++ line ∷ []) (answers ++ answer ∷ []) u
-  ran_more [] line w [] answer v u e h = let P = λ (x : S). Answered Serves x line answer u in (u, subst P e h, refl)
+  ran_more : (lines : List (List ℕ)) (line : List ℕ) (w : S) (answers : List (List ℕ))
+      (answer : List ℕ) (v u : S)
+      → Ran Serves w lines answers v → Answered Serves v line answer u
+      → Ran Serves w (lines ++ line ∷ []) (answers ++ answer ∷ []) u
+  ran_more [] line w [] answer v u e h = let P = λ (x : S). Answered Serves x line answer u in
+      (u, subst P e h, refl)
   ran_more [] line w (b ∷ answers) answer v u e h = absurd e
   ran_more (l ∷ lines) line w [] answer v u e h = absurd e
-  ran_more (l ∷ lines) line w (b ∷ answers) answer v u e h = (e.0, e.1, ran_more lines line e.0 answers answer v u e.2 h)
+  ran_more (l ∷ lines) line w (b ∷ answers) answer v u e h =
+      (e.0, e.1, ran_more lines line e.0 answers answer v u e.2 h)
 
 -- ---- Cuts
 
-ended_more : (lines : List (List ℕ)) (line : List ℕ) → flat_map ended (lines ++ line ∷ []) ≡ flat_map ended lines ++ ended line
+ended_more : (lines : List (List ℕ)) (line : List ℕ)
+    → flat_map ended (lines ++ line ∷ []) ≡ flat_map ended lines ++ ended line
 ended_more [] line = append-nil (ended line)
-ended_more (l ∷ lines) line = ap (λ t. ended l ++ t) (ended_more lines line) ∙ sym (append_assoc (ended l) (flat_map ended lines) (ended line))
+ended_more (l ∷ lines) line =
+    ap (λ t. ended l ++ t) (ended_more lines line)
+    ∙ sym (append_assoc (ended l) (flat_map ended lines) (ended line))
 
-lines_more : (lines : List (List ℕ)) (line : List ℕ) → AllByRecursion IsOneLine lines → IsOneLine line → AllByRecursion IsOneLine (lines ++ line ∷ [])
+lines_more : (lines : List (List ℕ)) (line : List ℕ) → AllByRecursion IsOneLine lines
+    → IsOneLine line → AllByRecursion IsOneLine (lines ++ line ∷ [])
 lines_more [] line h k = (k, tt)
 lines_more (l ∷ lines) line h k = (h.0, lines_more lines line h.1 k)
 
@@ -43,29 +52,40 @@ line_more : (rest : List ℕ) (b : ℕ) → b ≢ 10 → IsOneLine rest → IsOn
 line_more [] b n h = (n, tt)
 line_more (x ∷ rest) b n h = (h.0, line_more rest b n h.1)
 
-cut_byte : (bytes : List ℕ) (lines : List (List ℕ)) (rest : List ℕ) (b : ℕ) → b ≢ 10 → Cut bytes lines rest → Cut (bytes ++ b ∷ []) lines (rest ++ b ∷ [])
+cut_byte : (bytes : List ℕ) (lines : List (List ℕ)) (rest : List ℕ) (b : ℕ) → b ≢ 10
+    → Cut bytes lines rest → Cut (bytes ++ b ∷ []) lines (rest ++ b ∷ [])
 cut_byte bytes lines rest b n h = record {
   whole = ap (λ t. t ++ b ∷ []) h.whole ∙ append_assoc (flat_map ended lines) rest (b ∷ []);
   each = h.each;
   last = line_more rest b n h.last;
 }
 
-cut_line : (bytes : List ℕ) (lines : List (List ℕ)) (rest : List ℕ) → Cut bytes lines rest → Cut (bytes ++ 10 ∷ []) (lines ++ rest ∷ []) []
+cut_line : (bytes : List ℕ) (lines : List (List ℕ)) (rest : List ℕ) → Cut bytes lines rest
+    → Cut (bytes ++ 10 ∷ []) (lines ++ rest ∷ []) []
 cut_line bytes lines rest h = record {
-  whole = ap (λ t. t ++ 10 ∷ []) h.whole ∙ append_assoc (flat_map ended lines) rest (10 ∷ []) ∙ sym (ended_more lines rest) ∙ sym (append-nil _);
+  whole = ap (λ t. t ++ 10 ∷ []) h.whole ∙ append_assoc (flat_map ended lines) rest (10 ∷ [])
+      ∙ sym (ended_more lines rest) ∙ sym (append-nil _);
   each = lines_more lines rest h.each h.last;
   last = tt;
 }
 
-begins : (bytes : List ℕ) (lines : List (List ℕ)) (rest more : List ℕ) → Cut bytes lines rest → BeginWith (bytes ++ more) lines
-begins bytes lines rest more h = (rest ++ more, ap (λ t. t ++ more) h.whole ∙ append_assoc (flat_map ended lines) rest more, h.each)
+begins : (bytes : List ℕ) (lines : List (List ℕ)) (rest more : List ℕ) → Cut bytes lines rest
+    → BeginWith (bytes ++ more) lines
+begins bytes lines rest more h = (
+  rest ++ more,
+  ap (λ t. t ++ more) h.whole ∙ append_assoc (flat_map ended lines) rest more,
+  h.each,
+)
 
-begins_more : (bytes more : List ℕ) (lines : List (List ℕ)) → BeginWith bytes lines → BeginWith (bytes ++ more) lines
-begins_more bytes more lines h = (h.0 ++ more, ap (λ t. t ++ more) h.1 ∙ append_assoc (flat_map ended lines) h.0 more, h.2)
+begins_more : (bytes more : List ℕ) (lines : List (List ℕ)) → BeginWith bytes lines
+    → BeginWith (bytes ++ more) lines
+begins_more bytes more lines h =
+    (h.0 ++ more, ap (λ t. t ++ more) h.1 ∙ append_assoc (flat_map ended lines) h.0 more, h.2)
 
 -- ---- What went out
 
-wrote_short : (why : WireFault) (answers : List (List ℕ)) (answer : List ℕ) (sent : ℕ) (had has now : Option (List ℕ))
+wrote_short : (why : WireFault) (answers : List (List ℕ)) (answer : List ℕ) (sent : ℕ)
+    (had has now : Option (List ℕ))
     → Appends had has (flat_map ended answers) → sent ≡ length (flat_map ended answers)
     → CutShort why sent answer has now → WroteSome why (answers ++ answer ∷ []) had now
 wrote_short fault.Read answers answer sent had has now p count h = h
@@ -76,13 +96,21 @@ wrote_short (fault.Write n) answers answer sent had has now p count h =
     let size = length-append answer (10 ∷ []) in
     let all = ap length (ended_more answers answer) in
     let n_is : n ≡ length (flat_map ended answers) + h.0 = omega (arith, h.2, count) in
-    let cut : take n (flat_map ended (answers ++ answer ∷ [])) ≡ flat_map ended answers ++ take h.0 (ended answer) =
-    rw (n_is, ended_more answers answer) (take-append-add (flat_map ended answers) (ended answer) h.0) in
-    (answers, (answer, refl), omega arith, omega (arith, h.1, size, all, length-append (flat_map ended answers) (ended answer)), rw cut (Appends-trans had has now _ _ p h.3))
+    let cut : take n (flat_map ended (answers ++ answer ∷ [])) ≡ flat_map ended answers
+    ++ take h.0 (ended answer) =
+    rw (n_is, ended_more answers answer)
+    (take-append-add (flat_map ended answers) (ended answer) h.0) in (
+      answers,
+      (answer, refl),
+      omega arith,
+      omega (arith, h.1, size, all, length-append (flat_map ended answers) (ended answer)),
+      rw cut (Appends-trans had has now _ _ p h.3),
+    )
 
 -- ---- Progress
 
-module _ {S : Type 0} (Serves : S → Call → List ℕ → S → Type 0) (first : S) (had : Option (List ℕ)) where
+module _ {S : Type 0} (Serves : S → Call → List ℕ → S → Type 0) (first : S)
+    (had : Option (List ℕ)) where
   -- before any byte
   pub progress_start : Progress Serves first had [] [] 0 first had
   progress_start = record {
@@ -97,9 +125,12 @@ module _ {S : Type 0} (Serves : S → Call → List ℕ → S → Type 0) (first
   }
 
   -- a line feed comes: the line is answered
-  pub progress_line : (bytes buffered none : List ℕ) (sent n : ℕ) (w v : S) (has now : Option (List ℕ))
+  pub progress_line : (bytes buffered none : List ℕ) (sent n : ℕ) (w v : S)
+      (has now : Option (List ℕ))
       → Progress Serves first had bytes buffered sent w has
-      → ((line : List ℕ) → IsBuffered line buffered → (answer : List ℕ) × Answered Serves w line answer v × Appends has now (ended answer) × (n ≡ sent + length (ended answer)))
+      → ((line : List ℕ) → IsBuffered line buffered
+      → (answer : List ℕ) × Answered Serves w line answer v × Appends has now (ended answer)
+      × (n ≡ sent + length (ended answer)))
       → none ≡ []
       → Progress Serves first had (bytes ++ 10 ∷ []) none n v now
   progress_line bytes buffered none sent n w v has now p h empty =
@@ -112,11 +143,13 @@ module _ {S : Type 0} (Serves : S → Call → List ℕ → S → Type 0) (first
         is_buffered = empty;
         ran = ran_more Serves p.lines p.rest first p.answers got.0 w v p.ran got.1;
         wrote = rw (ended_more p.answers got.0) (Appends-trans had has now _ _ p.wrote got.2);
-        count = rw (ended_more p.answers got.0) (omega (arith, got.3, p.count, length-append (flat_map ended p.answers) (ended got.0)));
+        count = rw (ended_more p.answers got.0)
+            (omega (arith, got.3, p.count, length-append (flat_map ended p.answers) (ended got.0)));
       }
 
   -- another byte comes
-  pub progress_byte : (bytes buffered longer : List ℕ) (sent : ℕ) (w : S) (has : Option (List ℕ)) (b : ℕ)
+  pub progress_byte : (bytes buffered longer : List ℕ) (sent : ℕ) (w : S) (has : Option (List ℕ))
+      (b : ℕ)
       → b ≢ 10
       → Progress Serves first had bytes buffered sent w has
       → ((line : List ℕ) → IsBuffered line buffered → IsBuffered (line ++ b ∷ []) longer)
@@ -135,9 +168,11 @@ module _ {S : Type 0} (Serves : S → Call → List ℕ → S → Type 0) (first
   -- ---- Faults
 
   -- an answer was cut short
-  pub halted_line : (why : WireFault) (bytes buffered : List ℕ) (sent : ℕ) (w v : S) (has now : Option (List ℕ))
+  pub halted_line : (why : WireFault) (bytes buffered : List ℕ) (sent : ℕ) (w v : S)
+      (has now : Option (List ℕ))
       → Progress Serves first had bytes buffered sent w has
-      → ((line : List ℕ) → IsBuffered line buffered → (answer : List ℕ) × Answered Serves w line answer v × CutShort why sent answer has now)
+      → ((line : List ℕ) → IsBuffered line buffered
+      → (answer : List ℕ) × Answered Serves w line answer v × CutShort why sent answer has now)
       → Halted Serves why first had (bytes ++ 10 ∷ []) v now
   halted_line why bytes buffered sent w v has now p h =
       let got = h p.rest p.is_buffered in
@@ -152,7 +187,8 @@ module _ {S : Type 0} (Serves : S → Call → List ℕ → S → Type 0) (first
 
   -- memory for the line ran out
   pub halted_memory : (bytes buffered more : List ℕ) (sent : ℕ) (w : S) (has : Option (List ℕ))
-      → Progress Serves first had bytes buffered sent w has → Halted Serves fault.Memory first had (bytes ++ more) w has
+      → Progress Serves first had bytes buffered sent w has
+      → Halted Serves fault.Memory first had (bytes ++ more) w has
   halted_memory bytes buffered more sent w has p = record {
     lines = p.lines;
     answers = p.answers;
@@ -178,12 +214,15 @@ module _ {S : Type 0} (Serves : S → Call → List ℕ → S → Type 0) (first
   nil_of [] h = refl
   nil_of (x ∷ xs) h = absurd (omega arith)
 
-  none_buffered : (n : ℕ) (rest buffered : List ℕ) → buffered ≡ take (n + 1) rest → length buffered ≡ 0 → rest ≡ []
+  none_buffered : (n : ℕ) (rest buffered : List ℕ) → buffered ≡ take (n + 1) rest
+      → length buffered ≡ 0 → rest ≡ []
   none_buffered n [] buffered h none = refl
-  none_buffered n (x ∷ rest) buffered h none = let size = ap length h in absurd (omega (arith, length-take (n + 1) (x ∷ rest)))
+  none_buffered n (x ∷ rest) buffered h none = let size = ap length h in
+      absurd (omega (arith, length-take (n + 1) (x ∷ rest)))
 
   pub whole_empty : (bytes buffered : List ℕ) (sent : ℕ) (w : S) (has : Option (List ℕ))
-      → length buffered ≡ 0 → Progress Serves first had bytes buffered sent w has → Whole Serves first had bytes w has
+      → length buffered ≡ 0 → Progress Serves first had bytes buffered sent w has
+      → Whole Serves first had bytes w has
   whole_empty bytes buffered sent w has none p =
       let empty : p.rest ≡ [] = none_buffered most_bytes p.rest buffered p.is_buffered none in
       record {
@@ -198,18 +237,28 @@ module _ {S : Type 0} (Serves : S → Call → List ℕ → S → Type 0) (first
   some_rest [] h = absurd (omega arith)
   some_rest (b ∷ bs) h = refl
 
-  some_buffered : (n : ℕ) (rest buffered : List ℕ) → buffered ≡ take n rest → length buffered ≢ 0 → 0 < length rest
+  some_buffered : (n : ℕ) (rest buffered : List ℕ) → buffered ≡ take n rest → length buffered ≢ 0
+      → 0 < length rest
   some_buffered n rest buffered h some = omega (arith, ap length h, length-take n rest)
 
-  last_line : (bytes buffered : List ℕ) (sent : ℕ) (w : S) (has : Option (List ℕ)) → length buffered ≢ 0 → (p : Progress Serves first had bytes buffered sent w has)
+  last_line : (bytes buffered : List ℕ) (sent : ℕ) (w : S) (has : Option (List ℕ))
+      → length buffered ≢ 0 → (p : Progress Serves first had bytes buffered sent w has)
       → AreLines bytes (p.lines ++ p.rest ∷ [])
-  last_line bytes buffered sent w has some p =
-      (p.lines, p.rest, p.cut, ap (λ t. p.lines ++ t) (sym (some_rest p.rest (some_buffered (most_bytes + 1) p.rest buffered p.is_buffered some))))
+  last_line bytes buffered sent w has some p = (
+    p.lines,
+    p.rest,
+    p.cut,
+    ap (λ t. p.lines ++ t)
+        (sym (some_rest p.rest
+        (some_buffered (most_bytes + 1) p.rest buffered p.is_buffered some))),
+  )
 
   pub whole_line : (bytes buffered : List ℕ) (sent n : ℕ) (w v : S) (has now : Option (List ℕ))
       → length buffered ≢ 0
       → Progress Serves first had bytes buffered sent w has
-      → ((line : List ℕ) → IsBuffered line buffered → (answer : List ℕ) × Answered Serves w line answer v × Appends has now (ended answer) × (n ≡ sent + length (ended answer)))
+      → ((line : List ℕ) → IsBuffered line buffered
+      → (answer : List ℕ) × Answered Serves w line answer v × Appends has now (ended answer)
+      × (n ≡ sent + length (ended answer)))
       → Whole Serves first had bytes v now
   whole_line bytes buffered sent n w v has now some p h =
       let got = h p.rest p.is_buffered in
@@ -221,10 +270,12 @@ module _ {S : Type 0} (Serves : S → Call → List ℕ → S → Type 0) (first
         wrote = rw (ended_more p.answers got.0) (Appends-trans had has now _ _ p.wrote got.2);
       }
 
-  pub halted_last : (why : WireFault) (bytes buffered : List ℕ) (sent : ℕ) (w v : S) (has now : Option (List ℕ))
+  pub halted_last : (why : WireFault) (bytes buffered : List ℕ) (sent : ℕ) (w v : S)
+      (has now : Option (List ℕ))
       → length buffered ≢ 0
       → Progress Serves first had bytes buffered sent w has
-      → ((line : List ℕ) → IsBuffered line buffered → (answer : List ℕ) × Answered Serves w line answer v × CutShort why sent answer has now)
+      → ((line : List ℕ) → IsBuffered line buffered
+      → (answer : List ℕ) × Answered Serves w line answer v × CutShort why sent answer has now)
       → HaltedLast Serves why first had bytes v now
   halted_last why bytes buffered sent w v has now some p h =
       let got = h p.rest p.is_buffered in
@@ -239,7 +290,8 @@ module _ {S : Type 0} (Serves : S → Call → List ℕ → S → Type 0) (first
   -- ---- Whole runs
 
   pub answers_all : (bytes : List ℕ) (w : S) (unread left has : Option (List ℕ))
-      → Consumes unread left bytes → IsAtEnd left → Whole Serves first had bytes w has → AnswersAll Serves first w unread left had has
+      → Consumes unread left bytes → IsAtEnd left → Whole Serves first had bytes w has
+      → AnswersAll Serves first w unread left had has
   answers_all bytes w unread left has got end h = record {
     script = bytes;
     lines = h.lines;
@@ -251,8 +303,10 @@ module _ {S : Type 0} (Serves : S → Call → List ℕ → S → Type 0) (first
     wrote = h.wrote;
   }
 
-  pub stops_reading : (bytes buffered : List ℕ) (sent : ℕ) (w : S) (unread left has : Option (List ℕ))
-      → Consumes unread left bytes → Progress Serves first had bytes buffered sent w has → StopsAt Serves fault.Read first w unread left had has
+  pub stops_reading : (bytes buffered : List ℕ) (sent : ℕ) (w : S)
+      (unread left has : Option (List ℕ))
+      → Consumes unread left bytes → Progress Serves first had bytes buffered sent w has
+      → StopsAt Serves fault.Read first w unread left had has
   stops_reading bytes buffered sent w unread left has got p = record {
     bytes = bytes;
     lines = p.lines;
@@ -264,23 +318,62 @@ module _ {S : Type 0} (Serves : S → Call → List ℕ → S → Type 0) (first
   }
 
   pub stops_at : (why : WireFault) (bytes : List ℕ) (w : S) (unread left has : Option (List ℕ))
-      → Consumes unread left bytes → Halted Serves why first had bytes w has → StopsAt Serves why first w unread left had has
+      → Consumes unread left bytes → Halted Serves why first had bytes w has
+      → StopsAt Serves why first w unread left had has
   stops_at fault.Read bytes w unread left has got h = absurd h.wrote
   stops_at fault.Memory bytes w unread left has got h =
-      record { bytes = bytes; lines = h.lines; answers = h.answers; is_read = got; before = inl h.begins; ran = h.ran; wrote = h.wrote }
+      record {
+        bytes = bytes;
+        lines = h.lines;
+        answers = h.answers;
+        is_read = got;
+        before =
+            inl h.begins;
+        ran = h.ran;
+        wrote = h.wrote;
+      }
   stops_at (fault.Write n) bytes w unread left has got h =
-      record { bytes = bytes; lines = h.lines; answers = h.answers; is_read = got; before = inl h.begins; ran = h.ran; wrote = h.wrote }
+      record {
+        bytes = bytes;
+        lines = h.lines;
+        answers = h.answers;
+        is_read = got;
+        before =
+            inl h.begins;
+        ran = h.ran;
+        wrote = h.wrote;
+      }
 
   pub stops_last : (why : WireFault) (bytes : List ℕ) (w : S) (unread left has : Option (List ℕ))
-      → Consumes unread left bytes → IsAtEnd left → HaltedLast Serves why first had bytes w has → StopsAt Serves why first w unread left had has
+      → Consumes unread left bytes → IsAtEnd left → HaltedLast Serves why first had bytes w has
+      → StopsAt Serves why first w unread left had has
   stops_last fault.Read bytes w unread left has got end h = absurd h.wrote
   stops_last fault.Memory bytes w unread left has got end h =
-      record { bytes = bytes; lines = h.lines; answers = h.answers; is_read = got; before = inr (end, h.cut); ran = h.ran; wrote = h.wrote }
+      record {
+        bytes = bytes;
+        lines = h.lines;
+        answers = h.answers;
+        is_read = got;
+        before =
+            inr (end, h.cut);
+        ran = h.ran;
+        wrote = h.wrote;
+      }
   stops_last (fault.Write n) bytes w unread left has got end h =
-      record { bytes = bytes; lines = h.lines; answers = h.answers; is_read = got; before = inr (end, h.cut); ran = h.ran; wrote = h.wrote }
+      record {
+        bytes = bytes;
+        lines = h.lines;
+        answers = h.answers;
+        is_read = got;
+        before =
+            inr (end, h.cut);
+        ran = h.ran;
+        wrote = h.wrote;
+      }
 
 -- before any byte
-pub stops_before : {S : Type 0} (Serves : S → Call → List ℕ → S → Type 0) (first : S) (unread had : Option (List ℕ)) → StopsAt Serves fault.Memory first first unread unread had had
+pub stops_before : {S : Type 0} (Serves : S → Call → List ℕ → S → Type 0) (first : S)
+    (unread had : Option (List ℕ)) → StopsAt Serves fault.Memory first first unread unread had had
 stops_before Serves first unread had = record {
   bytes = [];
   lines = [];
@@ -293,21 +386,27 @@ stops_before Serves first unread had = record {
 
 -- ---- The same run, seen by a part of the states
 
-module _ {S T : Type 0} (P : S → Call → List ℕ → S → Type 0) (Q : T → Call → List ℕ → T → Type 0) (view : S → T)
-    (same : (s : S) (asked : Call) (answer : List ℕ) (t : S) → P s asked answer t → Q (view s) asked answer (view t)) where
+module _ {S T : Type 0} (P : S → Call → List ℕ → S → Type 0) (Q : T → Call → List ℕ → T → Type 0)
+    (view : S → T)
+    (same : (s : S) (asked : Call) (answer : List ℕ) (t : S) → P s asked answer t
+    → Q (view s) asked answer (view t)) where
   answered_seen : (o : Option Call) (s : S) (answer : List ℕ) (t : S)
       → MatchOption o ((answer ≡ refusal) × (t ≡ s)) (λ asked. P s asked answer t)
-      → MatchOption o ((answer ≡ refusal) × (view t ≡ view s)) (λ asked. Q (view s) asked answer (view t))
+      → MatchOption o ((answer ≡ refusal) × (view t ≡ view s))
+      (λ asked. Q (view s) asked answer (view t))
   answered_seen None s answer t h = (h.0, ap view h.1)
   answered_seen (Some asked) s answer t h = same s asked answer t h
 
-  ran_seen : (lines answers : List (List ℕ)) (s t : S) → Ran P s lines answers t → Ran Q (view s) lines answers (view t)
+  ran_seen : (lines answers : List (List ℕ)) (s t : S) → Ran P s lines answers t
+      → Ran Q (view s) lines answers (view t)
   ran_seen [] [] s t h = ap view h
   ran_seen [] (answer ∷ answers) s t h = absurd h
   ran_seen (line ∷ lines) [] s t h = absurd h
-  ran_seen (line ∷ lines) (answer ∷ answers) s t h = (view h.0, answered_seen (line_of line) s answer h.0 h.1, ran_seen lines answers h.0 t h.2)
+  ran_seen (line ∷ lines) (answer ∷ answers) s t h =
+      (view h.0, answered_seen (line_of line) s answer h.0 h.1, ran_seen lines answers h.0 t h.2)
 
-  pub all_seen : (s t : S) (unread left had has : Option (List ℕ)) → AnswersAll P s t unread left had has → AnswersAll Q (view s) (view t) unread left had has
+  pub all_seen : (s t : S) (unread left had has : Option (List ℕ))
+      → AnswersAll P s t unread left had has → AnswersAll Q (view s) (view t) unread left had has
   all_seen s t unread left had has h = record {
     script = h.script;
     lines = h.lines;
@@ -319,7 +418,8 @@ module _ {S T : Type 0} (P : S → Call → List ℕ → S → Type 0) (Q : T �
     wrote = h.wrote;
   }
 
-  pub stop_seen : (why : WireFault) (s t : S) (unread left had has : Option (List ℕ)) → StopsAt P why s t unread left had has → StopsAt Q why (view s) (view t) unread left had has
+  pub stop_seen : (why : WireFault) (s t : S) (unread left had has : Option (List ℕ))
+      → StopsAt P why s t unread left had has → StopsAt Q why (view s) (view t) unread left had has
   stop_seen why s t unread left had has h = record {
     bytes = h.bytes;
     lines = h.lines;
@@ -331,8 +431,12 @@ module _ {S T : Type 0} (P : S → Call → List ℕ → S → Type 0) (Q : T �
   }
 
 -- a byte of a piece, and the bytes after it
-pub piece_all : (bytes piece : List ℕ) (i : ℕ) → i < length piece → ((bytes ++ take i piece) ++ get_or piece i 0 ∷ []) ++ drop (i + 1) piece ≡ bytes ++ piece
+pub piece_all : (bytes piece : List ℕ) (i : ℕ) → i < length piece
+    → ((bytes ++ take i piece) ++ get_or piece i 0 ∷ []) ++ drop (i + 1) piece ≡ bytes ++ piece
 piece_all bytes piece i h =
-    let e : get_or piece i 0 ∷ drop (i + 1) piece ≡ drop i piece = rw (add-one, drop-cons piece i 0) refl in
-    append_assoc (bytes ++ take i piece) (get_or piece i 0 ∷ []) (drop (i + 1) piece) ∙ ap (λ t. (bytes ++ take i piece) ++ t) e
-    ∙ append_assoc bytes (take i piece) (drop i piece) ∙ ap (λ t. bytes ++ t) (take-append-drop i piece)
+    let e : get_or piece i 0 ∷ drop (i + 1) piece ≡ drop i piece =
+    rw (add-one, drop-cons piece i 0) refl in
+    append_assoc (bytes ++ take i piece) (get_or piece i 0 ∷ []) (drop (i + 1) piece)
+    ∙ ap (λ t. (bytes ++ take i piece) ++ t) e
+    ∙ append_assoc bytes (take i piece) (drop i piece)
+    ∙ ap (λ t. bytes ++ t) (take-append-drop i piece)

@@ -22,21 +22,25 @@ abbrev OfCalls : World → World → Pairs → Type 0
 OfCalls first last pairs = AnswerCalls first last (map (λ p. p.0) pairs) (map (λ p. p.1) pairs)
 
 -- no answer to a call is that of a fault
-answer_is_another : (w : World) (call : Call) (reading : Reading Command) → bytes_eq (answer_line (answer_for w call reading)) storage ≡ false
+answer_is_another : (w : World) (call : Call) (reading : Reading Command)
+    → bytes_eq (answer_line (answer_for w call reading)) storage ≡ false
 answer_is_another w call (Ok command) = reply_is_another _
 answer_is_another w call (Err why) = wire_is_another why
 
 -- ---- Which lines are left
 
-kept : (line text : List ℕ) (lines answers : List (List ℕ)) → bytes_eq text storage ≡ false → without_faults (line ∷ lines) (text ∷ answers) ≡ (line, text) ∷ without_faults lines answers
+kept : (line text : List ℕ) (lines answers : List (List ℕ)) → bytes_eq text storage ≡ false
+    → without_faults (line ∷ lines) (text ∷ answers) ≡ (line, text) ∷ without_faults lines answers
 kept line text lines answers h = rw h refl
 
-dropped : (line text : List ℕ) (lines answers : List (List ℕ)) → bytes_eq text storage ≡ true → without_faults (line ∷ lines) (text ∷ answers) ≡ without_faults lines answers
+dropped : (line text : List ℕ) (lines answers : List (List ℕ)) → bytes_eq text storage ≡ true
+    → without_faults (line ∷ lines) (text ∷ answers) ≡ without_faults lines answers
 dropped line text lines answers h = rw h refl
 
 -- ---- One line more
 
-module _ (line text : List ℕ) (first now last : World) (pairs : Pairs) (rest : OfCalls now last pairs) where
+module _ (line text : List ℕ) (first now last : World) (pairs : Pairs)
+    (rest : OfCalls now last pairs) where
   abbrev texts : List (List ℕ)
   texts = map (λ (p : List ℕ × List ℕ). p.1) pairs
 
@@ -44,51 +48,74 @@ module _ (line text : List ℕ) (first now last : World) (pairs : Pairs) (rest :
   others = map (λ (p : List ℕ × List ℕ). p.0) pairs
 
   -- a line that is none
-  no_line : line_of line ≡ None → text ≡ refusal → now ≡ first → OfCalls first last ((line, text) ∷ pairs)
+  no_line : line_of line ≡ None → text ≡ refusal → now ≡ first
+      → OfCalls first last ((line, text) ∷ pairs)
   no_line none is same =
-      let rest_first : OfCalls first last pairs = subst (λ (w : World). OfCalls w last pairs) same rest in
+      let rest_first : OfCalls first last pairs =
+      subst (λ (w : World). OfCalls w last pairs) same rest in
       record {
         answered =
-            let P = λ (o : Option Call). text ∷ texts ≡ next_line o (answers_to first (cons_option o (calls_of others))) (lines_with others) in
-            subst P (sym none) (ap (λ t. t ∷ texts) is ∙ ap (λ ts. refusal ∷ ts) rest_first.answered);
+            let P = λ (o : Option Call). text ∷ texts
+            ≡ next_line o (answers_to first (cons_option o (calls_of others)))
+            (lines_with others) in
+            subst P (sym none)
+            (ap (λ t. t ∷ texts) is ∙ ap (λ ts. refusal ∷ ts) rest_first.answered);
         world =
-            let P = λ (o : Option Call). last ≡ world_after_calls first (cons_option o (calls_of others)) in
+            let P = λ (o : Option Call). last
+            ≡ world_after_calls first (cons_option o (calls_of others)) in
             subst P (sym none) rest_first.world;
       }
 
   -- a line that is a call
-  call_line : (call : Call) → line_of line ≡ Some call → text ≡ answer_line (answer_to first call) → now ≡ world_then first call → OfCalls first last ((line, text) ∷ pairs)
+  call_line : (call : Call) → line_of line ≡ Some call → text ≡ answer_line (answer_to first call)
+      → now ≡ world_then first call → OfCalls first last ((line, text) ∷ pairs)
   call_line call some is moved =
-      let rest_then : OfCalls (world_then first call) last pairs = subst (λ (w : World). OfCalls w last pairs) moved rest in
+      let rest_then : OfCalls (world_then first call) last pairs =
+      subst (λ (w : World). OfCalls w last pairs) moved rest in
       record {
         answered =
-            let P = λ (o : Option Call). text ∷ texts ≡ next_line o (answers_to first (cons_option o (calls_of others))) (lines_with others) in
-            subst P (sym some) (ap (λ t. t ∷ texts) is ∙ ap (λ ts. answer_line (answer_to first call) ∷ ts) rest_then.answered);
+            let P = λ (o : Option Call). text ∷ texts
+            ≡ next_line o (answers_to first (cons_option o (calls_of others)))
+            (lines_with others) in
+            subst P (sym some)
+            (ap (λ t. t ∷ texts) is ∙ ap (λ ts. answer_line (answer_to first call) ∷ ts)
+            rest_then.answered);
         world =
-            let P = λ (o : Option Call). last ≡ world_after_calls first (cons_option o (calls_of others)) in
+            let P = λ (o : Option Call). last
+            ≡ world_after_calls first (cons_option o (calls_of others)) in
             subst P (sym some) rest_then.world;
       }
 
-module _ (line text : List ℕ) (lines answers : List (List ℕ)) (first now last : World) (rest : OfCalls now last (without_faults lines answers)) where
+module _ (line text : List ℕ) (lines answers : List (List ℕ)) (first now last : World)
+    (rest : OfCalls now last (without_faults lines answers)) where
   abbrev Goal : Type 0
   Goal = OfCalls first last (without_faults (line ∷ lines) (text ∷ answers))
 
-  abbrev keeps : bytes_eq text storage ≡ false → OfCalls first last ((line, text) ∷ without_faults lines answers) → Goal
+  abbrev keeps : bytes_eq text storage ≡ false
+      → OfCalls first last ((line, text) ∷ without_faults lines answers) → Goal
   keeps other h = subst (OfCalls first last) (sym (kept line text lines answers other)) h
 
-  was_answered : (o : Option Call) → line_of line ≡ o → MatchOption o ((text ≡ refusal) × (now ≡ first)) (λ call. Serves first call text now) → Goal
-  was_answered None e h = keeps (ap (λ t. bytes_eq t storage) h.0 ∙ refusal_is_another) (no_line line text first now last (without_faults lines answers) rest e h.0 h.1)
+  was_answered : (o : Option Call) → line_of line ≡ o
+      → MatchOption o ((text ≡ refusal) × (now ≡ first)) (λ call. Serves first call text now) → Goal
+  was_answered None e h =
+      keeps (ap (λ t. bytes_eq t storage) h.0 ∙ refusal_is_another)
+      (no_line line text first now last (without_faults lines answers) rest e h.0 h.1)
   was_answered (Some call) e (inl h) =
-      keeps (ap (λ t. bytes_eq t storage) h.0 ∙ answer_is_another first call (spelled call)) (call_line line text first now last (without_faults lines answers) rest call e h.0 h.1)
+      keeps (ap (λ t. bytes_eq t storage) h.0 ∙ answer_is_another first call (spelled call))
+      (call_line line text first now last (without_faults lines answers) rest call e h.0 h.1)
   was_answered (Some call) e (inr h) =
-      subst (OfCalls first last) (sym (dropped line text lines answers (ap (λ t. bytes_eq t storage) h.0))) (subst (λ (w : World). OfCalls w last (without_faults lines answers)) h.1 rest)
+      subst (OfCalls first last)
+      (sym (dropped line text lines answers (ap (λ t. bytes_eq t storage) h.0)))
+      (subst (λ (w : World). OfCalls w last (without_faults lines answers)) h.1 rest)
 
-pub script_run : (lines answers : List (List ℕ)) (first last : World) → Ran Serves first lines answers last → OfCalls first last (without_faults lines answers)
+pub script_run : (lines answers : List (List ℕ)) (first last : World)
+    → Ran Serves first lines answers last → OfCalls first last (without_faults lines answers)
 script_run [] [] first last h = record { answered = refl; world = h }
 script_run [] (text ∷ answers) first last h = absurd h
 script_run (line ∷ lines) [] first last h = absurd h
 script_run (line ∷ lines) (text ∷ answers) first last h =
-    was_answered line text lines answers first h.0 last (script_run lines answers h.0 last h.2) (line_of line) refl h.1
+    was_answered line text lines answers first h.0 last (script_run lines answers h.0 last h.2)
+    (line_of line) refl h.1
 
 pub model_run : CallsRunAsTheModel → RunsAsTheModel
 model_run of_model lines answers first last ran =

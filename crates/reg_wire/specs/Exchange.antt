@@ -23,7 +23,14 @@ pub record Call : Type 0 where
 
 -- a call without where its bytes lie in memory
 abbrev pub call_view : BorrowedCall → Call
-call_view call = record { moment = call.moment; token = option_copied call.token; method = call.method.now; path = call.path.now; body = call.body.now }
+call_view call =
+    record {
+      moment = call.moment;
+      token = option_copied call.token;
+      method = call.method.now;
+      path = call.path.now;
+      body = call.body.now;
+    }
 
 -- ---- One call
 
@@ -60,7 +67,11 @@ world_after_calls w (call ∷ calls) = world_after_calls (world_then w call) cal
 -- ---- The events among calls
 
 abbrev pub event_for : Call → Reading Command → Reading Event
-event_for call (Ok command) = Ok (record { caller = caller_of call.token; moment = call.moment; command = command })
+event_for call (Ok command) = Ok (record {
+  caller = caller_of call.token;
+  moment = call.moment;
+  command = command;
+})
 event_for call (Err refusal) = Err refusal
 
 -- the event that a call is, or the first refusal of its bytes

@@ -37,9 +37,11 @@ AsksReadBack = (ask : Ask) → has_ask_form ask ≡ true → ask_in (ask_text as
 
 -- ---- The model
 
--- calls are answered as in the model's run of the events among them, with the refusals of the other calls between, and so is the last world
+-- calls are answered as in the model's run of the events among them, with the refusals of the other
+-- calls between, and so is the last world
 pub record AreOfModel (first : World) (calls : List Call) : Type 0 where
-  pub answers : answers_to first calls ≡ answers_with calls (run token_digest first (events_of calls))
+  pub answers : answers_to first calls
+      ≡ answers_with calls (run token_digest first (events_of calls))
   pub world : world_after_calls first calls ≡ world_after token_digest first (events_of calls)
 
 abbrev pub CallsRunAsTheModel : Type 0
@@ -54,15 +56,18 @@ pub record LookAlike (w v : World) (caller : Option (List ℕ)) : Type 0 where
   pub no_clerk : IsNoClerk w caller
   pub views : view_of w caller ≡ view_of v caller
 
--- both offices give a call the same answer, with the same status and bytes, and then show its caller the same view again
+-- both offices give a call the same answer, with the same status and bytes, and then show its
+-- caller the same view again
 pub record AreAnsweredAlike (w v : World) (call : Call) : Type 0 where
   pub answers : answer_to w call ≡ answer_to v call
   pub status : status_of (answer_to w call) ≡ status_of (answer_to v call)
   pub bytes : body_text (answer_to w call) ≡ body_text (answer_to v call)
-  pub views : view_of (world_then w call) (caller_of call.token) ≡ view_of (world_then v call) (caller_of call.token)
+  pub views : view_of (world_then w call) (caller_of call.token)
+      ≡ view_of (world_then v call) (caller_of call.token)
 
 abbrev pub CallsAreAnsweredAlike : Type 0
-CallsAreAnsweredAlike = (w v : World) (call : Call) → LookAlike w v (caller_of call.token) → AreAnsweredAlike w v call
+CallsAreAnsweredAlike =
+    (w v : World) (call : Call) → LookAlike w v (caller_of call.token) → AreAnsweredAlike w v call
 
 -- ---- Striking
 
@@ -72,16 +77,20 @@ replies_at found = map (λ (s : Stage). s.reply) found
 
 -- the answers to calls are the replies at the stages of the events among them
 abbrev pub AreOfStages : World → List Call → Type 0
-AreOfStages first calls = answers_to first calls ≡ answers_with calls (replies_at (stages token_digest first (events_of calls)))
+AreOfStages first calls =
+    answers_to first calls ≡ answers_with calls
+    (replies_at (stages token_digest first (events_of calls)))
 
--- some calls, and others that have their events but for those about requests that an account does not see: the answers to both are the
--- replies at their stages; these are alike at each event that is left; and at the end both show the account the same
+-- some calls, and others that have their events but for those about requests that an account does
+-- not see: the answers to both are the replies at their stages; these are alike at each event that
+-- is left; and at the end both show the account the same
 pub record AreStruckAlike (account : List ℕ) (first : World) (calls left : List Call) : Type 0 where
   pub answered : AreOfStages first calls
   pub left_answered : AreOfStages first left
   pub each_event :
       AllZip (AreAlikeTo account (is_unseen token_digest account first (events_of calls)))
-      (kept_stages token_digest account first (events_of calls)) (stages token_digest first (events_of left))
+      (kept_stages token_digest account first (events_of calls))
+      (stages token_digest first (events_of left))
   pub shows : ShowSame account (world_after_calls first calls) (world_after_calls first left)
 
 abbrev pub UnseenCallsLeaveNoTrace : Type 0

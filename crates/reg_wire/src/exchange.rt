@@ -26,9 +26,10 @@ pub struct Call<'a> {
     pub body: &'a [u8],
 }
 
-/// What is answered to a call: the refusal of bytes that spell no command, or what the office answers to
-/// the command, which is then carried out. `body_of` prints it. A fault where the store or memory failed,
-/// with the content of the office unchanged: the answer is then `Answer::Storage`.
+/// What is answered to a call: the refusal of bytes that spell no command, or what the office
+/// answers to the command, which is then carried out. `body_of` prints it. A fault where the store
+/// or memory failed, with the content of the office unchanged: the answer is then
+/// `Answer::Storage`.
 pub fn answer_to<K: Keeper>(
     alloc: Global,
     office: &mut Office<K>,
@@ -36,8 +37,10 @@ pub fn answer_to<K: Keeper>(
     call: &Call<'_>,
 ) -> Result<Answer, Fault>
     ensures premise { K.Holds office.new → K.Holds office.old }
-    ensures answer { K.Holds office.new → IfOk result (λ a. a ≡ answer_to (K.world office.old) (call_view call.now)) }
-    ensures world { K.Holds office.new → OnOk result (K.world office.new ≡ world_then (K.world office.old) (call_view call.now)) }
+    ensures answer { K.Holds office.new → IfOk result
+        (λ a. a ≡ answer_to (K.world office.old) (call_view call.now)) }
+    ensures world { K.Holds office.new → OnOk result
+        (K.world office.new ≡ world_then (K.world office.old) (call_view call.now)) }
     ensures kept { K.Holds office.new → OnErr result (K.world office.new ≡ K.world office.old) }
 {
     match read_command(alloc, routes, call.method, call.path, call.body) {
@@ -53,8 +56,13 @@ fn handle<K: Keeper>(
     command: Command,
 ) -> Result<Reply, Fault>
     ensures premise { K.Holds office.new → K.Holds office.old }
-    ensures reply { K.Holds office.new → IfOk result (λ r. r ≡ (step_by (K.world office.old) (call_view call.now).token call.now.moment command).reply) }
-    ensures world { K.Holds office.new → OnOk result (K.world office.new ≡ (step_by (K.world office.old) (call_view call.now).token call.now.moment command).world) }
+    ensures reply { K.Holds office.new → IfOk result
+        (λ r. r ≡ (step_by (K.world office.old) (call_view call.now).token call.now.moment
+        command).reply) }
+    ensures world { K.Holds office.new → OnOk result
+        (K.world office.new
+        ≡ (step_by (K.world office.old) (call_view call.now).token call.now.moment
+        command).world) }
     ensures kept { K.Holds office.new → OnErr result (K.world office.new ≡ K.world office.old) }
 {
     office.handle(call.moment, call.token, &command)

@@ -20,18 +20,20 @@ use std::alloc::Global;
 use std::io::{Read, Write};
 
 /// Answers the lines of a script in turn. A line is `moment token METHOD path body`, with one space
-/// between: the moment in seconds since 1970-01-01T00:00:00Z, the token `-` where there is none, and the
-/// body the rest of the line, with a TAB for each line feed of it, or missing with its space. The answer
-/// is a line too: the status and the body, with a TAB for each line feed of it. The last line of the
-/// script may lack its line feed.
+/// between: the moment in seconds since 1970-01-01T00:00:00Z, the token `-` where there is none,
+/// and the body the rest of the line, with a TAB for each line feed of it, or missing with its
+/// space. The answer is a line too: the status and the body, with a TAB for each line feed of it.
+/// The last line of the script may lack its line feed.
 ///
-/// A line that has not this form, or has more than 65,536 bytes, gets `400 {"error":"line"}`, and one at
-/// which the store or memory failed `503 {"error":"storage"}`, with the content of the office unchanged.
+/// A line that has not this form, or has more than 65,536 bytes, gets `400 {"error":"line"}`, and
+/// one at which the store or memory failed `503 {"error":"storage"}`, with the content of the
+/// office unchanged.
 ///
 /// `Read` where a read failed, or after 16,777,216 reads: all lines whose line feed was read were
-/// answered. `Write(n)` where a write failed or took nothing: exactly the first n bytes of the answers
-/// went out, and the line whose answer was cut short was carried out. `Memory` where there was none to
-/// hold a line, or an answer: the lines before were answered, and the last may have been carried out.
+/// answered. `Write(n)` where a write failed or took nothing: exactly the first n bytes of the
+/// answers went out, and the line whose answer was cut short was carried out. `Memory` where there
+/// was none to hold a line, or an answer: the lines before were answered, and the last may have
+/// been carried out.
 pub fn run<K: Keeper, R: Read, W: Write>(
     alloc: Global,
     office: &mut Office<K>,
@@ -39,10 +41,14 @@ pub fn run<K: Keeper, R: Read, W: Write>(
     writer: &mut W,
 ) -> Result<(), WireFault>
     ensures premise { K.Holds office.new → K.Holds office.old }
-    ensures ok { K.Holds office.new → OnOk result (AnswersAll Serves (K.world office.old) (K.world office.new)
-        (R.remaining reader.old) (R.remaining reader.new) (W.contents writer.old) (W.contents writer.new)) }
-    ensures err { K.Holds office.new → IfErr result (λ fault. StopsAt Serves fault (K.world office.old) (K.world office.new)
-        (R.remaining reader.old) (R.remaining reader.new) (W.contents writer.old) (W.contents writer.new)) }
+    ensures ok { K.Holds office.new → OnOk result
+        (AnswersAll Serves (K.world office.old) (K.world office.new)
+        (R.remaining reader.old) (R.remaining reader.new) (W.contents writer.old)
+        (W.contents writer.new)) }
+    ensures err { K.Holds office.new → IfErr result
+        (λ fault. StopsAt Serves fault (K.world office.old) (K.world office.new)
+        (R.remaining reader.old) (R.remaining reader.new) (W.contents writer.old)
+        (W.contents writer.new)) }
 {
     let routes = Routes::new(alloc)?;
     respond_all(alloc, office, &routes, reader, writer)

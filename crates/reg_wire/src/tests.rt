@@ -169,8 +169,8 @@ fn ask(alloc: Global) -> Result<Ask, Fail> {
     }))
 }
 
-// The first line that is answered otherwise than it says: each has a method, a path, a body, and the status
-// and the body of the answer.
+// The first line that is answered otherwise than it says: each has a method, a path, a body, and
+// the status and the body of the answer.
 fn first_wrong(alloc: Global, lines: &str) -> Result<Option<&str>, Fail> {
     let routes = Routes::new(alloc)?;
     for line in lines.lines() {

@@ -1,6 +1,7 @@
 //! Requests that are made and approved.
 
-/// Two requests want one value, and the one that is approved gets it; requests of one reference, and of others.
+/// Two requests want one value, and the one that is approved gets it; requests of one reference,
+/// and of others.
 pub const APPROVALS: &str = r#"
 > 1700000000 alice-token-00001 PUT /requests/a-2 {"contact":"c","kind":"code","label":"Blue","registry":"flags","value":64}
 < 201 {"ask":{"contact":"c","kind":"code","label":"Blue","registry":"flags","value":64},"reference":"a-2","state":"pending"}

@@ -1,7 +1,7 @@
 //! A request that experts review.
 
-/// The request is assigned to two experts, who give advice; it is approved once one of them is for it. Each expert
-/// sees its own advice alone, and nothing of requests that are not assigned to it.
+/// The request is assigned to two experts, who give advice; it is approved once one of them is for
+/// it. Each expert sees its own advice alone, and nothing of requests that are not assigned to it.
 pub const EXPERTS: &str = r#"
 > 1700000000 alice-token-00001 PUT /requests/a-3 {"contact":"c","kind":"code","label":"Green","registry":"flags","value":200}
 < 201 {"ask":{"contact":"c","kind":"code","label":"Green","registry":"flags","value":200},"reference":"a-3","state":"pending"}

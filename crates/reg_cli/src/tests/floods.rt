@@ -26,14 +26,16 @@ const REVIEWED: &str =
 
 const FLOOD: usize = 500;
 
-/// The answers of one run: those that show a request under the label `Hidden` are counted, all others are kept.
+/// The answers of one run: those that show a request under the label `Hidden` are counted, all
+/// others are kept.
 #[derive(Drop)]
 struct Answers {
     hidden: usize,
     kept: String,
 }
 
-// What is answered to the registers' lines and then to alice's, with so many of bob's submissions before each.
+// What is answered to the registers' lines and then to alice's, with so many of bob's submissions
+// before each.
 fn answered<R: Abort + AllocGlobal>(rt: &R, first: &str, flood: usize) -> Result<Answers, Fail> {
     let mut input = sent(rt, &[GRANTS, REGISTRIES])?;
     input.push_str(first)?;

@@ -4,8 +4,8 @@ use std::alloc::AllocError;
 use std::process::Abort;
 use std::test::Fail;
 
-/// Sends the lines that begin with `> `, of all these transcripts in order, to a new office, and compares its
-/// answers, to the byte, with the lines that begin with `< `. A TAB is written as `|`.
+/// Sends the lines that begin with `> `, of all these transcripts in order, to a new office, and
+/// compares its answers, to the byte, with the lines that begin with `< `. A TAB is written as `|`.
 pub fn assert_answered<R: Abort + AllocGlobal>(rt: &R, transcripts: &[&str]) -> Result<(), Fail> {
     let input = sent(rt, transcripts)?;
     let output = marked(rt, transcripts, "< ")?;

@@ -31,10 +31,13 @@ ask_kind_form json = option_and_then ask_kind_named (as_str json)
 abbrev pub policy_form : Data → Option Policy
 policy_form json = option_and_then read_policy (as_str json)
 
--- what is wanted, by the members `value` and `least`: exactly one of them is there, and has its form
+-- what is wanted, by the members `value` and `least`: exactly one of them is there, and has its
+-- form
 abbrev pub want_by : Option Data → Option Data → Reading Want
-want_by (Some value) None = or_refusal (Field item.Value) (option_map want.Value (number_form value))
-want_by None (Some least) = or_refusal (Field item.Least) (option_map want.Least (policy_form least))
+want_by (Some value) None =
+    or_refusal (Field item.Value) (option_map want.Value (number_form value))
+want_by None (Some least) =
+    or_refusal (Field item.Least) (option_map want.Least (policy_form least))
 want_by (Some value) (Some least) = Err (Field item.Value)
 want_by None None = Err (Field item.Value)
 
@@ -43,7 +46,8 @@ want_of json = want_by (get (item_name item.Value) json) (get (item_name item.Le
 
 abbrev pub code_items : List Item
 code_items =
-    item.Kind ∷ item.Registry ∷ item.Value ∷ item.Least ∷ item.Label ∷ item.Contact ∷ item.Specification ∷ item.Rfc ∷ item.Minute ∷ []
+    item.Kind ∷ item.Registry ∷ item.Value ∷ item.Least ∷ item.Label ∷ item.Contact
+    ∷ item.Specification ∷ item.Rfc ∷ item.Minute ∷ []
 
 unfoldable pub code_of : Data → Reading CodeAsk
 code_of json = do

@@ -46,7 +46,8 @@ abbrev pub if_object : Data → Option Data
 if_object json = option_map (λ members. json) (as_object json)
 
 unfoldable pub object_of : List ℕ → Reading Data
-object_of body = or_refusal Body (if is_utf8 body then option_and_then if_object (read body) else None)
+object_of body =
+    or_refusal Body (if is_utf8 body then option_and_then if_object (read body) else None)
 
 -- a member that is there, in its form
 abbrev pub member_in : {A : Type 0} → Item → (Data → Option A) → Data → Option A

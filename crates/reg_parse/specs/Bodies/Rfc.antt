@@ -26,7 +26,9 @@ rfc_items = item.Number ∷ item.Stream ∷ item.Track ∷ []
 
 -- the RFC with these parts, where its number is one
 abbrev pub rfc_with : ℕ → Stream → Track → Option PublishedRfc
-rfc_with number stream track = if is_within 1 99999 number then Some (record { number = number; stream = stream; track = track }) else None
+rfc_with number stream track =
+    if is_within 1 99999 number then Some
+    (record { number = number; stream = stream; track = track }) else None
 
 -- an object of exactly these members, each in its form
 unfoldable pub rfc_form : Data → Option PublishedRfc

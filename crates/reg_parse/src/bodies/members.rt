@@ -1,4 +1,5 @@
-//! Reads the members of a JSON object (RFC 8259 section 4). Where a name stands twice, the last one counts.
+//! Reads the members of a JSON object (RFC 8259 section 4). Where a name stands twice, the last one
+//! counts.
 ghost use Rattle.std.specs.Prelude.{◌≡◌};
 ghost use Rattle.std.specs.BTreeMap.{keys};
 ghost use Rattle.std.specs.List.{list_all};
@@ -15,8 +16,8 @@ use reg_core::wire_refusal::{ReadFault, WireRefusal};
 use serde_json::{Map, Value};
 use std::alloc::Global;
 
-/// The one JSON object that the bytes are. `Body` where they are none: not UTF-8, no JSON text, nested
-/// more than 127 deep, or another value than an object.
+/// The one JSON object that the bytes are. `Body` where they are none: not UTF-8, no JSON text,
+/// nested more than 127 deep, or another value than an object.
 pub fn object_of(alloc: Global, body: &[u8]) -> Result<Value, ReadFault>
     ensures { GivesSeen view result (object_of body.now) }
 {
@@ -47,7 +48,8 @@ pub fn word<F: Form>(alloc: Global, object: &Value, item: Item) -> Result<Word<F
     }
 }
 
-/// The text of this member, or none where it is missing. `Field` with the item where it has not the form.
+/// The text of this member, or none where it is missing. `Field` with the item where it has not the
+/// form.
 pub fn word_if_there<F: Form>(
     alloc: Global,
     object: &Value,
@@ -71,8 +73,8 @@ pub fn number(json: &Value) -> Option<u32>
     }
 }
 
-/// The end of a capability in this member, a whole number of 0 to 32503680000 written with digits alone.
-/// `Field` with the item where it is missing or no such number.
+/// The end of a capability in this member, a whole number of 0 to 32503680000 written with digits
+/// alone. `Field` with the item where it is missing or no such number.
 pub fn until(object: &Value, item: Item) -> Result<Until, ReadFault>
     ensures { Gives result (needed item until_form (view object.now)) }
 {
@@ -85,7 +87,8 @@ pub fn until(object: &Value, item: Item) -> Result<Until, ReadFault>
     }
 }
 
-/// The kind of capability in this member. `Field` with the item where it is missing or no kind's word.
+/// The kind of capability in this member. `Field` with the item where it is missing or no kind's
+/// word.
 pub fn kind(object: &Value, item: Item) -> Result<Kind, ReadFault>
     ensures { Gives result (needed item kind_form (view object.now)) }
 {

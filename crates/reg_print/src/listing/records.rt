@@ -70,7 +70,10 @@ fn record_of<'a>(
     expiry: &'a str,
     assignee: &'a str,
 ) -> Result<Vec<u8>, AllocError>
-    ensures { IfOk result (λ v. v.items ≡ row_text default_writer (values.now ∷ description.now ∷ status.now ∷ policy.now ∷ first.now ∷ expiry.now ∷ assignee.now ∷ [])) }
+    ensures { IfOk result
+        (λ v. v.items ≡ row_text default_writer
+        (values.now ∷ description.now ∷ status.now ∷ policy.now ∷ first.now ∷ expiry.now
+        ∷ assignee.now ∷ [])) }
 {
     record(
         alloc,

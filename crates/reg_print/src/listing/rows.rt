@@ -1,4 +1,5 @@
-//! A registry as a listing: a row for each entry and for each run of values without one, and how they stand.
+//! A registry as a listing: a row for each entry and for each run of values without one, and how
+//! they stand.
 ghost use Rattle.std.specs.Prelude.{◌≡◌, ◌≤◌, ◌^◌, ◌++◌, map, Some, IfOk, OnOk};
 ghost use Rattle.reg_print.specs.Listing.{status_word, run_text, closed_status, policy_of, whole, row_view, is_in, closed_row, free_row, entry_row, free_rows, open_rows, range_rows, page_rows};
 
@@ -59,8 +60,8 @@ impl fmt::Display for Run {
     }
 }
 
-/// A row of a listing: some values, what they are for, how they stand, under which policy, and by which
-/// entry.
+/// A row of a listing: some values, what they are for, how they stand, under which policy, and by
+/// which entry.
 #[derive(Clone, Copy)]
 pub struct ListingRow<'a> {
     pub values: Run,
@@ -73,8 +74,8 @@ pub struct ListingRow<'a> {
     pub entry: Option<&'a PageEntry>,
 }
 
-/// The rows of a registry, in order of their values. Each range is looked up among all entries: at most
-/// 64 passes.
+/// The rows of a registry, in order of their values. Each range is looked up among all entries: at
+/// most 64 passes.
 pub fn rows(alloc: Global, page: &Page) -> Result<Vec<ListingRow<'_>>, AllocError>
     ensures { IfOk result (λ v. map row_view v.items ≡ page_rows page.now) }
 {
@@ -85,14 +86,16 @@ pub fn rows(alloc: Global, page: &Page) -> Result<Vec<ListingRow<'_>>, AllocErro
     Ok(rows)
 }
 
-// The rows of a range: one with its note where no values are assigned one by one, and else one for each
-// entry, and one for each longest run of values without an entry.
+// The rows of a range: one with its note where no values are assigned one by one, and else one for
+// each entry, and one for each longest run of values without an entry.
 fn push_rows<'a>(
     rows: &mut Vec<ListingRow<'a>>,
     range: &'a Range,
     entries: &'a [PageEntry],
 ) -> Result<(), AllocError>
-    ensures { OnOk result (map row_view rows.new.items ≡ map row_view rows.old.items ++ range_rows entries.now range.now) }
+    ensures { OnOk result
+        (map row_view rows.new.items ≡ map row_view rows.old.items
+        ++ range_rows entries.now range.now) }
 {
     match closed_status(range.treatment) {
         Some(status) => rows.push(closed_row(status, range))?,
@@ -101,13 +104,16 @@ fn push_rows<'a>(
     Ok(())
 }
 
-// The rows of a range whose values are assigned one by one: `next` is the first value that has no row yet.
+// The rows of a range whose values are assigned one by one: `next` is the first value that has no
+// row yet.
 fn push_open<'a>(
     rows: &mut Vec<ListingRow<'a>>,
     range: &Range,
     entries: &'a [PageEntry],
 ) -> Result<(), AllocError>
-    ensures { OnOk result (map row_view rows.new.items ≡ map row_view rows.old.items ++ open_rows range.now entries.now) }
+    ensures { OnOk result
+        (map row_view rows.new.items ≡ map row_view rows.old.items
+        ++ open_rows range.now entries.now) }
 {
     let lo = range.lo;
     let hi = range.hi;
@@ -123,7 +129,8 @@ fn push_open<'a>(
     push_free(rows, range, next, u64::from(hi) + 1)
 }
 
-// One row for the values from `next` on and below `end`, none of which has an entry, if there are any.
+// One row for the values from `next` on and below `end`, none of which has an entry, if there are
+// any.
 fn push_free<'a>(
     rows: &mut Vec<ListingRow<'a>>,
     range: &Range,
@@ -131,7 +138,8 @@ fn push_free<'a>(
     end: u64,
 ) -> Result<(), AllocError>
     requires { end ≤ 2 ^ 32 }
-    ensures { OnOk result (map row_view rows.new.items ≡ map row_view rows.old.items ++ free_rows range.now next end) }
+    ensures { OnOk result
+        (map row_view rows.new.items ≡ map row_view rows.old.items ++ free_rows range.now next end) }
 {
     if next < end {
         let run = Run {

@@ -19,7 +19,9 @@ pub fn put_text(
     name: &str,
     text: &str,
 ) -> Result<(), AllocError>
-    ensures { OnOk result (members_view members.new.entries ≡ with_member name.now (string text.now) (members_view members.old.entries)) }
+    ensures { OnOk result
+        (members_view members.new.entries
+        ≡ with_member name.now (string text.now) (members_view members.old.entries)) }
 {
     let value = Value::try_from_str(alloc, text)?;
     serde_json::put(members, alloc, name, value)
@@ -32,7 +34,9 @@ pub fn put_number(
     name: &str,
     n: u64,
 ) -> Result<(), AllocError>
-    ensures { OnOk result (members_view members.new.entries ≡ with_member name.now (number (unsigned n)) (members_view members.old.entries)) }
+    ensures { OnOk result
+        (members_view members.new.entries
+        ≡ with_member name.now (number (unsigned n)) (members_view members.old.entries)) }
 {
     serde_json::put(members, alloc, name, Value::from(n))
 }
@@ -44,7 +48,9 @@ pub fn put_text_if(
     name: &str,
     text: &Option<Text>,
 ) -> Result<(), AllocError>
-    ensures { OnOk result (members_view members.new.entries ≡ put_some name.now (option_map string text.now) (members_view members.old.entries)) }
+    ensures { OnOk result
+        (members_view members.new.entries
+        ≡ put_some name.now (option_map string text.now) (members_view members.old.entries)) }
 {
     match text {
         Some(text) => put_text(members, alloc, name, text.as_str()),

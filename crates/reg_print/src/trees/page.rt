@@ -93,7 +93,9 @@ fn put_expires_if(members: &mut Members, alloc: Global, term: Term) -> Result<()
 
 // This day under this name.
 fn put_day(members: &mut Members, alloc: Global, name: &str, day: Day) -> Result<(), AllocError>
-    ensures { OnOk result (members_view members.new.entries ≡ put_some name.now (text (text_of_day day)) (members_view members.old.entries)) }
+    ensures { OnOk result
+        (members_view members.new.entries
+        ≡ put_some name.now (text (text_of_day day)) (members_view members.old.entries)) }
 {
     let text = day_text(alloc, day)?;
     put_text(members, alloc, name, text.as_str())

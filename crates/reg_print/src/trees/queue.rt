@@ -11,8 +11,8 @@ use reg_core::queue::QueueRow;
 use serde_json::{Map, Value};
 use std::alloc::{AllocError, Global};
 
-/// A request as an expert sees it: whose it is, what it asks for, under which reference, the bare word of
-/// where it stands, and the expert's own advice, where it was given.
+/// A request as an expert sees it: whose it is, what it asks for, under which reference, the bare
+/// word of where it stands, and the expert's own advice, where it was given.
 pub fn row(alloc: Global, row: &QueueRow) -> Result<Value, AllocError>
     ensures { IfOk result (λ v. view v ≡ queue_tree row.now) }
 {

@@ -11,7 +11,8 @@ use reg_core::request::{Given, Request, State, StateWord};
 use serde_json::{Map, Value};
 use std::alloc::{AllocError, Global};
 
-/// A request as its applicant sees it: what it asks for, under which reference, and where it stands.
+/// A request as its applicant sees it: what it asks for, under which reference, and where it
+/// stands.
 pub fn request(alloc: Global, request: &Request) -> Result<Value, AllocError>
     ensures { IfOk result (λ v. view v ≡ request_tree request.now) }
 {
@@ -60,7 +61,8 @@ fn own(alloc: Global, request: &Request) -> Result<Members, AllocError>
 
 /// The members that tell a request's reference, and where it stands.
 pub fn standing(alloc: Global, request: &Request) -> Result<Members, AllocError>
-    ensures { IfOk result (λ m. members_view m.entries ≡ with_members (standing_members request.now)) }
+    ensures { IfOk result
+        (λ m. members_view m.entries ≡ with_members (standing_members request.now)) }
 {
     let mut members = Map::new(alloc);
     put_text(

@@ -23,7 +23,8 @@ answer_line a = decimal (status_of a) ++ 32 ∷ map tab_of (body_text a)
 -- the answer to the call, and the world then; or 503 and the world unchanged
 abbrev pub Serves : World → Call → List ℕ → World → Type 0
 Serves before call text after =
-    ((text ≡ answer_line (answer_to before call)) × (after ≡ world_then before call)) ⊎ ((text ≡ storage) × (after ≡ before))
+    ((text ≡ answer_line (answer_to before call)) × (after ≡ world_then before call))
+    ⊎ ((text ≡ storage) × (after ≡ before))
 
 -- ---- Lines in turn
 

@@ -29,7 +29,8 @@ after_path None = []
 after_path (Some body) = 32 ∷ body
 
 abbrev pub written : ℕ → List ℕ → List ℕ → List ℕ → Option (List ℕ) → List ℕ
-written moment token method path body = decimal moment ++ 32 ∷ (token ++ 32 ∷ (method ++ 32 ∷ (path ++ after_path body)))
+written moment token method path body =
+    decimal moment ++ 32 ∷ (token ++ 32 ∷ (method ++ 32 ∷ (path ++ after_path body)))
 
 -- how the bytes of a line are written, and what it asks
 pub record IsWritten (bytes : List ℕ) (asked : Call) : Type 0 where
@@ -54,7 +55,8 @@ pub record LinesAreRead : Type 0 where
 -- each script has its lines, and no others
 pub record IsCutOneWay : Type 0 where
   pub some : (script : List ℕ) → (lines : List (List ℕ)) × AreLines script lines
-  pub same : (script : List ℕ) (xs ys : List (List ℕ)) → AreLines script xs → AreLines script ys → xs ≡ ys
+  pub same : (script : List ℕ) (xs ys : List (List ℕ)) → AreLines script xs → AreLines script ys
+      → xs ≡ ys
 
 -- an answer is one line
 abbrev pub AnswersAreLines : Type 0
@@ -65,14 +67,17 @@ pub record AreAnswers : Type 0 where
   pub line : refusal ≡ answer_line (answer.Wire wire.Line)
   pub store : storage ≡ answer_line answer.Storage
 
--- without the lines that were answered 503, a script is answered as its calls are, and these as the model's run of their events
+-- without the lines that were answered 503, a script is answered as its calls are, and these as the
+-- model's run of their events
 pub record IsModelRun (first last : World) (lines answers : List (List ℕ)) : Type 0 where
   pub calls : AnswerCalls first last lines answers
-  pub answered : answers ≡ lines_with lines (answers_with (calls_of lines) (run token_digest first (events_of (calls_of lines))))
+  pub answered : answers ≡ lines_with lines
+      (answers_with (calls_of lines) (run token_digest first (events_of (calls_of lines))))
   pub world : last ≡ world_after token_digest first (events_of (calls_of lines))
 
 abbrev pub RunsAsTheModel : Type 0
-RunsAsTheModel = (lines answers : List (List ℕ)) (first last : World) → Ran Serves first lines answers last
+RunsAsTheModel =
+    (lines answers : List (List ℕ)) (first last : World) → Ran Serves first lines answers last
     → IsModelRun first last (faultless_lines lines answers) (faultless_answers lines answers)
 
 -- ---- Isolation and striking, as of calls
@@ -86,24 +91,31 @@ pub record IsServed (before : World) (line answer : List ℕ) (after : World) : 
   pub answered : Answered Serves before line answer after
   pub no_fault : answer ≢ storage
 
--- two offices that show the sender of a line the same view answer it by the same bytes, and then show it the same view again
+-- two offices that show the sender of a line the same view answer it by the same bytes, and then
+-- show it the same view again
 abbrev pub LinesAreAnsweredAlike : Type 0
 LinesAreAnsweredAlike =
     (w v now then : World) (line answer other : List ℕ)
     → LookAlike w v (sender line) → IsServed w line answer now → IsServed v line other then
     → (answer ≡ other) × (view_of now (sender line) ≡ view_of then (sender line))
 
--- two scripts, of which the second lacks events about requests that an account does not see: both are answered as their calls are, their
--- calls leave no trace of these requests, and at the end both show the account the same
-pub record LeaveNoTrace (account : List ℕ) (first last end : World) (lines answers left left_answers : List (List ℕ)) : Type 0 where
-  pub answered : AnswerCalls first last (faultless_lines lines answers) (faultless_answers lines answers)
-  pub left_answered : AnswerCalls first end (faultless_lines left left_answers) (faultless_answers left left_answers)
-  pub calls : AreStruckAlike account first (faultless_calls lines answers) (faultless_calls left left_answers)
+-- two scripts, of which the second lacks events about requests that an account does not see: both
+-- are answered as their calls are, their calls leave no trace of these requests, and at the end
+-- both show the account the same
+pub record LeaveNoTrace (account : List ℕ) (first last end : World)
+    (lines answers left left_answers : List (List ℕ)) : Type 0 where
+  pub answered : AnswerCalls first last (faultless_lines lines answers)
+      (faultless_answers lines answers)
+  pub left_answered : AnswerCalls first end (faultless_lines left left_answers)
+      (faultless_answers left left_answers)
+  pub calls : AreStruckAlike account first (faultless_calls lines answers)
+      (faultless_calls left left_answers)
   pub shows : ShowSame account last end
 
 abbrev pub UnseenLinesLeaveNoTrace : Type 0
 UnseenLinesLeaveNoTrace =
     (account : List ℕ) (first last end : World) (lines answers left left_answers : List (List ℕ))
     → Ran Serves first lines answers last → Ran Serves first left left_answers end
-    → events_of (faultless_calls left left_answers) ≡ struck token_digest account first (events_of (faultless_calls lines answers))
+    → events_of (faultless_calls left left_answers)
+    ≡ struck token_digest account first (events_of (faultless_calls lines answers))
     → LeaveNoTrace account first last end lines answers left left_answers

@@ -38,11 +38,15 @@ path_and_body line = path_before line (position is_space line)
 
 -- decimal digits with no leading zero, except for 0 itself
 abbrev pub is_decimal : List ℕ → Bool
-is_decimal text = list_all is_ascii_digit text && nat_lt 0 (length text) && (length text == 1 || not (slice_index text 0 == 48))
+is_decimal text =
+    list_all is_ascii_digit text && nat_lt 0 (length text)
+    && (length text == 1 || not (slice_index text 0 == 48))
 
 -- the seconds that a text writes in decimal
 abbrev pub moment_of : List ℕ → Option ℕ
-moment_of text = (if is_decimal text && nat_lt (digits_value 10 text) (2 ^ 64) then Some (digits_value 10 text) else None)
+moment_of text =
+    (if is_decimal text && nat_lt (digits_value 10 text) (2 ^ 64) then Some (digits_value 10 text)
+    else None)
 
 -- a dash stands for no token
 abbrev pub token_of : List ℕ → Option (List ℕ)
@@ -60,11 +64,24 @@ fields_of bytes = do
   token ← first_field moment.1
   method ← first_field token.1
   path ← path_and_body method.1
-  Some (record { moment = seconds; token = token_of token.0; method = method.0; path = path.0; body = map line_feed_of path.1 })
+  Some (record {
+    moment = seconds;
+    token = token_of token.0;
+    method = method.0;
+    path = path.0;
+    body = map line_feed_of path.1;
+  })
 
 unfoldable pub line_of : List ℕ → Option Call
 line_of bytes = (if nat_lt most_bytes (length bytes) then None else fields_of bytes)
 
 -- what a line asks, as it is read
 abbrev pub call_of : Fields → Call
-call_of fields = record { moment = fields.moment; token = option_copied fields.token; method = fields.method.now; path = fields.path.now; body = map line_feed_of fields.body.now }
+call_of fields =
+    record {
+      moment = fields.moment;
+      token = option_copied fields.token;
+      method = fields.method.now;
+      path = fields.path.now;
+      body = map line_feed_of fields.body.now;
+    }

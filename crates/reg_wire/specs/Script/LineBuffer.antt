@@ -15,18 +15,23 @@ abbrev pub IsBuffered : List ℕ → List ℕ → Type 0
 IsBuffered line buffered = buffered ≡ take (most_bytes + 1) line
 
 -- what is there where a line has no answer
-abbrev pub Unserved : {S : Type 0} → (S → Call → List ℕ → S → Type 0) → S → Call → Unanswered → S → Type 0
+abbrev pub Unserved : {S : Type 0} → (S → Call → List ℕ → S → Type 0) → S → Call → Unanswered → S
+    → Type 0
 Unserved Serves before line without.Storage after = Serves before line storage after
-Unserved Serves before line without.Memory after = (answer : List ℕ) × Serves before line answer after
+Unserved Serves before line without.Memory after =
+    (answer : List ℕ) × Serves before line answer after
 
 -- what went out of an answer before a fault, after `sent` bytes of others
 abbrev pub CutShort : WireFault → ℕ → List ℕ → Option (List ℕ) → Option (List ℕ) → Type 0
 CutShort Read sent answer had has = ⊥
 CutShort Memory sent answer had has = Appends had has []
-CutShort (Write n) sent answer had has = (m : ℕ) × (m ≤ length answer) × (n ≡ sent + m) × Appends had has (take m (ended answer))
+CutShort (Write n) sent answer had has =
+    (m : ℕ) × (m ≤ length answer) × (n ≡ sent + m) × Appends had has (take m (ended answer))
 
 -- after some bytes of the script
-pub record Progress {S : Type 0} (Serves : S → Call → List ℕ → S → Type 0) (first : S) (had : Option (List ℕ)) (bytes buffered : List ℕ) (sent : ℕ) (now : S) (has : Option (List ℕ)) : Type 0 where
+pub record Progress {S : Type 0} (Serves : S → Call → List ℕ → S → Type 0) (first : S)
+    (had : Option (List ℕ)) (bytes buffered : List ℕ) (sent : ℕ) (now : S) (has : Option (List ℕ)) :
+    Type 0 where
   pub lines : List (List ℕ)
   pub rest : List ℕ
   pub answers : List (List ℕ)
@@ -43,7 +48,8 @@ WroteSome Memory answers had has = Wrote Memory answers had has
 WroteSome (Write n) answers had has = Wrote (Write n) answers had has
 
 -- all lines of the bytes were answered
-pub record Whole {S : Type 0} (Serves : S → Call → List ℕ → S → Type 0) (first : S) (had : Option (List ℕ)) (bytes : List ℕ) (now : S) (has : Option (List ℕ)) : Type 0 where
+pub record Whole {S : Type 0} (Serves : S → Call → List ℕ → S → Type 0) (first : S)
+    (had : Option (List ℕ)) (bytes : List ℕ) (now : S) (has : Option (List ℕ)) : Type 0 where
   pub lines : List (List ℕ)
   pub answers : List (List ℕ)
   pub cut : AreLines bytes lines
@@ -51,7 +57,9 @@ pub record Whole {S : Type 0} (Serves : S → Call → List ℕ → S → Type 0
   pub wrote : Appends had has (flat_map ended answers)
 
 -- a fault after the first lines of the bytes
-pub record Halted {S : Type 0} (Serves : S → Call → List ℕ → S → Type 0) (fault : WireFault) (first : S) (had : Option (List ℕ)) (bytes : List ℕ) (now : S) (has : Option (List ℕ)) : Type 0 where
+pub record Halted {S : Type 0} (Serves : S → Call → List ℕ → S → Type 0) (fault : WireFault)
+    (first : S) (had : Option (List ℕ)) (bytes : List ℕ) (now : S) (has : Option (List ℕ)) :
+    Type 0 where
   pub lines : List (List ℕ)
   pub answers : List (List ℕ)
   pub begins : BeginWith bytes lines
@@ -59,7 +67,9 @@ pub record Halted {S : Type 0} (Serves : S → Call → List ℕ → S → Type 
   pub wrote : WroteSome fault answers had has
 
 -- a fault in the answer to the last line of the bytes, which lacks its line feed
-pub record HaltedLast {S : Type 0} (Serves : S → Call → List ℕ → S → Type 0) (fault : WireFault) (first : S) (had : Option (List ℕ)) (bytes : List ℕ) (now : S) (has : Option (List ℕ)) : Type 0 where
+pub record HaltedLast {S : Type 0} (Serves : S → Call → List ℕ → S → Type 0) (fault : WireFault)
+    (first : S) (had : Option (List ℕ)) (bytes : List ℕ) (now : S) (has : Option (List ℕ)) :
+    Type 0 where
   pub lines : List (List ℕ)
   pub answers : List (List ℕ)
   pub cut : AreLines bytes lines

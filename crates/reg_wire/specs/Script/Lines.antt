@@ -30,11 +30,14 @@ rest_line (b ∷ bs) = (b ∷ bs) ∷ []
 
 -- the lines of a whole script, of which the last may lack its line feed
 abbrev pub AreLines : List ℕ → List (List ℕ) → Type 0
-AreLines script lines = (front : List (List ℕ)) × (rest : List ℕ) × Cut script front rest × (lines ≡ front ++ rest_line rest)
+AreLines script lines =
+    (front : List (List ℕ)) × (rest : List ℕ) × Cut script front rest
+    × (lines ≡ front ++ rest_line rest)
 
 -- the bytes begin with these lines, each with its line feed
 abbrev pub BeginWith : List ℕ → List (List ℕ) → Type 0
-BeginWith bytes lines = (more : List ℕ) × (bytes ≡ flat_map ended lines ++ more) × AllByRecursion IsOneLine lines
+BeginWith bytes lines =
+    (more : List ℕ) × (bytes ≡ flat_map ended lines ++ more) × AllByRecursion IsOneLine lines
 
 -- ---- Answers: Serves says what may be answered to what a line asks, and what is there then
 
@@ -46,20 +49,27 @@ refusal = codes "400 {\"error\":\"line\"}"
 abbrev pub storage : List ℕ
 storage = codes "503 {\"error\":\"storage\"}"
 
-abbrev pub Answered : {S : Type 0} → (S → Call → List ℕ → S → Type 0) → S → List ℕ → List ℕ → S → Type 0
-Answered Serves before line answer after = MatchOption (line_of line) ((answer ≡ refusal) × (after ≡ before)) (λ asked. Serves before asked answer after)
+abbrev pub Answered : {S : Type 0} → (S → Call → List ℕ → S → Type 0) → S → List ℕ → List ℕ → S
+    → Type 0
+Answered Serves before line answer after =
+    MatchOption (line_of line) ((answer ≡ refusal) × (after ≡ before))
+    (λ asked. Serves before asked answer after)
 
 -- the lines are answered in turn
-abbrev pub Ran : {S : Type 0} → (S → Call → List ℕ → S → Type 0) → S → List (List ℕ) → List (List ℕ) → S → Type 0
+abbrev pub Ran : {S : Type 0} → (S → Call → List ℕ → S → Type 0) → S → List (List ℕ) → List (List ℕ)
+    → S → Type 0
 Ran Serves before [] [] after = after ≡ before
 Ran Serves before [] (answer ∷ answers) after = ⊥
 Ran Serves before (line ∷ lines) [] after = ⊥
-Ran {S} Serves before (line ∷ lines) (answer ∷ answers) after = (now : S) × Answered Serves before line answer now × Ran Serves now lines answers after
+Ran {S} Serves before (line ∷ lines) (answer ∷ answers) after =
+    (now : S) × Answered Serves before line answer now × Ran Serves now lines answers after
 
--- ---- Whole runs: `unread` and `left` are what is to be read before and after, `had` and `has` what was written
+-- ---- Whole runs: `unread` and `left` are what is to be read before and after, `had` and `has`
+-- what was written
 
 -- all lines of the script were answered in turn, and nothing else was written
-pub record AnswersAll {S : Type 0} (Serves : S → Call → List ℕ → S → Type 0) (first last : S) (unread left had has : Option (List ℕ)) : Type 0 where
+pub record AnswersAll {S : Type 0} (Serves : S → Call → List ℕ → S → Type 0) (first last : S)
+    (unread left had has : Option (List ℕ)) : Type 0 where
   pub script : List ℕ
   pub lines : List (List ℕ)
   pub answers : List (List ℕ)
@@ -73,7 +83,8 @@ pub record AnswersAll {S : Type 0} (Serves : S → Call → List ℕ → S → T
 abbrev pub LinesBefore : WireFault → Option (List ℕ) → List ℕ → List (List ℕ) → Type 0
 LinesBefore Read left bytes lines = (rest : List ℕ) × Cut bytes lines rest
 LinesBefore Memory left bytes lines = BeginWith bytes lines ⊎ (IsAtEnd left × AreLines bytes lines)
-LinesBefore (Write n) left bytes lines = BeginWith bytes lines ⊎ (IsAtEnd left × AreLines bytes lines)
+LinesBefore (Write n) left bytes lines =
+    BeginWith bytes lines ⊎ (IsAtEnd left × AreLines bytes lines)
 
 -- all but the last of the answers
 abbrev pub WithLast : List (List ℕ) → List (List ℕ) → Type 0
@@ -82,13 +93,18 @@ WithLast front answers = (last : List ℕ) × (answers ≡ front ++ last ∷ [])
 -- what went out of the answers: after `Write(n)` n bytes, which end in the last answer
 abbrev pub Wrote : WireFault → List (List ℕ) → Option (List ℕ) → Option (List ℕ) → Type 0
 Wrote Read answers had has = Appends had has (flat_map ended answers)
-Wrote Memory answers had has = Appends had has (flat_map ended answers) ⊎ ((front : List (List ℕ)) × WithLast front answers × Appends had has (flat_map ended front))
+Wrote Memory answers had has =
+    Appends had has (flat_map ended answers)
+    ⊎ ((front : List (List ℕ)) × WithLast front answers
+    × Appends had has (flat_map ended front))
 Wrote (Write n) answers had has =
-    (front : List (List ℕ)) × WithLast front answers × (length (flat_map ended front) ≤ n) × (n < length (flat_map ended answers))
+    (front : List (List ℕ)) × WithLast front answers × (length (flat_map ended front) ≤ n)
+    × (n < length (flat_map ended answers))
     × Appends had has (take n (flat_map ended answers))
 
 -- a fault, after the first lines were answered in turn
-pub record StopsAt {S : Type 0} (Serves : S → Call → List ℕ → S → Type 0) (fault : WireFault) (first last : S) (unread left had has : Option (List ℕ)) : Type 0 where
+pub record StopsAt {S : Type 0} (Serves : S → Call → List ℕ → S → Type 0) (fault : WireFault)
+    (first last : S) (unread left had has : Option (List ℕ)) : Type 0 where
   pub bytes : List ℕ
   pub lines : List (List ℕ)
   pub answers : List (List ℕ)

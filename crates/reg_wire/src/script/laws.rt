@@ -3,8 +3,8 @@ ghost use Rattle.reg_wire.specs.Script.Laws.{LinesAreRead, IsCutOneWay, AnswersA
 
 use crate::laws::{calls_are_answered_alike, calls_run_as_the_model, unseen_calls_leave_no_trace};
 
-/// A line is read as it is written: `moment token METHOD path body`, with one space between. Other bytes are
-/// no line.
+/// A line is read as it is written: `moment token METHOD path body`, with one space between. Other
+/// bytes are no line.
 pub fn lines_are_read()
     ensures { LinesAreRead }
 {}
@@ -19,33 +19,33 @@ pub fn answers_are_lines()
     ensures { AnswersAreLines }
 {}
 
-/// The answers to a line that is none, and to one at which the store or memory failed, are printed as all
-/// others are.
+/// The answers to a line that is none, and to one at which the store or memory failed, are printed
+/// as all others are.
 pub fn refusals_are_answers()
     ensures { AreAnswers }
 {}
 
-/// Without the lines that were answered 503 `storage`, the answers to a script are those to its calls: those
-/// of the model's run of its events, with the refusals of the other lines between them, and so is the last
-/// world.
+/// Without the lines that were answered 503 `storage`, the answers to a script are those to its
+/// calls: those of the model's run of its events, with the refusals of the other lines between
+/// them, and so is the last world.
 pub fn runs_as_the_model()
     ensures { RunsAsTheModel }
 {
     calls_run_as_the_model();
 }
 
-/// Isolation, of lines: two well kept offices that show the sender of a line, who is no clerk, the same
-/// view answer it by the same bytes, and then show the sender the same view again, as of calls. Lines that
-/// are answered 503 `storage` are left out.
+/// Isolation, of lines: two well kept offices that show the sender of a line, who is no clerk, the
+/// same view answer it by the same bytes, and then show the sender the same view again, as of
+/// calls. Lines that are answered 503 `storage` are left out.
 pub fn lines_are_answered_alike()
     ensures { LinesAreAnsweredAlike }
 {
     calls_are_answered_alike();
 }
 
-/// Striking, of scripts: a script, and one that has its events but for those about requests that an account
-/// does not see, are answered as their calls are, which leave no trace of these requests. Lines that are
-/// answered 503 `storage` are no events.
+/// Striking, of scripts: a script, and one that has its events but for those about requests that an
+/// account does not see, are answered as their calls are, which leave no trace of these requests.
+/// Lines that are answered 503 `storage` are no events.
 pub fn unseen_lines_leave_no_trace()
     ensures { UnseenLinesLeaveNoTrace }
 {

@@ -24,9 +24,9 @@ pub(crate) struct Line<'a> {
     pub body: &'a [u8],
 }
 
-/// What these bytes ask, which stood before a line feed. None where they are more than `MOST_BYTES`, where
-/// one of the first four fields is missing or empty, and where the moment is no u64 in decimal, without
-/// leading zeros.
+/// What these bytes ask, which stood before a line feed. None where they are more than
+/// `MOST_BYTES`, where one of the first four fields is missing or empty, and where the moment is no
+/// u64 in decimal, without leading zeros.
 #[tactic(auto, unfolding(crate::specs::Script::Line::line_of))]
 pub(crate) fn read_line(bytes: &[u8]) -> Option<Line<'_>>
     ensures { option_map call_of result ≡ line_of bytes.now }
@@ -64,7 +64,8 @@ fn first_field(line: &[u8]) -> Option<(&[u8], &[u8])>
     }
 }
 
-/// The path, and the body after it, which may be missing with its space; none where the path is empty.
+/// The path, and the body after it, which may be missing with its space; none where the path is
+/// empty.
 fn path_and_body(line: &[u8]) -> Option<(&[u8], &[u8])>
     ensures { option_map (λ p. (p.0.now, p.1.now)) result ≡ path line.now }
 {

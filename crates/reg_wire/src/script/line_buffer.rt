@@ -39,14 +39,16 @@ impl LineBuffer {
 
     /// What the line asks; none where it is no line of a script.
     pub fn line(&self) -> Option<Line<'_>>
-        ensures { (line : List ℕ) → IsBuffered line self.now → option_map call_of result ≡ line_of line }
+        ensures { (line : List ℕ) → IsBuffered line self.now
+            → option_map call_of result ≡ line_of line }
     {
         read_line(self.bytes.as_slice())
     }
 
     /// One byte more.
     pub fn push(&mut self, byte: u8) -> Result<(), AllocError>
-        ensures { OnOk result ((line : List ℕ) → IsBuffered line self.old → IsBuffered (line ++ byte ∷ []) self.new) }
+        ensures { OnOk result
+            ((line : List ℕ) → IsBuffered line self.old → IsBuffered (line ++ byte ∷ []) self.new) }
     {
         if self.bytes.len() <= MOST_BYTES {
             self.bytes.push(byte)?;

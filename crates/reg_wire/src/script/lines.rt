@@ -23,9 +23,12 @@ pub(crate) fn respond_all<A: Responder, R: Read, W: Write>(
 ) -> Result<(), WireFault>
     ensures premise { A.Holds responder.new → A.Holds responder.old }
     ensures ok { A.Holds responder.new → OnOk result (AnswersAll A.Serves responder.old responder.new
-        (R.remaining reader.old) (R.remaining reader.new) (W.contents writer.old) (W.contents writer.new)) }
-    ensures err { A.Holds responder.new → IfErr result (λ fault. StopsAt A.Serves fault responder.old responder.new
-        (R.remaining reader.old) (R.remaining reader.new) (W.contents writer.old) (W.contents writer.new)) }
+        (R.remaining reader.old) (R.remaining reader.new) (W.contents writer.old)
+        (W.contents writer.new)) }
+    ensures err { A.Holds responder.new → IfErr result
+        (λ fault. StopsAt A.Serves fault responder.old responder.new
+        (R.remaining reader.old) (R.remaining reader.new) (W.contents writer.old)
+        (W.contents writer.new)) }
 {
     let mut buffer = LineBuffer::new(alloc);
     let mut buf = [0u8; 4096];
@@ -55,8 +58,10 @@ fn answer_buffered<A: Responder, W: Write>(
     ensures premise { A.Holds responder.new → A.Holds responder.old }
     ensures ok { A.Holds responder.new → IfOk result (λ n. (line : List ℕ) → IsBuffered line buffer.now
         → (answer : List ℕ) × Answered A.Serves responder.old line answer responder.new
-        × Appends (W.contents writer.old) (W.contents writer.new) (ended answer) × (n ≡ sent + length (ended answer))) }
-    ensures err { A.Holds responder.new → IfErr result (λ fault. (line : List ℕ) → IsBuffered line buffer.now
+        × Appends (W.contents writer.old) (W.contents writer.new) (ended answer)
+        × (n ≡ sent + length (ended answer))) }
+    ensures err { A.Holds responder.new → IfErr result
+        (λ fault. (line : List ℕ) → IsBuffered line buffer.now
         → (answer : List ℕ) × Answered A.Serves responder.old line answer responder.new
         × CutShort fault sent answer (W.contents writer.old) (W.contents writer.new)) }
 {
@@ -81,12 +86,16 @@ fn take_byte<A: Responder, W: Write>(
     byte: u8,
 ) -> Result<usize, WireFault>
     ensures premise { A.Holds responder.new → A.Holds responder.old }
-    ensures ok { A.Holds responder.new → IfOk result (λ n. (first : A) (had : Option (List ℕ)) (bytes : List ℕ)
+    ensures ok { A.Holds responder.new → IfOk result
+        (λ n. (first : A) (had : Option (List ℕ)) (bytes : List ℕ)
         → Progress A.Serves first had bytes buffer.old sent responder.old (W.contents writer.old)
-        → Progress A.Serves first had (bytes ++ byte ∷ []) buffer.new n responder.new (W.contents writer.new)) }
-    ensures err { A.Holds responder.new → IfErr result (λ fault. (first : A) (had : Option (List ℕ)) (bytes : List ℕ)
+        → Progress A.Serves first had (bytes ++ byte ∷ []) buffer.new n responder.new
+        (W.contents writer.new)) }
+    ensures err { A.Holds responder.new → IfErr result
+        (λ fault. (first : A) (had : Option (List ℕ)) (bytes : List ℕ)
         → Progress A.Serves first had bytes buffer.old sent responder.old (W.contents writer.old)
-        → Halted A.Serves fault first had (bytes ++ byte ∷ []) responder.new (W.contents writer.new)) }
+        → Halted A.Serves fault first had (bytes ++ byte ∷ []) responder.new
+        (W.contents writer.new)) }
 {
     if byte != b'\n' {
         buffer.push(byte)?;
@@ -108,12 +117,16 @@ fn take_piece<A: Responder, W: Write>(
     piece: &[u8],
 ) -> Result<usize, WireFault>
     ensures premise { A.Holds responder.new → A.Holds responder.old }
-    ensures ok { A.Holds responder.new → IfOk result (λ n. (first : A) (had : Option (List ℕ)) (bytes : List ℕ)
+    ensures ok { A.Holds responder.new → IfOk result
+        (λ n. (first : A) (had : Option (List ℕ)) (bytes : List ℕ)
         → Progress A.Serves first had bytes buffer.old sent responder.old (W.contents writer.old)
-        → Progress A.Serves first had (bytes ++ piece.now) buffer.new n responder.new (W.contents writer.new)) }
-    ensures err { A.Holds responder.new → IfErr result (λ fault. (first : A) (had : Option (List ℕ)) (bytes : List ℕ)
+        → Progress A.Serves first had (bytes ++ piece.now) buffer.new n responder.new
+        (W.contents writer.new)) }
+    ensures err { A.Holds responder.new → IfErr result
+        (λ fault. (first : A) (had : Option (List ℕ)) (bytes : List ℕ)
         → Progress A.Serves first had bytes buffer.old sent responder.old (W.contents writer.old)
-        → Halted A.Serves fault first had (bytes ++ piece.now) responder.new (W.contents writer.new)) }
+        → Halted A.Serves fault first had (bytes ++ piece.now) responder.new
+        (W.contents writer.new)) }
 {
     let mut total = sent;
     for byte in piece {
@@ -135,7 +148,8 @@ fn finish<A: Responder, W: Write>(
     ensures ok { A.Holds responder.new → OnOk result ((first : A) (had : Option (List ℕ)) (bytes : List ℕ)
         → Progress A.Serves first had bytes buffer.now sent responder.old (W.contents writer.old)
         → Whole A.Serves first had bytes responder.new (W.contents writer.new)) }
-    ensures err { A.Holds responder.new → IfErr result (λ fault. (first : A) (had : Option (List ℕ)) (bytes : List ℕ)
+    ensures err { A.Holds responder.new → IfErr result
+        (λ fault. (first : A) (had : Option (List ℕ)) (bytes : List ℕ)
         → Progress A.Serves first had bytes buffer.now sent responder.old (W.contents writer.old)
         → HaltedLast A.Serves fault first had bytes responder.new (W.contents writer.new)) }
 {

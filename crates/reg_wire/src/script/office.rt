@@ -44,8 +44,10 @@ fn answer_to_line<K: Keeper>(
     line: &Line<'_>,
 ) -> Result<Answer, Fault>
     ensures premise { K.Holds office.new → K.Holds office.old }
-    ensures answer { K.Holds office.new → IfOk result (λ a. a ≡ answer_to (K.world office.old) (call_of line.now)) }
-    ensures world { K.Holds office.new → OnOk result (K.world office.new ≡ world_then (K.world office.old) (call_of line.now)) }
+    ensures answer { K.Holds office.new → IfOk result
+        (λ a. a ≡ answer_to (K.world office.old) (call_of line.now)) }
+    ensures world { K.Holds office.new → OnOk result
+        (K.world office.new ≡ world_then (K.world office.old) (call_of line.now)) }
     ensures kept { K.Holds office.new → OnErr result (K.world office.new ≡ K.world office.old) }
 {
     let body = with_line_feeds(alloc, line.body)?;

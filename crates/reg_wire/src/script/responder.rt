@@ -35,6 +35,8 @@ pub(crate) trait Responder {
         line: &Line<'_>,
     ) -> Result<Vec<u8>, Unanswered>
         ensures premise { Holds self.new → Holds self.old }
-        ensures ok { Holds self.new → IfOk result (λ answer. Serves self.old (call_of line.now) answer.items self.new) }
-        ensures err { Holds self.new → IfErr result (λ why. Unserved Serves self.old (call_of line.now) why self.new) };
+        ensures ok { Holds self.new → IfOk result
+            (λ answer. Serves self.old (call_of line.now) answer.items self.new) }
+        ensures err { Holds self.new → IfErr result
+            (λ why. Unserved Serves self.old (call_of line.now) why self.new) };
 }

@@ -10,7 +10,9 @@ use std::io::Write;
 /// Writes all the bytes; a fault says how many went out.
 fn send<W: Write>(writer: &mut W, bytes: &[u8]) -> Result<(), usize>
     ensures ok { OnOk result (Appends (W.contents writer.old) (W.contents writer.new) bytes.now) }
-    ensures err { IfErr result (λ n. (n < length bytes.now) × Appends (W.contents writer.old) (W.contents writer.new) (take n bytes.now)) }
+    ensures err { IfErr result
+        (λ n. (n < length bytes.now)
+        × Appends (W.contents writer.old) (W.contents writer.new) (take n bytes.now)) }
 {
     let mut at = 0;
     while at < bytes.len() {
@@ -26,7 +28,9 @@ fn send<W: Write>(writer: &mut W, bytes: &[u8]) -> Result<(), usize>
 fn send_line<W: Write>(writer: &mut W, line: &[u8]) -> Result<(), usize>
     requires { length line.now + 1 < 2 ^ 64 }
     ensures ok { OnOk result (Appends (W.contents writer.old) (W.contents writer.new) (ended line.now)) }
-    ensures err { IfErr result (λ n. (n ≤ length line.now) × Appends (W.contents writer.old) (W.contents writer.new) (take n (ended line.now))) }
+    ensures err { IfErr result
+        (λ n. (n ≤ length line.now)
+        × Appends (W.contents writer.old) (W.contents writer.new) (take n (ended line.now))) }
 {
     send(writer, line)?;
     match send(writer, b"\n") {
@@ -41,8 +45,12 @@ pub(crate) fn send_answer<W: Write>(
     answer: &[u8],
     sent: usize,
 ) -> Result<usize, WireFault>
-    ensures ok { IfOk result (λ n. (n ≡ sent + length (ended answer.now)) × Appends (W.contents writer.old) (W.contents writer.new) (ended answer.now)) }
-    ensures err { IfErr result (λ fault. CutShort fault sent answer.now (W.contents writer.old) (W.contents writer.new)) }
+    ensures ok { IfOk result
+        (λ n. (n ≡ sent + length (ended answer.now))
+        × Appends (W.contents writer.old) (W.contents writer.new) (ended answer.now)) }
+    ensures err { IfErr result
+        (λ fault. CutShort fault sent answer.now (W.contents writer.old)
+        (W.contents writer.new)) }
 {
     if answer.len() >= usize::MAX - sent {
         return Err(WireFault::Write(sent));

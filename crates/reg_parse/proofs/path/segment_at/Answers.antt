@@ -4,4 +4,7 @@ use Rattle.std.proofs.lemmas.Iterator.Splits.{YieldsList-from_str_split}
 use Rattle.reg_parse.proofs.path.segment_at.Goals as goal
 
 pub returns : goal.returns
-returns c = nth_from_yields_List _ _ _ c.nth.ensures.ran (YieldsList-from_str_split 47 c.args.path.now (lit< tt) c.split.ensures.text c.split.ensures.has_more c.split.ensures.pattern)
+returns c =
+    nth_from_yields_List _ _ _ c.nth.ensures.ran
+    (YieldsList-from_str_split 47 c.args.path.now (lit< tt) c.split.ensures.text
+    c.split.ensures.has_more c.split.ensures.pattern)

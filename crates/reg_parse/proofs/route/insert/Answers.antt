@@ -8,8 +8,14 @@ pub prove-unreachable-requires : goal.prove-unreachable-requires
 unfolding fits
 prove-unreachable-requires c =
     let gave = rw c.in-Err.is at c.insert.ensures in
-    let memory = fails_for_memory _ c.args.methods c.args.router.now c.insert.new.self c.in-Err.error gave c.requires in
-    elim c.match-matches.branch [ in-OutOfMemory w ↦ cc | in_default-matches w ↦ w.in_default-matches.not-OutOfMemory memory ]
+    let memory =
+    fails_for_memory _ c.args.methods c.args.router.now c.insert.new.self c.in-Err.error gave
+    c.requires in
+    elim c.match-matches.branch [
+      | in-OutOfMemory w ↦ cc
+      | in_default-matches w ↦
+          w.in_default-matches.not-OutOfMemory memory
+    ]
 
 pub returns : goal.returns
 unfolding with_row

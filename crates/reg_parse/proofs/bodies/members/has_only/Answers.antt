@@ -4,4 +4,6 @@ use Rattle.reg_parse.proofs.Objects.{all_among-members_view}
 use Rattle.reg_parse.proofs.bodies.members.has_only.Goals as goal
 
 pub returns-in-Some : goal.returns-in-Some
-returns-in-Some c = c.are_among.ensures ∙ all_among-members_view c.args.items.now c.in-Some.members.now.entries ∙ ap (is_among c.args.items.now) c.in-Some.ensures
+returns-in-Some c =
+    c.are_among.ensures ∙ all_among-members_view c.args.items.now c.in-Some.members.now.entries
+    ∙ ap (is_among c.args.items.now) c.in-Some.ensures

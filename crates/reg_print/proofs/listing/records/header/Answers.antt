@@ -1,4 +1,13 @@
 use Rattle.reg_print.proofs.listing.records.header.Goals as goal
 
 pub returns : goal.returns
-returns c = rw (c.as_slice.ensures, c.as_slice-2.ensures, c.as_slice-3.ensures, c.as_slice-4.ensures, c.as_slice-5.ensures, c.as_slice-6.ensures, c.as_slice-7.ensures) at c.record.ensures
+returns c =
+    rw (
+      c.as_slice.ensures,
+      c.as_slice-2.ensures,
+      c.as_slice-3.ensures,
+      c.as_slice-4.ensures,
+      c.as_slice-5.ensures,
+      c.as_slice-6.ensures,
+      c.as_slice-7.ensures,
+    ) at c.record.ensures

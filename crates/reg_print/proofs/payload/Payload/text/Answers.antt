@@ -10,4 +10,6 @@ pub returns-in-Csv-clause-reads_back : goal.returns-in-Csv-clause-reads_back
 returns-in-Csv-clause-reads_back c =
     let page = c.in-Csv.page.now in
     rw c.in-Csv.is
-    (IfOk-weaker c.listing.result (λ v. v.items ≡ listing_text page) (λ v. text_rows v.items ≡ listing_records page) (λ v h. ap text_rows h ∙ text_rows-listing_text page) c.listing.ensures)
+    (IfOk-weaker c.listing.result (λ v. v.items ≡ listing_text page)
+    (λ v. text_rows v.items ≡ listing_records page)
+    (λ v h. ap text_rows h ∙ text_rows-listing_text page) c.listing.ensures)

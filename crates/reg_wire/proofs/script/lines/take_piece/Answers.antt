@@ -9,5 +9,8 @@ returns-in_err-total-clause-err g c holds =
     let i = c.loop-byte.byte-index in
     let was = c.in_err-total.ensures.premise holds in
     rw (out.1, out.2) (λ first had bytes p.
-    let stop = c.in_err-total.ensures.err holds first had (bytes ++ take i c.args.piece.now) (c.loop-byte.invariant.far was first had bytes p) in
-    rw (← piece_all bytes c.args.piece.now i c.loop-byte-test.true) (halted_more g.A.Responder.Serves first had _ _ (drop (i + 1) c.args.piece.now) _ _ stop))
+    let stop =
+    c.in_err-total.ensures.err holds first had (bytes ++ take i c.args.piece.now)
+    (c.loop-byte.invariant.far was first had bytes p) in
+    rw (← piece_all bytes c.args.piece.now i c.loop-byte-test.true)
+    (halted_more g.A.Responder.Serves first had _ _ (drop (i + 1) c.args.piece.now) _ _ stop))

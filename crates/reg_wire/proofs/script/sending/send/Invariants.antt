@@ -5,7 +5,8 @@ use Rattle.reg_wire.proofs.script.sending.send.Given as goal
 abbrev pub invariant-loop-at : goal.invariant-loop-at
 invariant-loop-at g l = record {
   bound : l.at ≤ length l.bytes;
-  sent : Appends (g.W.Write.contents l.initial.writer) (g.W.Write.contents l.writer) (take l.at l.bytes);
+  sent : Appends (g.W.Write.contents l.initial.writer) (g.W.Write.contents l.writer)
+      (take l.at l.bytes);
 }
 
 abbrev pub decreases-loop-at : goal.decreases-loop-at
