@@ -98,6 +98,3 @@ fn content_status(content: &Content) -> u16
         | Content::Revoked => 200,
     }
 }
-
-#[cfg(test)]
-mod tests;

@@ -67,6 +67,3 @@ fn handle<K: Keeper>(
 {
     office.handle(call.moment, call.token, &command)
 }
-
-#[cfg(test)]
-mod tests;

@@ -1,22 +1,25 @@
 //! The bodies of answers, worked by hand.
-use super::*;
 use reg_blocks::pool::{Add, Pool};
 use reg_core::advice::{Advice, Opinion, Verdict};
 use reg_core::ask::{Ask, CodeAsk, Want};
+use reg_core::content::Content;
 use reg_core::entry::PageEntry;
 use reg_core::file::File;
 use reg_core::page::Page;
 use reg_core::queue::QueueRow;
 use reg_core::refusal::Refusal;
+use reg_core::reply::Reply;
 use reg_core::request::{Given, Request, State, StateWord};
 use reg_core::rows::Rows;
 use reg_core::text::{Account, Name, Ref, Text};
-use reg_core::wire_refusal::TableFault;
+use reg_core::wire_refusal::{TableFault, WireRefusal};
 use reg_early::day::Day;
 use reg_early::term::Term;
+use reg_print::answer::{Answer, body_of};
 use reg_ranges::evidence::{self, Evidence};
 use reg_ranges::range_file::{RowPart, read_ranges};
 use reg_ranges::table::{RangeFault, RangeTable};
+use std::alloc::Global;
 use std::test::Fail;
 
 const FLAGS: &[u8] =

@@ -1,7 +1,9 @@
 //! Calls to an office that has its first clerk.
-use super::*;
+use reg_office::Office;
+use reg_parse::route::Routes;
 use reg_print::answer::body_of;
 use reg_store::lists::ListKeeper;
+use reg_wire::exchange::{Call, answer_to};
 use std::test::Fail;
 
 const CLERK: &[u8] = b"clerk-token-00001";

@@ -1,47 +1,25 @@
-use crate::script::line::Line;
-use crate::script::lines::respond_all;
-use crate::script::responder::{Responder, Unanswered};
-use crate::script::run;
-use crate::wire_fault::WireFault;
+//! Scripts of an office: the lines that are read, and what is left of a run where a read or a write
+//! fails.
+use crate::failing_keeper::FailingKeeper;
 use reg_office::Office;
 use reg_store::lists::ListKeeper;
+use reg_wire::script::run;
+use reg_wire::wire_fault::WireFault;
 use std::alloc::Global;
 use std::io;
 use std::io::{Read, Write};
 use std::test::Fail;
 
-// Answers a line with its path and its body, and fails at the method FAIL.
-#[derive(Drop)]
-struct Echo;
+const CLERK: &[u8] = b"clerk-token-00001";
 
-impl Responder for Echo {
-    type Routes = ();
-
-    ghost Holds = { λ _. Unit {0} };
-
-    ghost Serves = { λ before line answer after. Unit {0} };
-
-    fn respond(
-        &mut self,
-        alloc: Global,
-        _routes: &(),
-        line: &Line<'_>,
-    ) -> Result<Vec<u8>, Unanswered> {
-        if line.method == b"FAIL".as_slice() {
-            return Err(Unanswered::Storage);
-        }
-        match echoed(alloc, line) {
-            Ok(answer) => Ok(answer),
-            Err(_) => Err(Unanswered::Memory),
-        }
+// The office of this clerk, whose store fails at the pool.
+fn office(alloc: Global) -> Result<Office<FailingKeeper<ListKeeper>>, Fail> {
+    let keeper = ListKeeper::new(alloc);
+    let mut office = Office::new(alloc, FailingKeeper { keeper });
+    match office.found(CLERK) {
+        Ok(()) => Ok(office),
+        Err(_) => Err(Fail::from("a fault")),
     }
-}
-
-fn echoed(alloc: Global, line: &Line<'_>) -> io::Result<Vec<u8>> {
-    let mut answer = Vec::from_slice(alloc, line.path)?;
-    answer.extend_from_slice(b"=")?;
-    answer.extend_from_slice(line.body)?;
-    Ok(answer)
 }
 
 // Gives one byte a read, and fails once it has given them all, or ends.
@@ -110,12 +88,19 @@ impl Write for Narrow {
 }
 
 const SCRIPT: &[u8] =
-    b"1700000000 - GET /a\n\n0 t GET /b x\ty  z\n00 - GET /c\nhello\n1 - FAIL /d\n\
-    18446744073709551615 - GET /e\n18446744073709551616 - GET /f\n5 -  /g\n5 - GET /h \n+5 - GET /i\n7 k PUT /j k\r";
+    b"1700000000 - GET /registries\n\n\
+    1700000000 clerk-token-00001 PUT /desk/registries/f/9 lo,hi,treatment,note\t0,9,reserved,y  z\t\n\
+    00 - GET /registries\nhello\n0 t GET /registries\n1700000000 - GET /pool\n\
+    18446744073709551615 - GET /e\n18446744073709551616 - GET /e\n\
+    1700000000 -  /registries\n1700000000 - GET /registries \n+1700000000 - GET /registries\n\
+    1700000000 - GET /listings/registries/f\n1700000000 - GET /registries \r";
 
 const ANSWERS: &[u8] =
-    b"/a=\n400 {\"error\":\"line\"}\n/b=x\ty  z\n400 {\"error\":\"line\"}\n400 {\"error\":\"line\"}\n\
-    503 {\"error\":\"storage\"}\n/e=\n400 {\"error\":\"line\"}\n400 {\"error\":\"line\"}\n/h=\n400 {\"error\":\"line\"}\n/j=k\r\n";
+    b"200 []\n400 {\"error\":\"line\"}\n200 {\"defined\":\"f\"}\n\
+    400 {\"error\":\"line\"}\n400 {\"error\":\"line\"}\n503 {\"error\":\"clock\"}\n503 {\"error\":\"storage\"}\n\
+    404 {\"error\":\"route\"}\n400 {\"error\":\"line\"}\n\
+    400 {\"error\":\"line\"}\n200 [\"f\"]\n400 {\"error\":\"line\"}\n\
+    200 Value,Description,Status,Policy,First,Expires,Assignee\t0-9,y  z,Reserved,,,,\t\n400 {\"error\":\"body\"}\n";
 
 #[test]
 fn a_byte_at_a_time(rt: HostRuntime) -> Result<(), Fail> {
@@ -125,7 +110,7 @@ fn a_byte_at_a_time(rt: HostRuntime) -> Result<(), Fail> {
         reads: 0,
     };
     let mut out: Vec<u8> = Vec::new(rt.alloc());
-    let done = respond_all(rt.alloc(), &mut Echo, &(), &mut reader, &mut out);
+    let done = run(rt.alloc(), &mut office(rt.alloc())?, &mut reader, &mut out);
     assert!(rt; done.is_ok());
     assert_eq!(rt; out.as_slice(), ANSWERS);
     Ok(())
@@ -140,7 +125,7 @@ fn writes_that_fail(rt: HostRuntime) -> Result<(), Fail> {
             taken: Vec::new(rt.alloc()),
             most,
         };
-        let done = respond_all(rt.alloc(), &mut Echo, &(), &mut script, &mut writer);
+        let done = run(rt.alloc(), &mut office(rt.alloc())?, &mut script, &mut writer);
         assert!(rt; done == Err(WireFault::Write(most)));
         assert!(rt; writer.taken.as_slice() == &ANSWERS[..most]);
     }
@@ -151,16 +136,16 @@ fn writes_that_fail(rt: HostRuntime) -> Result<(), Fail> {
 #[test]
 fn a_read_that_fails(rt: HostRuntime) -> Result<(), Fail> {
     let mut reader = Drops {
-        bytes: &SCRIPT[..23],
+        bytes: &SCRIPT[..33],
         fails: true,
         reads: 0,
     };
     let mut out: Vec<u8> = Vec::new(rt.alloc());
-    let done = respond_all(rt.alloc(), &mut Echo, &(), &mut reader, &mut out);
+    let done = run(rt.alloc(), &mut office(rt.alloc())?, &mut reader, &mut out);
     assert!(rt; done == Err(WireFault::Read));
     assert_eq!(rt;
         out.as_slice(),
-        b"/a=\n400 {\"error\":\"line\"}\n".as_slice()
+        b"200 []\n400 {\"error\":\"line\"}\n".as_slice()
     );
     Ok(())
 }
@@ -170,7 +155,7 @@ fn a_read_that_fails(rt: HostRuntime) -> Result<(), Fail> {
 fn a_reader_without_an_end(rt: HostRuntime) -> Result<(), Fail> {
     let mut reader = Forever { reads: 0 };
     let mut out: Vec<u8> = Vec::new(rt.alloc());
-    let done = respond_all(rt.alloc(), &mut Echo, &(), &mut reader, &mut out);
+    let done = run(rt.alloc(), &mut office(rt.alloc())?, &mut reader, &mut out);
     assert!(rt; done == Err(WireFault::Read));
     assert_eq!(rt; reader.reads, 16_777_216);
     assert!(rt; out.is_empty());
@@ -180,7 +165,7 @@ fn a_reader_without_an_end(rt: HostRuntime) -> Result<(), Fail> {
 #[test]
 fn an_office_with_its_first_applicant(rt: HostRuntime) -> Result<(), Fail> {
     let mut office = Office::new(rt.alloc(), ListKeeper::new(rt.alloc()));
-    assert!(rt; office.found(b"clerk-token-00001").is_ok());
+    assert!(rt; office.found(CLERK).is_ok());
     let mut script: &[u8] = b"1700000000 - GET /requests\n\
         1700000000 clerk-token-00001 PUT /desk/tokens {\"account\":\"alice\",\"kind\":\"applicant\",\"token\":\"alice-token-00001\",\"until\":1800000000}\n\
         1700000000 alice-token-00001 GET /requests\n";

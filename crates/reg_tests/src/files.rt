@@ -1,6 +1,9 @@
-//! Range files, worked by hand.
-use super::*;
-use reg_core::wire_refusal::WireRefusal;
+//! Range files in the command that defines a registry, worked by hand.
+use reg_core::command::{ClerkCommand, Command};
+use reg_core::wire_refusal::{ReadFault, WireRefusal};
+use reg_parse::command::read_command;
+use reg_parse::route::Routes;
+use std::alloc::Global;
 use std::test::Fail;
 
 // The number of ranges of a file for values to 7, or its fault.
@@ -36,9 +39,12 @@ const FILES: &[(&[u8], &str)] = &[
     (b"lo,hi,treatment,note\n0,8,reserved,\n", "end"),
 ];
 
-fn told(alloc: Global, file: &[u8]) -> Result<String, Fail> {
-    match read_table(alloc, 7, file) {
-        Ok(table) => Ok(format!(in alloc; "{}", table.ranges().len())?),
+fn told(alloc: Global, routes: &Routes, file: &[u8]) -> Result<String, Fail> {
+    match read_command(alloc, routes, b"PUT", b"/desk/registries/f/7", file) {
+        Ok(Command::Clerk(ClerkCommand::Define(_, table))) => {
+            Ok(format!(in alloc; "{}", table.ranges().len())?)
+        }
+        Ok(_) => Err(Fail::from("another command")),
         Err(ReadFault::Refused(WireRefusal::Ranges(fault))) => Ok(format!(in alloc; "{fault}")?),
         Err(_) => Err(Fail::from("another fault")),
     }
@@ -47,8 +53,9 @@ fn told(alloc: Global, file: &[u8]) -> Result<String, Fail> {
 #[test]
 fn files(rt: HostRuntime) -> Result<(), Fail> {
     let alloc = rt.alloc();
+    let routes = Routes::new(alloc)?;
     for (i, (file, want)) in FILES.iter().enumerate() {
-        assert_eq!(rt; told(alloc, file)?.as_str(), *want, "{i}");
+        assert_eq!(rt; told(alloc, &routes, file)?.as_str(), *want, "{i}");
     }
     Ok(())
 }

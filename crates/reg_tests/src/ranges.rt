@@ -1,11 +1,11 @@
 //! Range files, tables, evidence and free values, with answers that come from the formats and from RFC 8126.
-use crate::evidence::{Evidence, Item, Rfc, Stream, Track};
-use crate::free::least_free;
-use crate::policy::{Policy, Treatment};
-use crate::range_file::read_ranges;
-use crate::requirements::{missing, needs_expert};
-use crate::table::RangeTable;
-use crate::text::Text;
+use reg_ranges::evidence::{Evidence, Item, Rfc, Stream, Track};
+use reg_ranges::free::least_free;
+use reg_ranges::policy::{Policy, Treatment};
+use reg_ranges::range_file::read_ranges;
+use reg_ranges::requirements::{missing, needs_expert};
+use reg_ranges::table::RangeTable;
+use reg_ranges::text::Text;
 use std::test::Fail;
 
 const FLAGS: &[u8] =
