@@ -19,7 +19,6 @@ pub fn make<K: Keeper>(keeper: &mut K, change: Change) -> Result<(), Fault>
         WellKept (K.world keeper.old) → CanApply (K.world keeper.old) change }
     ensures { Makes K.world K.Holds K.FAILS keeper.old keeper.new result (λ w. applied w change) }
 {
-    keeper.well_kept();
     keeper.apply(change)
 }
 

@@ -58,8 +58,8 @@ fn advise<K: Keeper>(
     let row = keeper
         .queue_one(expert, account, reference)?
         .ok_or(Refusal::Request)?;
-    let decision = decide_advise(&row, expert, advice)?;
     advice.formed();
+    let decision = decide_advise(&row, expert, advice)?;
     let advised = with_advice(row, advice);
     Ok(Content::Item(conclude(keeper, advised, decision)?))
 }

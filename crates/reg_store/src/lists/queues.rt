@@ -1,5 +1,5 @@
 //! Requests by the experts to whom they are assigned, as these see them.
-ghost use Rattle.std.specs.Prelude.{◌≡◌, ◌&&◌, ℕ, List, cond, is_some, option_map};
+ghost use Rattle.std.specs.Prelude.{◌≡◌, ◌&&◌, ℕ, List, cond, is_some, option_map, IfOk};
 ghost use Rattle.std.specs.BTreeMap as tree;
 ghost use Rattle.std.specs.BTreeMap.{is_at};
 ghost use Rattle.std.specs.FinMap as fin;
@@ -8,17 +8,29 @@ ghost use Rattle.reg_core.specs.World.{name_cmp};
 ghost use Rattle.reg_store.specs.Lists.Panels.{seats};
 ghost use Rattle.reg_store.specs.Lists.Queues.{all_queues, with_word, with_advice};
 
-use crate::groups::{change_row, group_in};
+use crate::groups::{change_row, group_in, row_in};
 use crate::lists::panels::{Panel, Panels};
 use crate::lists::requests::RequestName;
 use reg_core::advice::Advice;
 use reg_core::queue::QueueRow;
 use reg_core::request::StateWord;
 use reg_core::text::Account;
+use std::alloc::AllocError;
 use std::collections::BTreeMap;
 
 /// What is assigned to experts, by expert and then by request.
 pub type Queues = BTreeMap<Account, BTreeMap<RequestName, QueueRow>>;
+
+/// The row of a request in the queue of an expert.
+pub fn queued_in(
+    queues: &Queues,
+    expert: &Account,
+    name: &RequestName,
+) -> Result<Option<QueueRow>, AllocError>
+    ensures { IfOk result (λ row. row ≡ fin.get (all_queues queues.now) (expert.now, name.now)) }
+{
+    row_in(queues, expert, name).cloned()
+}
 
 /// Puts an expert's advice into the row of a request in the expert's queue, if it is there.
 pub fn set_advice(queues: &mut Queues, expert: &Account, name: &RequestName, advice: Advice)

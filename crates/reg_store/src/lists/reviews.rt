@@ -17,7 +17,7 @@ use crate::groups::{list_group, put_row, row_in, take_row};
 use crate::lists::file::file_in;
 use crate::lists::opinions::{Opinions, advice_in};
 use crate::lists::panels::{Panels, copy_seat};
-use crate::lists::queues::{Queues, set_advice, set_words};
+use crate::lists::queues::{Queues, queued_in, set_advice, set_words};
 use crate::lists::requests::{RequestName, Requests, set_state};
 use reg_core::advice::Advice;
 use reg_core::ask::Ask;
@@ -103,7 +103,7 @@ impl Reviews {
             (fin.get (queue_of expert.now (world_of self.now)) (account.now, reference.now))) }
     {
         let name = (account.copy()?, reference.copy()?);
-        row_in(&self.queues, expert, &name).cloned()
+        queued_in(&self.queues, expert, &name)
     }
 
     /// Adds a pending request.

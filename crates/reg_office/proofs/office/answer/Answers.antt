@@ -1,0 +1,138 @@
+use Rattle.std.proofs.Common.{◌≡◌, ℕ, List, Result, sym, ap, ◌∙◌}
+use Rattle.std.specs.Prelude.{Option, Some}
+use Rattle.std.specs.Option.{option_copied}
+use Rattle.reg_early.specs.Moment.{is_in_clock, utc_day, day_of_moment}
+use Rattle.reg_core.specs.Allowance.{◌>>=◌}
+use Rattle.reg_core.specs.Answer.{Answer}
+use Rattle.reg_core.specs.Step.{answer_to}
+use Rattle.reg_core.specs.World.{World}
+use Rattle.reg_core.specs.declared.capability.Kind.{Kind}
+use Rattle.reg_core.specs.declared.capability.Kind.TheVariants as kind
+use Rattle.reg_core.specs.declared.refusal.Refusal.{Refusal}
+use Rattle.reg_office.specs.Answers.{answer_to_account, answer_to_clerk, answer_to_expert}
+use Rattle.reg_office.specs.Caller.{token_digest, caller_of as caller, admission}
+use Rattle.reg_office.specs.declared.admission.Caller.{Caller}
+use Rattle.reg_office.proofs.Admitted.{is_open_on, applicant_answered, expert_answered, clerk_answered}
+use Rattle.reg_office.proofs.Performing.{performs_then, performs_stopped}
+use Rattle.reg_office.proofs.office.answer.Given.{Over}
+use Rattle.reg_office.proofs.office.answer.Goals.{After-admit, After-admit-in-Expert, After-admit-in-Clerk}
+use Rattle.reg_office.proofs.office.answer.Goals as goal
+
+-- ---- An applicant
+
+module _ (g : Over) (c : After-admit g) where
+  -- who is admitted as an applicant, and what is answered then
+  abbrev applicant : World → Result Caller Refusal
+  applicant w = admission w (caller (option_copied c.args.token)) c.args.moment kind.Applicant
+
+  abbrev applicant_told : Caller → World → Answer
+  applicant_told who = answer_to_account who.cap.account c.in-Applicant.command
+
+  applicant_is : (w : World)
+      → answer_to token_digest w (caller (option_copied c.args.token)) c.args.moment
+      c.args.command.now
+      ≡ (applicant w >>= (λ who. applicant_told who w))
+  applicant_is w =
+      let who = caller (option_copied c.args.token) in
+      let moment = c.args.moment in
+      let opened =
+      is_open_on moment c.in_ok-today.today
+      (sym c.day_of.ensures.value ∙ c.in_ok-today.ensures.ok_part) in
+      ap (answer_to token_digest w who moment) c.in-Applicant.is
+      ∙ applicant_answered w who moment c.in-Applicant.command opened.0
+
+pub returns-in_err-caller-in-Applicant-clause-answer :
+    goal.returns-in_err-caller-in-Applicant-clause-answer
+returns-in_err-caller-in-Applicant-clause-answer g c =
+    let d = (goal.at.returns-in_err-caller-in-Applicant-clause-answer g c).After-admit in
+    let stopped = c.in_err-caller-in-Applicant in
+    performs_stopped (applicant g d) (applicant_told g d) _ stopped.field-0.0 stopped.ensures.caller
+    c.from_residual-in_err-caller-in-Applicant.ensures.1
+    (applicant_is g d (g.K.Keeper.world c.args.keeper.now))
+
+pub returns-in_ok-caller-in-Applicant-clause-answer :
+    goal.returns-in_ok-caller-in-Applicant-clause-answer
+returns-in_ok-caller-in-Applicant-clause-answer g c =
+    let d = (goal.at.returns-in_ok-caller-in-Applicant-clause-answer g c).After-admit in
+    performs_then (applicant g d) (applicant_told g d) _ c.in_ok-caller-in-Applicant.ensures.caller
+    c.perform-in-Applicant.ensures (applicant_is g d (g.K.Keeper.world c.args.keeper.now))
+
+-- ---- An expert
+
+module _ (g : Over) (c : After-admit-in-Expert g) where
+  -- who is admitted as an expert, and what is answered then
+  abbrev expert : World → Result Caller Refusal
+  expert w = admission w (caller (option_copied c.args.token)) c.args.moment kind.Expert
+
+  abbrev expert_told : Caller → World → Answer
+  expert_told who = answer_to_expert who.cap.account c.in-Expert.command
+
+  expert_is : (w : World)
+      → answer_to token_digest w (caller (option_copied c.args.token)) c.args.moment
+      c.args.command.now
+      ≡ (expert w >>= (λ who. expert_told who w))
+  expert_is w =
+      let who = caller (option_copied c.args.token) in
+      let moment = c.args.moment in
+      let opened =
+      is_open_on moment c.in_ok-today.today
+      (sym c.day_of.ensures.value ∙ c.in_ok-today.ensures.ok_part) in
+      ap (answer_to token_digest w who moment) c.in-Expert.is
+      ∙ expert_answered w who moment c.in-Expert.command opened.0
+
+pub returns-in_err-caller-in-Expert-clause-answer :
+    goal.returns-in_err-caller-in-Expert-clause-answer
+returns-in_err-caller-in-Expert-clause-answer g c =
+    let d = (goal.at.returns-in_err-caller-in-Expert-clause-answer g c).After-admit-in-Expert in
+    let stopped = c.in_err-caller-in-Expert in
+    performs_stopped (expert g d) (expert_told g d) _ stopped.field-0.0 stopped.ensures.caller
+    c.from_residual-in_err-caller-in-Expert.ensures.1
+    (expert_is g d (g.K.Keeper.world c.args.keeper.now))
+
+pub returns-in_ok-caller-in-Expert-clause-answer :
+    goal.returns-in_ok-caller-in-Expert-clause-answer
+returns-in_ok-caller-in-Expert-clause-answer g c =
+    let d = (goal.at.returns-in_ok-caller-in-Expert-clause-answer g c).After-admit-in-Expert in
+    performs_then (expert g d) (expert_told g d) _ c.in_ok-caller-in-Expert.ensures.caller
+    c.perform-in-Expert.ensures (expert_is g d (g.K.Keeper.world c.args.keeper.now))
+
+-- ---- A clerk
+
+module _ (g : Over) (c : After-admit-in-Clerk g) where
+  -- who is admitted as a clerk, and what is answered then
+  abbrev clerk : World → Result Caller Refusal
+  clerk w = admission w (caller (option_copied c.args.token)) c.args.moment kind.Clerk
+
+  abbrev clerk_told : Caller → World → Answer
+  clerk_told who = answer_to_clerk who.digest c.in_ok-today.today c.in-Clerk.command
+
+  clerk_is : (w : World)
+      → answer_to token_digest w (caller (option_copied c.args.token)) c.args.moment
+      c.args.command.now
+      ≡ (clerk w >>= (λ who. clerk_told who w))
+  clerk_is w =
+      let who = caller (option_copied c.args.token) in
+      let moment = c.args.moment in
+      let opened =
+      is_open_on moment c.in_ok-today.today
+      (sym c.day_of.ensures.value ∙ c.in_ok-today.ensures.ok_part) in
+      ap (answer_to token_digest w who moment) c.in-Clerk.is
+      ∙ clerk_answered w who moment c.in-Clerk.command opened.0
+      ∙ ap (λ (day : ℕ). admission w who moment kind.Clerk
+      >>= (λ who. answer_to_clerk who.digest day c.in-Clerk.command w)) opened.1
+
+pub returns-in_err-caller-in-Clerk-clause-answer :
+    goal.returns-in_err-caller-in-Clerk-clause-answer
+returns-in_err-caller-in-Clerk-clause-answer g c =
+    let d = (goal.at.returns-in_err-caller-in-Clerk-clause-answer g c).After-admit-in-Clerk in
+    let stopped = c.in_err-caller-in-Clerk in
+    performs_stopped (clerk g d) (clerk_told g d) _ stopped.field-0.0 stopped.ensures.caller
+    c.from_residual-in_err-caller-in-Clerk.ensures.1
+    (clerk_is g d (g.K.Keeper.world c.args.keeper.now))
+
+pub returns-in_ok-caller-in-Clerk-clause-answer :
+    goal.returns-in_ok-caller-in-Clerk-clause-answer
+returns-in_ok-caller-in-Clerk-clause-answer g c =
+    let d = (goal.at.returns-in_ok-caller-in-Clerk-clause-answer g c).After-admit-in-Clerk in
+    performs_then (clerk g d) (clerk_told g d) _ c.in_ok-caller-in-Clerk.ensures.caller
+    c.perform-in-Clerk.ensures (clerk_is g d (g.K.Keeper.world c.args.keeper.now))
