@@ -1,6 +1,7 @@
 //! A call and its answer, whatever carries them.
-ghost use Rattle.std.specs.Prelude.{◌≡◌, IfOk, OnOk, OnErr};
+ghost use Rattle.std.specs.Prelude.{◌≡◌, IfOk};
 ghost use Rattle.reg_office.specs.Caller.{step_by};
+ghost use Rattle.reg_store.specs.Keeper.{Makes};
 ghost use Rattle.reg_wire.specs.Exchange.{call_view, answer_to, world_then};
 
 use reg_core::command::Command;
@@ -36,12 +37,10 @@ pub fn answer_to<K: Keeper>(
     routes: &Routes,
     call: &Call<'_>,
 ) -> Result<Answer, Fault>
-    ensures premise { K.Holds office.new → K.Holds office.old }
     ensures answer { K.Holds office.new → IfOk result
         (λ a. a ≡ answer_to (K.world office.old) (call_view call.now)) }
-    ensures world { K.Holds office.new → OnOk result
-        (K.world office.new ≡ world_then (K.world office.old) (call_view call.now)) }
-    ensures kept { K.Holds office.new → OnErr result (K.world office.new ≡ K.world office.old) }
+    ensures world { Makes K.world K.Holds K.FAILS office.old office.new result
+        (λ w. world_then w (call_view call.now)) }
 {
     match read_command(alloc, routes, call.method, call.path, call.body) {
         Ok(command) => Ok(Answer::Reply(handle(office, call, command)?)),
@@ -55,15 +54,10 @@ fn handle<K: Keeper>(
     call: &Call<'_>,
     command: Command,
 ) -> Result<Reply, Fault>
-    ensures premise { K.Holds office.new → K.Holds office.old }
-    ensures reply { K.Holds office.new → IfOk result
-        (λ r. r ≡ (step_by (K.world office.old) (call_view call.now).token call.now.moment
-        command).reply) }
-    ensures world { K.Holds office.new → OnOk result
-        (K.world office.new
-        ≡ (step_by (K.world office.old) (call_view call.now).token call.now.moment
-        command).world) }
-    ensures kept { K.Holds office.new → OnErr result (K.world office.new ≡ K.world office.old) }
+    ensures reply { let step = step_by (K.world office.old) (call_view call.now).token in
+        K.Holds office.new → IfOk result (λ r. r ≡ (step call.now.moment command).reply) }
+    ensures world { Makes K.world K.Holds K.FAILS office.old office.new result
+        (λ w. (step_by w (call_view call.now).token call.now.moment command).world) }
 {
     office.handle(call.moment, call.token, &command)
 }

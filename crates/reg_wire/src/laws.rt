@@ -28,7 +28,8 @@ pub fn calls_are_answered_alike()
 /// Striking, of calls: the answers to calls, and to others that have their events but for those
 /// about requests that an account does not see, are the replies at their stages; these are alike at
 /// each event that is left, but for rows of these requests where they list requests of others; and
-/// at the end both show the account the same.
+/// at the end both show the account the same. What is left changes none of these requests; and
+/// where none of them is there, such a list is the other list without their rows.
 pub fn unseen_calls_leave_no_trace()
     ensures { UnseenCallsLeaveNoTrace }
 {

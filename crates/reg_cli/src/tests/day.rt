@@ -13,9 +13,7 @@ const DAY: &str = r#"
 < 200 []
 > 1700000060 clerk-token-00001 PUT /desk/tokens {"account":"xan","kind":"expert","token":"xpert-token-00001","until":1800000000}
 < 200 {"account":"xan","kind":"expert","until":1800000000}
-> 1700000120 clerk-token-00001 PUT /desk/registries/codes/255
-    lo,hi,treatment,note|0,99,first-come-first-served,|100,199,expert-review,|200,255,reserved,kept
-        for later|
+> 1700000120 clerk-token-00001 PUT /desk/registries/codes/255 lo,hi,treatment,note|0,99,first-come-first-served,|100,199,expert-review,|200,255,reserved,kept for later|
 < 200 {"defined":"codes"}
 > 1700000180 alice-token-00001 PUT /requests/a-1 {"kind":"code","label":"Blue","registry":"codes","value":100}
 < 422 {"error":"evidence","item":"contact"}

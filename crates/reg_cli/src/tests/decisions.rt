@@ -7,8 +7,7 @@ use std::test::Fail;
 
 /// A request for the least value; withdrawn and declined ones.
 const DECISIONS: &str = r#"
-> 1700000000 clerk-token-00001 PUT /desk/registries/tiny/1
-    lo,hi,treatment,note|0,0,first-come-first-served,|1,1,reserved,|
+> 1700000000 clerk-token-00001 PUT /desk/registries/tiny/1 lo,hi,treatment,note|0,0,first-come-first-served,|1,1,reserved,|
 < 200 {"defined":"tiny"}
 > 1700000000 - GET /registries/tiny
 < 200 {"entries":[],"max":1,"name":"tiny","ranges":[{"hi":0,"lo":0,"note":"","treatment":"first-come-first-served"},{"hi":1,"lo":1,"note":"","treatment":"reserved"}]}

@@ -47,22 +47,17 @@ pub const LIMITS: &str = r#"
 
 /// A registry is defined, listed and read, and asks are refused by its policies.
 pub const REGISTRIES: &str = r#"
-> 1700000000 clerk-token-00001 PUT /desk/registries/flags/255
-    lo,hi,treatment,note|0,63,standards-action,|64,191,first-come-first-served,|192,223,expert-review,|224,239,experimental-use,|240,254,private-use,|255,255,reserved,|
+> 1700000000 clerk-token-00001 PUT /desk/registries/flags/255 lo,hi,treatment,note|0,63,standards-action,|64,191,first-come-first-served,|192,223,expert-review,|224,239,experimental-use,|240,254,private-use,|255,255,reserved,|
 < 200 {"defined":"flags"}
-> 1700000000 clerk-token-00001 PUT /desk/registries/flags/255
-    lo,hi,treatment,note|0,63,standards-action,|64,191,first-come-first-served,|192,223,expert-review,|224,239,experimental-use,|240,254,private-use,|255,255,reserved,|
+> 1700000000 clerk-token-00001 PUT /desk/registries/flags/255 lo,hi,treatment,note|0,63,standards-action,|64,191,first-come-first-served,|192,223,expert-review,|224,239,experimental-use,|240,254,private-use,|255,255,reserved,|
 < 200 {"defined":"flags"}
 > 1700000000 - GET /registries
 < 200 ["flags"]
-> 1700000000 clerk-token-00001 PUT /desk/registries/flags/255
-    lo,hi,treatment,note|0,63,standards-action,|65,191,first-come-first-served,|192,223,expert-review,|224,239,experimental-use,|240,254,private-use,|255,255,reserved,|
+> 1700000000 clerk-token-00001 PUT /desk/registries/flags/255 lo,hi,treatment,note|0,63,standards-action,|65,191,first-come-first-served,|192,223,expert-review,|224,239,experimental-use,|240,254,private-use,|255,255,reserved,|
 < 422 {"error":"ranges","item":"gap 1"}
-> 1700000000 clerk-token-00001 PUT /desk/registries/flags/254
-    lo,hi,treatment,note|0,63,standards-action,|64,191,first-come-first-served,|192,223,expert-review,|224,239,experimental-use,|240,254,private-use,|255,255,reserved,|
+> 1700000000 clerk-token-00001 PUT /desk/registries/flags/254 lo,hi,treatment,note|0,63,standards-action,|64,191,first-come-first-served,|192,223,expert-review,|224,239,experimental-use,|240,254,private-use,|255,255,reserved,|
 < 422 {"error":"ranges","item":"end"}
-> 1700000000 clerk-token-00001 PUT /desk/registries/flags/255
-    lo,hi,treatment,note|0,63,standards-action,|64,191,first-come-first-served,|192,223,expert-review,|224,239,experimental-use,|240,254,private-use,|255,255,reserved,a note|
+> 1700000000 clerk-token-00001 PUT /desk/registries/flags/255 lo,hi,treatment,note|0,63,standards-action,|64,191,first-come-first-served,|192,223,expert-review,|224,239,experimental-use,|240,254,private-use,|255,255,reserved,a note|
 < 409 {"error":"exists"}
 > 1700000000 alice-token-00001 PUT /requests/a-1 {"contact":"c","kind":"code","label":"L","registry":"flags","value":255}
 < 409 {"error":"policy"}

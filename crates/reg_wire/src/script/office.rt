@@ -1,5 +1,6 @@
 //! The office as the responder of a script.
-ghost use Rattle.std.specs.Prelude.{◌≡◌, map, IfOk, OnOk, OnErr};
+ghost use Rattle.std.specs.Prelude.{◌≡◌, map, IfOk};
+ghost use Rattle.reg_store.specs.Keeper.{Makes};
 ghost use Rattle.reg_wire.specs.Exchange.{answer_to, world_then};
 ghost use Rattle.reg_wire.specs.Script.Answers.{Serves, answer_line, tab_of as tab};
 ghost use Rattle.reg_wire.specs.Script.Line.{call_of, line_feed_of as line_feed};
@@ -43,12 +44,10 @@ fn answer_to_line<K: Keeper>(
     routes: &Routes,
     line: &Line<'_>,
 ) -> Result<Answer, Fault>
-    ensures premise { K.Holds office.new → K.Holds office.old }
     ensures answer { K.Holds office.new → IfOk result
         (λ a. a ≡ answer_to (K.world office.old) (call_of line.now)) }
-    ensures world { K.Holds office.new → OnOk result
-        (K.world office.new ≡ world_then (K.world office.old) (call_of line.now)) }
-    ensures kept { K.Holds office.new → OnErr result (K.world office.new ≡ K.world office.old) }
+    ensures world { Makes K.world K.Holds K.FAILS office.old office.new result
+        (λ w. world_then w (call_of line.now)) }
 {
     let body = with_line_feeds(alloc, line.body)?;
     let call = Call {
