@@ -88,19 +88,37 @@ impl Write for Narrow {
 }
 
 const SCRIPT: &[u8] =
-    b"1700000000 - GET /registries\n\n\
-    1700000000 clerk-token-00001 PUT /desk/registries/f/9 lo,hi,treatment,note\t0,9,reserved,y  z\t\n\
-    00 - GET /registries\nhello\n0 t GET /registries\n1700000000 - GET /pool\n\
-    18446744073709551615 - GET /e\n18446744073709551616 - GET /e\n\
-    1700000000 -  /registries\n1700000000 - GET /registries \n+1700000000 - GET /registries\n\
-    1700000000 - GET /listings/registries/f\n1700000000 - GET /registries \r";
+    b"1700000000 - GET /registries\n\
+    \n\
+    1700000000 clerk-token-00001 PUT /desk/registries/f/9 \
+    lo,hi,treatment,note\t0,9,reserved,y  z\t\n\
+    00 - GET /registries\n\
+    hello\n\
+    0 t GET /registries\n\
+    1700000000 - GET /pool\n\
+    18446744073709551615 - GET /e\n\
+    18446744073709551616 - GET /e\n\
+    1700000000 -  /registries\n\
+    1700000000 - GET /registries \n\
+    +1700000000 - GET /registries\n\
+    1700000000 - GET /listings/registries/f\n\
+    1700000000 - GET /registries \r";
 
 const ANSWERS: &[u8] =
-    b"200 []\n400 {\"error\":\"line\"}\n200 {\"defined\":\"f\"}\n\
-    400 {\"error\":\"line\"}\n400 {\"error\":\"line\"}\n503 {\"error\":\"clock\"}\n503 {\"error\":\"storage\"}\n\
-    404 {\"error\":\"route\"}\n400 {\"error\":\"line\"}\n\
-    400 {\"error\":\"line\"}\n200 [\"f\"]\n400 {\"error\":\"line\"}\n\
-    200 Value,Description,Status,Policy,First,Expires,Assignee\t0-9,y  z,Reserved,,,,\t\n400 {\"error\":\"body\"}\n";
+    b"200 []\n\
+    400 {\"error\":\"line\"}\n\
+    200 {\"defined\":\"f\"}\n\
+    400 {\"error\":\"line\"}\n\
+    400 {\"error\":\"line\"}\n\
+    503 {\"error\":\"clock\"}\n\
+    503 {\"error\":\"storage\"}\n\
+    404 {\"error\":\"route\"}\n\
+    400 {\"error\":\"line\"}\n\
+    400 {\"error\":\"line\"}\n\
+    200 [\"f\"]\n\
+    400 {\"error\":\"line\"}\n\
+    200 Value,Description,Status,Policy,First,Expires,Assignee\t0-9,y  z,Reserved,,,,\t\n\
+    400 {\"error\":\"body\"}\n";
 
 #[test]
 fn a_byte_at_a_time(rt: HostRuntime) -> Result<(), Fail> {
