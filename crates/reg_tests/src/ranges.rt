@@ -1,4 +1,5 @@
-//! Range files, tables, evidence and free values, with answers that come from the formats and from RFC 8126.
+//! Range files, tables, evidence and free values, with answers that come from the formats and from
+//! RFC 8126.
 use reg_ranges::evidence::{Evidence, Item, Rfc, Stream, Track};
 use reg_ranges::free::least_free;
 use reg_ranges::policy::{Policy, Treatment};

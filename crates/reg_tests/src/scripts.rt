@@ -87,8 +87,7 @@ impl Write for Narrow {
     }
 }
 
-const SCRIPT: &[u8] =
-    b"1700000000 - GET /registries\n\
+const SCRIPT: &[u8] = b"1700000000 - GET /registries\n\
     \n\
     1700000000 clerk-token-00001 PUT /desk/registries/f/9 \
     lo,hi,treatment,note\t0,9,reserved,y  z\t\n\
@@ -104,8 +103,7 @@ const SCRIPT: &[u8] =
     1700000000 - GET /listings/registries/f\n\
     1700000000 - GET /registries \r";
 
-const ANSWERS: &[u8] =
-    b"200 []\n\
+const ANSWERS: &[u8] = b"200 []\n\
     400 {\"error\":\"line\"}\n\
     200 {\"defined\":\"f\"}\n\
     400 {\"error\":\"line\"}\n\
@@ -143,7 +141,12 @@ fn writes_that_fail(rt: HostRuntime) -> Result<(), Fail> {
             taken: Vec::new(rt.alloc()),
             most,
         };
-        let done = run(rt.alloc(), &mut office(rt.alloc())?, &mut script, &mut writer);
+        let done = run(
+            rt.alloc(),
+            &mut office(rt.alloc())?,
+            &mut script,
+            &mut writer,
+        );
         assert!(rt; done == Err(WireFault::Write(most)));
         assert!(rt; writer.taken.as_slice() == &ANSWERS[..most]);
     }
