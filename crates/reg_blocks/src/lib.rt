@@ -10,5 +10,3 @@ pub mod laws;
 pub mod pool;
 pub mod prefix;
 pub mod size;
-#[cfg(test)]
-mod tests;

@@ -4,15 +4,20 @@ use crate::performing::perform;
 use std::test::Fail;
 
 mod approvals;
+mod bodies;
 mod command_lines;
 mod day;
 mod decisions;
 mod devices;
 mod experts;
+mod failing_keeper;
 mod floods;
+mod policies;
 mod pool;
 mod refusals;
 mod registers;
+mod routes;
+mod stores;
 mod transcript;
 
 const CLERK: &str = "clerk-token-00001";
@@ -25,12 +30,12 @@ struct Given {
     errors: Vec<u8>,
 }
 
-fn script<R: AllocGlobal>(rt: &R, clerk: &str, input: &str) -> Result<Given, Fail> {
+fn script<R: AllocGlobal>(rt: &R, clerk: &str, input: &[u8]) -> Result<Given, Fail> {
     let alloc = rt.alloc();
     let clerk = String::from_str(alloc, clerk)?;
     let mut output = Vec::new(alloc);
     let mut errors = Vec::new(alloc);
-    let mut reader = input.as_bytes();
+    let mut reader = input;
     let job = Job::Script { clerk };
     let status = perform(rt, job, &mut reader, &mut output, &mut errors);
     Ok(Given {

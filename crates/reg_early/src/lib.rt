@@ -8,5 +8,3 @@ pub mod evidence;
 pub mod laws;
 pub mod requirements;
 pub mod term;
-#[cfg(test)]
-mod tests;

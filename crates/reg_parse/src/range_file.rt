@@ -16,6 +16,3 @@ pub fn read_table(alloc: Global, max: u32, file: &[u8]) -> Result<RangeTable, Re
     let ranges = read_ranges(alloc, file)?;
     Ok(RangeTable::make(max, ranges)?)
 }
-
-#[cfg(test)]
-mod tests;

@@ -1,11 +1,12 @@
 //! Answers, and their status and body.
 ghost use Rattle.std.specs.Prelude.{◌≡◌, IfOk};
-ghost use Rattle.reg_print.specs.Answer.{status_of, reply_status, content_status, answer_body, body_text};
-ghost use Rattle.reg_print.specs.Body.{format_of, ReadsBack};
+ghost use Rattle.reg_print.specs.Answer.{status_of, reply_status, content_status, answer_body, reply_body, content_body, body_text};
+ghost use Rattle.reg_print.specs.Body.{body_view, format_of, ReadsBack};
 
 pub use crate::payload::Format;
-use crate::payload::payload_of;
+use crate::payload::Payload;
 use crate::refusal::{office_row, storage_row, wire_row};
+use crate::trees::{capability, file, members, page, pool, queue, refusal, request};
 use reg_core::content::Content;
 use reg_core::reply::Reply;
 use reg_core::wire_refusal::{ReadFault, WireRefusal};
@@ -99,5 +100,48 @@ fn content_status(content: &Content) -> u16
     }
 }
 
-#[cfg(test)]
-mod tests;
+// What the body of an answer holds.
+fn payload_of(alloc: Global, answer: &Answer) -> Result<Payload<'_>, AllocError>
+    ensures { IfOk result (λ c. body_view c ≡ answer_body answer.now) }
+{
+    match answer {
+        Answer::Reply(reply) => reply_payload(alloc, reply),
+        Answer::Wire(fault) => Ok(Payload::Json(refusal::error(alloc, wire_row(*fault))?)),
+        Answer::Storage => Ok(Payload::Json(refusal::error(alloc, storage_row())?)),
+    }
+}
+
+fn reply_payload(alloc: Global, reply: &Reply) -> Result<Payload<'_>, AllocError>
+    ensures { IfOk result (λ c. body_view c ≡ reply_body reply.now) }
+{
+    match reply {
+        Reply::Accepted(content) => content_payload(alloc, content),
+        Reply::Refused(fault) => Ok(Payload::Json(refusal::error(alloc, office_row(*fault))?)),
+    }
+}
+
+fn content_payload(alloc: Global, content: &Content) -> Result<Payload<'_>, AllocError>
+    ensures { IfOk result (λ c. body_view c ≡ content_body content.now) }
+{
+    Ok(match content {
+        Content::Names(names) => Payload::Json(members::texts(alloc, names.as_slice())?),
+        Content::Page(page) => Payload::Json(page::page(alloc, page)?),
+        Content::Listing(page) => Payload::Csv(page),
+        Content::Pool(pool) => Payload::Json(pool::pool(alloc, pool)?),
+        Content::Made(request) | Content::Row(request) => {
+            Payload::Json(request::request(alloc, request)?)
+        },
+        Content::Rows(requests) => {
+            Payload::Json(request::requests(alloc, requests.as_slice())?)
+        },
+        Content::Item(row) => Payload::Json(queue::row(alloc, row)?),
+        Content::Items(rows) => Payload::Json(queue::rows(alloc, rows.as_slice())?),
+        Content::Desk(request) => Payload::Json(request::desk(alloc, request)?),
+        Content::Desks(requests) => { Payload::Json(request::desks(alloc, requests.as_slice())?) },
+        Content::Filed(file) => Payload::Json(file::file(alloc, file)?),
+        Content::Defined(name) => Payload::Json(page::defined(alloc, name)?),
+        Content::Pooled(prefix) => Payload::Json(pool::pooled(alloc, *prefix)?),
+        Content::Granted(cap) => Payload::Json(capability::cap(alloc, cap)?),
+        Content::Revoked => Payload::Json(capability::revoked(alloc)?),
+    })
+}

@@ -11,6 +11,4 @@ pub mod range;
 pub mod range_file;
 pub mod requirements;
 pub mod table;
-#[cfg(test)]
-mod tests;
 pub mod text;

@@ -5,8 +5,6 @@
 pub mod exchange;
 pub mod laws;
 pub mod script;
-#[cfg(test)]
-mod tests;
 pub mod wire_fault;
 
 pub use reg_core::{item, wire_refusal as refusal};

@@ -53,6 +53,3 @@ pub fn run<K: Keeper, R: Read, W: Write>(
     let routes = Routes::new(alloc)?;
     respond_all(alloc, office, &routes, reader, writer)
 }
-
-#[cfg(test)]
-mod tests;

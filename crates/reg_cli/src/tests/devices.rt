@@ -51,6 +51,23 @@ impl Write for FailsAfter {
     }
 }
 
+/// Gives the same byte for ever.
+#[derive(Drop)]
+struct NeverEnds {
+    reads: u32,
+}
+
+impl Read for NeverEnds {
+    fn read(&mut self, buf: &mut [u8]) -> io::Result<usize> {
+        self.reads = self.reads.wrapping_add(1);
+        if buf.is_empty() {
+            return Ok(0);
+        }
+        buf[0] = b'x';
+        Ok(1)
+    }
+}
+
 fn founding(rt: &HostRuntime) -> Result<Job, Fail> {
     Ok(Job::Script {
         clerk: String::from_str(rt.alloc(), CLERK)?,
@@ -102,5 +119,18 @@ fn a_write_that_fails_after_each_byte(rt: HostRuntime) -> Result<(), Fail> {
         assert_eq!(rt; output.taken.as_slice(), &ANSWERS.as_bytes()[..room]);
         assert_eq!(rt; errors.as_slice(), b"fault: write\n".as_slice());
     }
+    Ok(())
+}
+
+#[test]
+fn a_reader_without_an_end(rt: HostRuntime) -> Result<(), Fail> {
+    let mut input = NeverEnds { reads: 0 };
+    let mut output = Vec::new(rt.alloc());
+    let mut errors = Vec::new(rt.alloc());
+    let status = perform(&rt, founding(&rt)?, &mut input, &mut output, &mut errors);
+    assert_eq!(rt; status, 1);
+    assert_eq!(rt; input.reads, 16_777_216);
+    assert!(rt; output.is_empty());
+    assert_eq!(rt; errors.as_slice(), b"fault: read\n".as_slice());
     Ok(())
 }

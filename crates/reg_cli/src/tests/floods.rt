@@ -44,7 +44,7 @@ fn answered<R: Abort + AllocGlobal>(rt: &R, first: &str, flood: usize) -> Result
         input.push_str(line)?;
         input.push('\n')?;
     }
-    let given = script(rt, CLERK, input.as_str())?;
+    let given = script(rt, CLERK, input.as_bytes())?;
     assert_eq!(rt; given.status, 0);
     apart(rt, &given.output)
 }

@@ -66,7 +66,7 @@ fn revocations(rt: HostRuntime) -> Result<(), Fail> {
 
 #[test]
 fn a_last_line_may_lack_its_line_feed(rt: HostRuntime) -> Result<(), Fail> {
-    let given = script(&rt, CLERK, "1700000000 - GET /requests\nhello")?;
+    let given = script(&rt, CLERK, b"1700000000 - GET /requests\nhello")?;
     assert_eq!(rt; given.status, 0);
     let answers: &[u8] = b"401 {\"error\":\"token\"}\n400 {\"error\":\"line\"}\n";
     assert_eq!(rt; given.output.as_slice(), answers);
@@ -75,7 +75,7 @@ fn a_last_line_may_lack_its_line_feed(rt: HostRuntime) -> Result<(), Fail> {
 
 #[test]
 fn a_short_token_founds_no_office(rt: HostRuntime) -> Result<(), Fail> {
-    let given = script(&rt, "short", "1700000000 - GET /requests\n")?;
+    let given = script(&rt, "short", b"1700000000 - GET /requests\n")?;
     assert_eq!(rt; given.status, 1);
     assert!(rt; given.output.is_empty());
     assert_eq!(rt; given.errors.as_slice(), b"fault: token\n".as_slice());

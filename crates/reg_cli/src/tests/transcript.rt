@@ -9,7 +9,7 @@ use std::test::Fail;
 pub fn assert_answered<R: Abort + AllocGlobal>(rt: &R, transcripts: &[&str]) -> Result<(), Fail> {
     let input = sent(rt, transcripts)?;
     let output = marked(rt, transcripts, "< ")?;
-    let given = script(rt, CLERK, input.as_str())?;
+    let given = script(rt, CLERK, input.as_bytes())?;
     assert_eq!(rt; given.status, 0);
     assert_eq!(rt; given.output.as_slice(), output.as_str().as_bytes());
     assert!(rt; given.errors.is_empty());
@@ -21,8 +21,12 @@ pub fn sent<R: AllocGlobal>(rt: &R, transcripts: &[&str]) -> Result<String, Allo
     marked(rt, transcripts, "> ")
 }
 
-// The lines of the transcripts that begin with this mark, without it.
-fn marked<R: AllocGlobal>(rt: &R, transcripts: &[&str], mark: &str) -> Result<String, AllocError> {
+/// The lines of the transcripts that begin with this mark, without it.
+pub fn marked<R: AllocGlobal>(
+    rt: &R,
+    transcripts: &[&str],
+    mark: &str,
+) -> Result<String, AllocError> {
     let mut text = String::new(rt.alloc());
     for transcript in transcripts {
         put_lines(&mut text, transcript, mark)?;

@@ -1,8 +1,11 @@
-use crate::block::Block;
-use crate::due::{ascends, least_free};
-use crate::pool::{Add, Pool, is_pool_prefix};
-use crate::size::Size;
-use crate::{laws, prefix};
+//! Blocks, prefixes and the pool, and the block that is due by trial of each.
+ghost use Rattle.std.specs.Prelude.{◌≤◌};
+
+use reg_blocks::block::Block;
+use reg_blocks::due::{ascends, least_free};
+use reg_blocks::pool::{Add, Pool, is_pool_prefix};
+use reg_blocks::size::Size;
+use reg_blocks::{laws, prefix};
 use std::cmp::Ordering;
 use std::process::Abort;
 use std::test::Fail;
@@ -107,11 +110,23 @@ fn what_a_pool_takes(rt: HostRuntime) -> Result<(), Fail> {
     Ok(())
 }
 
-/// The block due by trial of each block of the size in each prefix, in order.
+// How many blocks of the size a prefix of 24 bits has.
+fn blocks_in_prefix(size: Size) -> u64
+    ensures { result ≤ 4096 }
+{
+    match size {
+        Size::MaL => 1,
+        Size::MaM => 16,
+        Size::MaS => 4096,
+    }
+}
+
+// The block due by trial of each block of the size in each prefix, in order.
 fn by_trial(pool: &Pool, given: &[Block], size: Size) -> Option<Block> {
     for prefix in pool.prefixes() {
-        for k in 0..size.blocks_in_prefix() {
-            let candidate = Block::make(size, u64::from(*prefix) * size.blocks_in_prefix() + k)?;
+        let count = blocks_in_prefix(size);
+        for k in 0..count {
+            let candidate = Block::make(size, u64::from(*prefix) * count + k)?;
             if given.iter().all(|other| !candidate.overlaps(other)) {
                 return Some(candidate);
             }

@@ -1,9 +1,9 @@
 //! Days and texts against Python's `datetime`, and terms and evidence against worked cases.
-use crate::day::{Day, day_of, day_text, year_after};
-use crate::evidence::EarlyEvidence;
-use crate::laws;
-use crate::requirements::early_missing;
-use crate::term::{RenewFault, SettleFault, Term};
+use reg_early::day::{Day, day_of, day_text, year_after};
+use reg_early::evidence::EarlyEvidence;
+use reg_early::laws;
+use reg_early::requirements::early_missing;
+use reg_early::term::{RenewFault, SettleFault, Term};
 use reg_ranges::evidence::Item;
 use reg_ranges::policy::Policy;
 use reg_ranges::text::Text;

@@ -1,0 +1,105 @@
+//! A keeper whose store fails.
+ghost use Rattle.std.specs.Prelude.{true};
+
+use reg_blocks::pool::Pool;
+use reg_core::capability::Cap;
+use reg_core::change::Change;
+use reg_core::entry::Entry;
+use reg_core::file::File;
+use reg_core::queue::QueueRow;
+use reg_core::request::Request;
+use reg_core::rows::Rows;
+use reg_core::text::{Account, Digest, Name, Ref};
+use reg_ranges::table::RangeTable;
+use reg_store::keeper::{Fault, Keeper};
+
+/// A keeper over a store that takes changes, gives back capabilities, and registries with their
+/// entries, and fails at all else.
+#[derive(Drop)]
+pub(crate) struct FailingKeeper<K> {
+    pub(crate) keeper: K,
+}
+
+impl<K: Keeper> Keeper for FailingKeeper<K> {
+    ghost world = { λ failing. K.world failing.keeper };
+
+    ghost Holds = { λ failing. K.Holds failing.keeper };
+
+    ghost FAILS = { true };
+
+    const FAILS: bool = true;
+
+    ghost well_kept = { λ failing holds. K.well_kept failing.keeper holds };
+
+    fn cap(&mut self, digest: &Digest) -> Result<Option<Cap>, Fault> {
+        match self.keeper.cap(digest) {
+            Ok(cap) => Ok(cap),
+            Err(_) => Err(Fault::Store),
+        }
+    }
+
+    fn names(&mut self) -> Result<Rows<Name>, Fault> {
+        match self.keeper.names() {
+            Ok(names) => Ok(names),
+            Err(_) => Err(Fault::Store),
+        }
+    }
+
+    fn ranges(&mut self, name: &Name) -> Result<Option<RangeTable>, Fault> {
+        match self.keeper.ranges(name) {
+            Ok(table) => Ok(table),
+            Err(_) => Err(Fault::Store),
+        }
+    }
+
+    fn entry(&mut self, _registry: &Name, _value: u32) -> Result<Option<Entry>, Fault> {
+        Err(Fault::Store)
+    }
+
+    fn entries(&mut self, registry: &Name) -> Result<Rows<Entry>, Fault> {
+        match self.keeper.entries(registry) {
+            Ok(entries) => Ok(entries),
+            Err(_) => Err(Fault::Store),
+        }
+    }
+
+    fn pool(&mut self) -> Result<Pool, Fault> {
+        Err(Fault::Store)
+    }
+
+    fn own(&mut self, _account: &Account) -> Result<Rows<Request>, Fault> {
+        Err(Fault::Store)
+    }
+
+    fn own_one(&mut self, _account: &Account, _reference: &Ref) -> Result<Option<Request>, Fault> {
+        Err(Fault::Store)
+    }
+
+    fn all(&mut self) -> Result<Rows<Request>, Fault> {
+        Err(Fault::Store)
+    }
+
+    fn file(&mut self, _account: &Account, _reference: &Ref) -> Result<Option<File>, Fault> {
+        Err(Fault::Store)
+    }
+
+    fn queue(&mut self, _expert: &Account) -> Result<Rows<QueueRow>, Fault> {
+        Err(Fault::Store)
+    }
+
+    fn queue_one(
+        &mut self,
+        _expert: &Account,
+        _account: &Account,
+        _reference: &Ref,
+    ) -> Result<Option<QueueRow>, Fault> {
+        Err(Fault::Store)
+    }
+
+    fn apply(&mut self, change: Change) -> Result<(), Fault> {
+        match self.keeper.apply(change) {
+            Ok(()) => Ok(()),
+            Err(_) => Err(Fault::Store),
+        }
+    }
+}

@@ -1,0 +1,39 @@
+//! A store that fails: lines that need it are answered `503`, and the others as ever.
+use super::CLERK;
+use super::failing_keeper::FailingKeeper;
+use super::transcript::{marked, sent};
+use reg_office::Office;
+use reg_store::lists::ListKeeper;
+use reg_wire::script::run;
+use std::test::Fail;
+
+/// The pool and requests cannot be read; capabilities and registries can.
+const LINES: &str = r#"
+> 1700000000 - GET /registries
+< 200 []
+> 1700000000 - GET /pool
+< 503 {"error":"storage"}
+> 1700000000 clerk-token-00001 PUT /desk/registries/f/9 lo,hi,treatment,note|0,9,reserved,y  z|
+< 200 {"defined":"f"}
+> 1700000000 clerk-token-00001 GET /desk/requests
+< 503 {"error":"storage"}
+> 1700000000 clerk-token-00001 PUT /desk/approve/alice/a-1
+< 503 {"error":"storage"}
+> 1700000000 - GET /listings/registries/f
+< 200 Value,Description,Status,Policy,First,Expires,Assignee|0-9,y  z,Reserved,,,,|
+"#;
+
+#[test]
+fn a_store_that_fails(rt: HostRuntime) -> Result<(), Fail> {
+    let alloc = rt.alloc();
+    let keeper = ListKeeper::new(alloc);
+    let mut office = Office::new(alloc, FailingKeeper { keeper });
+    assert!(rt; office.found(CLERK.as_bytes()).is_ok());
+    let input = sent(&rt, &[LINES])?;
+    let wanted = marked(&rt, &[LINES], "< ")?;
+    let mut output = Vec::new(alloc);
+    let done = run(alloc, &mut office, &mut input.as_bytes(), &mut output);
+    assert!(rt; done.is_ok());
+    assert_eq!(rt; output.as_slice(), wanted.as_bytes());
+    Ok(())
+}
