@@ -14,13 +14,13 @@ use Rattle.reg_core.specs.declared.decide.Deny.{Deny}
 use Rattle.reg_core.specs.declared.decide.Deny.TheVariants as deny
 use Rattle.reg_core.specs.declared.refusal.Refusal.{Refusal}
 use Rattle.reg_core.specs.declared.reply.Reply.TheVariants.{Accepted}
-use Rattle.reg_store.specs.Keeper.{MayFault, Makes}
+use Rattle.reg_store.specs.Keeper.{MayFault, Makes, Selects}
 use Rattle.reg_store.specs.declared.keeper.Fault.{Fault as KeeperFault}
 use Rattle.reg_office.specs.Decisions.{CanMake}
-use Rattle.reg_office.specs.Performs.{Performs}
+use Rattle.reg_office.specs.Performs.{Finds, Performs}
 use Rattle.reg_office.specs.Stops.{MayStop, Refuses, stop_of}
 use Rattle.reg_office.specs.declared.stop.Stop.{Stop}
-use Rattle.reg_office.specs.declared.stop.Stop.TheVariants.{Fault}
+use Rattle.reg_office.specs.declared.stop.Stop.TheVariants.{Refused, Fault}
 
 pub both : (a b : Bool) → a ≡ true → b ≡ true → (a && b) ≡ true
 both a b p q = rw (p, q) refl
@@ -45,14 +45,20 @@ decided (Ok (Make change)) decision h = ap Ok (sym h)
 decided (Err refusal) decision h = absurd (cc)
 
 -- and so is a refusal, where it is not for want of memory
-refuses : (rule : Result Decision Refusal) (told : Decision → Content) (deny : Deny)
-    → Follows rule (Err deny) → Refuses (by_rule rule told) (stop_of deny)
-refuses rule told deny.Memory h = tt
-refuses (Ok Same) told (deny.Refused refusal) h = absurd (cc)
-refuses (Ok (Make change)) told (deny.Refused refusal) h = absurd (cc)
-refuses (Err other) told (deny.Refused refusal) h = let e : other ≡ refusal = cc in ap Err e
+pub denies : (rule : Result Decision Refusal) (deny : Deny)
+    → Follows rule (Err deny) → Refuses rule (stop_of deny)
+denies rule deny.Memory h = tt
+denies (Ok Same) (deny.Refused refusal) h = absurd (cc)
+denies (Ok (Make change)) (deny.Refused refusal) h = absurd (cc)
+denies (Err other) (deny.Refused refusal) h = let e : other ≡ refusal = cc in ap Err e
 
-may_stop : (fails : Bool) (deny : Deny) → MayStop fails (stop_of deny)
+-- by which the command is refused too
+refuses : (rule : Result Decision Refusal) (told : Decision → Content) (stop : Stop)
+    → Refuses rule stop → Refuses (by_rule rule told) stop
+refuses rule told (Refused refusal) h = ap (λ rule. by_rule rule told) h
+refuses rule told (Fault fault) h = tt
+
+pub may_stop : (fails : Bool) (deny : Deny) → MayStop fails (stop_of deny)
 may_stop fails deny.Memory = tt
 may_stop fails (deny.Refused refusal) = tt
 
@@ -85,45 +91,63 @@ pub record Decides {S : Type 0} (world : S → World) (Holds : S → Type 0) (ol
   pub same : Holds mid → world mid ≡ world old
   pub premise : Holds mid → Holds old
 
--- the decision's change can be made
+-- the decision's change can be made, where the rule has it
+pub makes_found : {S : Type 0} {world : S → World} {Holds : S → Type 0} {old mid : S}
+    {answer : World → Answer} {rule : Result Decision Refusal} {told : Decision → Content}
+    (decision : Decision) → Decides world Holds old mid answer rule told
+    → (Holds mid → rule ≡ Ok decision) → Holds mid → WellKept (world mid)
+    → CanMake (world mid) decision
+makes_found {world = world} {mid = mid} {rule = rule} decision decides is h kept =
+    can_make (world mid) rule decision (follows rule decision (is h)) (decides.fits h kept)
+
 pub makes_fitting : {S : Type 0} {world : S → World} {Holds : S → Type 0} {old mid : S}
     {answer : World → Answer} {rule : Result Decision Refusal} {told : Decision → Content}
     (decision : Decision) → Decides world Holds old mid answer rule told
     → Follows rule (Ok decision) → Holds mid → WellKept (world mid) → CanMake (world mid) decision
-makes_fitting {world = world} {mid = mid} {rule = rule} decision decides follows h kept =
-    can_make (world mid) rule decision follows (decides.fits h kept)
+makes_fitting {rule = rule} decision decides follows =
+    makes_found decision decides (λ h. decided rule decision follows)
 
--- a command that was denied what the rule denies is refused as it is answered
+-- a command that the rule refuses is refused as it is answered
+pub performs_refused : {S : Type 0} {world : S → World} {Holds : S → Type 0} {fails : Bool}
+    {old new : S} {result : Result Content Stop} {answer : World → Answer}
+    {rule : Result Decision Refusal} {told : Decision → Content} (stop : Stop)
+    → Decides world Holds old new answer rule told → (Holds new → Refuses rule stop)
+    → MayStop fails stop → IsErrAnd result (λ s. s ≡ stop)
+    → Performs world Holds fails old new result answer
+performs_refused {result = result} {answer = answer} {rule = rule} {told = told}
+    stop decides denied may stops =
+    let p = err_from_is_err_and result stops in
+    rw (p.1, p.2) (record {
+      content = λ h. tt;
+      made = λ h. tt;
+      refused = λ h.
+          subst (λ a. Refuses a stop) (sym (decides.answered h) ∙ ap answer (decides.same h))
+          (refuses rule told stop (denied h));
+      kept = decides.same;
+      premise = decides.premise;
+      fault = may;
+    })
+
 pub performs_denied : {S : Type 0} {world : S → World} {Holds : S → Type 0} {fails : Bool}
     {old new : S} {result : Result Content Stop} {answer : World → Answer}
     {rule : Result Decision Refusal} {told : Decision → Content} (deny : Deny)
     → Decides world Holds old new answer rule told → Follows rule (Err deny)
     → IsErrAnd result (λ stop. stop ≡ stop_of deny)
     → Performs world Holds fails old new result answer
-performs_denied {fails = fails} {result = result} {answer = answer} {rule = rule} {told = told}
-    deny decides follows stops =
-    let p = err_from_is_err_and result stops in
-    rw (p.1, p.2) (record {
-      content = λ h. tt;
-      made = λ h. tt;
-      refused = λ h.
-          subst (λ a. Refuses a (stop_of deny))
-          (sym (decides.answered h) ∙ ap answer (decides.same h)) (refuses rule told deny follows);
-      kept = decides.same;
-      premise = decides.premise;
-      fault = may_stop fails deny;
-    })
+performs_denied {fails = fails} {rule = rule} deny decides follows stops =
+    performs_refused (stop_of deny) decides (λ h. denies rule deny follows) (may_stop fails deny)
+    stops
 
 -- and one whose decision was carried out did what it is answered
-pub performs_decided : {S T : Type 0} {world : S → World} {Holds : S → Type 0} {fails : Bool}
+pub performs_found : {S T : Type 0} {world : S → World} {Holds : S → Type 0} {fails : Bool}
     {old mid new : S} {content : Content} {answer : World → Answer} {x : T}
     {rule : Result Decision Refusal} {told : Decision → Content} (decision : Decision)
-    → Decides world Holds old mid answer rule told → Follows rule (Ok decision)
+    → Decides world Holds old mid answer rule told → (Holds mid → rule ≡ Ok decision)
     → told decision ≡ content
     → Makes world Holds fails mid new (Ok x) (λ w. applied_if w (change_by decision))
     → Performs world Holds fails old new (Ok content) answer
-performs_decided {world = world} {Holds = Holds} {old = old} {mid = mid} {answer = answer}
-    {rule = rule} {told = told} decision decides follows tells makes = record {
+performs_found {world = world} {Holds = Holds} {old = old} {mid = mid} {answer = answer}
+    {rule = rule} {told = told} decision decides is tells makes = record {
       content = λ h. ap reply_of (answer_is (makes.premise h)) ∙ ap Accepted tells;
       made = λ h.
           makes.made h
@@ -140,8 +164,17 @@ performs_decided {world = world} {Holds = Holds} {old = old} {mid = mid} {answer
 
     answer_is : Holds mid → answer (world old) ≡ Ok outcome
     answer_is h =
-        sym (ap answer (decides.same h)) ∙ decides.answered h
-        ∙ ap (λ r. by_rule r told) (decided rule decision follows)
+        sym (ap answer (decides.same h)) ∙ decides.answered h ∙ ap (λ r. by_rule r told) (is h)
+
+pub performs_decided : {S T : Type 0} {world : S → World} {Holds : S → Type 0} {fails : Bool}
+    {old mid new : S} {content : Content} {answer : World → Answer} {x : T}
+    {rule : Result Decision Refusal} {told : Decision → Content} (decision : Decision)
+    → Decides world Holds old mid answer rule told → Follows rule (Ok decision)
+    → told decision ≡ content
+    → Makes world Holds fails mid new (Ok x) (λ w. applied_if w (change_by decision))
+    → Performs world Holds fails old new (Ok content) answer
+performs_decided {rule = rule} decision decides follows =
+    performs_found decision decides (λ h. decided rule decision follows)
 
 -- a fault leaves a command undone
 pub performs_faulted : {S : Type 0} {world : S → World} {Holds : S → Type 0} {fails : Bool}
@@ -158,4 +191,42 @@ performs_faulted {result = result} fault stops may same before =
       kept = same;
       premise = before;
       fault = may;
+    })
+
+-- ---- A decision that is found
+
+-- what is decided over rows that were selected is found, where a rule over the content decides
+-- the same
+pub finds_decided : {S T : Type 0} {world : S → World} {Holds : S → Type 0} {fails : Bool}
+    {old new : S} {rows : T} {Gives : World → T → Type 0} {rule : Result Decision Refusal}
+    {found : World → Result Decision Refusal} (decision : Decision)
+    → Selects world Holds fails old new (Ok rows) Gives
+    → (Holds new → rule ≡ found (world new)) → Follows rule (Ok decision)
+    → Finds world Holds fails old new (Ok decision) found
+finds_decided {rule = rule} {found = found} decision selects same follows = record {
+  value = λ h. ap found (sym (selects.same h)) ∙ sym (same h) ∙ decided rule decision follows;
+  refused = λ h. tt;
+  same = selects.same;
+  premise = selects.premise;
+  fault = tt;
+}
+
+pub finds_denied : {S T : Type 0} {world : S → World} {Holds : S → Type 0} {fails : Bool}
+    {old new : S} {rows : T} {Gives : World → T → Type 0} {rule : Result Decision Refusal}
+    {found : World → Result Decision Refusal} {result : Result Decision Stop} (deny : Deny)
+    → Selects world Holds fails old new (Ok rows) Gives
+    → (Holds new → rule ≡ found (world new)) → Follows rule (Err deny)
+    → IsErrAnd result (λ stop. stop ≡ stop_of deny)
+    → Finds world Holds fails old new result found
+finds_denied {fails = fails} {rule = rule} {found = found} {result = result}
+    deny selects same follows stops =
+    let p = err_from_is_err_and result stops in
+    rw (p.1, p.2) (record {
+      value = λ h. tt;
+      refused = λ h.
+          subst (λ r. Refuses r (stop_of deny)) (same h ∙ ap found (selects.same h))
+          (denies rule deny follows);
+      same = selects.same;
+      premise = selects.premise;
+      fault = may_stop fails deny;
     })

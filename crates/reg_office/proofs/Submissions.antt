@@ -11,6 +11,7 @@ use Rattle.reg_core.specs.View.{published}
 use Rattle.reg_core.specs.World.{World, RequestName}
 use Rattle.reg_core.specs.declared.ask.Ask.{Ask}
 use Rattle.reg_core.specs.declared.command.ApplicantCommand.TheVariants.{Submit}
+use Rattle.reg_core.specs.declared.decide.Decision.{Decision}
 use Rattle.reg_core.specs.declared.refusal.Refusal.{Refusal}
 use Rattle.reg_core.specs.declared.request.Case.{Case}
 use Rattle.reg_core.specs.declared.request.Given.{Given}
@@ -33,7 +34,7 @@ pub case_looked_up : (name : RequestName) (existing : Option Request) (found : O
 case_looked_up name existing found is = ap (option_map case_of) is ∙ case_of-row name found
 
 -- what makes an ask allowed is of no account where the request is there already
-allowance_of_new : (a b : Result Given Refusal) (name : RequestName) (ask : Ask)
+pub allowance_of_new : (a b : Result Given Refusal) (name : RequestName) (ask : Ask)
     (existing : Option Request) → (existing ≡ None → a ≡ b)
     → submit_rule a name ask (option_map case_of existing)
     ≡ submit_rule b name ask (option_map case_of existing)
@@ -41,21 +42,22 @@ allowance_of_new a b name ask None same =
     ap (λ allowance. submit_rule allowance name ask None) (same refl)
 allowance_of_new a b name ask (Some row) same = refl
 
+-- the rule over the published registers, and over the request that is there
+abbrev pub submission : World → RequestName → Ask → Option Request → Result Decision Refusal
+submission w name ask existing =
+    submit_rule (allowed (published w) name.0 ask) name ask (option_map case_of existing)
+
 pub submission_answered : (account reference : List ℕ) (ask : Ask) (w : World)
-    (allowance : Result Given Refusal) (existing : Option Request)
+    (existing : Option Request)
     → existing ≡ option_map (request_row (account, reference)) (get w.requests (account, reference))
-    → (existing ≡ None → allowance ≡ allowed (published w) account ask)
     → answer_to_account account (Submit reference ask) w
-    ≡ by_rule (submit_rule allowance (account, reference) ask (option_map case_of existing))
+    ≡ by_rule (submission w (account, reference) ask existing)
     (λ decision. content_made (account, reference) ask existing)
-submission_answered account reference ask w allowance existing is may =
+submission_answered account reference ask w existing is =
     let name : RequestName = (account, reference) in
     let found = get w.requests name in
     let allowed_there = allowed (published w) account ask in
     ap (λ o. by_rule (submit_rule allowed_there name ask o) (λ decision. made_row name ask found))
     (sym (case_looked_up name existing found is))
-    ∙ ap (λ told.
-    by_rule (submit_rule allowed_there name ask (option_map case_of existing)) (λ decision. told))
+    ∙ ap (λ told. by_rule (submission w name ask existing) (λ decision. told))
     (sym (ap (content_made name ask) is ∙ content_made-row name ask found))
-    ∙ ap (λ rule. by_rule rule (λ decision. content_made name ask existing))
-    (sym (allowance_of_new allowance allowed_there name ask existing may))

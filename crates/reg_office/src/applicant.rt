@@ -1,11 +1,15 @@
 //! What an applicant may do, once admitted.
-ghost use Rattle.std.specs.Prelude.{◌≡◌, true, IfOk};
-ghost use Rattle.reg_core.specs.Request.{request_row};
+ghost use Rattle.std.specs.Prelude.{◌≡◌, true, IfOk, option_map};
+ghost use Rattle.std.specs.Option.{option_copied};
+ghost use Rattle.reg_core.specs.Allowance.{allowed};
+ghost use Rattle.reg_core.specs.Request.{case_of, request_row};
+ghost use Rattle.reg_core.specs.Rules.{submit_rule};
+ghost use Rattle.reg_core.specs.View.{published};
 ghost use Rattle.reg_core.specs.WellKept.{has_request_form};
 ghost use Rattle.reg_core.specs.World.{RequestName, pending as pending_case};
 ghost use Rattle.reg_core.specs.declared.command.ApplicantCommand.TheVariants as command;
-ghost use Rattle.reg_office.specs.Answers.{answer_to_account};
-ghost use Rattle.reg_office.specs.Performs.{Performs};
+ghost use Rattle.reg_office.specs.Answers.{answer_to_account, content_made};
+ghost use Rattle.reg_office.specs.Performs.{Finds, Performs};
 
 use crate::carrying::{conclude, row_after};
 use crate::ground::ground_if;
@@ -13,7 +17,7 @@ use crate::stop::Stop;
 use reg_core::ask::Ask;
 use reg_core::command::ApplicantCommand;
 use reg_core::content::Content;
-use reg_core::decide::{decide_submit, decide_withdraw};
+use reg_core::decide::{Decision, decide_submit, decide_withdraw};
 use reg_core::refusal::Refusal;
 use reg_core::request::{Request, State};
 use reg_core::text::{Account, Ref};
@@ -58,7 +62,7 @@ fn show_own<K: Keeper>(keeper: &mut K, account: &Account, reference: &Ref) -> Re
     Ok(Content::Row(request))
 }
 
-// A request of the applicant's. No registry is looked at for one that is there already.
+// A request of the applicant's.
 fn submit<K: Keeper>(
     alloc: Global,
     keeper: &mut K,
@@ -70,15 +74,43 @@ fn submit<K: Keeper>(
         (answer_to_account account.now (command.Submit reference.now ask.now)) }
 {
     let existing = keeper.own_one(account, reference)?;
-    let rows = ground_if(alloc, keeper, existing.is_none(), ask)?;
     request_formed(account, reference, ask);
-    let decision = decide_submit(existing.as_ref(), account, reference, ask, rows.ground())?;
+    let decision = submission(alloc, keeper, existing.as_ref(), account, reference, ask)?;
+    let told = told_of(existing, account, reference, ask);
+    Ok(conclude(keeper, told, decision)?)
+}
+
+// What is decided of a request that is asked for, where this one is there already, or none. No
+// registry is looked at for one that is there.
+fn submission<K: Keeper>(
+    alloc: Global,
+    keeper: &mut K,
+    existing: Option<&Request>,
+    account: &Account,
+    reference: &Ref,
+    ask: &Ask,
+) -> Result<Decision, Stop>
+    ensures { Finds K.world K.Holds K.FAILS keeper.old keeper.new result
+        (λ w. submit_rule (allowed (published w) account.now ask.now)
+        (account.now, reference.now) ask.now (option_map case_of (option_copied existing.entry))) }
+{
+    let rows = ground_if(alloc, keeper, existing.is_none(), ask)?;
+    Ok(decide_submit(existing, account, reference, ask, rows.ground())?)
+}
+
+// What is told of a request: as it is there already, or as it is made.
+fn told_of(
+    existing: Option<Request>,
+    account: &Account,
+    reference: &Ref,
+    ask: &Ask,
+) -> Result<Content, AllocError>
+    ensures { IfOk result
+        (λ content. content ≡ content_made (account.now, reference.now) ask.now existing) }
+{
     match existing {
-        Some(request) => Ok(Content::Row(conclude(keeper, Ok(request), decision)?)),
-        None => {
-            let request = pending(account, reference, ask);
-            Ok(Content::Made(conclude(keeper, request, decision)?))
-        }
+        Some(request) => Ok(Content::Row(request)),
+        None => Ok(Content::Made(pending(account, reference, ask)?)),
     }
 }
 

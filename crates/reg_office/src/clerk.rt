@@ -1,11 +1,13 @@
 //! What a clerk may do, once admitted: capabilities here, requests at the desk, and what is
 //! published at the registers.
 ghost use Rattle.std.specs.Prelude.{◌≡◌};
+ghost use Rattle.std.specs.Result.{result_map_both};
 ghost use Rattle.reg_core.specs.declared.command.ClerkCommand.TheVariants.{Grant, Revoke};
+ghost use Rattle.reg_core.specs.declared.content.Content.TheVariants.{Granted};
 ghost use Rattle.reg_office.specs.Answers.{answer_to_clerk, answer_at_desk};
 ghost use Rattle.reg_office.specs.Performs.{Performs};
 
-use crate::carrying::{carry_out, conclude};
+use crate::carrying::conclude;
 use crate::digest::digest_of;
 use crate::stop::Stop;
 use crate::{desk, registers};
@@ -43,13 +45,13 @@ pub fn perform<K: Keeper>(
         }
         ClerkCommand::Define(name, table) => registers::define(keeper, name, table),
         ClerkCommand::AddPool(prefix) => registers::add_pool(keeper, *prefix),
-        ClerkCommand::Grant(token, cap) => grant(alloc, keeper, token, cap),
+        ClerkCommand::Grant(token, cap) => tell_grant(alloc, keeper, token, cap),
         ClerkCommand::Revoke(token) => revoke(alloc, keeper, in_use, token),
     }
 }
 
-/// Gives a token a capability.
-pub fn grant<K: Keeper>(
+// Gives a token a capability.
+fn tell_grant<K: Keeper>(
     alloc: Global,
     keeper: &mut K,
     token: &Token,
@@ -58,10 +60,23 @@ pub fn grant<K: Keeper>(
     ensures { Performs K.world K.Holds K.FAILS keeper.old keeper.new result
         (answer_at_desk (Grant token.now cap.now)) }
 {
+    Ok(Content::Granted(grant(alloc, keeper, token, cap)?))
+}
+
+/// Gives a token a capability, and gives what is told of it.
+pub fn grant<K: Keeper>(
+    alloc: Global,
+    keeper: &mut K,
+    token: &Token,
+    cap: &Cap,
+) -> Result<Cap, Stop>
+    ensures { Performs K.world K.Holds K.FAILS keeper.old keeper.new
+        (result_map_both Granted (λ stop. stop) result) (answer_at_desk (Grant token.now cap.now)) }
+{
     let digest = digest_of(alloc, token.as_str().as_bytes())?;
     let existing = keeper.cap(&digest)?;
     let decision = decide_grant(existing.as_ref(), &digest, cap)?;
-    Ok(Content::Granted(conclude(keeper, cap.copy(), decision)?))
+    Ok(conclude(keeper, cap.copy(), decision)?)
 }
 
 // Takes a token's capability away; in_use is the digest of the clerk's own token.
@@ -77,6 +92,5 @@ fn revoke<K: Keeper>(
     let digest = digest_of(alloc, token.as_str().as_bytes())?;
     let existing = keeper.cap(&digest)?;
     let decision = decide_revoke(in_use, existing.as_ref(), &digest)?;
-    carry_out(keeper, decision)?;
-    Ok(Content::Revoked)
+    Ok(conclude(keeper, Ok(Content::Revoked), decision)?)
 }

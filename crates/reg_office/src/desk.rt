@@ -1,15 +1,18 @@
 //! What a clerk may do about requests, once admitted.
 ghost use Rattle.std.specs.Prelude.{◌≡◌, []};
 ghost use Rattle.reg_core.specs.Request.{is_pending as pending};
+ghost use Rattle.reg_core.specs.View.{published};
 ghost use Rattle.reg_core.specs.declared.command.ClerkCommand.TheVariants as command;
 ghost use Rattle.reg_office.specs.Answers.{answer_to_clerk, answer_at_desk};
-ghost use Rattle.reg_office.specs.Performs.{Performs};
+ghost use Rattle.reg_office.specs.Decisions.{approval_of};
+ghost use Rattle.reg_office.specs.Performs.{Finds, Performs};
 
 use crate::carrying::{conclude, row_after};
 use crate::ground::ground_if;
 use crate::stop::Stop;
 use reg_core::content::Content;
-use reg_core::decide::{decide_approve, decide_assign, decide_decline};
+use reg_core::decide::{Decision, decide_approve, decide_assign, decide_decline};
+use reg_core::file::File;
 use reg_core::refusal::Refusal;
 use reg_core::request::State;
 use reg_core::text::{Account, Ref, Text};
@@ -56,8 +59,7 @@ pub fn assign<K: Keeper>(
     Ok(Content::Desk(conclude(keeper, row, decision)?))
 }
 
-/// Approves a request on a day, over its experts and all advice on it. No registry is looked at
-/// for one that is not pending.
+/// Approves a request on a day, over its experts and all advice on it.
 pub fn approve<K: Keeper>(
     alloc: Global,
     keeper: &mut K,
@@ -69,13 +71,26 @@ pub fn approve<K: Keeper>(
         (answer_to_clerk [] today (command.Approve account.now reference.now)) }
 {
     let file = keeper.file(account, reference)?.ok_or(Refusal::Request)?;
-    let request = &file.request;
-    let rows = ground_if(alloc, keeper, is_pending(&request.state), &request.ask)?;
     today.formed();
-    let (experts, opinions) = (file.experts.as_slice(), file.advice.as_slice());
-    let decision = decide_approve(request, experts, opinions, rows.ground(), today)?;
+    let decision = approval(alloc, keeper, &file, today)?;
     let row = row_after(file.request, &decision);
     Ok(Content::Desk(conclude(keeper, row, decision)?))
+}
+
+// What is decided of an approval. No registry is looked at for a request that is not pending.
+fn approval<K: Keeper>(
+    alloc: Global,
+    keeper: &mut K,
+    file: &File,
+    today: Day,
+) -> Result<Decision, Stop>
+    ensures { Finds K.world K.Holds K.FAILS keeper.old keeper.new result
+        (λ w. approval_of (published w) file.now today) }
+{
+    let request = &file.request;
+    let rows = ground_if(alloc, keeper, is_pending(&request.state), &request.ask)?;
+    let (experts, opinions) = (file.experts.as_slice(), file.advice.as_slice());
+    Ok(decide_approve(request, experts, opinions, rows.ground(), today)?)
 }
 
 /// Declines a request, for a reason.

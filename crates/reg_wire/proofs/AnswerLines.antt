@@ -10,7 +10,7 @@ use Rattle.reg_core.specs.declared.refusal.Refusal.TheVariants as no
 use Rattle.reg_core.specs.declared.reply.Reply.{Reply}
 use Rattle.reg_core.specs.declared.reply.Reply.TheVariants.{Accepted, Refused}
 use Rattle.reg_core.specs.declared.content.Content.{Content}
-use Rattle.reg_core.specs.declared.content.Content.TheVariants.{Names, Page, Listing, Pool, Made, Row, Rows, Item, Items, Desk, Desks, Filed, Defined, Pooled, Granted, Revoked}
+use Rattle.reg_core.specs.declared.content.Content.TheVariants.{Made}
 use Rattle.reg_print.specs.Answer.{body_text, status_of}
 use Rattle.reg_wire.specs.Script.Lines.{IsOneLine, refusal, storage}
 use Rattle.reg_wire.specs.Script.Answers.{answer_line, tab_of}
@@ -53,22 +53,8 @@ refused_is_another no.Bits = refl
 content_is_another : (c : Content)
     → bytes_eq (answer_line (answer.Reply (Accepted c))) storage ≡ false
 unfolding digits
-content_is_another (Names names) = refl
-content_is_another (Page page) = refl
-content_is_another (Listing page) = refl
-content_is_another (Pool prefixes) = refl
 content_is_another (Made request) = refl
-content_is_another (Row request) = refl
-content_is_another (Rows requests) = refl
-content_is_another (Item row) = refl
-content_is_another (Items rows) = refl
-content_is_another (Desk request) = refl
-content_is_another (Desks requests) = refl
-content_is_another (Filed file) = refl
-content_is_another (Defined name) = refl
-content_is_another (Pooled prefix) = refl
-content_is_another (Granted granted) = refl
-content_is_another Revoked = refl
+content_is_another content = refl
 
 pub reply_is_another : (r : Reply) → bytes_eq (answer_line (answer.Reply r)) storage ≡ false
 reply_is_another (Accepted content) = content_is_another content

@@ -148,7 +148,14 @@ impl Reviews {
         ensures err { OnErr result (world_of self.new ≡ world_of self.old) }
     {
         match row_to_queue(&self.requests, &self.opinions, &expert, &name)? {
-            Some(row) => put_seat(alloc, &mut self.panels, &mut self.queues, name, expert, row),
+            Some(row) => put_seat(
+                alloc,
+                &mut self.panels,
+                &mut self.queues,
+                &name,
+                &expert,
+                row,
+            ),
             // what is not there is in no queue
             None => put_row(alloc, &mut self.panels, name, expert, ()),
         }
@@ -200,27 +207,42 @@ fn put_seat(
     alloc: Global,
     panels: &mut Panels,
     queues: &mut Queues,
-    name: RequestName,
-    expert: Account,
+    name: &RequestName,
+    expert: &Account,
     row: QueueRow,
 ) -> Result<(), AllocError>
-    requires { fin.get (seats panels.old) (name, expert) ≡ None
-        → fin.get (all_queues queues.old) (expert, name) ≡ None }
+    requires { fin.get (seats panels.old) (name.now, expert.now) ≡ None
+        → fin.get (all_queues queues.old) (expert.now, name.now) ≡ None }
     ensures seats { OnOk result (seats panels.new
-        ≡ fin.insert (seats panels.old) (name, expert) tt) }
+        ≡ fin.insert (seats panels.old) (name.now, expert.now) tt) }
     ensures rows { OnOk result (all_queues queues.new ≡
-        fin.insert (all_queues queues.old) (expert, name) row) }
+        fin.insert (all_queues queues.old) (expert.now, name.now) row) }
     ensures same_seats { OnErr result (seats panels.new ≡ seats panels.old) }
     ensures same_rows { OnErr result (all_queues queues.new ≡ all_queues queues.old) }
 {
-    let (queued, queue) = copy_seat(&name, &expert)?;
-    let (panel, seat) = copy_seat(&name, &expert)?;
-    put_row(alloc, queues, queue, queued, row)?;
+    let (panel, seat) = copy_seat(name, expert)?;
+    put_queued(alloc, queues, name, expert, row)?;
     match put_row(alloc, panels, panel, seat, ()) {
         Ok(()) => Ok(()),
         Err(error) => {
-            take_row(queues, &expert, &name);
+            take_row(queues, expert, name);
             Err(error)
         }
     }
+}
+
+// Puts a row into an expert's queue.
+fn put_queued(
+    alloc: Global,
+    queues: &mut Queues,
+    name: &RequestName,
+    expert: &Account,
+    row: QueueRow,
+) -> Result<(), AllocError>
+    ensures ok { OnOk result (all_queues queues.new ≡
+        fin.insert (all_queues queues.old) (expert.now, name.now) row) }
+    ensures err { OnErr result (all_queues queues.new ≡ all_queues queues.old) }
+{
+    let (queued, queue) = copy_seat(name, expert)?;
+    put_row(alloc, queues, queue, queued, row)
 }

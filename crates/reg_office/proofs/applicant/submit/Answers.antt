@@ -1,37 +1,31 @@
-use Rattle.std.proofs.Common.{◌≡◌, ℕ, Bool, true, false, not, List, Result, refl, sym, ap, ◌∙◌}
-use Rattle.std.specs.Prelude.{Option, None, option_map, is_some}
+use Rattle.std.proofs.Common.{◌≡◌, Result, sym, ap, subst, ◌∙◌}
+use Rattle.std.specs.Prelude.{Option, option_map}
 use Rattle.std.specs.FinMap.{get}
 use Rattle.std.specs.Option.{option_copied}
-use Rattle.reg_core.specs.Allowance.{Ground, allowed, allowed_on, ground_of}
+use Rattle.reg_core.specs.Allowance.{allowed}
 use Rattle.reg_core.specs.Answer.{by_rule}
-use Rattle.reg_core.specs.Ground.{seen}
-use Rattle.reg_core.specs.Request.{case_of, request_row}
+use Rattle.reg_core.specs.Request.{request_row}
 use Rattle.reg_core.specs.Rules.{submit_rule}
 use Rattle.reg_core.specs.View.{published}
-use Rattle.reg_core.specs.World.{World, RequestName, pending}
+use Rattle.reg_core.specs.WellKept.{WellKept, CanApply}
+use Rattle.reg_core.specs.World.{World, RequestName}
 use Rattle.reg_core.specs.declared.ask.Ask.{Ask}
 use Rattle.reg_core.specs.declared.command.ApplicantCommand.TheVariants.{Submit}
-use Rattle.reg_core.specs.declared.content.Content.TheVariants.{Made, Row}
+use Rattle.reg_core.specs.declared.decide.Decision.{Decision}
 use Rattle.reg_core.specs.declared.refusal.Refusal.{Refusal}
-use Rattle.reg_core.specs.declared.request.Given.{Given}
 use Rattle.reg_core.specs.declared.request.Request.{Request}
 use Rattle.reg_core.proofs.Fitting.{submit_fits}
 use Rattle.reg_office.specs.Answers.{answer_to_account, content_made}
-use Rattle.reg_office.proofs.Decided.{Decides, always, the_value, makes_fitting, performs_denied, performs_decided}
-use Rattle.reg_office.proofs.Rows.{selected_after, still_after}
-use Rattle.reg_office.proofs.Submissions.{case_looked_up, submission_answered}
+use Rattle.reg_office.proofs.Decided.{Decides, always, the_value, makes_found, performs_refused, performs_found}
+use Rattle.reg_office.proofs.Rows.{selected_after}
+use Rattle.reg_office.proofs.Submissions.{case_looked_up, submission, submission_answered}
 use Rattle.reg_office.proofs.applicant.submit.Given.{Over}
-use Rattle.reg_office.proofs.applicant.submit.Goals.{After-decide_submit}
+use Rattle.reg_office.proofs.applicant.submit.Goals.{After-submission}
 use Rattle.reg_office.proofs.applicant.submit.Goals as goal
 
--- where there is no request, the published rows are looked up
-wanted : (b : Bool) → false ≡ not b → b ≡ true
-wanted true h = refl
-wanted false h = absurd (cc)
-
-module _ (g : Over) (c : After-decide_submit g) where
-  abbrev w : World
-  w = g.K.Keeper.world c.ground_if.new.keeper
+module _ (g : Over) (c : After-submission g) where
+  abbrev old : World
+  old = g.K.Keeper.world c.own_one.new.self
 
   abbrev name : RequestName
   name = (c.args.account.now, c.args.reference.now)
@@ -42,77 +36,54 @@ module _ (g : Over) (c : After-decide_submit g) where
   abbrev existing : Option Request
   existing = c.in_ok-existing.existing
 
-  abbrev allowance : Result Given Refusal
-  allowance = allowed_on (seen c.ground.result) c.args.account.now ask
+  abbrev rule : Result Decision Refusal
+  rule = submission old name ask (option_copied c.as_ref.result)
 
-  module _ (h : g.K.Keeper.Holds c.ground_if.new.keeper) where
-    -- the request that was looked up is that of the content
-    found : existing ≡ option_map (request_row name) (get w.requests name)
-    found = still_after c.in_ok-existing.ensures c.in_ok-rows.ensures h
+  -- the request that was looked up is that of the content
+  found : g.K.Keeper.Holds c.own_one.new.self
+      → existing ≡ option_map (request_row name) (get old.requests name)
+  found h = selected_after c.in_ok-existing.ensures h
 
-    -- and where there is none, so are the published rows
-    allowed_there : existing ≡ None → allowance ≡ allowed (published w) c.args.account.now ask
-    allowed_there none =
-        let needed : c.is_none.result ≡ true =
-        wanted c.is_none.result (sym (ap is_some none) ∙ c.is_none.ensures) in
-        ap (λ (rows : Ground). allowed_on rows c.args.account.now ask)
-        (c.ground.ensures.rows ∙ selected_after c.in_ok-rows.ensures h needed)
-
-  decides : Decides g.K.Keeper.world g.K.Keeper.Holds c.args.keeper.now c.ground_if.new.keeper
+  decides : Decides g.K.Keeper.world g.K.Keeper.Holds c.args.keeper.now c.submission.new.keeper
       (answer_to_account c.args.account.now (Submit c.args.reference.now ask))
-      (submit_rule allowance name ask (option_map case_of (option_copied c.as_ref.result)))
-      (λ decision. content_made name ask existing)
-  decides = record {
-    answered = λ h.
-        submission_answered c.args.account.now c.args.reference.now ask w allowance existing
-        (found h) (allowed_there h)
-        ∙ ap (λ o.
-        by_rule (submit_rule allowance name ask (option_map case_of o))
-        (λ decision. content_made name ask existing))
-        (sym c.as_ref.ensures.value);
-    fits = λ h kept change made.
-        submit_fits w allowance name ask change kept c.request_formed.ensures
-        (ap (submit_rule allowance name ask)
-        (sym (case_looked_up name _ _ (c.as_ref.ensures.value ∙ found h))) ∙ made);
-    same = λ h.
-        c.in_ok-rows.ensures.same h
-        ∙ c.in_ok-existing.ensures.same (c.in_ok-rows.ensures.premise h);
-    premise = λ h. c.in_ok-existing.ensures.premise (c.in_ok-rows.ensures.premise h);
-  }
+      rule (λ decision. content_made name ask existing)
+  decides =
+      let finds = c.submission.ensures in record {
+        answered = λ h.
+            ap (answer_to_account c.args.account.now (Submit c.args.reference.now ask)) (finds.same h)
+            ∙ submission_answered c.args.account.now c.args.reference.now ask old existing
+            (found (finds.premise h))
+            ∙ ap (λ o. by_rule (submission old name ask o) (λ decision. content_made name ask existing))
+            (sym c.as_ref.ensures.value);
+        fits = λ h kept change made.
+            let allowance = allowed (published old) name.0 ask in
+            subst (λ (w : World). CanApply w change) (sym (finds.same h))
+            (submit_fits old allowance name ask change (subst WellKept (finds.same h) kept)
+            c.request_formed.ensures
+            (ap (submit_rule allowance name ask)
+            (sym (case_looked_up name _ _ (c.as_ref.ensures.value ∙ found (finds.premise h)))) ∙ made));
+        same = λ h. finds.same h ∙ c.in_ok-existing.ensures.same (finds.premise h);
+        premise = λ h. c.in_ok-existing.ensures.premise (finds.premise h);
+      }
 
 pub returns-in_err-decision : goal.returns-in_err-decision
 returns-in_err-decision g c =
-    performs_denied c.in_err-decision.field-0.0
-    (decides g (goal.at.returns-in_err-decision g c).After-decide_submit)
-    c.in_err-decision.ensures c.from_residual-in_err-decision.ensures.1
+    let finds = c.in_err-decision.ensures in
+    performs_refused c.in_err-decision.field-0.0
+    (decides g (goal.at.returns-in_err-decision g c).After-submission) finds.refused finds.fault
+    c.from_residual-in_err-decision.ensures.1
 
 pub conclude-requires : goal.conclude-requires
 conclude-requires g c =
-    makes_fitting c.in_ok-decision.decision
-    (decides g (goal.at.conclude-requires g c).After-decide_submit) c.in_ok-decision.ensures
-
-pub returns-in-Some : goal.returns-in-Some
-returns-in-Some g c =
-    let d = (goal.at.returns-in-Some g c).After-decide_submit in
-    let concluded = c.in_ok-conclude-in-Some.ensures in
-    let told = concluded.told in
-    let same : c.in-Some.request ≡ c.in_ok-conclude-in-Some.field-0 = cc in
-    performs_decided c.in_ok-decision.decision (decides g d) c.in_ok-decision.ensures
-    (ap (content_made (name g d) (ask g d)) c.in-Some.is ∙ ap Row same) concluded.change
-
-pub conclude-requires-in-None : goal.conclude-requires-in-None
-conclude-requires-in-None g c =
-    always c.pending-request.result
-    (makes_fitting c.in_ok-decision.decision
-    (decides g (goal.at.conclude-requires-in-None g c).After-decide_submit)
-    c.in_ok-decision.ensures)
+    always c.told_of-told.result
+    (makes_found c.in_ok-decision.decision
+    (decides g (goal.at.conclude-requires g c).After-submission) c.in_ok-decision.ensures.value)
 
 pub returns : goal.returns
 returns g c =
-    let d = (goal.at.returns g c).After-decide_submit in
-    let concluded = c.in_ok-conclude-in-None.ensures in
-    performs_decided c.in_ok-decision.decision (decides g d) c.in_ok-decision.ensures
-    (ap (content_made (name g d) (ask g d)) c.in-None.is
-    ∙ ap Made (the_value (request_row (name g d) (pending (ask g d))) concluded.told
-    c.pending-request.ensures))
+    let d = (goal.at.returns g c).After-submission in
+    let concluded = c.in_ok-conclude.ensures in
+    performs_found c.in_ok-decision.decision (decides g d) c.in_ok-decision.ensures.value
+    (the_value (content_made (name g d) (ask g d) (existing g d)) concluded.told
+    c.told_of-told.ensures)
     concluded.change

@@ -7,8 +7,8 @@ use Rattle.reg_office.proofs.Decided.{can_make}
 use Rattle.reg_office.proofs.Rows.{selected_after}
 use Rattle.reg_office.proofs.clerk.revoke.Goals as goal
 
-pub carry_out-requires : goal.carry_out-requires
-carry_out-requires g c = λ h kept.
+pub conclude-requires : goal.conclude-requires
+conclude-requires g c = λ h kept.
     let w = g.K.Keeper.world c.cap.new.self in
     let digest = c.in_ok-digest.digest in
     let in_use = c.args.in_use.now in

@@ -16,8 +16,8 @@ put_seat-requires c =
     let self = c.args.self.now in
     unseated (world_of self) (all_queues self.queues) self.in_step c.args.name c.args.expert
 
-pub invariant_of-self-in-Some : goal.invariant_of-self-in-Some
-invariant_of-self-in-Some c =
+pub invariant_of-self-in-Some-1 : goal.invariant_of-self-in-Some-1
+invariant_of-self-in-Some-1 c =
     let self = c.args.self.now in
     let w : World = world_of self in
     let old = all_queues self.queues in
@@ -57,3 +57,9 @@ returns-in-None-clause-ok c =
     let w : World = world_of c.args.self.now in
     on_ok_weaker c.put_row.result
     (ap (λ (queue : FinSet seat_cmp). record w { queue = queue })) c.put_row.ensures.ok
+
+pub returns-in-Some-clause-ok : goal.returns-in-Some-clause-ok
+returns-in-Some-clause-ok c =
+    let w : World = world_of c.args.self.now in
+    on_ok_weaker c.put_seat.result
+    (ap (λ (queue : FinSet seat_cmp). record w { queue = queue })) c.put_seat.ensures.seats
