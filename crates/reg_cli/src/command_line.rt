@@ -4,8 +4,11 @@ use clap::{Arg, ArgAction, Command};
 use std::alloc::Global;
 
 /// The job that the words of a command line ask for, the program's own name first. `Line` where
-/// they are no command line of the program.
+/// they are no command line of the program: no word stands after the options, and none is `--`.
 pub fn job(alloc: Global, words: &[&str]) -> Result<Job, JobFault> {
+    if words.iter().any(|word| *word == "--") {
+        return Err(JobFault::Line);
+    }
     let clerk = Arg::new(alloc, "clerk")
         .long("clerk")
         .required(true)

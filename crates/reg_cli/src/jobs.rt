@@ -1,7 +1,8 @@
 //! What the program is asked to do.
 use clap::Error;
 use clap::error::ErrorKind;
-use std::alloc::AllocError;
+use std::alloc::{AllocError, AllocFailed};
+use std::io;
 
 /// What the program is asked to do.
 #[derive(Drop)]
@@ -28,10 +29,26 @@ impl From<AllocError> for JobFault {
     }
 }
 
+impl<T: Drop> From<AllocFailed<T>> for JobFault {
+    fn from(_failed: AllocFailed<T>) -> JobFault {
+        JobFault::Memory
+    }
+}
+
 impl From<Error> for JobFault {
     fn from(error: Error) -> JobFault {
         match error.kind() {
             ErrorKind::OutOfMemory => JobFault::Memory,
+            _ => JobFault::Line,
+        }
+    }
+}
+
+// Arguments that cannot be had: one of them is no text (UTF-8), or there was no memory.
+impl From<io::Error> for JobFault {
+    fn from(error: io::Error) -> JobFault {
+        match error.kind() {
+            io::ErrorKind::OutOfMemory => JobFault::Memory,
             _ => JobFault::Line,
         }
     }

@@ -9,25 +9,31 @@ mod performing;
 mod tests;
 
 use crate::command_line::job;
+use crate::jobs::{Job, JobFault};
 use crate::performing::{perform, refuse};
 use std::process::ExitCode;
 use std::{env, io};
 
-fn main(rt: HostRuntime) -> io::Result<ExitCode> {
+fn main(rt: HostRuntime) -> ExitCode {
+    let mut output = io::writer(&rt);
+    let mut errors = rt.stderr();
+    let status = match asked(&rt) {
+        Ok(job) => perform(&rt, job, &mut rt.reader(), &mut output, &mut errors),
+        Err(fault) => refuse(fault, &mut errors),
+    };
+    ExitCode::from(status)
+}
+
+// The job that the program's arguments ask for.
+fn asked(rt: &HostRuntime) -> Result<Job, JobFault> {
     let alloc = rt.alloc();
     let mut arguments = Vec::new(alloc);
-    for argument in env::args(&rt)? {
+    for argument in env::args(rt)? {
         arguments.push(argument)?;
     }
     let mut words = Vec::new(alloc);
     for argument in &arguments {
         words.push(argument.as_str())?;
     }
-    let mut output = io::writer(&rt);
-    let mut errors = rt.stderr();
-    let status = match job(alloc, &words) {
-        Ok(job) => perform(&rt, job, &mut rt.reader(), &mut output, &mut errors),
-        Err(fault) => refuse(fault, &mut errors),
-    };
-    Ok(ExitCode::from(status))
+    job(alloc, &words)
 }

@@ -20,11 +20,15 @@ fn other_words_are_no_command_line(rt: HostRuntime) -> Result<(), Fail> {
     let no_clerk: [&str; 2] = ["reg_cli", "script"];
     let no_token: [&str; 3] = ["reg_cli", "script", "--clerk"];
     let unknown: [&str; 4] = ["reg_cli", "listing", "--clerk", "clerk-token-00001"];
+    let longer: [&str; 5] = ["reg_cli", "script", "--clerk", "clerk-token-00001", "x"];
+    let ended: [&str; 5] = ["reg_cli", "script", "--clerk", "clerk-token-00001", "--"];
     for words in [
         bare.as_slice(),
         no_clerk.as_slice(),
         no_token.as_slice(),
         unknown.as_slice(),
+        longer.as_slice(),
+        ended.as_slice(),
     ] {
         assert!(rt; matches!(job(rt.alloc(), words), Err(JobFault::Line)));
     }
