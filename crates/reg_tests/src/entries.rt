@@ -10,7 +10,7 @@ use reg_early::term::Term;
 use reg_print::answer::{Answer, body_of};
 use reg_ranges::range_file::read_ranges;
 use reg_ranges::table::RangeTable;
-use std::alloc::Global;
+use std::alloc::{AllocError, Global};
 use std::test::Fail;
 
 const FILE: &[u8] = b"lo,hi,treatment,note\n0,9,rfc-required,\n10,64,first-come-first-served,x\n";
@@ -54,16 +54,18 @@ fn page(alloc: Global) -> Result<Page, Fail> {
     })
 }
 
-// The status and the body that tell this.
-fn told(alloc: Global, content: Content) -> Result<(u16, Vec<u8>), Fail> {
-    Ok(body_of(alloc, &Answer::Reply(Reply::Accepted(content)))?)
+// The status and the body of an answer.
+fn told(alloc: Global, answer: Answer) -> Result<(u16, Vec<u8>), AllocError> {
+    body_of(alloc, &answer)
 }
 
 #[test]
 fn pages_and_listings(rt: HostRuntime) -> Result<(), Fail> {
-    let (status, body) = told(rt.alloc(), Content::Page(page(rt.alloc())?))?;
+    let page_told = Content::Page(page(rt.alloc())?);
+    let (status, body) = told(rt.alloc(), Answer::Reply(Reply::Accepted(page_told)))?;
     assert!(rt; status == 200 && body.as_slice() == JSON.as_bytes());
-    let (status, body) = told(rt.alloc(), Content::Listing(page(rt.alloc())?))?;
+    let listing_told = Content::Listing(page(rt.alloc())?);
+    let (status, body) = told(rt.alloc(), Answer::Reply(Reply::Accepted(listing_told)))?;
     assert!(rt; status == 200 && body.as_slice() == CSV.as_bytes());
     Ok(())
 }
