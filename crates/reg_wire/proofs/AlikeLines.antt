@@ -1,18 +1,15 @@
--- Isolation and striking of lines are those of their calls.
+-- Isolation of lines is that of their calls.
 use Rattle.std.proofs.Common.{◌≡◌, ℕ, List, Option, None, Some, sym, ap, ◌∙◌, inl, inr}
 use Rattle.std.specs.Prelude.{◌≢◌, MatchOption, option_and_then}
 use Rattle.reg_core.specs.View.{view_of}
 use Rattle.reg_core.specs.World.{World}
 use Rattle.reg_office.specs.Caller.{caller_of}
 use Rattle.reg_wire.specs.Exchange.{Call}
-use Rattle.reg_wire.specs.Laws.{CallsAreAnsweredAlike, LookAlike, UnseenCallsLeaveNoTrace}
-use Rattle.reg_wire.specs.Script.Answers.{Serves, answer_line, faultless_calls}
-use Rattle.reg_wire.specs.Script.Laws.{LinesAreAnsweredAlike, UnseenLinesLeaveNoTrace}
+use Rattle.reg_wire.specs.Laws.{CallsAreAnsweredAlike, LookAlike}
+use Rattle.reg_wire.specs.Script.Answers.{Serves, answer_line}
+use Rattle.reg_wire.specs.Script.Laws.{LinesAreAnsweredAlike}
 use Rattle.reg_wire.specs.Script.Line.{line_of}
 use Rattle.reg_wire.specs.Script.Lines.{refusal, storage}
-use Rattle.reg_wire.proofs.ScriptRun.{script_run}
-
--- ---- Isolation
 
 module _ (isolation : CallsAreAnsweredAlike) (w v : World) (text other : List ℕ) (now then : World)
     (no_fault : text ≢ storage) (no_other_fault : other ≢ storage) where
@@ -50,20 +47,3 @@ pub lines_alike : CallsAreAnsweredAlike → LinesAreAnsweredAlike
 lines_alike isolation w v now then line text other look h k =
     answered_alike isolation w v text other now then h.no_fault k.no_fault (line_of line) look
     h.answered k.answered
-
--- ---- Striking
-
-pub no_trace_in_lines : UnseenCallsLeaveNoTrace → UnseenLinesLeaveNoTrace
-no_trace_in_lines striking account first last end lines answers left left_answers ran left_ran
-    is_struck =
-    let answered = script_run lines answers first last ran in
-    let left_answered = script_run left left_answers first end left_ran in
-    let calls =
-    striking account first (faultless_calls lines answers) (faultless_calls left left_answers)
-    is_struck in
-    record {
-      answered = answered;
-      left_answered = left_answered;
-      calls = calls;
-      shows = rw answered.world (rw left_answered.world calls.shows);
-    }

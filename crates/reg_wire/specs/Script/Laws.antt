@@ -1,19 +1,22 @@
 -- The laws of scripts.
-use Rattle.std.specs.Prelude.{◌≡◌, ◌≢◌, ◌<◌, ◌≤◌, ◌^◌, List, [], ◌∷◌, ◌++◌, ℕ, length, map, Option, Some, None, option_and_then, unwrap_or}
+use Rattle.std.specs.Prelude.{◌≡◌, ◌≢◌, ◌<◌, ◌≤◌, ◌^◌, List, [], ◌∷◌, ◌++◌, ℕ, Bool, false, cond, length, map, filter, Option, Some, None, MatchOption, option_and_then, unwrap_or}
 use Rattle.std.specs.Fmt.{decimal}
-use Rattle.std.specs.List.{AllByRecursion}
-use Rattle.reg_core.specs.Run.{run, world_after}
-use Rattle.reg_core.specs.Striking.{ShowSame}
-use Rattle.reg_core.specs.Unseen.{struck}
-use Rattle.reg_core.specs.View.{view_of}
-use Rattle.reg_core.specs.World.{World}
+use Rattle.std.specs.List.{AllByRecursion, AllZip}
+use Rattle.std.specs.Result.{result_ok, result_err}
+use Rattle.reg_core.specs.Run.{Event, run, world_after}
+use Rattle.reg_core.specs.Striking.{ShowSame, HasNone, AreAlikeTo, reply_lists_others, reply_without}
+use Rattle.reg_core.specs.Unseen.{Stage, stage, stays_in, is_unseen, struck}
+use Rattle.reg_core.specs.View.{cap_at, view_of}
+use Rattle.reg_core.specs.World.{World, RequestName}
+use Rattle.reg_core.specs.declared.reply.Reply.{Reply}
+use Rattle.reg_core.specs.declared.wire_refusal.WireRefusal.{WireRefusal}
 use Rattle.reg_core.specs.declared.wire_refusal.WireRefusal.TheVariants as wire
 use Rattle.reg_office.specs.Caller.{token_digest, caller_of}
 use Rattle.reg_print.specs.declared.answer.Answer.{Answer}
 use Rattle.reg_print.specs.declared.answer.Answer.TheVariants as answer
-use Rattle.reg_wire.specs.Exchange.{Call, events_of, answers_with}
-use Rattle.reg_wire.specs.Laws.{LookAlike, AreStruckAlike}
-use Rattle.reg_wire.specs.Script.Answers.{Serves, answer_line, lines_with, calls_of, AnswerCalls, faultless_lines, faultless_answers, faultless_calls}
+use Rattle.reg_wire.specs.Exchange.{Call, event_of, events_of, answers_with}
+use Rattle.reg_wire.specs.Laws.{LookAlike}
+use Rattle.reg_wire.specs.Script.Answers.{Serves, answer_line, lines_with, calls_of, AnswerCalls, without_faults, faultless_lines, faultless_answers, faultless_calls}
 use Rattle.reg_wire.specs.Script.Line.{line_of, most_bytes, token_of, line_feed_of}
 use Rattle.reg_wire.specs.Script.Lines.{Answered, Ran, AreLines, IsOneLine, refusal, storage}
 
@@ -80,7 +83,7 @@ RunsAsTheModel =
     (lines answers : List (List ℕ)) (first last : World) → Ran Serves first lines answers last
     → IsModelRun first last (faultless_lines lines answers) (faultless_answers lines answers)
 
--- ---- Isolation and striking, as of calls
+-- ---- Isolation, as of calls
 
 -- whose line it is, by the digest of its token; nobody's where it has none, or is no line
 abbrev pub sender : List ℕ → Option (List ℕ)
@@ -99,23 +102,115 @@ LinesAreAnsweredAlike =
     → LookAlike w v (sender line) → IsServed w line answer now → IsServed v line other then
     → (answer ≡ other) × (view_of now (sender line) ≡ view_of then (sender line))
 
--- two scripts, of which the second lacks events about requests that an account does not see: both
--- are answered as their calls are, their calls leave no trace of these requests, and at the end
--- both show the account the same
+-- ---- Striking, line by line
+
+-- the event that a line is, where it gives a command
+abbrev pub event_at : List ℕ → Option Event
+event_at line = option_and_then (λ call. result_ok (event_of call)) (line_of line)
+
+-- a line that gives a command: its bytes, the bytes that are printed as its answer, and the stage
+-- of its event
+pub record Turn : Type 0 where
+  pub line : List ℕ
+  pub answer : List ℕ
+  pub stage : Stage
+
+abbrev pub turn_then : List ℕ × List ℕ → World → Option Event → (World → List Turn) → List Turn
+turn_then p w None more = more w
+turn_then p w (Some e) more =
+    let s = stage token_digest w e in
+    record { line = p.0; answer = p.1; stage = s } ∷ more s.after
+
+-- lines with their answers, in turn from a world, as far as they give commands
+abbrev pub turns_of : List (List ℕ × List ℕ) → World → List Turn
+turns_of [] w = []
+turns_of (p ∷ pairs) w = turn_then p w (event_at p.0) (turns_of pairs)
+
+-- the turns of a script; a line that was answered 503 has none
+abbrev pub turns : World → List (List ℕ) → List (List ℕ) → List Turn
+turns first lines answers = turns_of (without_faults lines answers) first
+
+-- the turns at which the event is left
+abbrev pub turns_left : List ℕ → (RequestName → Bool) → List Turn → List Turn
+turns_left account unseen found = filter (λ (t : Turn). stays_in account unseen t.stage) found
+
+-- the line that is printed of a reply
+abbrev pub reply_line : Reply → List ℕ
+reply_line reply = answer_line (answer.Reply reply)
+
+-- the reply to the line lists requests of others than the account
+abbrev pub turn_lists_others : List ℕ → Turn → Bool
+turn_lists_others account t =
+    reply_lists_others account (cap_at t.stage.before t.stage.event.caller) t.stage.reply
+
+-- the line that is printed without the rows of unseen requests, where it lists requests
+abbrev pub line_without : (RequestName → Bool) → Turn → List ℕ
+line_without unseen t = reply_line (reply_without unseen t.stage.reply)
+
+-- a line that is left, and the line with its event in the second script: what is printed is the
+-- same bytes, unless it lists requests of others; without the rows of unseen requests it is the
+-- same bytes in any case; and where none of these is there in the second run, what is printed there
+-- is what is printed in the first run without these rows
+pub record ArePrintedAlike (account : List ℕ) (unseen : RequestName → Bool) (s t : Turn) : Type 0
+    where
+  pub alike : AreAlikeTo account unseen s.stage t.stage
+  pub printed : s.answer ≡ reply_line s.stage.reply
+  pub left_printed : t.answer ≡ reply_line t.stage.reply
+  pub bytes : turn_lists_others account s ≡ false → s.answer ≡ t.answer
+  pub rows : line_without unseen s ≡ line_without unseen t
+  pub without : HasNone unseen t.stage.before → t.answer ≡ line_without unseen s
+
+-- the first refusal of bytes that give no command
+abbrev pub refusal_for : Option Call → Option WireRefusal
+refusal_for None = Some wire.Line
+refusal_for (Some call) = result_err (event_of call)
+
+-- a line that gives no command is answered by the refusal of its bytes, whatever the office holds
+abbrev pub RefusesBytes : List ℕ × List ℕ → Type 0
+RefusesBytes p =
+    MatchOption (refusal_for (line_of p.0)) (Unit {0}) (λ why. p.1 ≡ answer_line (answer.Wire why))
+
+-- two scripts, of which the second lacks events about requests that an account does not see: line
+-- by line of those that give the commands that are left, what is printed is alike; the other lines
+-- are answered by their bytes alone; and at the end both show the account the same
 pub record LeaveNoTrace (account : List ℕ) (first last end : World)
     (lines answers left left_answers : List (List ℕ)) : Type 0 where
-  pub answered : AnswerCalls first last (faultless_lines lines answers)
-      (faultless_answers lines answers)
-  pub left_answered : AnswerCalls first end (faultless_lines left left_answers)
-      (faultless_answers left left_answers)
-  pub calls : AreStruckAlike account first (faultless_calls lines answers)
-      (faultless_calls left left_answers)
+  pub each_line :
+      let unseen = is_unseen token_digest account first
+      (events_of (faultless_calls lines answers)) in
+      AllZip (ArePrintedAlike account unseen)
+      (turns_left account unseen (turns first lines answers)) (turns first left left_answers)
+  pub refused : AllByRecursion RefusesBytes (without_faults lines answers)
+  pub left_refused : AllByRecursion RefusesBytes (without_faults left left_answers)
   pub shows : ShowSame account last end
 
-abbrev pub UnseenLinesLeaveNoTrace : Type 0
-UnseenLinesLeaveNoTrace =
-    (account : List ℕ) (first last end : World) (lines answers left left_answers : List (List ℕ))
-    → Ran Serves first lines answers last → Ran Serves first left left_answers end
-    → events_of (faultless_calls left left_answers)
-    ≡ struck token_digest account first (events_of (faultless_calls lines answers))
-    → LeaveNoTrace account first last end lines answers left left_answers
+-- a line that gives a command is left where the event stays; all other lines are left
+abbrev pub left_then : (Stage → Bool) → List ℕ → World → Option Event
+    → (World → List (List ℕ)) → List (List ℕ)
+left_then stays line w None more = line ∷ more w
+left_then stays line w (Some e) more =
+    let s = stage token_digest w e in
+    cond (stays s) (line ∷ more s.after) (more s.after)
+
+abbrev pub left_of : (Stage → Bool) → List (List ℕ) → World → List (List ℕ)
+left_of stays [] w = []
+left_of stays (line ∷ lines) w = left_then stays line w (event_at line) (left_of stays lines)
+
+-- the lines without those whose events are about requests that the account does not see
+abbrev pub lines_left : List ℕ → World → List (List ℕ) → List (List ℕ)
+lines_left account first lines =
+    let unseen = is_unseen token_digest account first (events_of (calls_of lines)) in
+    left_of (stays_in account unseen) lines first
+
+-- the lines that are left give the events that are left; and whatever script gives these is
+-- answered alike
+pub record UnseenLinesLeaveNoTrace : Type 0 where
+  pub left : (account : List ℕ) (first : World) (lines : List (List ℕ))
+      → events_of (calls_of (lines_left account first lines))
+      ≡ struck token_digest account first (events_of (calls_of lines))
+  pub no_trace : (account : List ℕ) (first last end : World)
+      (lines answers left left_answers : List (List ℕ))
+      → Ran Serves first lines answers last → Ran Serves first left left_answers end
+      → events_of (faultless_calls left left_answers)
+      ≡ struck token_digest account first (events_of (faultless_calls lines answers))
+      → LeaveNoTrace account first last end lines answers left left_answers

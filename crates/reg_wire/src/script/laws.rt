@@ -43,9 +43,11 @@ pub fn lines_are_answered_alike()
     calls_are_answered_alike();
 }
 
-/// Striking, of scripts: a script, and one that has its events but for those about requests that an
-/// account does not see, are answered as their calls are, which leave no trace of these requests.
-/// Lines that are answered 503 `storage` are no events.
+/// Striking, of scripts, to the byte: take the lines of a script whose events are about requests
+/// that an account does not see out of it. At each line that is left, both scripts are answered by
+/// the same bytes, but where the answer lists requests of others; and there by the same bytes but
+/// for the rows of these requests. So is each script that gives the commands that are left, in
+/// whatever lines. Lines that are answered 503 `storage` are left out.
 pub fn unseen_lines_leave_no_trace()
     ensures { UnseenLinesLeaveNoTrace }
 {

@@ -1,4 +1,4 @@
-use Rattle.reg_wire.proofs.AlikeLines.{no_trace_in_lines}
+use Rattle.reg_wire.proofs.StruckLines.{no_trace_in_lines}
 use Rattle.reg_wire.proofs.script.laws.unseen_lines_leave_no_trace.Goals as goal
 
 pub returns : goal.returns
