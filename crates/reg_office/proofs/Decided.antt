@@ -1,5 +1,5 @@
 -- A command that comes to what a rule decides.
-use Rattle.std.proofs.Common.{◌≡◌, Bool, true, ◌&&◌, Result, Ok, Err, refl, sym, ap, subst, ◌∙◌}
+use Rattle.std.proofs.Common.{◌≡◌, Bool, true, false, ◌&&◌, Result, Ok, Err, refl, sym, ap, subst, ◌∙◌}
 use Rattle.std.specs.Prelude.{IsErrAnd, IfOk, OnOk}
 use Rattle.std.proofs.lemmas.Result.{IfOk-at_ok, err_from_is_err_and}
 use Rattle.reg_core.specs.Answer.{Answer, Outcome, reply_of, change_of, change_by, by_rule}
@@ -14,8 +14,9 @@ use Rattle.reg_core.specs.declared.decide.Deny.{Deny}
 use Rattle.reg_core.specs.declared.decide.Deny.TheVariants as deny
 use Rattle.reg_core.specs.declared.refusal.Refusal.{Refusal}
 use Rattle.reg_core.specs.declared.reply.Reply.TheVariants.{Accepted}
-use Rattle.reg_store.specs.Keeper.{MayFault, Makes}
+use Rattle.reg_store.specs.Keeper.{MayFault, GoesOn, Makes}
 use Rattle.reg_store.specs.declared.keeper.Fault.{Fault as KeeperFault}
+use Rattle.reg_store.proofs.Premises.{goes_on_then, goes_on_anyway}
 use Rattle.reg_office.specs.Decisions.{CanMake}
 use Rattle.reg_office.specs.Performs.{Performs}
 use Rattle.reg_office.specs.Stops.{MayStop, Refuses, stop_of}
@@ -76,30 +77,30 @@ can_make w rule (Make change) follows fits = fits change (decided rule (Make cha
 
 -- between these two states of the keeper all was looked up over which the rule decides, by which
 -- the command is answered
-pub record Decides {S : Type 0} (world : S → World) (Holds : S → Type 0) (old mid : S)
+pub record Decides {S : Type 0} (world : S → World) (Holds Sound : S → Type 0) (old mid : S)
     (answer : World → Answer) (rule : Result Decision Refusal) (told : Decision → Content)
     : Type 0 where
   pub answered : Holds mid → answer (world mid) ≡ by_rule rule told
   pub fits : Holds mid → WellKept (world mid)
       → (change : Change) → rule ≡ Ok (Make change) → CanApply (world mid) change
   pub same : Holds mid → world mid ≡ world old
-  pub premise : Holds mid → Holds old
+  pub premise : GoesOn Holds Sound old mid (Unit {0})
 
 -- the decision's change can be made
-pub makes_fitting : {S : Type 0} {world : S → World} {Holds : S → Type 0} {old mid : S}
+pub makes_fitting : {S : Type 0} {world : S → World} {Holds Sound : S → Type 0} {old mid : S}
     {answer : World → Answer} {rule : Result Decision Refusal} {told : Decision → Content}
-    (decision : Decision) → Decides world Holds old mid answer rule told
+    (decision : Decision) → Decides world Holds Sound old mid answer rule told
     → Follows rule (Ok decision) → Holds mid → WellKept (world mid) → CanMake (world mid) decision
 makes_fitting {world = world} {mid = mid} {rule = rule} decision decides follows h kept =
     can_make (world mid) rule decision follows (decides.fits h kept)
 
 -- a command that was denied what the rule denies is refused as it is answered
-pub performs_denied : {S : Type 0} {world : S → World} {Holds : S → Type 0} {fails : Bool}
+pub performs_denied : {S : Type 0} {world : S → World} {Holds Sound : S → Type 0} {fails : Bool}
     {old new : S} {result : Result Content Stop} {answer : World → Answer}
     {rule : Result Decision Refusal} {told : Decision → Content} (deny : Deny)
-    → Decides world Holds old new answer rule told → Follows rule (Err deny)
+    → Decides world Holds Sound old new answer rule told → Follows rule (Err deny)
     → IsErrAnd result (λ stop. stop ≡ stop_of deny)
-    → Performs world Holds fails old new result answer
+    → Performs world Holds Sound fails old new result answer
 performs_denied {fails = fails} {result = result} {answer = answer} {rule = rule} {told = told}
     deny decides follows stops =
     let p = err_from_is_err_and result stops in
@@ -110,28 +111,28 @@ performs_denied {fails = fails} {result = result} {answer = answer} {rule = rule
           subst (λ a. Refuses a (stop_of deny))
           (sym (decides.answered h) ∙ ap answer (decides.same h)) (refuses rule told deny follows);
       kept = decides.same;
-      premise = decides.premise;
+      premise = goes_on_anyway decides.premise;
       fault = may_stop fails deny;
     })
 
 -- and one whose decision was carried out did what it is answered
-pub performs_decided : {S T : Type 0} {world : S → World} {Holds : S → Type 0} {fails : Bool}
+pub performs_decided : {S T : Type 0} {world : S → World} {Holds Sound : S → Type 0} {fails : Bool}
     {old mid new : S} {content : Content} {answer : World → Answer} {x : T}
     {rule : Result Decision Refusal} {told : Decision → Content} (decision : Decision)
-    → Decides world Holds old mid answer rule told → Follows rule (Ok decision)
+    → Decides world Holds Sound old mid answer rule told → Follows rule (Ok decision)
     → told decision ≡ content
-    → Makes world Holds fails mid new (Ok x) (λ w. applied_if w (change_by decision))
-    → Performs world Holds fails old new (Ok content) answer
+    → Makes world Holds Sound fails mid new (Ok x) (λ w. applied_if w (change_by decision))
+    → Performs world Holds Sound fails old new (Ok content) answer
 performs_decided {world = world} {Holds = Holds} {old = old} {mid = mid} {answer = answer}
     {rule = rule} {told = told} decision decides follows tells makes = record {
-      content = λ h. ap reply_of (answer_is (makes.premise h)) ∙ ap Accepted tells;
+      content = λ h. ap reply_of (answer_is (makes.premise.before h)) ∙ ap Accepted tells;
       made = λ h.
           makes.made h
-          ∙ ap (λ w. applied_if w (change_by decision)) (decides.same (makes.premise h))
-          ∙ ap (λ a. applied_if (world old) (change_of a)) (sym (answer_is (makes.premise h)));
+          ∙ ap (λ w. applied_if w (change_by decision)) (decides.same (makes.premise.before h))
+          ∙ ap (λ a. applied_if (world old) (change_of a)) (sym (answer_is (makes.premise.before h)));
       refused = λ h. tt;
       kept = λ h. tt;
-      premise = λ h. decides.premise (makes.premise h);
+      premise = goes_on_then decides.premise makes.premise;
       fault = tt;
     }
   where
@@ -144,18 +145,18 @@ performs_decided {world = world} {Holds = Holds} {old = old} {mid = mid} {answer
         ∙ ap (λ r. by_rule r told) (decided rule decision follows)
 
 -- a fault leaves a command undone
-pub performs_faulted : {S : Type 0} {world : S → World} {Holds : S → Type 0} {fails : Bool}
+pub performs_faulted : {S : Type 0} {world : S → World} {Holds Sound : S → Type 0} {fails : Bool}
     {old new : S} {result : Result Content Stop} {answer : World → Answer} (fault : KeeperFault)
     → IsErrAnd result (λ stop. stop ≡ Fault fault) → MayFault fails fault
-    → (Holds new → world new ≡ world old) → (Holds new → Holds old)
-    → Performs world Holds fails old new result answer
-performs_faulted {result = result} fault stops may same before =
+    → (Holds new → world new ≡ world old) → GoesOn Holds Sound old new (MayFault false fault)
+    → Performs world Holds Sound fails old new result answer
+performs_faulted {result = result} fault stops may same premise =
     let p = err_from_is_err_and result stops in
     rw (p.1, p.2) (record {
       content = λ h. tt;
       made = λ h. tt;
       refused = λ h. tt;
       kept = same;
-      premise = before;
+      premise = premise;
       fault = may;
     })

@@ -28,7 +28,7 @@ pub fn perform<K: Keeper>(
     account: &Account,
     command: &ApplicantCommand,
 ) -> Result<Content, Stop>
-    ensures { Performs K.world K.Holds K.FAILS keeper.old keeper.new result
+    ensures { Performs K.world K.Holds K.Sound K.FAILS keeper.old keeper.new result
         (answer_to_account account.now command.now) }
 {
     match command {
@@ -43,7 +43,7 @@ pub fn perform<K: Keeper>(
 
 // The applicant's own requests.
 fn list_own<K: Keeper>(keeper: &mut K, account: &Account) -> Result<Content, Stop>
-    ensures { Performs K.world K.Holds K.FAILS keeper.old keeper.new result
+    ensures { Performs K.world K.Holds K.Sound K.FAILS keeper.old keeper.new result
         (answer_to_account account.now command.Own) }
 {
     Ok(Content::Rows(keeper.own(account)?))
@@ -51,7 +51,7 @@ fn list_own<K: Keeper>(keeper: &mut K, account: &Account) -> Result<Content, Sto
 
 // One of the applicant's own requests.
 fn show_own<K: Keeper>(keeper: &mut K, account: &Account, reference: &Ref) -> Result<Content, Stop>
-    ensures { Performs K.world K.Holds K.FAILS keeper.old keeper.new result
+    ensures { Performs K.world K.Holds K.Sound K.FAILS keeper.old keeper.new result
         (answer_to_account account.now (command.OwnOne reference.now)) }
 {
     let request = keeper.own_one(account, reference)?.ok_or(Refusal::Request)?;
@@ -66,7 +66,7 @@ fn submit<K: Keeper>(
     reference: &Ref,
     ask: &Ask,
 ) -> Result<Content, Stop>
-    ensures { Performs K.world K.Holds K.FAILS keeper.old keeper.new result
+    ensures { Performs K.world K.Holds K.Sound K.FAILS keeper.old keeper.new result
         (answer_to_account account.now (command.Submit reference.now ask.now)) }
 {
     let existing = keeper.own_one(account, reference)?;
@@ -84,7 +84,7 @@ fn submit<K: Keeper>(
 
 // Takes a request of the applicant's back.
 fn withdraw<K: Keeper>(keeper: &mut K, account: &Account, reference: &Ref) -> Result<Content, Stop>
-    ensures { Performs K.world K.Holds K.FAILS keeper.old keeper.new result
+    ensures { Performs K.world K.Holds K.Sound K.FAILS keeper.old keeper.new result
         (answer_to_account account.now (command.Withdraw reference.now)) }
 {
     let request = keeper.own_one(account, reference)?.ok_or(Refusal::Request)?;

@@ -26,7 +26,7 @@ pub fn perform<K: Keeper>(
     today: Day,
     command: &ClerkCommand,
 ) -> Result<Content, Stop>
-    ensures { Performs K.world K.Holds K.FAILS keeper.old keeper.new result
+    ensures { Performs K.world K.Holds K.Sound K.FAILS keeper.old keeper.new result
         (answer_to_clerk in_use.now today command.now) }
 {
     match command {
@@ -55,7 +55,7 @@ pub fn grant<K: Keeper>(
     token: &Token,
     cap: &Cap,
 ) -> Result<Content, Stop>
-    ensures { Performs K.world K.Holds K.FAILS keeper.old keeper.new result
+    ensures { Performs K.world K.Holds K.Sound K.FAILS keeper.old keeper.new result
         (answer_at_desk (Grant token.now cap.now)) }
 {
     let digest = digest_of(alloc, token.as_str().as_bytes())?;
@@ -71,7 +71,7 @@ fn revoke<K: Keeper>(
     in_use: &Digest,
     token: &Token,
 ) -> Result<Content, Stop>
-    ensures { Performs K.world K.Holds K.FAILS keeper.old keeper.new result
+    ensures { Performs K.world K.Holds K.Sound K.FAILS keeper.old keeper.new result
         (answer_to_clerk in_use.now 0 (Revoke token.now)) }
 {
     let digest = digest_of(alloc, token.as_str().as_bytes())?;

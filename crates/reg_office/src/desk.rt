@@ -20,7 +20,7 @@ use std::alloc::Global;
 
 /// All requests.
 pub fn list_all<K: Keeper>(keeper: &mut K) -> Result<Content, Stop>
-    ensures { Performs K.world K.Holds K.FAILS keeper.old keeper.new result
+    ensures { Performs K.world K.Holds K.Sound K.FAILS keeper.old keeper.new result
         (answer_at_desk command.AllRequests) }
 {
     Ok(Content::Desks(keeper.all()?))
@@ -32,7 +32,7 @@ pub fn show_one<K: Keeper>(
     account: &Account,
     reference: &Ref,
 ) -> Result<Content, Stop>
-    ensures { Performs K.world K.Holds K.FAILS keeper.old keeper.new result
+    ensures { Performs K.world K.Holds K.Sound K.FAILS keeper.old keeper.new result
         (answer_at_desk (command.OneRequest account.now reference.now)) }
 {
     let file = keeper.file(account, reference)?.ok_or(Refusal::Request)?;
@@ -46,7 +46,7 @@ pub fn assign<K: Keeper>(
     reference: &Ref,
     expert: &Account,
 ) -> Result<Content, Stop>
-    ensures { Performs K.world K.Holds K.FAILS keeper.old keeper.new result
+    ensures { Performs K.world K.Holds K.Sound K.FAILS keeper.old keeper.new result
         (answer_at_desk (command.AssignExpert account.now reference.now expert.now)) }
 {
     let file = keeper.file(account, reference)?.ok_or(Refusal::Request)?;
@@ -65,7 +65,7 @@ pub fn approve<K: Keeper>(
     reference: &Ref,
     today: Day,
 ) -> Result<Content, Stop>
-    ensures { Performs K.world K.Holds K.FAILS keeper.old keeper.new result
+    ensures { Performs K.world K.Holds K.Sound K.FAILS keeper.old keeper.new result
         (answer_to_clerk [] today (command.Approve account.now reference.now)) }
 {
     let file = keeper.file(account, reference)?.ok_or(Refusal::Request)?;
@@ -85,7 +85,7 @@ pub fn decline<K: Keeper>(
     reference: &Ref,
     reason: &Text,
 ) -> Result<Content, Stop>
-    ensures { Performs K.world K.Holds K.FAILS keeper.old keeper.new result
+    ensures { Performs K.world K.Holds K.Sound K.FAILS keeper.old keeper.new result
         (answer_at_desk (command.Decline account.now reference.now reason.now)) }
 {
     let request = keeper.own_one(account, reference)?.ok_or(Refusal::Request)?;

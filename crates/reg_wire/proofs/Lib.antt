@@ -10,5 +10,6 @@ pub mod ReadBack
 pub mod Runs
 pub mod ScriptRun
 pub mod Sent
+pub mod SoFar
 pub mod TreeText
 pub mod WrittenLines

@@ -1,8 +1,8 @@
-use Rattle.std.proofs.Common.{◌≡◌, ℕ, Bool, true, false, not, List, Result, refl, sym, ap, ◌∙◌}
+use Rattle.std.proofs.Common.{◌≡◌, Bool, true, false, not, Result, refl, sym, ap, ◌∙◌}
 use Rattle.std.specs.Prelude.{Option, None, option_map, is_some}
 use Rattle.std.specs.FinMap.{get}
 use Rattle.std.specs.Option.{option_copied}
-use Rattle.reg_core.specs.Allowance.{Ground, allowed, allowed_on, ground_of}
+use Rattle.reg_core.specs.Allowance.{Ground, allowed, allowed_on}
 use Rattle.reg_core.specs.Answer.{by_rule}
 use Rattle.reg_core.specs.Ground.{seen}
 use Rattle.reg_core.specs.Request.{case_of, request_row}
@@ -16,6 +16,7 @@ use Rattle.reg_core.specs.declared.refusal.Refusal.{Refusal}
 use Rattle.reg_core.specs.declared.request.Given.{Given}
 use Rattle.reg_core.specs.declared.request.Request.{Request}
 use Rattle.reg_core.proofs.Fitting.{submit_fits}
+use Rattle.reg_store.proofs.Premises.{goes_on_then}
 use Rattle.reg_office.specs.Answers.{answer_to_account, content_made}
 use Rattle.reg_office.proofs.Decided.{Decides, always, the_value, makes_fitting, performs_denied, performs_decided}
 use Rattle.reg_office.proofs.Rows.{selected_after, still_after}
@@ -58,7 +59,7 @@ module _ (g : Over) (c : After-decide_submit g) where
         ap (λ (rows : Ground). allowed_on rows c.args.account.now ask)
         (c.ground.ensures.rows ∙ selected_after c.in_ok-rows.ensures h needed)
 
-  decides : Decides g.K.Keeper.world g.K.Keeper.Holds c.args.keeper.now c.ground_if.new.keeper
+  decides : Decides g.K.Keeper.world g.K.Keeper.Holds g.K.Keeper.Sound c.args.keeper.now c.ground_if.new.keeper
       (answer_to_account c.args.account.now (Submit c.args.reference.now ask))
       (submit_rule allowance name ask (option_map case_of (option_copied c.as_ref.result)))
       (λ decision. content_made name ask existing)
@@ -76,8 +77,8 @@ module _ (g : Over) (c : After-decide_submit g) where
         (sym (case_looked_up name _ _ (c.as_ref.ensures.value ∙ found h))) ∙ made);
     same = λ h.
         c.in_ok-rows.ensures.same h
-        ∙ c.in_ok-existing.ensures.same (c.in_ok-rows.ensures.premise h);
-    premise = λ h. c.in_ok-existing.ensures.premise (c.in_ok-rows.ensures.premise h);
+        ∙ c.in_ok-existing.ensures.same (c.in_ok-rows.ensures.premise.before h);
+    premise = goes_on_then c.in_ok-existing.ensures.premise c.in_ok-rows.ensures.premise;
   }
 
 pub returns-in_err-decision : goal.returns-in_err-decision

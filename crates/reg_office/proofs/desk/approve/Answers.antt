@@ -16,6 +16,7 @@ use Rattle.reg_core.specs.declared.refusal.Refusal.{Refusal}
 use Rattle.reg_core.specs.declared.request.Case.{Case}
 use Rattle.reg_core.specs.declared.request.Request.{Request}
 use Rattle.reg_core.proofs.Fitting.{approve_fits}
+use Rattle.reg_store.proofs.Premises.{goes_on_then}
 use Rattle.reg_office.specs.Answers.{answer_to_clerk}
 use Rattle.reg_office.specs.Decisions.{row_by}
 use Rattle.reg_office.proofs.Approvals.{approve_read}
@@ -74,7 +75,7 @@ module _ (g : Over) (c : After-decide_approve g) where
         approve_rule (ground_of (published w) row.ask) advised name row.ask c.args.today row.state)
         advice_is
 
-  decides : Decides g.K.Keeper.world g.K.Keeper.Holds c.args.keeper.now c.ground_if.new.keeper
+  decides : Decides g.K.Keeper.world g.K.Keeper.Holds g.K.Keeper.Sound c.args.keeper.now c.ground_if.new.keeper
       (answer_to_clerk [] c.args.today (Approve c.args.account.now c.args.reference.now))
       rule (desk_by name (case_of row))
   decides = record {
@@ -87,24 +88,25 @@ module _ (g : Over) (c : After-decide_approve g) where
         approve_fits w (was_advised w name) name (case_of row) c.args.today change kept
         (there w asked row (found h).request) c.formed.ensures (sym (rule_is h) ∙ made);
     same = λ h.
-        c.in_ok-rows.ensures.same h ∙ c.in_ok-file.ensures.same (c.in_ok-rows.ensures.premise h);
-    premise = λ h. c.in_ok-file.ensures.premise (c.in_ok-rows.ensures.premise h);
+        c.in_ok-rows.ensures.same h
+        ∙ c.in_ok-file.ensures.same (c.in_ok-rows.ensures.premise.before h);
+    premise = goes_on_then c.in_ok-file.ensures.premise c.in_ok-rows.ensures.premise;
   }
 
 pub returns-in_err-rows : goal.returns-in_err-rows
 returns-in_err-rows g c =
     let rows = c.in_err-rows.ensures in
     performs_faulted c.in_err-rows.field-0.0 c.from_residual-in_err-rows.ensures.1 rows.fault
-    (λ h. rows.same h ∙ c.in_ok-file.ensures.same (rows.premise h))
-    (λ h. c.in_ok-file.ensures.premise (rows.premise h))
+    (λ h. rows.same h ∙ c.in_ok-file.ensures.same (rows.premise.before h))
+    (goes_on_then c.in_ok-file.ensures.premise rows.premise)
 
 pub returns-in_err-conclude : goal.returns-in_err-conclude
 returns-in_err-conclude g c =
     let decided = decides g (goal.at.returns-in_err-conclude g c).After-decide_approve in
     let change = c.in_err-conclude.ensures.change in
     performs_faulted c.in_err-conclude.field-0.0 c.from_residual-in_err-conclude.ensures.1
-    change.fault (λ h. change.kept h ∙ decided.same (change.premise h))
-    (λ h. decided.premise (change.premise h))
+    change.fault (λ h. change.kept h ∙ decided.same (change.premise.before h))
+    (goes_on_then decided.premise change.premise)
 
 pub returns-in_err-decision : goal.returns-in_err-decision
 returns-in_err-decision g c =
