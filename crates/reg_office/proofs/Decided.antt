@@ -1,5 +1,5 @@
 -- A command that comes to what a rule decides.
-use Rattle.std.proofs.Common.{◌≡◌, Bool, true, ◌&&◌, Result, Ok, Err, refl, sym, ap, subst, ◌∙◌}
+use Rattle.std.proofs.Common.{◌≡◌, Bool, true, false, ◌&&◌, Result, Ok, Err, refl, sym, ap, subst, ◌∙◌}
 use Rattle.std.specs.Prelude.{IsErrAnd, IfOk, OnOk}
 use Rattle.std.proofs.lemmas.Result.{IfOk-at_ok, err_from_is_err_and}
 use Rattle.reg_core.specs.Answer.{Answer, Outcome, reply_of, change_of, change_by, by_rule}
@@ -14,8 +14,9 @@ use Rattle.reg_core.specs.declared.decide.Deny.{Deny}
 use Rattle.reg_core.specs.declared.decide.Deny.TheVariants as deny
 use Rattle.reg_core.specs.declared.refusal.Refusal.{Refusal}
 use Rattle.reg_core.specs.declared.reply.Reply.TheVariants.{Accepted}
-use Rattle.reg_store.specs.Keeper.{MayFault, Makes, Selects}
+use Rattle.reg_store.specs.Keeper.{GoesOn, MayFault, Makes, Selects}
 use Rattle.reg_store.specs.declared.keeper.Fault.{Fault as KeeperFault}
+use Rattle.reg_store.proofs.Premises.{goes_on_anyway, goes_on_then}
 use Rattle.reg_office.specs.Decisions.{CanMake}
 use Rattle.reg_office.specs.Performs.{Finds, Performs}
 use Rattle.reg_office.specs.Stops.{MayStop, Refuses, stop_of}
@@ -82,80 +83,81 @@ can_make w rule (Make change) follows fits = fits change (decided rule (Make cha
 
 -- between these two states of the keeper all was looked up over which the rule decides, by which
 -- the command is answered
-pub record Decides {S : Type 0} (world : S → World) (Holds : S → Type 0) (old mid : S)
+pub record Decides {S : Type 0} (world : S → World) (Holds Sound : S → Type 0) (old mid : S)
     (answer : World → Answer) (rule : Result Decision Refusal) (told : Decision → Content)
     : Type 0 where
   pub answered : Holds mid → answer (world mid) ≡ by_rule rule told
   pub fits : Holds mid → WellKept (world mid)
       → (change : Change) → rule ≡ Ok (Make change) → CanApply (world mid) change
   pub same : Holds mid → world mid ≡ world old
-  pub premise : Holds mid → Holds old
+  pub premise : GoesOn Holds Sound old mid (Unit {0})
 
 -- the decision's change can be made, where the rule has it
-pub makes_found : {S : Type 0} {world : S → World} {Holds : S → Type 0} {old mid : S}
+pub makes_found : {S : Type 0} {world : S → World} {Holds Sound : S → Type 0} {old mid : S}
     {answer : World → Answer} {rule : Result Decision Refusal} {told : Decision → Content}
-    (decision : Decision) → Decides world Holds old mid answer rule told
+    (decision : Decision) → Decides world Holds Sound old mid answer rule told
     → (Holds mid → rule ≡ Ok decision) → Holds mid → WellKept (world mid)
     → CanMake (world mid) decision
 makes_found {world = world} {mid = mid} {rule = rule} decision decides is h kept =
     can_make (world mid) rule decision (follows rule decision (is h)) (decides.fits h kept)
 
-pub makes_fitting : {S : Type 0} {world : S → World} {Holds : S → Type 0} {old mid : S}
+pub makes_fitting : {S : Type 0} {world : S → World} {Holds Sound : S → Type 0} {old mid : S}
     {answer : World → Answer} {rule : Result Decision Refusal} {told : Decision → Content}
-    (decision : Decision) → Decides world Holds old mid answer rule told
+    (decision : Decision) → Decides world Holds Sound old mid answer rule told
     → Follows rule (Ok decision) → Holds mid → WellKept (world mid) → CanMake (world mid) decision
 makes_fitting {rule = rule} decision decides follows =
     makes_found decision decides (λ h. decided rule decision follows)
 
 -- a command that the rule refuses is refused as it is answered
-pub performs_refused : {S : Type 0} {world : S → World} {Holds : S → Type 0} {fails : Bool}
+pub performs_refused : {S : Type 0} {world : S → World} {Holds Sound : S → Type 0} {fails : Bool}
     {old new : S} {result : Result Content Stop} {answer : World → Answer}
-    {rule : Result Decision Refusal} {told : Decision → Content} (stop : Stop)
-    → Decides world Holds old new answer rule told → (Holds new → Refuses rule stop)
+    (rule : Result Decision Refusal) (told : Decision → Content) (stop : Stop)
+    → (Holds new → answer (world new) ≡ by_rule rule told) → (Holds new → world new ≡ world old)
+    → GoesOn Holds Sound old new (MayStop false stop) → (Holds new → Refuses rule stop)
     → MayStop fails stop → IsErrAnd result (λ s. s ≡ stop)
-    → Performs world Holds fails old new result answer
-performs_refused {result = result} {answer = answer} {rule = rule} {told = told}
-    stop decides denied may stops =
+    → Performs world Holds Sound fails old new result answer
+performs_refused {result = result} {answer = answer} rule told stop answered same goes denied may
+    stops =
     let p = err_from_is_err_and result stops in
     rw (p.1, p.2) (record {
       content = λ h. tt;
       made = λ h. tt;
       refused = λ h.
-          subst (λ a. Refuses a stop) (sym (decides.answered h) ∙ ap answer (decides.same h))
+          subst (λ a. Refuses a stop) (sym (answered h) ∙ ap answer (same h))
           (refuses rule told stop (denied h));
-      kept = decides.same;
-      premise = decides.premise;
+      kept = same;
+      premise = goes;
       fault = may;
     })
 
-pub performs_denied : {S : Type 0} {world : S → World} {Holds : S → Type 0} {fails : Bool}
+pub performs_denied : {S : Type 0} {world : S → World} {Holds Sound : S → Type 0} {fails : Bool}
     {old new : S} {result : Result Content Stop} {answer : World → Answer}
     {rule : Result Decision Refusal} {told : Decision → Content} (deny : Deny)
-    → Decides world Holds old new answer rule told → Follows rule (Err deny)
+    → Decides world Holds Sound old new answer rule told → Follows rule (Err deny)
     → IsErrAnd result (λ stop. stop ≡ stop_of deny)
-    → Performs world Holds fails old new result answer
-performs_denied {fails = fails} {rule = rule} deny decides follows stops =
-    performs_refused (stop_of deny) decides (λ h. denies rule deny follows) (may_stop fails deny)
-    stops
+    → Performs world Holds Sound fails old new result answer
+performs_denied {fails = fails} {rule = rule} {told = told} deny decides follows stops =
+    performs_refused rule told (stop_of deny) decides.answered decides.same (goes_on_anyway decides.premise)
+    (λ h. denies rule deny follows) (may_stop fails deny) stops
 
 -- and one whose decision was carried out did what it is answered
-pub performs_found : {S T : Type 0} {world : S → World} {Holds : S → Type 0} {fails : Bool}
+pub performs_found : {S T : Type 0} {world : S → World} {Holds Sound : S → Type 0} {fails : Bool}
     {old mid new : S} {content : Content} {answer : World → Answer} {x : T}
     {rule : Result Decision Refusal} {told : Decision → Content} (decision : Decision)
-    → Decides world Holds old mid answer rule told → (Holds mid → rule ≡ Ok decision)
+    → Decides world Holds Sound old mid answer rule told → (Holds mid → rule ≡ Ok decision)
     → told decision ≡ content
-    → Makes world Holds fails mid new (Ok x) (λ w. applied_if w (change_by decision))
-    → Performs world Holds fails old new (Ok content) answer
+    → Makes world Holds Sound fails mid new (Ok x) (λ w. applied_if w (change_by decision))
+    → Performs world Holds Sound fails old new (Ok content) answer
 performs_found {world = world} {Holds = Holds} {old = old} {mid = mid} {answer = answer}
     {rule = rule} {told = told} decision decides is tells makes = record {
-      content = λ h. ap reply_of (answer_is (makes.premise h)) ∙ ap Accepted tells;
+      content = λ h. ap reply_of (answer_is (makes.premise.before h)) ∙ ap Accepted tells;
       made = λ h.
           makes.made h
-          ∙ ap (λ w. applied_if w (change_by decision)) (decides.same (makes.premise h))
-          ∙ ap (λ a. applied_if (world old) (change_of a)) (sym (answer_is (makes.premise h)));
+          ∙ ap (λ w. applied_if w (change_by decision)) (decides.same (makes.premise.before h))
+          ∙ ap (λ a. applied_if (world old) (change_of a)) (sym (answer_is (makes.premise.before h)));
       refused = λ h. tt;
       kept = λ h. tt;
-      premise = λ h. decides.premise (makes.premise h);
+      premise = goes_on_then decides.premise makes.premise;
       fault = tt;
     }
   where
@@ -166,30 +168,30 @@ performs_found {world = world} {Holds = Holds} {old = old} {mid = mid} {answer =
     answer_is h =
         sym (ap answer (decides.same h)) ∙ decides.answered h ∙ ap (λ r. by_rule r told) (is h)
 
-pub performs_decided : {S T : Type 0} {world : S → World} {Holds : S → Type 0} {fails : Bool}
+pub performs_decided : {S T : Type 0} {world : S → World} {Holds Sound : S → Type 0} {fails : Bool}
     {old mid new : S} {content : Content} {answer : World → Answer} {x : T}
     {rule : Result Decision Refusal} {told : Decision → Content} (decision : Decision)
-    → Decides world Holds old mid answer rule told → Follows rule (Ok decision)
+    → Decides world Holds Sound old mid answer rule told → Follows rule (Ok decision)
     → told decision ≡ content
-    → Makes world Holds fails mid new (Ok x) (λ w. applied_if w (change_by decision))
-    → Performs world Holds fails old new (Ok content) answer
+    → Makes world Holds Sound fails mid new (Ok x) (λ w. applied_if w (change_by decision))
+    → Performs world Holds Sound fails old new (Ok content) answer
 performs_decided {rule = rule} decision decides follows =
     performs_found decision decides (λ h. decided rule decision follows)
 
 -- a fault leaves a command undone
-pub performs_faulted : {S : Type 0} {world : S → World} {Holds : S → Type 0} {fails : Bool}
+pub performs_faulted : {S : Type 0} {world : S → World} {Holds Sound : S → Type 0} {fails : Bool}
     {old new : S} {result : Result Content Stop} {answer : World → Answer} (fault : KeeperFault)
     → IsErrAnd result (λ stop. stop ≡ Fault fault) → MayFault fails fault
-    → (Holds new → world new ≡ world old) → (Holds new → Holds old)
-    → Performs world Holds fails old new result answer
-performs_faulted {result = result} fault stops may same before =
+    → (Holds new → world new ≡ world old) → GoesOn Holds Sound old new (MayFault false fault)
+    → Performs world Holds Sound fails old new result answer
+performs_faulted {result = result} fault stops may same premise =
     let p = err_from_is_err_and result stops in
     rw (p.1, p.2) (record {
       content = λ h. tt;
       made = λ h. tt;
       refused = λ h. tt;
       kept = same;
-      premise = before;
+      premise = premise;
       fault = may;
     })
 
@@ -197,12 +199,12 @@ performs_faulted {result = result} fault stops may same before =
 
 -- what is decided over rows that were selected is found, where a rule over the content decides
 -- the same
-pub finds_decided : {S T : Type 0} {world : S → World} {Holds : S → Type 0} {fails : Bool}
+pub finds_decided : {S T : Type 0} {world : S → World} {Holds Sound : S → Type 0} {fails : Bool}
     {old new : S} {rows : T} {Gives : World → T → Type 0} {rule : Result Decision Refusal}
     {found : World → Result Decision Refusal} (decision : Decision)
-    → Selects world Holds fails old new (Ok rows) Gives
+    → Selects world Holds Sound fails old new (Ok rows) Gives
     → (Holds new → rule ≡ found (world new)) → Follows rule (Ok decision)
-    → Finds world Holds fails old new (Ok decision) found
+    → Finds world Holds Sound fails old new (Ok decision) found
 finds_decided {rule = rule} {found = found} decision selects same follows = record {
   value = λ h. ap found (sym (selects.same h)) ∙ sym (same h) ∙ decided rule decision follows;
   refused = λ h. tt;
@@ -211,13 +213,13 @@ finds_decided {rule = rule} {found = found} decision selects same follows = reco
   fault = tt;
 }
 
-pub finds_denied : {S T : Type 0} {world : S → World} {Holds : S → Type 0} {fails : Bool}
+pub finds_denied : {S T : Type 0} {world : S → World} {Holds Sound : S → Type 0} {fails : Bool}
     {old new : S} {rows : T} {Gives : World → T → Type 0} {rule : Result Decision Refusal}
     {found : World → Result Decision Refusal} {result : Result Decision Stop} (deny : Deny)
-    → Selects world Holds fails old new (Ok rows) Gives
+    → Selects world Holds Sound fails old new (Ok rows) Gives
     → (Holds new → rule ≡ found (world new)) → Follows rule (Err deny)
     → IsErrAnd result (λ stop. stop ≡ stop_of deny)
-    → Finds world Holds fails old new result found
+    → Finds world Holds Sound fails old new result found
 finds_denied {fails = fails} {rule = rule} {found = found} {result = result}
     deny selects same follows stops =
     let p = err_from_is_err_and result stops in
@@ -227,6 +229,6 @@ finds_denied {fails = fails} {rule = rule} {found = found} {result = result}
           subst (λ r. Refuses r (stop_of deny)) (same h ∙ ap found (selects.same h))
           (denies rule deny follows);
       same = selects.same;
-      premise = selects.premise;
+      premise = goes_on_anyway selects.premise;
       fault = may_stop fails deny;
     })

@@ -8,19 +8,20 @@ use Rattle.reg_core.specs.World.{World, applied_if}
 use Rattle.reg_core.specs.declared.content.Content.{Content}
 use Rattle.reg_core.specs.declared.refusal.Refusal.{Refusal}
 use Rattle.reg_core.specs.declared.reply.Reply.TheVariants.{Accepted}
+use Rattle.reg_store.proofs.Premises.{goes_on_then}
 use Rattle.reg_office.specs.Performs.{Finds, Performs}
 use Rattle.reg_office.specs.Stops.{Refuses}
 use Rattle.reg_office.specs.declared.stop.Stop.{Stop}
 use Rattle.reg_office.specs.declared.stop.Stop.TheVariants.{Refused, Fault}
 
 -- what was found, and then done by it, was done
-pub performs_then : {S T : Type 0} {world : S → World} {Holds : S → Type 0} {fails : Bool}
+pub performs_then : {S T : Type 0} {world : S → World} {Holds Sound : S → Type 0} {fails : Bool}
     {old mid new : S} {x : T} {result : Result Content Stop}
     (found : World → Result T Refusal) (act : T → World → Answer) (answer : World → Answer)
-    → Finds world Holds fails old mid (Ok x) found
-    → Performs world Holds fails mid new result (act x)
+    → Finds world Holds Sound fails old mid (Ok x) found
+    → Performs world Holds Sound fails mid new result (act x)
     → answer (world old) ≡ (found (world old) >>= (λ x. act x (world old)))
-    → Performs world Holds fails old new result answer
+    → Performs world Holds Sound fails old new result answer
 performs_then {world = world} {Holds = Holds} {old = old} {mid = mid} {new = new} {x = x}
     {result = result} found act answer finds performs is = record {
       content = λ h.
@@ -28,20 +29,20 @@ performs_then {world = world} {Holds = Holds} {old = old} {mid = mid} {new = new
           (performs.content h);
       made = λ h.
           subst (λ (y : World × Answer). OnOk result (world new ≡ applied_if y.0 (change_of y.1)))
-          (λ i. (finds.same (performs.premise h) i, answer_is h i)) (performs.made h);
+          (λ i. (finds.same (performs.premise.before h) i, answer_is h i)) (performs.made h);
       refused = λ h.
           subst (λ (a : Answer). IfErr result (Refuses a)) (answer_is h) (performs.refused h);
       kept = λ h.
-          subst (λ (w : World). OnErr result (world new ≡ w)) (finds.same (performs.premise h))
+          subst (λ (w : World). OnErr result (world new ≡ w)) (finds.same (performs.premise.before h))
           (performs.kept h);
-      premise = λ h. finds.premise (performs.premise h);
+      premise = goes_on_then finds.premise performs.premise;
       fault = performs.fault;
     }
   where
     answer_is : Holds new → act x (world mid) ≡ answer (world old)
     answer_is h =
-        ap (act x) (finds.same (performs.premise h))
-        ∙ ap (λ o. o >>= (λ x. act x (world old))) (sym (finds.value (performs.premise h)))
+        ap (act x) (finds.same (performs.premise.before h))
+        ∙ ap (λ o. o >>= (λ x. act x (world old))) (sym (finds.value (performs.premise.before h)))
         ∙ sym is
 
 -- a refusal of what was looked for is one of the answer
@@ -50,13 +51,13 @@ refuses_then : {T : Type 0} (found : Result T Refusal) (act : T → Answer) (sto
 refuses_then found act (Refused refusal) h = ap (λ o. o >>= act) h
 refuses_then found act (Fault fault) h = tt
 
-pub performs_stopped : {S T : Type 0} {world : S → World} {Holds : S → Type 0} {fails : Bool}
+pub performs_stopped : {S T : Type 0} {world : S → World} {Holds Sound : S → Type 0} {fails : Bool}
     {old new : S} {result : Result Content Stop}
     (found : World → Result T Refusal) (act : T → World → Answer) (answer : World → Answer)
-    (stop : Stop) → Finds world Holds fails old new (Err stop) found
+    (stop : Stop) → Finds world Holds Sound fails old new (Err stop) found
     → IsErrAnd result (λ s. s ≡ stop)
     → answer (world old) ≡ (found (world old) >>= (λ x. act x (world old)))
-    → Performs world Holds fails old new result answer
+    → Performs world Holds Sound fails old new result answer
 performs_stopped {world = world} {old = old} {result = result}
     found act answer stop finds stops is =
     let p = err_from_is_err_and result stops in

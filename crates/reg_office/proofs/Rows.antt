@@ -1,7 +1,7 @@
 -- What a keeper selected is of the content as it is then, and names its request.
-use Rattle.std.proofs.Common.{◌≡◌, Bool, List, Result, Ok, sym, ap, subst, ◌∙◌}
+use Rattle.std.proofs.Common.{◌≡◌, Bool, Result, Ok, sym, ap, subst, ◌∙◌}
 use Rattle.std.specs.Prelude.{Option, Some, None, option_map}
-use Rattle.std.specs.FinMap.{FinMap, get}
+use Rattle.std.specs.FinMap.{get}
 use Rattle.reg_core.specs.Allowance.{◌>>=◌, or_refusal}
 use Rattle.reg_core.specs.Answer.{Answer}
 use Rattle.reg_core.specs.File.{file, experts_of, opinions_of}
@@ -20,20 +20,20 @@ use Rattle.reg_store.specs.declared.keeper.Fault.{Fault}
 -- ---- Selected
 
 -- what was selected is true of the content as it is after
-pub selected_after : {S T : Type 0} {world : S → World} {Holds : S → Type 0} {fails : Bool}
+pub selected_after : {S T : Type 0} {world : S → World} {Holds Sound : S → Type 0} {fails : Bool}
     {old new : S} {x : T} {Gives : World → T → Type 0}
-    → Selects world Holds fails old new (Ok x) Gives → Holds new → Gives (world new) x
+    → Selects world Holds Sound fails old new (Ok x) Gives → Holds new → Gives (world new) x
 selected_after {x = x} {Gives = Gives} selects h =
     subst (λ w. Gives w x) (sym (selects.same h)) (selects.value h)
 
 -- and stays so while another is selected
-pub still_after : {S T U : Type 0} {world : S → World} {Holds : S → Type 0} {fails : Bool}
+pub still_after : {S T U : Type 0} {world : S → World} {Holds Sound : S → Type 0} {fails : Bool}
     {old mid new : S} {x : T} {y : Result U Fault}
     {Gives : World → T → Type 0} {GivesThen : World → U → Type 0}
-    → Selects world Holds fails old mid (Ok x) Gives
-    → Selects world Holds fails mid new y GivesThen → Holds new → Gives (world new) x
+    → Selects world Holds Sound fails old mid (Ok x) Gives
+    → Selects world Holds Sound fails mid new y GivesThen → Holds new → Gives (world new) x
 still_after {x = x} {Gives = Gives} selects then h =
-    subst (λ w. Gives w x) (sym (then.same h)) (selected_after selects (then.premise h))
+    subst (λ w. Gives w x) (sym (then.same h)) (selected_after selects (then.premise.before h))
 
 -- ---- Requests
 

@@ -31,7 +31,7 @@ pub fn admit<K: Keeper>(
     moment: u64,
     kind: Kind,
 ) -> Result<Caller, Stop>
-    ensures caller { Finds K.world K.Holds K.FAILS keeper.old keeper.new result
+    ensures caller { Finds K.world K.Holds K.Sound K.FAILS keeper.old keeper.new result
         (λ w. admission w (caller (option_copied token.entry)) moment kind) }
     ensures nobody { caller (option_copied token.entry) ≡ None →
         result ≡ Err (Stop.Refused Refusal.Token) }

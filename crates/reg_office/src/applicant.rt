@@ -32,7 +32,7 @@ pub fn perform<K: Keeper>(
     account: &Account,
     command: &ApplicantCommand,
 ) -> Result<Content, Stop>
-    ensures { Performs K.world K.Holds K.FAILS keeper.old keeper.new result
+    ensures { Performs K.world K.Holds K.Sound K.FAILS keeper.old keeper.new result
         (answer_to_account account.now command.now) }
 {
     match command {
@@ -47,7 +47,7 @@ pub fn perform<K: Keeper>(
 
 // The applicant's own requests.
 fn list_own<K: Keeper>(keeper: &mut K, account: &Account) -> Result<Content, Stop>
-    ensures { Performs K.world K.Holds K.FAILS keeper.old keeper.new result
+    ensures { Performs K.world K.Holds K.Sound K.FAILS keeper.old keeper.new result
         (answer_to_account account.now command.Own) }
 {
     Ok(Content::Rows(keeper.own(account)?))
@@ -55,7 +55,7 @@ fn list_own<K: Keeper>(keeper: &mut K, account: &Account) -> Result<Content, Sto
 
 // One of the applicant's own requests.
 fn show_own<K: Keeper>(keeper: &mut K, account: &Account, reference: &Ref) -> Result<Content, Stop>
-    ensures { Performs K.world K.Holds K.FAILS keeper.old keeper.new result
+    ensures { Performs K.world K.Holds K.Sound K.FAILS keeper.old keeper.new result
         (answer_to_account account.now (command.OwnOne reference.now)) }
 {
     let request = keeper.own_one(account, reference)?.ok_or(Refusal::Request)?;
@@ -70,7 +70,7 @@ fn submit<K: Keeper>(
     reference: &Ref,
     ask: &Ask,
 ) -> Result<Content, Stop>
-    ensures { Performs K.world K.Holds K.FAILS keeper.old keeper.new result
+    ensures { Performs K.world K.Holds K.Sound K.FAILS keeper.old keeper.new result
         (answer_to_account account.now (command.Submit reference.now ask.now)) }
 {
     let existing = keeper.own_one(account, reference)?;
@@ -90,7 +90,7 @@ fn submission<K: Keeper>(
     reference: &Ref,
     ask: &Ask,
 ) -> Result<Decision, Stop>
-    ensures { Finds K.world K.Holds K.FAILS keeper.old keeper.new result
+    ensures { Finds K.world K.Holds K.Sound K.FAILS keeper.old keeper.new result
         (λ w. submit_rule (allowed (published w) account.now ask.now)
         (account.now, reference.now) ask.now (option_map case_of (option_copied existing.entry))) }
 {
@@ -116,7 +116,7 @@ fn told_of(
 
 // Takes a request of the applicant's back.
 fn withdraw<K: Keeper>(keeper: &mut K, account: &Account, reference: &Ref) -> Result<Content, Stop>
-    ensures { Performs K.world K.Holds K.FAILS keeper.old keeper.new result
+    ensures { Performs K.world K.Holds K.Sound K.FAILS keeper.old keeper.new result
         (answer_to_account account.now (command.Withdraw reference.now)) }
 {
     let request = keeper.own_one(account, reference)?.ok_or(Refusal::Request)?;

@@ -16,7 +16,7 @@ use std::alloc::AllocError;
 pub fn make<K: Keeper>(keeper: &mut K, change: Change) -> Result<(), Fault>
     requires { K.Holds keeper.old →
         WellKept (K.world keeper.old) → CanApply (K.world keeper.old) change }
-    ensures { Makes K.world K.Holds K.FAILS keeper.old keeper.new result (λ w. applied w change) }
+    ensures { Makes K.world K.Holds K.Sound K.FAILS keeper.old keeper.new result (λ w. applied w change) }
 {
     keeper.apply(change)
 }
@@ -25,7 +25,7 @@ pub fn make<K: Keeper>(keeper: &mut K, change: Change) -> Result<(), Fault>
 pub fn carry_out<K: Keeper>(keeper: &mut K, decision: Decision) -> Result<(), Fault>
     requires { K.Holds keeper.old →
         WellKept (K.world keeper.old) → CanMake (K.world keeper.old) decision }
-    ensures { Makes K.world K.Holds K.FAILS keeper.old keeper.new result
+    ensures { Makes K.world K.Holds K.Sound K.FAILS keeper.old keeper.new result
         (λ w. applied_if w (change_by decision)) }
 {
     match decision {
@@ -44,7 +44,7 @@ pub fn conclude<K: Keeper, T: Drop>(
     requires { OnOk told (K.Holds keeper.old →
         WellKept (K.world keeper.old) → CanMake (K.world keeper.old) decision) }
     ensures told { IfOk result (λ x. told ≡ Ok x) }
-    ensures change { Makes K.world K.Holds K.FAILS keeper.old keeper.new result
+    ensures change { Makes K.world K.Holds K.Sound K.FAILS keeper.old keeper.new result
         (λ w. applied_if w (change_by decision)) }
 {
     let told = told?;

@@ -28,7 +28,7 @@ pub fn perform<K: Keeper>(
     today: Day,
     command: &ClerkCommand,
 ) -> Result<Content, Stop>
-    ensures { Performs K.world K.Holds K.FAILS keeper.old keeper.new result
+    ensures { Performs K.world K.Holds K.Sound K.FAILS keeper.old keeper.new result
         (answer_to_clerk in_use.now today command.now) }
 {
     match command {
@@ -57,7 +57,7 @@ fn tell_grant<K: Keeper>(
     token: &Token,
     cap: &Cap,
 ) -> Result<Content, Stop>
-    ensures { Performs K.world K.Holds K.FAILS keeper.old keeper.new result
+    ensures { Performs K.world K.Holds K.Sound K.FAILS keeper.old keeper.new result
         (answer_at_desk (Grant token.now cap.now)) }
 {
     Ok(Content::Granted(grant(alloc, keeper, token, cap)?))
@@ -70,7 +70,7 @@ pub fn grant<K: Keeper>(
     token: &Token,
     cap: &Cap,
 ) -> Result<Cap, Stop>
-    ensures { Performs K.world K.Holds K.FAILS keeper.old keeper.new
+    ensures { Performs K.world K.Holds K.Sound K.FAILS keeper.old keeper.new
         (result_map_both Granted (λ stop. stop) result) (answer_at_desk (Grant token.now cap.now)) }
 {
     let digest = digest_of(alloc, token.as_str().as_bytes())?;
@@ -86,7 +86,7 @@ fn revoke<K: Keeper>(
     in_use: &Digest,
     token: &Token,
 ) -> Result<Content, Stop>
-    ensures { Performs K.world K.Holds K.FAILS keeper.old keeper.new result
+    ensures { Performs K.world K.Holds K.Sound K.FAILS keeper.old keeper.new result
         (answer_to_clerk in_use.now 0 (Revoke token.now)) }
 {
     let digest = digest_of(alloc, token.as_str().as_bytes())?;

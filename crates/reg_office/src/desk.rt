@@ -23,7 +23,7 @@ use std::alloc::Global;
 
 /// All requests.
 pub fn list_all<K: Keeper>(keeper: &mut K) -> Result<Content, Stop>
-    ensures { Performs K.world K.Holds K.FAILS keeper.old keeper.new result
+    ensures { Performs K.world K.Holds K.Sound K.FAILS keeper.old keeper.new result
         (answer_at_desk command.AllRequests) }
 {
     Ok(Content::Desks(keeper.all()?))
@@ -35,7 +35,7 @@ pub fn show_one<K: Keeper>(
     account: &Account,
     reference: &Ref,
 ) -> Result<Content, Stop>
-    ensures { Performs K.world K.Holds K.FAILS keeper.old keeper.new result
+    ensures { Performs K.world K.Holds K.Sound K.FAILS keeper.old keeper.new result
         (answer_at_desk (command.OneRequest account.now reference.now)) }
 {
     let file = keeper.file(account, reference)?.ok_or(Refusal::Request)?;
@@ -49,7 +49,7 @@ pub fn assign<K: Keeper>(
     reference: &Ref,
     expert: &Account,
 ) -> Result<Content, Stop>
-    ensures { Performs K.world K.Holds K.FAILS keeper.old keeper.new result
+    ensures { Performs K.world K.Holds K.Sound K.FAILS keeper.old keeper.new result
         (answer_at_desk (command.AssignExpert account.now reference.now expert.now)) }
 {
     let file = keeper.file(account, reference)?.ok_or(Refusal::Request)?;
@@ -67,7 +67,7 @@ pub fn approve<K: Keeper>(
     reference: &Ref,
     today: Day,
 ) -> Result<Content, Stop>
-    ensures { Performs K.world K.Holds K.FAILS keeper.old keeper.new result
+    ensures { Performs K.world K.Holds K.Sound K.FAILS keeper.old keeper.new result
         (answer_to_clerk [] today (command.Approve account.now reference.now)) }
 {
     let file = keeper.file(account, reference)?.ok_or(Refusal::Request)?;
@@ -84,7 +84,7 @@ fn approval<K: Keeper>(
     file: &File,
     today: Day,
 ) -> Result<Decision, Stop>
-    ensures { Finds K.world K.Holds K.FAILS keeper.old keeper.new result
+    ensures { Finds K.world K.Holds K.Sound K.FAILS keeper.old keeper.new result
         (λ w. approval_of (published w) file.now today) }
 {
     let request = &file.request;
@@ -100,7 +100,7 @@ pub fn decline<K: Keeper>(
     reference: &Ref,
     reason: &Text,
 ) -> Result<Content, Stop>
-    ensures { Performs K.world K.Holds K.FAILS keeper.old keeper.new result
+    ensures { Performs K.world K.Holds K.Sound K.FAILS keeper.old keeper.new result
         (answer_at_desk (command.Decline account.now reference.now reason.now)) }
 {
     let request = keeper.own_one(account, reference)?.ok_or(Refusal::Request)?;

@@ -24,7 +24,7 @@ pub fn perform<K: Keeper>(
     expert: &Account,
     command: &ExpertCommand,
 ) -> Result<Content, Stop>
-    ensures { Performs K.world K.Holds K.FAILS keeper.old keeper.new result
+    ensures { Performs K.world K.Holds K.Sound K.FAILS keeper.old keeper.new result
         (answer_to_expert expert.now command.now) }
 {
     match command {
@@ -37,7 +37,7 @@ pub fn perform<K: Keeper>(
 
 // The requests that are queued to the expert.
 fn list_queue<K: Keeper>(keeper: &mut K, expert: &Account) -> Result<Content, Stop>
-    ensures { Performs K.world K.Holds K.FAILS keeper.old keeper.new result
+    ensures { Performs K.world K.Holds K.Sound K.FAILS keeper.old keeper.new result
         (answer_to_expert expert.now command.Queue) }
 {
     Ok(Content::Items(keeper.queue(expert)?))
@@ -52,7 +52,7 @@ fn advise<K: Keeper>(
     reference: &Ref,
     advice: &Advice,
 ) -> Result<Content, Stop>
-    ensures { Performs K.world K.Holds K.FAILS keeper.old keeper.new result
+    ensures { Performs K.world K.Holds K.Sound K.FAILS keeper.old keeper.new result
         (answer_to_expert expert.now (command.Advise account.now reference.now advice.now)) }
 {
     let row = keeper

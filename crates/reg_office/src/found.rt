@@ -2,6 +2,7 @@
 ghost use Rattle.std.specs.Prelude.{◌≡◌, Err, IfOk, IfErr, OnOk, OnErr, false};
 ghost use Rattle.reg_core.specs.Laws.{clerk_cap as first_clerk};
 ghost use Rattle.reg_core.specs.Names.{is_token};
+ghost use Rattle.reg_store.specs.Keeper.{GoesOn};
 ghost use Rattle.reg_office.specs.Found.{WasFounded, IsCause, MayFound};
 
 use crate::clerk::grant;
@@ -41,7 +42,8 @@ pub fn found<K: Keeper>(alloc: Global, keeper: &mut K, token: &[u8]) -> Result<(
     ensures ill_formed { is_token token.now ≡ false → result ≡ Err FoundFault.Token }
     ensures cause { K.Holds keeper.new → IfErr result (IsCause (K.world keeper.old) token.now) }
     ensures kept { K.Holds keeper.new → OnErr result (K.world keeper.new ≡ K.world keeper.old) }
-    ensures premise { K.Holds keeper.new → K.Holds keeper.old }
+    ensures premise { GoesOn K.Holds K.Sound keeper.old keeper.new
+        (IfErr result (MayFound false)) }
     ensures fault { IfErr result (MayFound K.FAILS) }
 {
     let token = Token::read(alloc, token)?.ok_or(FoundFault::Token)?;

@@ -75,7 +75,7 @@ pub fn ground_if<K: Keeper>(
     is_needed: bool,
     ask: &Ask,
 ) -> Result<GroundRows, Fault>
-    ensures { Selects K.world K.Holds K.FAILS keeper.old keeper.new result
+    ensures { Selects K.world K.Holds K.Sound K.FAILS keeper.old keeper.new result
         (λ w rows. is_needed ≡ true → rows ≡ ground_of (published w) ask.now) }
 {
     if is_needed {
@@ -88,7 +88,7 @@ pub fn ground_if<K: Keeper>(
 // The published rows that an ask needs. The entries of a registry are listed only where the least
 // value is wanted.
 fn ground_for<K: Keeper>(alloc: Global, keeper: &mut K, ask: &Ask) -> Result<GroundRows, Fault>
-    ensures { Selects K.world K.Holds K.FAILS keeper.old keeper.new result
+    ensures { Selects K.world K.Holds K.Sound K.FAILS keeper.old keeper.new result
         (λ w rows. rows ≡ ground_of (published w) ask.now) }
 {
     let Ask::Code(code) = ask;
@@ -121,7 +121,7 @@ fn values_taken<K: Keeper>(
     keeper: &mut K,
     registry: &Name,
 ) -> Result<Vec<u32>, Fault>
-    ensures values { Selects K.world K.Holds K.FAILS keeper.old keeper.new result
+    ensures values { Selects K.world K.Holds K.Sound K.FAILS keeper.old keeper.new result
         (λ w values. values.items ≡ values_in registry.now w.entries) }
     ensures ascending { IfOk result (λ values. IsStrictlyIncreasing values.items) }
 {

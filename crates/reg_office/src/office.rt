@@ -5,7 +5,7 @@ ghost use Rattle.reg_early.specs.Moment.{is_in_clock};
 ghost use Rattle.reg_core.specs.Command.{kind_of};
 ghost use Rattle.reg_core.specs.Names.{is_token};
 ghost use Rattle.reg_core.specs.Step.{answer_to};
-ghost use Rattle.reg_store.specs.Keeper.{MayFault};
+ghost use Rattle.reg_store.specs.Keeper.{MayFault, IsUnfailed, GoesOn};
 ghost use Rattle.reg_office.specs.Caller.{caller_of as caller, step_by, token_digest};
 ghost use Rattle.reg_office.specs.Found.{WasFounded, IsCause, MayFound};
 ghost use Rattle.reg_office.specs.Performs.{Performs};
@@ -62,7 +62,8 @@ impl<K: Keeper> Office<K> {
         ensures ill_formed { is_token token.now ≡ false → result ≡ Err FoundFault.Token }
         ensures cause { K.Holds self.new → IfErr result (IsCause (K.world self.old) token.now) }
         ensures kept { K.Holds self.new → OnErr result (K.world self.new ≡ K.world self.old) }
-        ensures premise { K.Holds self.new → K.Holds self.old }
+        ensures premise { GoesOn K.Holds K.Sound self.old self.new
+            (IfErr result (MayFound false)) }
         ensures fault { IfErr result (MayFound K.FAILS) }
     {
         found(self.alloc, &mut self.keeper, token)
@@ -83,7 +84,7 @@ impl<K: Keeper> Office<K> {
         ensures world { let step = step_by (K.world self.old) (option_copied token.entry) in
             K.Holds self.new → OnOk result (K.world self.new ≡ (step moment command.now).world) }
         ensures kept { K.Holds self.new → OnErr result (K.world self.new ≡ K.world self.old) }
-        ensures premise { K.Holds self.new → K.Holds self.old }
+        ensures premise { GoesOn K.Holds K.Sound self.old self.new (IsUnfailed result) }
         ensures fault { IfErr result (MayFault K.FAILS) }
         ensures clock { is_in_clock moment ≡ false → IsOk result }
         ensures nobody { IsSome (kind_of command.now) →
@@ -105,7 +106,7 @@ fn answer<K: Keeper>(
     token: Option<&[u8]>,
     command: &Command,
 ) -> Result<Content, Stop>
-    ensures answer { Performs K.world K.Holds K.FAILS keeper.old keeper.new result
+    ensures answer { Performs K.world K.Holds K.Sound K.FAILS keeper.old keeper.new result
         (λ w. answer_to token_digest w (caller (option_copied token.entry)) moment command.now) }
     ensures clock { is_in_clock moment ≡ false → result ≡ Err (Stop.Refused Refusal.Clock) }
     ensures nobody { IsSome (kind_of command.now) →

@@ -27,7 +27,7 @@ pub fn perform<K: Keeper>(
     today: Day,
     command: &PublicCommand,
 ) -> Result<Content, Stop>
-    ensures { Performs K.world K.Holds K.FAILS keeper.old keeper.new result
+    ensures { Performs K.world K.Holds K.Sound K.FAILS keeper.old keeper.new result
         (λ w. public_answer (published w) today command.now) }
 {
     match command {
@@ -40,7 +40,7 @@ pub fn perform<K: Keeper>(
 
 // The names of all registries.
 fn list_registries<K: Keeper>(keeper: &mut K) -> Result<Content, Stop>
-    ensures { Performs K.world K.Holds K.FAILS keeper.old keeper.new result
+    ensures { Performs K.world K.Holds K.Sound K.FAILS keeper.old keeper.new result
         (λ w. public_answer (published w) 0 Registries) }
 {
     Ok(Content::Names(keeper.names()?))
@@ -53,7 +53,7 @@ fn show_registry<K: Keeper>(
     today: Day,
     name: &Name,
 ) -> Result<Content, Stop>
-    ensures { Performs K.world K.Holds K.FAILS keeper.old keeper.new result
+    ensures { Performs K.world K.Holds K.Sound K.FAILS keeper.old keeper.new result
         (λ w. public_answer (published w) today (Registry name.now)) }
 {
     Ok(Content::Page(page(alloc, keeper, today, name)?))
@@ -66,7 +66,7 @@ fn show_listing<K: Keeper>(
     today: Day,
     name: &Name,
 ) -> Result<Content, Stop>
-    ensures { Performs K.world K.Holds K.FAILS keeper.old keeper.new result
+    ensures { Performs K.world K.Holds K.Sound K.FAILS keeper.old keeper.new result
         (λ w. public_answer (published w) today (RegistryListing name.now)) }
 {
     Ok(Content::Listing(page(alloc, keeper, today, name)?))
@@ -74,7 +74,7 @@ fn show_listing<K: Keeper>(
 
 // The prefixes of the pool.
 fn list_pool<K: Keeper>(keeper: &mut K) -> Result<Content, Stop>
-    ensures { Performs K.world K.Holds K.FAILS keeper.old keeper.new result
+    ensures { Performs K.world K.Holds K.Sound K.FAILS keeper.old keeper.new result
         (λ w. public_answer (published w) 0 PoolList) }
 {
     Ok(Content::Pool(keeper.pool()?))
@@ -82,7 +82,7 @@ fn list_pool<K: Keeper>(keeper: &mut K) -> Result<Content, Stop>
 
 // The registry of this name as it is on a day.
 fn page<K: Keeper>(alloc: Global, keeper: &mut K, today: Day, name: &Name) -> Result<Page, Stop>
-    ensures { Finds K.world K.Holds K.FAILS keeper.old keeper.new result
+    ensures { Finds K.world K.Holds K.Sound K.FAILS keeper.old keeper.new result
         (λ w. page_on (published w) name.now today) }
 {
     let table = keeper.ranges(name)?.ok_or(Refusal::Registry)?;
@@ -102,7 +102,7 @@ fn entries_on<K: Keeper>(
     today: Day,
     name: &Name,
 ) -> Result<Rows<PageEntry>, Fault>
-    ensures { Selects K.world K.Holds K.FAILS keeper.old keeper.new result
+    ensures { Selects K.world K.Holds K.Sound K.FAILS keeper.old keeper.new result
         (λ w entries. entries ≡ page_entries (published w) name.now today) }
 {
     let entries = keeper.entries(name)?;

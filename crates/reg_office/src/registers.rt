@@ -15,7 +15,7 @@ use reg_store::keeper::Keeper;
 
 /// Opens a registry.
 pub fn define<K: Keeper>(keeper: &mut K, name: &Name, table: &RangeTable) -> Result<Content, Stop>
-    ensures { Performs K.world K.Holds K.FAILS keeper.old keeper.new result
+    ensures { Performs K.world K.Holds K.Sound K.FAILS keeper.old keeper.new result
         (answer_at_desk (Define name.now table.now)) }
 {
     let existing = keeper.ranges(name)?;
@@ -26,7 +26,7 @@ pub fn define<K: Keeper>(keeper: &mut K, name: &Name, table: &RangeTable) -> Res
 
 /// Adds a prefix to the pool.
 pub fn add_pool<K: Keeper>(keeper: &mut K, prefix: u32) -> Result<Content, Stop>
-    ensures { Performs K.world K.Holds K.FAILS keeper.old keeper.new result
+    ensures { Performs K.world K.Holds K.Sound K.FAILS keeper.old keeper.new result
         (answer_at_desk (AddPool prefix)) }
 {
     let pool = keeper.pool()?;

@@ -44,13 +44,18 @@ impl From<AllocError> for Fault {
 }
 
 /// Keeps the content of an office. Each promise about the content stands under the keeper's
-/// premise after the call, as that a disk gave back what was written to it.
+/// premise after the call, as that a disk gave back what was written to it. The premise goes on
+/// from call to call, for as long as no call answers `Store` and the device behind is sound: so a
+/// keeper cannot give it up by itself.
 pub trait Keeper {
     /// The content.
     ghost world: { Self → World };
 
     /// The premise under which the content is what was kept.
     ghost Holds: { Self → Type 0 };
+
+    /// The device behind gave back what was written to it, and did not fail, so far.
+    ghost Sound: { Self → Type 0 };
 
     /// Whether a call may answer `Store`.
     ghost FAILS: { Bool };
@@ -60,62 +65,62 @@ pub trait Keeper {
 
     /// The capability at a digest.
     fn cap(&mut self, digest: &Digest) -> Result<Option<Cap>, Fault>
-        ensures { Selects world Holds FAILS self.old self.new result
+        ensures { Selects world Holds Sound FAILS self.old self.new result
             (λ w cap. cap ≡ get w.caps digest.now) };
 
     /// The names of all registries, in order.
     fn names(&mut self) -> Result<Rows<Name>, Fault>
-        ensures { Selects world Holds FAILS self.old self.new result
+        ensures { Selects world Holds Sound FAILS self.old self.new result
             (λ w names. names ≡ keys w.registries) };
 
     /// The ranges of a registry, with its largest value.
     fn ranges(&mut self, name: &Name) -> Result<Option<RangeTable>, Fault>
-        ensures { Selects world Holds FAILS self.old self.new result
+        ensures { Selects world Holds Sound FAILS self.old self.new result
             (λ w table. table ≡ get w.registries name.now) };
 
     /// The entry of a registry at a value.
     fn entry(&mut self, registry: &Name, value: u32) -> Result<Option<Entry>, Fault>
-        ensures { Selects world Holds FAILS self.old self.new result
+        ensures { Selects world Holds Sound FAILS self.old self.new result
             (λ w entry. entry ≡
             option_map (entry_row registry.now value) (get w.entries (registry.now, value))) };
 
     /// All entries of a registry, by value.
     fn entries(&mut self, registry: &Name) -> Result<Rows<Entry>, Fault>
-        ensures { Selects world Holds FAILS self.old self.new result
+        ensures { Selects world Holds Sound FAILS self.old self.new result
             (λ w entries. entries ≡ entry_rows (entries_of registry.now w.entries)) };
 
     /// The prefixes of the pool.
     fn pool(&mut self) -> Result<Pool, Fault>
-        ensures { Selects world Holds FAILS self.old self.new result
+        ensures { Selects world Holds Sound FAILS self.old self.new result
             (λ w pool. pool ≡ keys w.pool) };
 
     /// All requests of an account, by reference.
     fn own(&mut self, account: &Account) -> Result<Rows<Request>, Fault>
-        ensures { Selects world Holds FAILS self.old self.new result
+        ensures { Selects world Holds Sound FAILS self.old self.new result
             (λ w rows. rows ≡ request_rows (requests_of account.now w)) };
 
     /// The request of an account under a reference.
     fn own_one(&mut self, account: &Account, reference: &Ref) -> Result<Option<Request>, Fault>
-        ensures { Selects world Holds FAILS self.old self.new result
+        ensures { Selects world Holds Sound FAILS self.old self.new result
             (λ w row. row ≡ option_map (request_row (account.now, reference.now))
             (get w.requests (account.now, reference.now))) };
 
     /// All requests, by account and then by reference.
     fn all(&mut self) -> Result<Rows<Request>, Fault>
-        ensures { Selects world Holds FAILS self.old self.new result
+        ensures { Selects world Holds Sound FAILS self.old self.new result
             (λ w rows. rows ≡ request_rows w.requests) };
 
     /// The request of an account under a reference, with its experts and all advice on it, by
     /// expert.
     fn file(&mut self, account: &Account, reference: &Ref) -> Result<Option<File>, Fault>
-        ensures { Selects world Holds FAILS self.old self.new result
+        ensures { Selects world Holds Sound FAILS self.old self.new result
             (λ w row. row ≡ option_map (file_of w (account.now, reference.now))
             (get w.requests (account.now, reference.now))) };
 
     /// All requests that are assigned to an expert, with the expert's own advice, by account and
     /// then by reference.
     fn queue(&mut self, expert: &Account) -> Result<Rows<QueueRow>, Fault>
-        ensures { Selects world Holds FAILS self.old self.new result
+        ensures { Selects world Holds Sound FAILS self.old self.new result
             (λ w rows. rows ≡ queue_rows (queue_of expert.now w)) };
 
     /// The request of an account under a reference, with the expert's own advice, if it is
@@ -126,14 +131,14 @@ pub trait Keeper {
         account: &Account,
         reference: &Ref,
     ) -> Result<Option<QueueRow>, Fault>
-        ensures { Selects world Holds FAILS self.old self.new result
+        ensures { Selects world Holds Sound FAILS self.old self.new result
             (λ w row. row ≡ option_map (queue_row (account.now, reference.now))
             (get (queue_of expert.now w) (account.now, reference.now))) };
 
     /// Makes a change whole, or not at all.
     fn apply(&mut self, change: Change) -> Result<(), Fault>
         requires { Holds self.old → CanApply (world self.old) change }
-        ensures { Makes world Holds FAILS self.old self.new result (λ w. applied w change) };
+        ensures { Makes world Holds Sound FAILS self.old self.new result (λ w. applied w change) };
 
     /// The content is well kept.
     ghost well_kept: { (keeper : Self) → Holds keeper → WellKept (world keeper) };

@@ -83,6 +83,8 @@ impl Keeper for ListKeeper {
 
     ghost Holds = { λ _. Unit {0} };
 
+    ghost Sound = { λ _. Unit {0} };
+
     ghost FAILS = { false };
 
     const FAILS: bool = false;

@@ -1,5 +1,6 @@
 -- The answers to lines, as bytes.
-use Rattle.std.proofs.Common.{◌≡◌, ◌≢◌, ℕ, ◌/◌, ◌%◌, ◌<◌, zero, suc, List, [], ◌∷◌, ◌++◌, map, true, false, refl, arith, lit<}
+use Rattle.std.proofs.Common.{◌≡◌, ◌≢◌, ℕ, ◌/◌, ◌%◌, ◌<◌, zero, suc, List, [], ◌∷◌, ◌++◌, map, true, false, refl, sym, ap, ◌∙◌, arith, lit<}
+use Rattle.std.proofs.lemmas.Bool.{false≢true}
 use Rattle.std.proofs.lemmas.Bool.Decides.{nat_tests}
 use Rattle.std.specs.Prelude.{◌==◌, cond}
 use Rattle.std.specs.Fmt.{decimal, digits, digits_onto, digit_glyph}
@@ -12,6 +13,7 @@ use Rattle.reg_core.specs.declared.reply.Reply.TheVariants.{Accepted, Refused}
 use Rattle.reg_core.specs.declared.content.Content.{Content}
 use Rattle.reg_core.specs.declared.content.Content.TheVariants.{Made}
 use Rattle.reg_print.specs.Answer.{body_text, status_of}
+use Rattle.reg_wire.specs.Exchange.{IsAnswered}
 use Rattle.reg_wire.specs.Script.Lines.{IsOneLine, refusal, storage}
 use Rattle.reg_wire.specs.Script.Answers.{answer_line, tab_of}
 use Rattle.reg_print.specs.declared.answer.Answer.{Answer}
@@ -108,3 +110,12 @@ pub answer_is_line : (a : Answer) → IsOneLine (answer_line a)
 answer_is_line a =
     both_lines (decimal (status_of a)) (32 ∷ map tab_of (body_text a)) (decimal_line (status_of a))
     (above_a_feed 32 (lit< tt), tabs_line (body_text a))
+
+-- so no answer but that of a fault is printed as it is
+another : (text : List ℕ) → bytes_eq text storage ≡ false → text ≢ storage
+another text other same = false≢true (sym other ∙ ap (λ t. bytes_eq t storage) same)
+
+pub answered_is_another : (a : Answer) → IsAnswered a → answer_line a ≢ storage
+answered_is_another (answer.Reply reply) h = another _ (reply_is_another reply)
+answered_is_another (answer.Wire refusal) h = another _ (wire_is_another refusal)
+answered_is_another answer.Storage h = absurd h

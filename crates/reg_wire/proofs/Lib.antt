@@ -10,6 +10,7 @@ pub mod ReadBack
 pub mod Runs
 pub mod ScriptRun
 pub mod Sent
+pub mod SoFar
 pub mod StruckLines
 pub mod TreeText
 pub mod WrittenLines

@@ -3,7 +3,6 @@ use Rattle.std.proofs.Common.{◌≡◌, ◌≢◌, ℕ, ◌+◌, ◌<◌, List,
 use Rattle.std.proofs.KnownBytes.{Appends-trans, Appends-nil, Consumes-nil}
 use Rattle.std.proofs.lemmas.List.{length-take}
 use Rattle.std.proofs.Math.Seq.{take-append-add}
-use Rattle.std.specs.Prelude.{MatchOption}
 use Rattle.std.specs.List.{flat_map, AllByRecursion}
 use Rattle.std.specs.Io.KnownBytes.{Appends, Consumes, IsAtEnd}
 use Rattle.reg_wire.specs.declared.wire_fault.WireFault.{WireFault}
@@ -91,7 +90,7 @@ wrote_short : (why : WireFault) (answers : List (List ℕ)) (answer : List ℕ) 
 wrote_short fault.Read answers answer sent had has now p count h = h
 wrote_short fault.Memory answers answer sent had has now p count h =
     let same = append-nil (flat_map ended answers) in
-    inr (answers, (answer, refl), rw same at (Appends-trans had has now _ _ p h))
+    inr (answers, answer, refl, h.0, rw same at (Appends-trans had has now _ _ p h.1))
 wrote_short (fault.Write n) answers answer sent had has now p count h =
     let size = length-append answer (10 ∷ []) in
     let all = ap length (ended_more answers answer) in
@@ -383,52 +382,6 @@ stops_before Serves first unread had = record {
   ran = refl;
   wrote = inl (Appends-nil had);
 }
-
--- ---- The same run, seen by a part of the states
-
-module _ {S T : Type 0} (P : S → Call → List ℕ → S → Type 0) (Q : T → Call → List ℕ → T → Type 0)
-    (view : S → T)
-    (same : (s : S) (asked : Call) (answer : List ℕ) (t : S) → P s asked answer t
-    → Q (view s) asked answer (view t)) where
-  answered_seen : (o : Option Call) (s : S) (answer : List ℕ) (t : S)
-      → MatchOption o ((answer ≡ refusal) × (t ≡ s)) (λ asked. P s asked answer t)
-      → MatchOption o ((answer ≡ refusal) × (view t ≡ view s))
-      (λ asked. Q (view s) asked answer (view t))
-  answered_seen None s answer t h = (h.0, ap view h.1)
-  answered_seen (Some asked) s answer t h = same s asked answer t h
-
-  ran_seen : (lines answers : List (List ℕ)) (s t : S) → Ran P s lines answers t
-      → Ran Q (view s) lines answers (view t)
-  ran_seen [] [] s t h = ap view h
-  ran_seen [] (answer ∷ answers) s t h = absurd h
-  ran_seen (line ∷ lines) [] s t h = absurd h
-  ran_seen (line ∷ lines) (answer ∷ answers) s t h =
-      (view h.0, answered_seen (line_of line) s answer h.0 h.1, ran_seen lines answers h.0 t h.2)
-
-  pub all_seen : (s t : S) (unread left had has : Option (List ℕ))
-      → AnswersAll P s t unread left had has → AnswersAll Q (view s) (view t) unread left had has
-  all_seen s t unread left had has h = record {
-    script = h.script;
-    lines = h.lines;
-    answers = h.answers;
-    is_read = h.is_read;
-    at_end = h.at_end;
-    cut = h.cut;
-    ran = ran_seen h.lines h.answers s t h.ran;
-    wrote = h.wrote;
-  }
-
-  pub stop_seen : (why : WireFault) (s t : S) (unread left had has : Option (List ℕ))
-      → StopsAt P why s t unread left had has → StopsAt Q why (view s) (view t) unread left had has
-  stop_seen why s t unread left had has h = record {
-    bytes = h.bytes;
-    lines = h.lines;
-    answers = h.answers;
-    is_read = h.is_read;
-    before = h.before;
-    ran = ran_seen h.lines h.answers s t h.ran;
-    wrote = h.wrote;
-  }
 
 -- a byte of a piece, and the bytes after it
 pub piece_all : (bytes piece : List ℕ) (i : ℕ) → i < length piece

@@ -54,6 +54,12 @@ answer_to w call = answer_for w call (spelled call)
 abbrev pub world_then : World → Call → World
 world_then w call = world_for w call (spelled call)
 
+-- an answer that is no fault of the store or of memory
+abbrev pub IsAnswered : Answer → Type 0
+IsAnswered (answer.Reply reply) = Unit {0}
+IsAnswered (answer.Wire refusal) = Unit {0}
+IsAnswered answer.Storage = ⊥
+
 -- ---- Calls in turn
 
 abbrev pub answers_to : World → List Call → List Answer

@@ -2,7 +2,7 @@
 ghost use Rattle.std.specs.Prelude.{◌≡◌, IfOk};
 ghost use Rattle.reg_office.specs.Caller.{step_by};
 ghost use Rattle.reg_store.specs.Keeper.{Makes};
-ghost use Rattle.reg_wire.specs.Exchange.{call_view, answer_to, world_then};
+ghost use Rattle.reg_wire.specs.Exchange.{call_view, answer_to, world_then, IsAnswered};
 
 use reg_core::command::Command;
 use reg_core::reply::Reply;
@@ -39,8 +39,9 @@ pub fn answer_to<K: Keeper>(
 ) -> Result<Answer, Fault>
     ensures answer { K.Holds office.new → IfOk result
         (λ a. a ≡ answer_to (K.world office.old) (call_view call.now)) }
-    ensures world { Makes K.world K.Holds K.FAILS office.old office.new result
+    ensures world { Makes K.world K.Holds K.Sound K.FAILS office.old office.new result
         (λ w. world_then w (call_view call.now)) }
+    ensures is_answered { IfOk result IsAnswered }
 {
     match read_command(alloc, routes, call.method, call.path, call.body) {
         Ok(command) => Ok(Answer::Reply(handle(office, call, command)?)),
@@ -56,7 +57,7 @@ fn handle<K: Keeper>(
 ) -> Result<Reply, Fault>
     ensures reply { let step = step_by (K.world office.old) (call_view call.now).token in
         K.Holds office.new → IfOk result (λ r. r ≡ (step call.now.moment command).reply) }
-    ensures world { Makes K.world K.Holds K.FAILS office.old office.new result
+    ensures world { Makes K.world K.Holds K.Sound K.FAILS office.old office.new result
         (λ w. (step_by w (call_view call.now).token call.now.moment command).world) }
 {
     office.handle(call.moment, call.token, &command)

@@ -1,7 +1,7 @@
 //! A script: its lines are answered in turn.
 ghost use Rattle.std.specs.Prelude.{◌≡◌, OnOk, IfErr};
 ghost use Rattle.reg_wire.specs.Script.Lines.{AnswersAll, StopsAt};
-ghost use Rattle.reg_wire.specs.Script.Answers.{Serves};
+ghost use Rattle.reg_wire.specs.Script.Answers.{ServesOver};
 
 pub mod laws;
 mod line;
@@ -40,13 +40,12 @@ pub fn run<K: Keeper, R: Read, W: Write>(
     reader: &mut R,
     writer: &mut W,
 ) -> Result<(), WireFault>
-    ensures premise { K.Holds office.new → K.Holds office.old }
-    ensures ok { K.Holds office.new → OnOk result
-        (AnswersAll Serves (K.world office.old) (K.world office.new)
+    ensures ok { OnOk result
+        (AnswersAll (ServesOver K.world K.Holds K.Sound) office.old office.new
         (R.remaining reader.old) (R.remaining reader.new) (W.contents writer.old)
         (W.contents writer.new)) }
-    ensures err { K.Holds office.new → IfErr result
-        (λ fault. StopsAt Serves fault (K.world office.old) (K.world office.new)
+    ensures err { IfErr result
+        (λ fault. StopsAt (ServesOver K.world K.Holds K.Sound) fault office.old office.new
         (R.remaining reader.old) (R.remaining reader.new) (W.contents writer.old)
         (W.contents writer.new)) }
 {

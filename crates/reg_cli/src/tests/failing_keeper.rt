@@ -25,6 +25,8 @@ impl<K: Keeper> Keeper for FailingKeeper<K> {
 
     ghost Holds = { λ failing. K.Holds failing.keeper };
 
+    ghost Sound = { λ failing. K.Sound failing.keeper };
+
     ghost FAILS = { true };
 
     const FAILS: bool = true;

@@ -1,11 +1,12 @@
 -- How the lines of a script are answered over an office.
-use Rattle.std.specs.Prelude.{◌≡◌, ◌⊎◌, ◌==◌, ℕ, List, [], ◌∷◌, ◌++◌, map, filter, filter_map, not, Option, Some, None, if◌then◌else◌}
+use Rattle.std.specs.Prelude.{◌≡◌, ◌≢◌, ◌⊎◌, ◌==◌, ℕ, List, [], ◌∷◌, ◌++◌, map, filter, filter_map, not, Option, Some, None, if◌then◌else◌}
 use Rattle.std.specs.Fmt.{decimal}
 use Rattle.std.specs.List.{zip}
 use Rattle.std.specs.Str.{bytes_eq}
 use Rattle.reg_core.specs.World.{World}
 use Rattle.reg_print.specs.Answer.{status_of, body_text}
 use Rattle.reg_print.specs.declared.answer.Answer.{Answer}
+use Rattle.reg_store.specs.Keeper.{GoesOn}
 use Rattle.reg_wire.specs.Exchange.{Call, answer_to, world_then, answers_to, world_after_calls}
 use Rattle.reg_wire.specs.Script.Line.{line_of}
 use Rattle.reg_wire.specs.Script.Lines.{refusal, storage}
@@ -25,6 +26,13 @@ abbrev pub Serves : World → Call → List ℕ → World → Type 0
 Serves before call text after =
     ((text ≡ answer_line (answer_to before call)) × (after ≡ world_then before call))
     ⊎ ((text ≡ storage) × (after ≡ before))
+
+-- Over the states of a keeper: under the premise right after the line, so are the contents. What
+-- becomes of the premise: it goes on, unless the answer is 503.
+pub record ServesOver {S : Type 0} (world : S → World) (Holds Sound : S → Type 0) (before : S)
+    (call : Call) (text : List ℕ) (after : S) : Type 0 where
+  pub serves : Holds after → Serves (world before) call text (world after)
+  pub premise : GoesOn Holds Sound before after (text ≢ storage)
 
 -- ---- Lines in turn
 

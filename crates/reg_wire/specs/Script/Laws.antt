@@ -14,9 +14,10 @@ use Rattle.reg_core.specs.declared.wire_refusal.WireRefusal.TheVariants as wire
 use Rattle.reg_office.specs.Caller.{token_digest, caller_of}
 use Rattle.reg_print.specs.declared.answer.Answer.{Answer}
 use Rattle.reg_print.specs.declared.answer.Answer.TheVariants as answer
+use Rattle.reg_store.specs.Keeper.{GoesOn}
 use Rattle.reg_wire.specs.Exchange.{Call, event_of, events_of, answers_with}
 use Rattle.reg_wire.specs.Laws.{LookAlike}
-use Rattle.reg_wire.specs.Script.Answers.{Serves, answer_line, lines_with, calls_of, AnswerCalls, without_faults, faultless_lines, faultless_answers, faultless_calls}
+use Rattle.reg_wire.specs.Script.Answers.{Serves, ServesOver, answer_line, lines_with, calls_of, AnswerCalls, without_faults, faultless_lines, faultless_answers, faultless_calls}
 use Rattle.reg_wire.specs.Script.Line.{line_of, most_bytes, token_of, line_feed_of}
 use Rattle.reg_wire.specs.Script.Lines.{Answered, Ran, AreLines, IsOneLine, refusal, storage}
 
@@ -82,6 +83,26 @@ abbrev pub RunsAsTheModel : Type 0
 RunsAsTheModel =
     (lines answers : List (List ℕ)) (first last : World) → Ran Serves first lines answers last
     → IsModelRun first last (faultless_lines lines answers) (faultless_answers lines answers)
+
+-- ---- The premise, line by line
+
+-- after the first lines of a run: they were answered in turn, as the contents are, under the
+-- premise right after them, whatever comes later; and what becomes of the premise until then and
+-- after
+pub record StandSoFar {S : Type 0} (world : S → World) (Holds Sound : S → Type 0) (first last : S)
+    (lines answers later later_answers : List (List ℕ)) : Type 0 where
+  pub now : S
+  pub ran : Holds now → Ran Serves (world first) lines answers (world now)
+  pub premise : GoesOn Holds Sound first now (AllByRecursion (λ a. a ≢ storage) answers)
+  pub more : Ran (ServesOver world Holds Sound) now later later_answers last
+  pub later_premise : GoesOn Holds Sound now last (AllByRecursion (λ a. a ≢ storage) later_answers)
+
+abbrev pub LinesStandSoFar : {S : Type 0} → (S → World) → (S → Type 0) → (S → Type 0) → Type 0
+LinesStandSoFar {S} world Holds Sound =
+    (first last : S) (lines answers later later_answers : List (List ℕ))
+    → length lines ≡ length answers
+    → Ran (ServesOver world Holds Sound) first (lines ++ later) (answers ++ later_answers) last
+    → StandSoFar world Holds Sound first last lines answers later later_answers
 
 -- ---- Isolation, as of calls
 
@@ -152,13 +173,13 @@ line_without unseen t = reply_line (reply_without unseen t.stage.reply)
 -- same bytes in any case; and where none of these is there in the second run, what is printed there
 -- is what is printed in the first run without these rows
 pub record ArePrintedAlike (account : List ℕ) (unseen : RequestName → Bool) (s t : Turn) : Type 0
-    where
-  pub alike : AreAlikeTo account unseen s.stage t.stage
-  pub printed : s.answer ≡ reply_line s.stage.reply
-  pub left_printed : t.answer ≡ reply_line t.stage.reply
-  pub bytes : turn_lists_others account s ≡ false → s.answer ≡ t.answer
-  pub rows : line_without unseen s ≡ line_without unseen t
-  pub without : HasNone unseen t.stage.before → t.answer ≡ line_without unseen s
+  where
+    pub alike : AreAlikeTo account unseen s.stage t.stage
+    pub printed : s.answer ≡ reply_line s.stage.reply
+    pub left_printed : t.answer ≡ reply_line t.stage.reply
+    pub bytes : turn_lists_others account s ≡ false → s.answer ≡ t.answer
+    pub rows : line_without unseen s ≡ line_without unseen t
+    pub without : HasNone unseen t.stage.before → t.answer ≡ line_without unseen s
 
 -- the first refusal of bytes that give no command
 abbrev pub refusal_for : Option Call → Option WireRefusal

@@ -1,5 +1,5 @@
 -- Where a run stands between two bytes of its script.
-use Rattle.std.specs.Prelude.{◌≡◌, ◌≤◌, ◌+◌, ℕ, List, [], length, take, Option}
+use Rattle.std.specs.Prelude.{◌≡◌, ◌≢◌, ◌≤◌, ◌+◌, ℕ, List, [], length, take, Option}
 use Rattle.std.specs.List.{flat_map}
 use Rattle.std.specs.Io.KnownBytes.{Appends}
 use Rattle.reg_wire.specs.Exchange.{Call}
@@ -19,12 +19,12 @@ abbrev pub Unserved : {S : Type 0} → (S → Call → List ℕ → S → Type 0
     → Type 0
 Unserved Serves before line without.Storage after = Serves before line storage after
 Unserved Serves before line without.Memory after =
-    (answer : List ℕ) × Serves before line answer after
+    (answer : List ℕ) × (answer ≢ storage) × Serves before line answer after
 
 -- what went out of an answer before a fault, after `sent` bytes of others
 abbrev pub CutShort : WireFault → ℕ → List ℕ → Option (List ℕ) → Option (List ℕ) → Type 0
 CutShort Read sent answer had has = ⊥
-CutShort Memory sent answer had has = Appends had has []
+CutShort Memory sent answer had has = (answer ≢ storage) × Appends had has []
 CutShort (Write n) sent answer had has =
     (m : ℕ) × (m ≤ length answer) × (n ≡ sent + m) × Appends had has (take m (ended answer))
 

@@ -90,13 +90,14 @@ LinesBefore (Write n) left bytes lines =
 abbrev pub WithLast : List (List ℕ) → List (List ℕ) → Type 0
 WithLast front answers = (last : List ℕ) × (answers ≡ front ++ last ∷ [])
 
--- what went out of the answers: after `Write(n)` n bytes, which end in the last answer
+-- what went out of the answers: after `Memory` all, or all but the last, which is then no fault's;
+-- after `Write(n)` n bytes, which end in the last answer
 abbrev pub Wrote : WireFault → List (List ℕ) → Option (List ℕ) → Option (List ℕ) → Type 0
 Wrote Read answers had has = Appends had has (flat_map ended answers)
 Wrote Memory answers had has =
     Appends had has (flat_map ended answers)
-    ⊎ ((front : List (List ℕ)) × WithLast front answers
-    × Appends had has (flat_map ended front))
+    ⊎ ((front : List (List ℕ)) × (last : List ℕ) × (answers ≡ front ++ last ∷ [])
+    × (last ≢ storage) × Appends had has (flat_map ended front))
 Wrote (Write n) answers had has =
     (front : List (List ℕ)) × WithLast front answers × (length (flat_map ended front) ≤ n)
     × (n < length (flat_map ended answers))

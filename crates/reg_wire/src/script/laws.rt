@@ -1,7 +1,8 @@
 //! Laws of scripts, over their definitions.
-ghost use Rattle.reg_wire.specs.Script.Laws.{LinesAreRead, IsCutOneWay, AnswersAreLines, AreAnswers, RunsAsTheModel, LinesAreAnsweredAlike, UnseenLinesLeaveNoTrace};
+ghost use Rattle.reg_wire.specs.Script.Laws.{LinesAreRead, IsCutOneWay, AnswersAreLines, AreAnswers, RunsAsTheModel, LinesAreAnsweredAlike, UnseenLinesLeaveNoTrace, LinesStandSoFar};
 
 use crate::laws::{calls_are_answered_alike, calls_run_as_the_model, unseen_calls_leave_no_trace};
+use reg_store::keeper::Keeper;
 
 /// A line is read as it is written: `moment token METHOD path body`, with one space between. Other
 /// bytes are no line.
@@ -33,6 +34,14 @@ pub fn runs_as_the_model()
 {
     calls_run_as_the_model();
 }
+
+/// What is promised of lines stands under the premise of the store right after them, whatever comes
+/// later: the first lines of a run were answered in turn as their contents are, where the premise
+/// is true then. It is, where it was at the beginning, none of them was answered 503 and the device
+/// behind the store was sound until then.
+pub fn lines_stand_so_far<K: Keeper>()
+    ensures { LinesStandSoFar K.world K.Holds K.Sound }
+{}
 
 /// Isolation, of lines: two well kept offices that show the sender of a line, who is no clerk, the
 /// same view answer it by the same bytes, and then show the sender the same view again, as of

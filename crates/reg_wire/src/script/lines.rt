@@ -21,11 +21,10 @@ pub(crate) fn respond_all<A: Responder, R: Read, W: Write>(
     reader: &mut R,
     writer: &mut W,
 ) -> Result<(), WireFault>
-    ensures premise { A.Holds responder.new → A.Holds responder.old }
-    ensures ok { A.Holds responder.new → OnOk result (AnswersAll A.Serves responder.old responder.new
+    ensures ok { OnOk result (AnswersAll A.Serves responder.old responder.new
         (R.remaining reader.old) (R.remaining reader.new) (W.contents writer.old)
         (W.contents writer.new)) }
-    ensures err { A.Holds responder.new → IfErr result
+    ensures err { IfErr result
         (λ fault. StopsAt A.Serves fault responder.old responder.new
         (R.remaining reader.old) (R.remaining reader.new) (W.contents writer.old)
         (W.contents writer.new)) }
@@ -55,12 +54,11 @@ fn answer_buffered<A: Responder, W: Write>(
     buffer: &LineBuffer,
     sent: usize,
 ) -> Result<usize, WireFault>
-    ensures premise { A.Holds responder.new → A.Holds responder.old }
-    ensures ok { A.Holds responder.new → IfOk result (λ n. (line : List ℕ) → IsBuffered line buffer.now
+    ensures ok { IfOk result (λ n. (line : List ℕ) → IsBuffered line buffer.now
         → (answer : List ℕ) × Answered A.Serves responder.old line answer responder.new
         × Appends (W.contents writer.old) (W.contents writer.new) (ended answer)
         × (n ≡ sent + length (ended answer))) }
-    ensures err { A.Holds responder.new → IfErr result
+    ensures err { IfErr result
         (λ fault. (line : List ℕ) → IsBuffered line buffer.now
         → (answer : List ℕ) × Answered A.Serves responder.old line answer responder.new
         × CutShort fault sent answer (W.contents writer.old) (W.contents writer.new)) }
@@ -85,13 +83,12 @@ fn take_byte<A: Responder, W: Write>(
     sent: usize,
     byte: u8,
 ) -> Result<usize, WireFault>
-    ensures premise { A.Holds responder.new → A.Holds responder.old }
-    ensures ok { A.Holds responder.new → IfOk result
+    ensures ok { IfOk result
         (λ n. (first : A) (had : Option (List ℕ)) (bytes : List ℕ)
         → Progress A.Serves first had bytes buffer.old sent responder.old (W.contents writer.old)
         → Progress A.Serves first had (bytes ++ byte ∷ []) buffer.new n responder.new
         (W.contents writer.new)) }
-    ensures err { A.Holds responder.new → IfErr result
+    ensures err { IfErr result
         (λ fault. (first : A) (had : Option (List ℕ)) (bytes : List ℕ)
         → Progress A.Serves first had bytes buffer.old sent responder.old (W.contents writer.old)
         → Halted A.Serves fault first had (bytes ++ byte ∷ []) responder.new
@@ -116,13 +113,12 @@ fn take_piece<A: Responder, W: Write>(
     sent: usize,
     piece: &[u8],
 ) -> Result<usize, WireFault>
-    ensures premise { A.Holds responder.new → A.Holds responder.old }
-    ensures ok { A.Holds responder.new → IfOk result
+    ensures ok { IfOk result
         (λ n. (first : A) (had : Option (List ℕ)) (bytes : List ℕ)
         → Progress A.Serves first had bytes buffer.old sent responder.old (W.contents writer.old)
         → Progress A.Serves first had (bytes ++ piece.now) buffer.new n responder.new
         (W.contents writer.new)) }
-    ensures err { A.Holds responder.new → IfErr result
+    ensures err { IfErr result
         (λ fault. (first : A) (had : Option (List ℕ)) (bytes : List ℕ)
         → Progress A.Serves first had bytes buffer.old sent responder.old (W.contents writer.old)
         → Halted A.Serves fault first had (bytes ++ piece.now) responder.new
@@ -144,11 +140,10 @@ fn finish<A: Responder, W: Write>(
     buffer: &LineBuffer,
     sent: usize,
 ) -> Result<(), WireFault>
-    ensures premise { A.Holds responder.new → A.Holds responder.old }
-    ensures ok { A.Holds responder.new → OnOk result ((first : A) (had : Option (List ℕ)) (bytes : List ℕ)
+    ensures ok { OnOk result ((first : A) (had : Option (List ℕ)) (bytes : List ℕ)
         → Progress A.Serves first had bytes buffer.now sent responder.old (W.contents writer.old)
         → Whole A.Serves first had bytes responder.new (W.contents writer.new)) }
-    ensures err { A.Holds responder.new → IfErr result
+    ensures err { IfErr result
         (λ fault. (first : A) (had : Option (List ℕ)) (bytes : List ℕ)
         → Progress A.Serves first had bytes buffer.now sent responder.old (W.contents writer.old)
         → HaltedLast A.Serves fault first had bytes responder.new (W.contents writer.new)) }

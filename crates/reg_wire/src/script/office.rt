@@ -1,8 +1,8 @@
 //! The office as the responder of a script.
 ghost use Rattle.std.specs.Prelude.{◌≡◌, map, IfOk};
 ghost use Rattle.reg_store.specs.Keeper.{Makes};
-ghost use Rattle.reg_wire.specs.Exchange.{answer_to, world_then};
-ghost use Rattle.reg_wire.specs.Script.Answers.{Serves, answer_line, tab_of as tab};
+ghost use Rattle.reg_wire.specs.Exchange.{answer_to, world_then, IsAnswered};
+ghost use Rattle.reg_wire.specs.Script.Answers.{ServesOver, answer_line, tab_of as tab};
 ghost use Rattle.reg_wire.specs.Script.Line.{call_of, line_feed_of as line_feed};
 
 use crate::exchange::{Call, answer_to};
@@ -17,9 +17,7 @@ use std::alloc::{AllocError, Global};
 impl<K: Keeper> Responder for Office<K> {
     type Routes = Routes;
 
-    ghost Holds = { K.Holds };
-
-    ghost Serves = { λ before call answer after. Serves (K.world before) call answer (K.world after) };
+    ghost Serves = { ServesOver K.world K.Holds K.Sound };
 
     fn respond(
         &mut self,
@@ -46,8 +44,9 @@ fn answer_to_line<K: Keeper>(
 ) -> Result<Answer, Fault>
     ensures answer { K.Holds office.new → IfOk result
         (λ a. a ≡ answer_to (K.world office.old) (call_of line.now)) }
-    ensures world { Makes K.world K.Holds K.FAILS office.old office.new result
+    ensures world { Makes K.world K.Holds K.Sound K.FAILS office.old office.new result
         (λ w. world_then w (call_of line.now)) }
+    ensures is_answered { IfOk result IsAnswered }
 {
     let body = with_line_feeds(alloc, line.body)?;
     let call = Call {

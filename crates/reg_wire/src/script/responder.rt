@@ -12,17 +12,14 @@ use std::alloc::Global;
 pub(crate) enum Unanswered {
     /// The store or memory failed, and nothing has changed.
     Storage,
-    /// What the line asks was done, and there is no memory for the answer.
+    /// What the line asks was done, and there is no memory for the answer, which is no fault's.
     Memory,
 }
 
-/// What answers the lines of a script. Each promise stands under its premise after the call.
+/// What answers the lines of a script.
 pub(crate) trait Responder {
     /// Where it looks up what a line asks.
     type Routes;
-
-    /// The premise under which what is kept is what was written.
-    ghost Holds: { Self → Type 0 };
 
     /// What may be answered to a line, and what is there then.
     ghost Serves: { Self → Call → List ℕ → Self → Type 0 };
@@ -34,9 +31,8 @@ pub(crate) trait Responder {
         routes: &Self::Routes,
         line: &Line<'_>,
     ) -> Result<Vec<u8>, Unanswered>
-        ensures premise { Holds self.new → Holds self.old }
-        ensures ok { Holds self.new → IfOk result
+        ensures ok { IfOk result
             (λ answer. Serves self.old (call_of line.now) answer.items self.new) }
-        ensures err { Holds self.new → IfErr result
+        ensures err { IfErr result
             (λ why. Unserved Serves self.old (call_of line.now) why self.new) };
 }

@@ -1,12 +1,9 @@
-use Rattle.std.proofs.Common.{◌≡◌, ℕ, List, Result, sym, ap, ◌∙◌}
-use Rattle.std.specs.Prelude.{Option, Some}
+use Rattle.std.proofs.Common.{◌≡◌, ℕ, Result, sym, ap, ◌∙◌}
 use Rattle.std.specs.Option.{option_copied}
-use Rattle.reg_early.specs.Moment.{is_in_clock, utc_day, day_of_moment}
 use Rattle.reg_core.specs.Allowance.{◌>>=◌}
 use Rattle.reg_core.specs.Answer.{Answer}
 use Rattle.reg_core.specs.Step.{answer_to}
 use Rattle.reg_core.specs.World.{World}
-use Rattle.reg_core.specs.declared.capability.Kind.{Kind}
 use Rattle.reg_core.specs.declared.capability.Kind.TheVariants as kind
 use Rattle.reg_core.specs.declared.refusal.Refusal.{Refusal}
 use Rattle.reg_office.specs.Answers.{answer_to_account, answer_to_clerk, answer_to_expert}

@@ -7,7 +7,7 @@ use Rattle.reg_wire.proofs.Runs.{refused, served}
 use Rattle.reg_wire.proofs.script.lines.answer_buffered.Goals as goal
 
 pub returns-in_default-clause-ok : goal.returns-in_default-clause-ok
-returns-in_default-clause-ok g c holds =
+returns-in_default-clause-ok g c =
     IfOk-weaker c.send_answer.result _ _
     (λ n h line buffered. (
       refusal,
@@ -18,13 +18,13 @@ returns-in_default-clause-ok g c holds =
     )) c.send_answer.ensures.ok
 
 pub returns-in-Err-Storage-clause-ok : goal.returns-in-Err-Storage-clause-ok
-returns-in-Err-Storage-clause-ok g c holds =
+returns-in-Err-Storage-clause-ok g c =
     IfOk-weaker c.send_answer-in-Err-Storage.result _ _
     (λ n h line buffered. (
       storage,
       served g.A.Responder.Serves _ _ line storage _
           (c.in-Some.ensures line buffered)
-          (rw c.in-Err-Storage.field-0-is at (c.in-Err-Storage.ensures.err holds)),
+          (rw c.in-Err-Storage.field-0-is at (c.in-Err-Storage.ensures.err)),
       h.1,
       h.0,
     )) c.send_answer-in-Err-Storage.ensures.ok

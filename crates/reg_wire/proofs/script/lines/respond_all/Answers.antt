@@ -6,46 +6,40 @@ use Rattle.reg_wire.proofs.Runs.{progress_start, stops_at, stops_last, answers_a
 use Rattle.reg_wire.proofs.script.lines.respond_all.Goals as goal
 
 pub loop-init : goal.loop-init
-loop-init g c = record {
-  premise = λ h. h;
-  far = λ h.
-      ([], Consumes-nil _, rw c.new-buffer.ensures (progress_start g.A.Responder.Serves _ _));
-}
+loop-init g c =
+    ([], Consumes-nil _, rw c.new-buffer.ensures (progress_start g.A.Responder.Serves _ _))
 
 pub returns-then-count-eq0-clause-ok : goal.returns-then-count-eq0-clause-ok
-returns-then-count-eq0-clause-ok g c holds =
-    let i = c.loop.invariant.far (c.finish.ensures.premise holds) in
+returns-then-count-eq0-clause-ok g c =
+    let i = c.loop.invariant in
     let got = read_none _ _ _ _ _ _ c.if-count-eq0.true i.1 c.in-Ok.ensures.bytes.0 in
     IfOk-weaker c.finish.result _ _
     (λ _ h. answers_all g.A.Responder.Serves _ _ i.0 _ _ _ _ got
     (c.in-Ok.ensures.bytes.1 c.if-count-eq0.true (omega arith)) (h _ _ _ i.2))
-    (c.finish.ensures.ok holds)
+    (c.finish.ensures.ok)
 
 pub returns-then-count-eq0-clause-err : goal.returns-then-count-eq0-clause-err
-returns-then-count-eq0-clause-err g c holds =
-    let i = c.loop.invariant.far (c.finish.ensures.premise holds) in
+returns-then-count-eq0-clause-err g c =
+    let i = c.loop.invariant in
     let got = read_none _ _ _ _ _ _ c.if-count-eq0.true i.1 c.in-Ok.ensures.bytes.0 in
     IfErr-weaker c.finish.result _ _
     (λ e h. stops_last g.A.Responder.Serves _ _ e i.0 _ _ _ _ got
     (c.in-Ok.ensures.bytes.1 c.if-count-eq0.true (omega arith)) (h _ _ _ i.2))
-    (c.finish.ensures.err holds)
+    (c.finish.ensures.err)
 
 pub returns-in_err-sent-clause-err : goal.returns-in_err-sent-clause-err
-returns-in_err-sent-clause-err g c holds =
+returns-in_err-sent-clause-err g c =
     let out = err_from_is_err_and c.from_residual.result c.from_residual.ensures.1 in
-    let i = c.loop.invariant.far (c.in_err-sent.ensures.premise holds) in
+    let i = c.loop.invariant in
     rw (out.1, out.2)
     (stops_at g.A.Responder.Serves _ _ _ (i.0 ++ take c.in-Ok.count c.read.new.buf) _ _ _ _
     (Consumes-trans _ _ _ _ _ i.1 c.in-Ok.ensures.bytes.0)
-    (c.in_err-sent.ensures.err holds _ _ i.0 i.2))
+    (c.in_err-sent.ensures.err _ _ i.0 i.2))
 
 pub loop-preserved : goal.loop-preserved
-loop-preserved g c = record {
-  premise = λ h. c.loop.invariant.premise (c.in_ok-sent.ensures.premise h);
-  far = λ h.
-      let i = c.loop.invariant.far (c.in_ok-sent.ensures.premise h) in (
-        i.0 ++ take c.in-Ok.count c.read.new.buf,
-        Consumes-trans _ _ _ _ _ i.1 c.in-Ok.ensures.bytes.0,
-        c.in_ok-sent.ensures.ok h _ _ i.0 i.2,
-      );
-}
+loop-preserved g c =
+    let i = c.loop.invariant in (
+      i.0 ++ take c.in-Ok.count c.read.new.buf,
+      Consumes-trans _ _ _ _ _ i.1 c.in-Ok.ensures.bytes.0,
+      c.in_ok-sent.ensures.ok _ _ i.0 i.2,
+    )

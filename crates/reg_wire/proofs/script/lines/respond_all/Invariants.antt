@@ -4,11 +4,8 @@ use Rattle.reg_wire.specs.Script.LineBuffer.{Progress}
 use Rattle.reg_wire.proofs.script.lines.respond_all.Given as goal
 
 abbrev pub invariant-loop : goal.invariant-loop
-invariant-loop g l = record {
-  premise : g.A.Responder.Holds l.responder → g.A.Responder.Holds l.initial.responder;
-  far : g.A.Responder.Holds l.responder
-      → (bytes : List ℕ) × Consumes (g.R.Read.remaining l.initial.reader)
-      (g.R.Read.remaining l.reader) bytes
-      × Progress g.A.Responder.Serves l.initial.responder (g.W.Write.contents l.initial.writer)
-      bytes l.buffer l.sent l.responder (g.W.Write.contents l.writer);
-}
+invariant-loop g l =
+    (bytes : List ℕ) × Consumes (g.R.Read.remaining l.initial.reader)
+    (g.R.Read.remaining l.reader) bytes
+    × Progress g.A.Responder.Serves l.initial.responder (g.W.Write.contents l.initial.writer)
+    bytes l.buffer l.sent l.responder (g.W.Write.contents l.writer)
