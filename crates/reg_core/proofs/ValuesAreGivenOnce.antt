@@ -35,7 +35,7 @@ some_value : (w : World) → WellKept w → (account : List ℕ) (ask : CodeAsk)
 some_value w kept account ask (Value v) h = (v, allowed_may_be_given w kept account ask v h)
 
 given_duly : (w : World) → WellKept w → (today : ℕ) (account reference : List ℕ) (entry : Entry)
-    → Gives w today (account, reference) entry → IsGivenDuly w account reference entry
+    → Gives w today (account, reference) entry → IsGivenDuly w today account reference entry
 given_duly w kept today account reference entry gives =
     let was = gives.pending in
     let itself : was.case ≡ pending (Code gives.ask) =
@@ -44,7 +44,9 @@ given_duly w kept today account reference entry gives =
       ask = gives.ask;
       request = was.is_there ∙ ap Some itself;
       registry = ap (λ (e : Entry). e.registry) (sym gives.is);
+      label = ap (λ (e : Entry). e.label) (sym gives.is);
       assignee = ap (λ (e : Entry). e.assignee) (sym gives.is);
+      term = ap (λ (e : Entry). e.term) (sym gives.is);
       value = allowed_may_be_given w kept account gives.ask entry.value gives.allows;
     }
 

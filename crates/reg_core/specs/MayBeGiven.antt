@@ -1,6 +1,8 @@
 -- What is so of a value that is given, in the words of its registry and of the policy of its range.
 use Rattle.std.specs.Prelude.{◌≡◌, ◌≢◌, ℕ, List, [], true, false, Option, Some, None}
 use Rattle.std.specs.FinMap.{get}
+use Rattle.reg_early.specs.Moment.{utc_day}
+use Rattle.reg_early.specs.Terms.{permanent_term}
 use Rattle.reg_ranges.specs.Requirements.{is_closed_policy, unmet}
 use Rattle.reg_ranges.specs.Tables.{Table, treatment_of}
 use Rattle.reg_ranges.specs.declared.policy.Policy.{Policy}
@@ -42,13 +44,17 @@ pub record MayBeGiven (w : World) (ask : CodeAsk) (v : ℕ) : Type 0 where
   pub evidence : unmet policy ask.evidence ≡ []
   pub free : get w.entries (ask.registry, v) ≡ None
 
--- the entry that a pending request of an account is given: of its registry and in its name, at a
--- value that may be given
-pub record IsGivenDuly (w : World) (account reference : List ℕ) (entry : Entry) : Type 0 where
+-- the entry that a pending request of an account is given on a day: of the registry and the label
+-- that it names, in the name of the account, from that day on for good, at a value that may be
+-- given
+pub record IsGivenDuly (w : World) (today : ℕ) (account reference : List ℕ) (entry : Entry) :
+    Type 0 where
   pub ask : CodeAsk
   pub request : get w.requests (account, reference) ≡ Some (pending (Code ask))
   pub registry : entry.registry ≡ ask.registry
+  pub label : entry.label ≡ ask.label
   pub assignee : entry.assignee ≡ account
+  pub term : entry.term ≡ permanent_term today
   pub value : MayBeGiven w ask entry.value
 
 -- a request is taken in where some value may be given to it, and is given an entry at such a one;
@@ -63,7 +69,7 @@ pub record AsksMeetTheirPolicy (digest_of : List ℕ → List ℕ) : Type 0 wher
       (account reference : List ℕ) (entry : Entry) → WellKept w
       → change_of (answer_to digest_of w caller moment command)
       ≡ Some (GiveValue account reference entry)
-      → IsGivenDuly w account reference entry
+      → IsGivenDuly w (utc_day moment) account reference entry
   pub stands : (w : World) (name : RequestName) (case : Case) (ask : CodeAsk) (v : ℕ)
       → WellKept w → get w.requests name ≡ Some case → case.ask ≡ Code ask
       → case.state ≡ Approved (given.Value v)
