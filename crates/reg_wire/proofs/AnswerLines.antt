@@ -36,21 +36,8 @@ refused_is_another : (why : Refusal)
     → bytes_eq (answer_line (answer.Reply (Refused why))) storage ≡ false
 unfolding body_text digits serde_json_on_literals
 refused_is_another no.Clock = refl
-refused_is_another no.Token = refl
-refused_is_another no.Kind = refl
-refused_is_another no.Ref = refl
-refused_is_another no.Request = refl
-refused_is_another no.Closed = refl
-refused_is_another no.Registry = refl
-refused_is_another no.Range = refl
-refused_is_another no.Policy = refl
 refused_is_another (no.Evidence item) = refl
-refused_is_another no.Taken = refl
-refused_is_another no.Exhausted = refl
-refused_is_another no.Advice = refl
-refused_is_another no.Own = refl
-refused_is_another no.Exists = refl
-refused_is_another no.Bits = refl
+refused_is_another why = refl
 
 content_is_another : (c : Content)
     → bytes_eq (answer_line (answer.Reply (Accepted c))) storage ≡ false
