@@ -12,7 +12,7 @@ pub enum JobFailure {
     Memory,
     /// The store could not be read or written.
     Store,
-    /// Input could not be read.
+    /// Input could not be read, or there was no end to it.
     Read,
     /// Output could not be written.
     Write,
@@ -36,7 +36,7 @@ impl From<FoundFault> for JobFailure {
 impl From<WireFault> for JobFailure {
     fn from(fault: WireFault) -> JobFailure {
         match fault {
-            WireFault::Read => JobFailure::Read,
+            WireFault::Read | WireFault::TooManyReads => JobFailure::Read,
             WireFault::Write(_) => JobFailure::Write,
             WireFault::Memory => JobFailure::Memory,
         }

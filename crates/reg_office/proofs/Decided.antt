@@ -129,7 +129,8 @@ performs_decided {world = world} {Holds = Holds} {old = old} {mid = mid} {answer
       made = λ h.
           makes.made h
           ∙ ap (λ w. applied_if w (change_by decision)) (decides.same (makes.premise.before h))
-          ∙ ap (λ a. applied_if (world old) (change_of a)) (sym (answer_is (makes.premise.before h)));
+          ∙ ap (λ a. applied_if (world old) (change_of a))
+          (sym (answer_is (makes.premise.before h)));
       refused = λ h. tt;
       kept = λ h. tt;
       premise = goes_on_then decides.premise makes.premise;

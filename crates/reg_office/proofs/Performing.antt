@@ -33,7 +33,8 @@ performs_then {world = world} {Holds = Holds} {old = old} {mid = mid} {new = new
       refused = λ h.
           subst (λ (a : Answer). IfErr result (Refuses a)) (answer_is h) (performs.refused h);
       kept = λ h.
-          subst (λ (w : World). OnErr result (world new ≡ w)) (finds.same (performs.premise.before h))
+          subst (λ (w : World). OnErr result (world new ≡ w))
+          (finds.same (performs.premise.before h))
           (performs.kept h);
       premise = goes_on_then finds.premise performs.premise;
       fault = performs.fault;

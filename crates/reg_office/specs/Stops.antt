@@ -21,7 +21,3 @@ MayStop fails (Fault fault) = MayFault fails fault
 abbrev pub Refuses : {T : Type 0} → Result T Refusal → Stop → Type 0
 Refuses outcome (Refused refusal) = outcome ≡ Err refusal
 Refuses outcome (Fault fault) = Unit {0}
-
-abbrev pub IsRefusal : Stop → Type 0
-IsRefusal (Refused refusal) = Unit {0}
-IsRefusal (Fault fault) = ⊥

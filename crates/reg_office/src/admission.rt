@@ -35,6 +35,7 @@ pub fn admit<K: Keeper>(
         (λ w. admission w (caller (option_copied token.entry)) moment kind) }
     ensures nobody { caller (option_copied token.entry) ≡ None →
         result ≡ Err (Stop.Refused Refusal.Token) }
+    ensures untouched { caller (option_copied token.entry) ≡ None → keeper.new ≡ keeper.old }
 {
     let digest = caller_of(alloc, token)?.ok_or(Refusal::Token)?;
     let existing = keeper.cap(&digest)?;

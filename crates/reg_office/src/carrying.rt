@@ -16,7 +16,8 @@ use std::alloc::AllocError;
 pub fn make<K: Keeper>(keeper: &mut K, change: Change) -> Result<(), Fault>
     requires { K.Holds keeper.old →
         WellKept (K.world keeper.old) → CanApply (K.world keeper.old) change }
-    ensures { Makes K.world K.Holds K.Sound K.FAILS keeper.old keeper.new result (λ w. applied w change) }
+    ensures { Makes K.world K.Holds K.Sound K.FAILS keeper.old keeper.new result
+        (λ w. applied w change) }
 {
     keeper.apply(change)
 }

@@ -1,5 +1,5 @@
 //! The office over whatever keeps its content.
-ghost use Rattle.std.specs.Prelude.{◌≡◌, None, Err, IfOk, IfErr, IsErrAnd, OnOk, OnErr, IsOk, IsSome, false};
+ghost use Rattle.std.specs.Prelude.{◌≡◌, None, Ok, Err, IfOk, IfErr, OnOk, OnErr, IsSome, true, false};
 ghost use Rattle.std.specs.Option.{option_copied};
 ghost use Rattle.reg_early.specs.Moment.{is_in_clock};
 ghost use Rattle.reg_core.specs.Command.{kind_of};
@@ -9,7 +9,6 @@ ghost use Rattle.reg_store.specs.Keeper.{MayFault, IsUnfailed, GoesOn};
 ghost use Rattle.reg_office.specs.Caller.{caller_of as caller, step_by, token_digest};
 ghost use Rattle.reg_office.specs.Found.{WasFounded, IsCause, MayFound};
 ghost use Rattle.reg_office.specs.Performs.{Performs};
-ghost use Rattle.reg_office.specs.Stops.{IsRefusal};
 
 use crate::admission::admit;
 use crate::found::{FoundFault, found};
@@ -72,7 +71,8 @@ impl<K: Keeper> Office<K> {
     /// Answers one command at a moment, in seconds since 1970-01-01T00:00:00Z, of the caller with
     /// this token: exactly one step of the office. After a fault nothing has changed. At a command
     /// that is anybody's the token is not looked at. A moment outside the years 2000 to 2999 is
-    /// answered without memory, and so is a command without a token that is not anybody's.
+    /// refused, `Clock`, without memory and without a look at the keeper; and so, `Token`, is a
+    /// command that is not anybody's from a caller without a token.
     pub fn handle(
         &mut self,
         moment: u64,
@@ -86,9 +86,11 @@ impl<K: Keeper> Office<K> {
         ensures kept { K.Holds self.new → OnErr result (K.world self.new ≡ K.world self.old) }
         ensures premise { GoesOn K.Holds K.Sound self.old self.new (IsUnfailed result) }
         ensures fault { IfErr result (MayFault K.FAILS) }
-        ensures clock { is_in_clock moment ≡ false → IsOk result }
-        ensures nobody { IsSome (kind_of command.now) →
-            caller (option_copied token.entry) ≡ None → IsOk result }
+        ensures clock { is_in_clock moment ≡ false →
+            (result ≡ Ok (Reply.Refused Refusal.Clock)) × (self.new ≡ self.old) }
+        ensures nobody { is_in_clock moment ≡ true → IsSome (kind_of command.now) →
+            caller (option_copied token.entry) ≡ None →
+            (result ≡ Ok (Reply.Refused Refusal.Token)) × (self.new ≡ self.old) }
     {
         match answer(self.alloc, &mut self.keeper, moment, token, command) {
             Ok(content) => Ok(Reply::Accepted(content)),
@@ -108,9 +110,11 @@ fn answer<K: Keeper>(
 ) -> Result<Content, Stop>
     ensures answer { Performs K.world K.Holds K.Sound K.FAILS keeper.old keeper.new result
         (λ w. answer_to token_digest w (caller (option_copied token.entry)) moment command.now) }
-    ensures clock { is_in_clock moment ≡ false → result ≡ Err (Stop.Refused Refusal.Clock) }
-    ensures nobody { IsSome (kind_of command.now) →
-        caller (option_copied token.entry) ≡ None → IsErrAnd result IsRefusal }
+    ensures clock { is_in_clock moment ≡ false →
+        (result ≡ Err (Stop.Refused Refusal.Clock)) × (keeper.new ≡ keeper.old) }
+    ensures nobody { is_in_clock moment ≡ true → IsSome (kind_of command.now) →
+        caller (option_copied token.entry) ≡ None →
+        (result ≡ Err (Stop.Refused Refusal.Token)) × (keeper.new ≡ keeper.old) }
 {
     let today = day_of(moment).ok_or(Refusal::Clock)?;
     match command {

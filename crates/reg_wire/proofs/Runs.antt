@@ -1,5 +1,5 @@
 -- One line more, and one byte more.
-use Rattle.std.proofs.Common.{◌≡◌, ◌≢◌, ℕ, ◌+◌, ◌<◌, List, [], ◌∷◌, ◌++◌, Option, None, Some, length, take, drop, arith, refl, sym, ap, ◌∙◌, append_assoc, append-nil, inl, inr, length-append, subst, get_or, add-one, drop-cons, take-append-drop}
+use Rattle.std.proofs.Common.{◌≡◌, ◌≢◌, ℕ, ◌+◌, ◌<◌, ◌≤◌, List, [], ◌∷◌, ◌++◌, Option, None, Some, length, take, drop, arith, refl, sym, ap, ◌∙◌, append_assoc, append-nil, inl, inr, length-append, subst, get_or, add-one, drop-cons, take-append-drop}
 use Rattle.std.proofs.KnownBytes.{Appends-trans, Appends-nil, Consumes-nil}
 use Rattle.std.proofs.lemmas.List.{length-take}
 use Rattle.std.proofs.Math.Seq.{take-append-add}
@@ -9,7 +9,7 @@ use Rattle.reg_wire.specs.declared.wire_fault.WireFault.{WireFault}
 use Rattle.reg_wire.specs.declared.wire_fault.WireFault.TheVariants as fault
 use Rattle.reg_wire.specs.Exchange.{Call}
 use Rattle.reg_wire.specs.Script.Line.{line_of, most_bytes}
-use Rattle.reg_wire.specs.Script.Lines.{refusal, Answered, Ran, IsOneLine, ended, Cut, rest_line, AreLines, BeginWith, AnswersAll, StopsAt}
+use Rattle.reg_wire.specs.Script.Lines.{refusal, most_reads, Answered, Ran, IsOneLine, ended, Cut, rest_line, AreLines, BeginWith, AnswersAll, StopsAt}
 use Rattle.reg_wire.specs.Script.LineBuffer.{IsBuffered, CutShort, Progress, WroteSome, Whole, Halted, HaltedLast}
 
 -- ---- A line
@@ -88,6 +88,7 @@ wrote_short : (why : WireFault) (answers : List (List ℕ)) (answer : List ℕ) 
     → Appends had has (flat_map ended answers) → sent ≡ length (flat_map ended answers)
     → CutShort why sent answer has now → WroteSome why (answers ++ answer ∷ []) had now
 wrote_short fault.Read answers answer sent had has now p count h = h
+wrote_short fault.TooManyReads answers answer sent had has now p count h = h
 wrote_short fault.Memory answers answer sent had has now p count h =
     let same = append-nil (flat_map ended answers) in
     inr (answers, answer, refl, h.0, rw same at (Appends-trans had has now _ _ p h.1))
@@ -302,16 +303,18 @@ module _ {S : Type 0} (Serves : S → Call → List ℕ → S → Type 0) (first
     wrote = h.wrote;
   }
 
-  pub stops_reading : (bytes buffered : List ℕ) (sent : ℕ) (w : S)
+  -- after so many reads that each gave a byte
+  pub stops_after_reads : (bytes buffered : List ℕ) (sent : ℕ) (w : S)
       (unread left has : Option (List ℕ))
       → Consumes unread left bytes → Progress Serves first had bytes buffered sent w has
-      → StopsAt Serves fault.Read first w unread left had has
-  stops_reading bytes buffered sent w unread left has got p = record {
+      → most_reads ≤ length bytes
+      → StopsAt Serves fault.TooManyReads first w unread left had has
+  stops_after_reads bytes buffered sent w unread left has got p many = record {
     bytes = bytes;
     lines = p.lines;
     answers = p.answers;
     is_read = got;
-    before = (p.rest, p.cut);
+    before = (p.rest, p.cut, many);
     ran = p.ran;
     wrote = p.wrote;
   }
@@ -320,6 +323,7 @@ module _ {S : Type 0} (Serves : S → Call → List ℕ → S → Type 0) (first
       → Consumes unread left bytes → Halted Serves why first had bytes w has
       → StopsAt Serves why first w unread left had has
   stops_at fault.Read bytes w unread left has got h = absurd h.wrote
+  stops_at fault.TooManyReads bytes w unread left has got h = absurd h.wrote
   stops_at fault.Memory bytes w unread left has got h =
       record {
         bytes = bytes;
@@ -347,6 +351,7 @@ module _ {S : Type 0} (Serves : S → Call → List ℕ → S → Type 0) (first
       → Consumes unread left bytes → IsAtEnd left → HaltedLast Serves why first had bytes w has
       → StopsAt Serves why first w unread left had has
   stops_last fault.Read bytes w unread left has got end h = absurd h.wrote
+  stops_last fault.TooManyReads bytes w unread left has got end h = absurd h.wrote
   stops_last fault.Memory bytes w unread left has got end h =
       record {
         bytes = bytes;
@@ -382,6 +387,12 @@ stops_before Serves first unread had = record {
   ran = refl;
   wrote = inl (Appends-nil had);
 }
+
+-- a read that gave something gave a byte at least
+pub one_more : (bytes buf : List ℕ) (made count : ℕ) → made ≤ length bytes → count ≢ 0
+    → 0 < length buf → made + 1 ≤ length (bytes ++ take count buf)
+one_more bytes buf made count far some room =
+    omega (arith, far, some, room, length-append bytes (take count buf), length-take count buf)
 
 -- a byte of a piece, and the bytes after it
 pub piece_all : (bytes piece : List ℕ) (i : ℕ) → i < length piece

@@ -64,8 +64,10 @@ module _ {S : Type 0} (world : S → World) (Holds Sound : S → Type 0) where
       → Ran Over first (lines ++ later) (answers ++ later_answers) last
       → (now : S) × Ran Over first lines answers now × Ran Over now later later_answers last
   run_split [] [] later later_answers first last size h = (first, refl, h)
-  run_split [] (answer ∷ answers) later later_answers first last size h = absurd (omega (arith, size))
-  run_split (line ∷ lines) [] later later_answers first last size h = absurd (omega (arith, size))
+  run_split [] (answer ∷ answers) later later_answers first last size h =
+      absurd (omega (arith, size))
+  run_split (line ∷ lines) [] later later_answers first last size h =
+      absurd (omega (arith, size))
   run_split (line ∷ lines) (answer ∷ answers) later later_answers first last size h =
       let same : length lines ≡ length answers = omega (arith, size) in
       let rest = run_split lines answers later later_answers h.0 last same h.2 in

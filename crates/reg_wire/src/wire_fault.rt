@@ -7,8 +7,10 @@ use std::alloc::{AllocError, AllocFailed};
 /// Why reading requests and writing answers ended before its time.
 #[derive(Clone, Copy, Debug, PartialEq, Eq)]
 pub enum WireFault {
-    /// A read failed, or there were too many.
+    /// A read failed.
     Read,
+    /// 16,777,216 reads were made, and each gave at least a byte.
+    TooManyReads,
     /// A write failed or took nothing, after so many bytes.
     Write(usize),
     /// There was no memory.

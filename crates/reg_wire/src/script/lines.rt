@@ -32,7 +32,7 @@ pub(crate) fn respond_all<A: Responder, R: Read, W: Write>(
     let mut buffer = LineBuffer::new(alloc);
     let mut buf = [0u8; 4096];
     let mut sent = 0;
-    for _ in 0..MOST_READS {
+    for _made in 0..MOST_READS {
         let Ok(count) = reader.read(&mut buf) else {
             return Err(WireFault::Read);
         };
@@ -42,7 +42,7 @@ pub(crate) fn respond_all<A: Responder, R: Read, W: Write>(
         let piece = &buf[..count];
         sent = take_piece(alloc, responder, routes, writer, &mut buffer, sent, piece)?;
     }
-    Err(WireFault::Read)
+    Err(WireFault::TooManyReads)
 }
 
 // Answers the line in the buffer; gives how many bytes went out by now.

@@ -59,7 +59,8 @@ module _ (g : Over) (c : After-decide_submit g) where
         ap (λ (rows : Ground). allowed_on rows c.args.account.now ask)
         (c.ground.ensures.rows ∙ selected_after c.in_ok-rows.ensures h needed)
 
-  decides : Decides g.K.Keeper.world g.K.Keeper.Holds g.K.Keeper.Sound c.args.keeper.now c.ground_if.new.keeper
+  decides : Decides g.K.Keeper.world g.K.Keeper.Holds g.K.Keeper.Sound
+      c.args.keeper.now c.ground_if.new.keeper
       (answer_to_account c.args.account.now (Submit c.args.reference.now ask))
       (submit_rule allowance name ask (option_map case_of (option_copied c.as_ref.result)))
       (λ decision. content_made name ask existing)

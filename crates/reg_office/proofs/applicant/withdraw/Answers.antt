@@ -31,7 +31,8 @@ module _ (g : Over) (c : After-decide_withdraw g) where
   found : g.K.Keeper.Holds c.own_one.new.self → IsRowOf w asked row
   found h = sym c.in_ok-request.ensures.ok_part ∙ selected_after c.in_ok-own_one.ensures h
 
-  decides : Decides g.K.Keeper.world g.K.Keeper.Holds g.K.Keeper.Sound c.args.keeper.now c.own_one.new.self
+  decides : Decides g.K.Keeper.world g.K.Keeper.Holds g.K.Keeper.Sound
+      c.args.keeper.now c.own_one.new.self
       (answer_to_account c.args.account.now (Withdraw c.args.reference.now))
       (withdraw_rule name row.state)
       (λ decision. own_row name (case_by decision (case_of row)))

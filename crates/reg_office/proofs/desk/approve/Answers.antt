@@ -75,7 +75,8 @@ module _ (g : Over) (c : After-decide_approve g) where
         approve_rule (ground_of (published w) row.ask) advised name row.ask c.args.today row.state)
         advice_is
 
-  decides : Decides g.K.Keeper.world g.K.Keeper.Holds g.K.Keeper.Sound c.args.keeper.now c.ground_if.new.keeper
+  decides : Decides g.K.Keeper.world g.K.Keeper.Holds g.K.Keeper.Sound
+      c.args.keeper.now c.ground_if.new.keeper
       (answer_to_clerk [] c.args.today (Approve c.args.account.now c.args.reference.now))
       rule (desk_by name (case_of row))
   decides = record {

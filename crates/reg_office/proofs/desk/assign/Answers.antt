@@ -57,7 +57,8 @@ module _ (g : Over) (c : After-decide_assign g) where
       (ap (is_among c.args.expert.now) (c.as_slice.ensures ∙ (found h).experts)
       ∙ among_experts w name c.args.expert.now)
 
-  decides : Decides g.K.Keeper.world g.K.Keeper.Holds g.K.Keeper.Sound c.args.keeper.now c.file.new.self
+  decides : Decides g.K.Keeper.world g.K.Keeper.Holds g.K.Keeper.Sound
+      c.args.keeper.now c.file.new.self
       (answer_at_desk (AssignExpert c.args.account.now c.args.reference.now c.args.expert.now))
       rule (desk_by name (case_of row))
   decides = record {

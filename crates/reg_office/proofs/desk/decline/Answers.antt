@@ -32,7 +32,8 @@ module _ (g : Over) (c : After-decide_decline g) where
   found : g.K.Keeper.Holds c.own_one.new.self → IsRowOf w asked row
   found h = sym c.in_ok-request.ensures.ok_part ∙ selected_after c.in_ok-own_one.ensures h
 
-  decides : Decides g.K.Keeper.world g.K.Keeper.Holds g.K.Keeper.Sound c.args.keeper.now c.own_one.new.self
+  decides : Decides g.K.Keeper.world g.K.Keeper.Holds g.K.Keeper.Sound
+      c.args.keeper.now c.own_one.new.self
       (answer_at_desk (Decline c.args.account.now c.args.reference.now c.args.reason.now))
       (decline_rule name c.args.reason.now row.state) (desk_by name (case_of row))
   decides = record {

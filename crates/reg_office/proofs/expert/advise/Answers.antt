@@ -50,7 +50,8 @@ module _ (g : Over) (c : After-decide_advise g) where
       queued_is asked (get (queue_of expert w) asked) row
       (sym c.in_ok-row.ensures.ok_part ∙ selected_after c.in_ok-queue_one.ensures h)
 
-  decides : Decides g.K.Keeper.world g.K.Keeper.Holds g.K.Keeper.Sound c.args.keeper.now c.queue_one.new.self
+  decides : Decides g.K.Keeper.world g.K.Keeper.Holds g.K.Keeper.Sound
+      c.args.keeper.now c.queue_one.new.self
       (answer_to_expert expert
       (Advise c.args.account.now c.args.reference.now c.args.advice.now))
       (advise_rule name expert c.args.advice.now row.advice row.word)

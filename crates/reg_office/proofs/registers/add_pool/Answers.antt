@@ -25,7 +25,8 @@ module _ (g : Over) (c : After-decide_pool g) where
       sym (found_in w.pool c.args.prefix c.prefixes.result.now c.contains.result
       (c.prefixes.ensures.value ∙ selected_after c.in_ok-pool.ensures h) c.contains.ensures.value)
 
-  decides : Decides g.K.Keeper.world g.K.Keeper.Holds g.K.Keeper.Sound c.args.keeper.now c.pool.new.self
+  decides : Decides g.K.Keeper.world g.K.Keeper.Holds g.K.Keeper.Sound
+      c.args.keeper.now c.pool.new.self
       (answer_at_desk (AddPool c.args.prefix)) (pool_rule c.contains.result c.args.prefix)
       (λ decision. Pooled c.args.prefix)
   decides = record {

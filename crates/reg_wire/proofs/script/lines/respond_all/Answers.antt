@@ -2,16 +2,17 @@ use Rattle.std.proofs.Common.{[], ◌++◌, take, arith}
 use Rattle.std.proofs.KnownBytes.{Consumes-nil, Consumes-trans}
 use Rattle.std.proofs.lemmas.Result.{IfOk-weaker, IfErr-weaker, err_from_is_err_and}
 use Rattle.reg_wire.proofs.Sent.{read_none}
-use Rattle.reg_wire.proofs.Runs.{progress_start, stops_at, stops_last, answers_all}
+use Rattle.reg_wire.proofs.Runs.{progress_start, one_more, stops_after_reads, stops_at, stops_last, answers_all}
 use Rattle.reg_wire.proofs.script.lines.respond_all.Goals as goal
 
-pub loop-init : goal.loop-init
-loop-init g c =
-    ([], Consumes-nil _, rw c.new-buffer.ensures (progress_start g.A.Responder.Serves _ _))
+pub loop-made-init : goal.loop-made-init
+loop-made-init g c =
+    let start = progress_start g.A.Responder.Serves _ _ in
+    ([], Consumes-nil _, rw c.new-buffer.ensures start, omega arith)
 
 pub returns-then-count-eq0-clause-ok : goal.returns-then-count-eq0-clause-ok
 returns-then-count-eq0-clause-ok g c =
-    let i = c.loop.invariant in
+    let i = c.loop-made.invariant in
     let got = read_none _ _ _ _ _ _ c.if-count-eq0.true i.1 c.in-Ok.ensures.bytes.0 in
     IfOk-weaker c.finish.result _ _
     (λ _ h. answers_all g.A.Responder.Serves _ _ i.0 _ _ _ _ got
@@ -20,7 +21,7 @@ returns-then-count-eq0-clause-ok g c =
 
 pub returns-then-count-eq0-clause-err : goal.returns-then-count-eq0-clause-err
 returns-then-count-eq0-clause-err g c =
-    let i = c.loop.invariant in
+    let i = c.loop-made.invariant in
     let got = read_none _ _ _ _ _ _ c.if-count-eq0.true i.1 c.in-Ok.ensures.bytes.0 in
     IfErr-weaker c.finish.result _ _
     (λ e h. stops_last g.A.Responder.Serves _ _ e i.0 _ _ _ _ got
@@ -30,16 +31,24 @@ returns-then-count-eq0-clause-err g c =
 pub returns-in_err-sent-clause-err : goal.returns-in_err-sent-clause-err
 returns-in_err-sent-clause-err g c =
     let out = err_from_is_err_and c.from_residual.result c.from_residual.ensures.1 in
-    let i = c.loop.invariant in
+    let i = c.loop-made.invariant in
     rw (out.1, out.2)
     (stops_at g.A.Responder.Serves _ _ _ (i.0 ++ take c.in-Ok.count c.read.new.buf) _ _ _ _
     (Consumes-trans _ _ _ _ _ i.1 c.in-Ok.ensures.bytes.0)
     (c.in_err-sent.ensures.err _ _ i.0 i.2))
 
-pub loop-preserved : goal.loop-preserved
-loop-preserved g c =
-    let i = c.loop.invariant in (
+pub loop-made-preserved : goal.loop-made-preserved
+loop-made-preserved g c =
+    let i = c.loop-made.invariant in (
       i.0 ++ take c.in-Ok.count c.read.new.buf,
       Consumes-trans _ _ _ _ _ i.1 c.in-Ok.ensures.bytes.0,
       c.in_ok-sent.ensures.ok _ _ i.0 i.2,
+      one_more i.0 c.read.new.buf _ _ i.3 c.if-count-eq0.false
+          (omega (arith, c.if-count-eq0.array_long)),
     )
+
+pub returns-clause-err : goal.returns-clause-err
+returns-clause-err g c =
+    let i = c.loop-made.invariant in
+    stops_after_reads g.A.Responder.Serves _ _ i.0 _ _ _ _ _ _ i.1 i.2
+    (omega (arith, i.3, c.loop-made-test.false))
