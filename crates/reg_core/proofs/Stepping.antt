@@ -1,5 +1,6 @@
 -- What a step looks up: the caller's capability, and its own requests.
 use Rattle.std.proofs.Common.{◌≡◌, ℕ, Bool, true, false, List, refl, sym, ap, ◌∙◌}
+use Rattle.std.proofs.lemmas.Slice.Eq.{bytes_eq-Decides}
 use Rattle.std.specs.Prelude.{Option, Some, None, Ok, Err, option_and_then, nat_le, if◌then◌else◌}
 use Rattle.std.specs.FinMap.{get}
 use Rattle.reg_core.specs.Answer.{admitted}
@@ -40,6 +41,24 @@ own_row_found account w name case is_there =
     from : (o : Option Case)
         → option_and_then (λ case. only_if (same_text name.0 account) case) o ≡ Some case
         → o ≡ Some case
+    from None h = absurd (cc)
+    from (Some row) h = shown (same_text name.0 account) row h
+
+-- and it is the account's
+pub own_row_is_own : (account : List ℕ) (w : World) (name : RequestName) (case : Case)
+    → get (requests_of account w) name ≡ Some case → name.0 ≡ account
+own_row_is_own account w name case is_there =
+    (bytes_eq-Decides name.0 account).0 (from (get w.requests name)
+    (sym (get-select name_keys
+    (λ name case. only_if (same_text name.0 account) case) w.requests name) ∙ is_there))
+  where
+    shown : (b : Bool) (row : Case) → only_if b row ≡ Some case → b ≡ true
+    shown true row h = refl
+    shown false row h = absurd (cc)
+
+    from : (o : Option Case)
+        → option_and_then (λ case. only_if (same_text name.0 account) case) o ≡ Some case
+        → same_text name.0 account ≡ true
     from None h = absurd (cc)
     from (Some row) h = shown (same_text name.0 account) row h
 

@@ -95,6 +95,9 @@ RunsKeepWell digest_of =
 abbrev pub HasRow : World → Request → Type 0
 HasRow w row = get w.requests (row.account, row.reference) ≡ Some (case_of row)
 
+abbrev pub HasRowOf : World → List ℕ → Request → Type 0
+HasRowOf w account row = (row.account ≡ account) × HasRow w row
+
 -- the page shows the registry of this name as it is on the day
 abbrev pub Shows : World → List ℕ → ℕ → PageOf → Type 0
 Shows w name today page =
@@ -140,7 +143,7 @@ IsDone digest_of w by today (Public (RegistryListing name)) (Listing page) =
 IsDone digest_of w by today (Public PoolList) (Pool prefixes) = prefixes ≡ keys w.pool
 IsDone digest_of w by today (Applicant Own) (Rows rows) =
     (cap : Cap) × (by ≡ Some cap) × (rows ≡ request_rows (requests_of cap.account w))
-    × All (HasRow w) rows
+    × All (HasRowOf w cap.account) rows
 IsDone digest_of w by today (Applicant (OwnOne reference)) (Row row) = IsOwnRow w by reference row
 IsDone digest_of w by today (Applicant (Submit reference ask)) (Made row) =
     (row.ask ≡ ask) × IsOwnRow w by reference row

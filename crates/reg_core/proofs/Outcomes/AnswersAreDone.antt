@@ -25,11 +25,11 @@ use Rattle.reg_core.specs.declared.request.State.{State}
 use Rattle.reg_core.specs.declared.request.State.TheVariants.{Approved, Declined, Withdrawn}
 use Rattle.reg_core.proofs.MapLaws.{number_keys, text_keys, name_keys, seat_keys, get-inserted, get-updated, get-removed, All-entries}
 use Rattle.reg_core.proofs.KeySets.{is_inserted}
-use Rattle.reg_core.proofs.Stepping.{own_row_found}
+use Rattle.reg_core.proofs.Stepping.{own_row_found, own_row_is_own}
 use Rattle.reg_core.specs.Answer.{Outcome, Answer, reply_of, change_of, change_by, made_row}
 use Rattle.reg_core.specs.Rules.{award}
 use Rattle.reg_core.specs.Step.{desk_by, answer_to}
-use Rattle.reg_core.specs.Laws.{HasRow, IsDone, WasDone, AnswersAreDone, is_refused}
+use Rattle.reg_core.specs.Laws.{HasRow, HasRowOf, IsDone, WasDone, AnswersAreDone, is_refused}
 use Rattle.reg_core.specs.View.{requests_of, cap_at}
 use Rattle.reg_core.specs.declared.content.Content.{Content}
 use Rattle.reg_core.proofs.Outcomes.Deciding.{Rule, Decides}
@@ -99,9 +99,10 @@ module _ (digest_of : List ℕ → List ℕ) (w : World) (caller : Option (List 
   done (Applicant Own) o so =
       let account = so.0.cap.account in
       let row = λ (e : RequestName × Case). request_row e.0 e.1 in
-      let all = All-map (HasRow w) row (entries (requests_of account w))
-      (All-entries name_keys.total (λ e. HasRow w (row e)) (requests_of account w)
-      (λ name case is_there. own_row_found account w name case is_there)) in
+      let all = All-map (HasRowOf w account) row (entries (requests_of account w))
+      (All-entries name_keys.total (λ e. HasRowOf w account (row e)) (requests_of account w)
+      (λ name case is_there.
+      (own_row_is_own account w name case is_there, own_row_found account w name case is_there))) in
       subst (Done (Applicant Own)) (sym so.1) (so.0.cap, so.0.is_there, refl, all)
   done (Applicant (OwnOne reference)) o so =
       subst (Done (Applicant (OwnOne reference))) (sym so.1.so)
