@@ -233,3 +233,44 @@ finds_denied {fails = fails} {rule = rule} {found = found} {result = result}
       premise = goes_on_anyway selects.premise;
       fault = may_stop fails deny;
     })
+
+-- ---- A command whose decision is found by a function of its own
+
+-- over the content of this state, the rule decides the command
+pub record Rules {S : Type 0} (world : S → World) (Holds : S → Type 0) (mid : S)
+    (answer : World → Answer) (rule : Result Decision Refusal) (told : Decision → Content)
+    : Type 0 where
+  pub answered : Holds mid → answer (world mid) ≡ by_rule rule told
+  pub fits : Holds mid → WellKept (world mid)
+      → (change : Change) → rule ≡ Ok (Make change) → CanApply (world mid) change
+
+module _ {S T : Type 0} {world : S → World} {Holds Sound : S → Type 0} {fails : Bool}
+    {old mid new : S} {x : T} {Gives : World → T → Type 0}
+    {answer : World → Answer} {told : Decision → Content}
+    {found : World → Result Decision Refusal} where
+  -- what was selected and then found is what the command is decided over
+  pub decides_found : (decision : Decision) → Rules world Holds mid answer (found (world mid)) told
+      → Selects world Holds Sound fails old mid (Ok x) Gives
+      → Finds world Holds Sound fails mid new (Ok decision) found
+      → Decides world Holds Sound old new answer (found (world mid)) told
+  decides_found decision rules selects finds = record {
+    answered = λ h. ap answer (finds.same h) ∙ rules.answered (finds.premise.before h);
+    fits = λ h kept change made.
+        subst (λ (w : World). CanApply w change) (sym (finds.same h))
+        (rules.fits (finds.premise.before h) (subst WellKept (finds.same h) kept) change made);
+    same = λ h. finds.same h ∙ selects.same (finds.premise.before h);
+    premise = goes_on_then selects.premise finds.premise;
+  }
+
+  -- and a command that was stopped there is refused as it is answered, or met a fault
+  pub performs_stopped_at : {result : Result Content Stop} (stop : Stop)
+      → Rules world Holds mid answer (found (world mid)) told
+      → Selects world Holds Sound fails old mid (Ok x) Gives
+      → Finds world Holds Sound fails mid new (Err stop) found
+      → IsErrAnd result (λ s. s ≡ stop)
+      → Performs world Holds Sound fails old new result answer
+  performs_stopped_at stop rules selects finds stops =
+      performs_refused (found (world mid)) told stop
+      (λ h. ap answer (finds.same h) ∙ rules.answered (finds.premise.before h))
+      (λ h. finds.same h ∙ selects.same (finds.premise.before h))
+      (goes_on_then selects.premise finds.premise) finds.refused finds.fault stops

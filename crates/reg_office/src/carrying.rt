@@ -1,8 +1,9 @@
 //! Carrying out what was decided.
-ghost use Rattle.std.specs.Prelude.{◌≡◌, Ok, IfOk, OnOk};
+ghost use Rattle.std.specs.Prelude.{◌≡◌, Ok, IfOk, OnOk, IsOk};
 ghost use Rattle.reg_core.specs.Answer.{change_by};
 ghost use Rattle.reg_core.specs.WellKept.{WellKept, CanApply};
 ghost use Rattle.reg_core.specs.World.{applied, applied_if};
+ghost use Rattle.reg_core.specs.declared.decide.Decision.TheVariants.{Same};
 ghost use Rattle.reg_store.specs.Keeper.{Makes};
 ghost use Rattle.reg_office.specs.Decisions.{CanMake, row_by};
 
@@ -22,12 +23,13 @@ pub fn make<K: Keeper>(keeper: &mut K, change: Change) -> Result<(), Fault>
     keeper.apply(change)
 }
 
-/// Makes the change of a decision, if there is one.
-pub fn carry_out<K: Keeper>(keeper: &mut K, decision: Decision) -> Result<(), Fault>
+// Makes the change of a decision, if there is one; where there is none, the keeper is not asked.
+fn carry_out<K: Keeper>(keeper: &mut K, decision: Decision) -> Result<(), Fault>
     requires { K.Holds keeper.old →
         WellKept (K.world keeper.old) → CanMake (K.world keeper.old) decision }
-    ensures { Makes K.world K.Holds K.Sound K.FAILS keeper.old keeper.new result
+    ensures change { Makes K.world K.Holds K.Sound K.FAILS keeper.old keeper.new result
         (λ w. applied_if w (change_by decision)) }
+    ensures same { decision ≡ Same → result ≡ Ok tt }
 {
     match decision {
         Decision::Make(change) => make(keeper, change),
@@ -36,7 +38,7 @@ pub fn carry_out<K: Keeper>(keeper: &mut K, decision: Decision) -> Result<(), Fa
 }
 
 /// Makes the change of a decision, if there is one, where what is told of it is there, and gives
-/// that.
+/// that. A decision to leave all as it is needs no memory.
 pub fn conclude<K: Keeper, T: Drop>(
     keeper: &mut K,
     told: Result<T, AllocError>,
@@ -47,6 +49,7 @@ pub fn conclude<K: Keeper, T: Drop>(
     ensures told { IfOk result (λ x. told ≡ Ok x) }
     ensures change { Makes K.world K.Holds K.Sound K.FAILS keeper.old keeper.new result
         (λ w. applied_if w (change_by decision)) }
+    ensures same { OnOk told (decision ≡ Same → IsOk result) }
 {
     let told = told?;
     carry_out(keeper, decision)?;

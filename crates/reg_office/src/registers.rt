@@ -4,7 +4,7 @@ ghost use Rattle.reg_core.specs.declared.command.ClerkCommand.TheVariants.{Defin
 ghost use Rattle.reg_office.specs.Answers.{answer_at_desk};
 ghost use Rattle.reg_office.specs.Performs.{Performs};
 
-use crate::carrying::{carry_out, conclude};
+use crate::carrying::conclude;
 use crate::stop::Stop;
 use reg_core::content::Content;
 use reg_core::decide::{decide_define, decide_pool};
@@ -31,6 +31,5 @@ pub fn add_pool<K: Keeper>(keeper: &mut K, prefix: u32) -> Result<Content, Stop>
 {
     let pool = keeper.pool()?;
     let decision = decide_pool(pool.prefixes().contains(&prefix), prefix)?;
-    carry_out(keeper, decision)?;
-    Ok(Content::Pooled(prefix))
+    Ok(conclude(keeper, Ok(Content::Pooled(prefix)), decision)?)
 }

@@ -1,33 +1,24 @@
-use Rattle.std.proofs.Common.{◌≡◌, ℕ, false, [], Result, Ok, sym, ap, subst, ◌∙◌}
-use Rattle.std.specs.Prelude.{IfErr}
+use Rattle.std.proofs.Common.{◌≡◌, ℕ, [], Result, sym, ap, ◌∙◌}
 use Rattle.reg_core.specs.Advice.{is_advised}
 use Rattle.reg_core.specs.Allowance.{ground_of}
-use Rattle.reg_core.specs.Answer.{Answer, by_rule}
+use Rattle.reg_core.specs.Answer.{by_rule}
 use Rattle.reg_core.specs.File.{experts_of, was_advised}
 use Rattle.reg_core.specs.Request.{case_of}
 use Rattle.reg_core.specs.Rules.{approve_rule}
 use Rattle.reg_core.specs.Step.{desk_by}
 use Rattle.reg_core.specs.View.{published}
-use Rattle.reg_core.specs.WellKept.{WellKept, CanApply}
 use Rattle.reg_core.specs.World.{World, RequestName}
-use Rattle.reg_core.specs.declared.change.Change.{Change}
 use Rattle.reg_core.specs.declared.command.ClerkCommand.TheVariants.{Approve}
 use Rattle.reg_core.specs.declared.content.Content.TheVariants.{Desk}
 use Rattle.reg_core.specs.declared.decide.Decision.{Decision}
-use Rattle.reg_core.specs.declared.decide.Decision.TheVariants.{Make}
 use Rattle.reg_core.specs.declared.file.File.{File}
 use Rattle.reg_core.specs.declared.refusal.Refusal.{Refusal}
 use Rattle.reg_core.specs.declared.request.Case.{Case}
 use Rattle.reg_core.specs.declared.request.Request.{Request}
 use Rattle.reg_core.proofs.Fitting.{approve_fits}
-use Rattle.reg_store.specs.Keeper.{GoesOn}
-use Rattle.reg_store.proofs.Premises.{goes_on_then}
 use Rattle.reg_office.specs.Answers.{answer_to_clerk}
 use Rattle.reg_office.specs.Decisions.{approval_of, row_by}
-use Rattle.reg_office.specs.Performs.{Finds}
-use Rattle.reg_office.specs.Stops.{MayStop}
-use Rattle.reg_office.specs.declared.stop.Stop.{Stop}
-use Rattle.reg_office.proofs.Decided.{Decides, always, the_value, makes_found, performs_refused, performs_found}
+use Rattle.reg_office.proofs.Decided.{Rules, always, the_value, decides_found, makes_found, performs_found, performs_stopped_at}
 use Rattle.reg_office.proofs.Rows.{IsFileOf, answer_about, file_is, selected_after, there}
 use Rattle.reg_office.proofs.desk.approve.Given.{Over}
 use Rattle.reg_office.proofs.desk.approve.Goals.{After-approval}
@@ -66,87 +57,49 @@ module _ (g : Over) (c : After-approval g) where
   abbrev name : RequestName
   name = (row.account, row.reference)
 
-  abbrev rule : Result Decision Refusal
-  rule = approval_of (published old) found c.args.today
-
   is_file : g.K.Keeper.Holds c.file.new.self → IsFileOf old asked found
   is_file h =
       file_is old asked found
       (sym c.in_ok-file-2.ensures.ok_part ∙ selected_after c.in_ok-file.ensures h)
 
-  abbrev to_answer : World → Answer
-  to_answer = answer_to_clerk [] c.args.today (Approve c.args.account.now c.args.reference.now)
-
-  module _ {result : Result Decision Stop}
-      (finds : Finds g.K.Keeper.world g.K.Keeper.Holds g.K.Keeper.Sound g.K.Keeper.FAILS
-      c.file.new.self c.approval.new.keeper result
-      (λ w. approval_of (published w) found c.args.today)) where
-    answered : g.K.Keeper.Holds c.approval.new.keeper
-        → to_answer (g.K.Keeper.world c.approval.new.keeper)
-        ≡ by_rule rule (desk_by name (case_of row))
-    answered h =
-        let file = is_file (finds.premise.before h) in
-        ap to_answer (finds.same h)
-        ∙ answer_about old asked row
+  rules : Rules g.K.Keeper.world g.K.Keeper.Holds c.file.new.self
+      (answer_to_clerk [] c.args.today (Approve c.args.account.now c.args.reference.now))
+      (approval_of (published old) found c.args.today) (desk_by name (case_of row))
+  rules = record {
+    answered = λ h.
+        answer_about old asked row
         (λ name case. by_rule (approval old c.args.today name case) (desk_by name case))
-        file.request
+        (is_file h).request
         ∙ ap (λ rule. by_rule rule (desk_by name (case_of row)))
-        (sym (approval_is old asked found c.args.today file))
-
-    same : g.K.Keeper.Holds c.approval.new.keeper
-        → g.K.Keeper.world c.approval.new.keeper ≡ g.K.Keeper.world c.args.keeper.now
-    same h = finds.same h ∙ c.in_ok-file.ensures.same (finds.premise.before h)
-
-    premise : GoesOn g.K.Keeper.Holds g.K.Keeper.Sound c.args.keeper.now c.approval.new.keeper
-        (IfErr result (MayStop false))
-    premise = goes_on_then c.in_ok-file.ensures.premise finds.premise
-
-    fits : g.K.Keeper.Holds c.approval.new.keeper
-        → WellKept (g.K.Keeper.world c.approval.new.keeper) → (change : Change)
-        → rule ≡ Ok (Make change) → CanApply (g.K.Keeper.world c.approval.new.keeper) change
-    fits h kept change made =
-        let file = is_file (finds.premise.before h) in
-        subst (λ (w : World). CanApply w change) (sym (finds.same h))
-        (approve_fits old (was_advised old name) name (case_of row) c.args.today change
-        (subst WellKept (finds.same h) kept) (there old asked row file.request)
-        c.formed.ensures (sym (approval_is old asked found c.args.today file) ∙ made))
-
-  decides : (decision : Decision)
-      → Finds g.K.Keeper.world g.K.Keeper.Holds g.K.Keeper.Sound g.K.Keeper.FAILS
-      c.file.new.self c.approval.new.keeper (Ok decision)
-      (λ w. approval_of (published w) found c.args.today)
-      → Decides g.K.Keeper.world g.K.Keeper.Holds g.K.Keeper.Sound c.args.keeper.now
-      c.approval.new.keeper to_answer rule (desk_by name (case_of row))
-  decides decision finds =
-      record {
-        answered = answered finds;
-        fits = fits finds;
-        same = same finds;
-        premise = premise finds;
-      }
+        (sym (approval_is old asked found c.args.today (is_file h)));
+    fits = λ h kept change made.
+        approve_fits old (was_advised old name) name (case_of row) c.args.today change kept
+        (there old asked row (is_file h).request) c.formed.ensures
+        (sym (approval_is old asked found c.args.today (is_file h)) ∙ made);
+  }
 
 pub returns-in_err-decision : goal.returns-in_err-decision
 returns-in_err-decision g c =
-    let finds = c.in_err-decision.ensures in
-    let d = (goal.at.returns-in_err-decision g c).After-approval in
-    performs_refused (rule g d) (desk_by (name g d) (case_of (row g d))) c.in_err-decision.field-0.0
-    (answered g d finds) (same g d finds)
-    (premise g d finds) finds.refused finds.fault c.from_residual-in_err-decision.ensures.1
+    performs_stopped_at c.in_err-decision.field-0.0
+    (rules g (goal.at.returns-in_err-decision g c).After-approval) c.in_ok-file.ensures
+    c.in_err-decision.ensures c.from_residual-in_err-decision.ensures.1
 
 pub conclude-requires : goal.conclude-requires
 conclude-requires g c =
+    let decision = c.in_ok-decision.decision in
     always c.row_after-row.result
-    (makes_found c.in_ok-decision.decision
-    (decides g (goal.at.conclude-requires g c).After-approval c.in_ok-decision.decision
-    c.in_ok-decision.ensures)
+    (makes_found decision
+    (decides_found decision (rules g (goal.at.conclude-requires g c).After-approval)
+    c.in_ok-file.ensures c.in_ok-decision.ensures)
     c.in_ok-decision.ensures.value)
 
 pub returns : goal.returns
 returns g c =
     let d = (goal.at.returns g c).After-approval in
+    let decision = c.in_ok-decision.decision in
     let concluded = c.in_ok-conclude.ensures in
-    performs_found c.in_ok-decision.decision
-    (decides g d c.in_ok-decision.decision c.in_ok-decision.ensures) c.in_ok-decision.ensures.value
-    (ap Desk (the_value (row_by c.in_ok-decision.decision (row g d)) concluded.told
-    c.row_after-row.ensures))
+    performs_found decision
+    (decides_found decision (rules g d) c.in_ok-file.ensures c.in_ok-decision.ensures)
+    c.in_ok-decision.ensures.value
+    (ap Desk (the_value (row_by decision (row g d)) concluded.told c.row_after-row.ensures))
     concluded.change

@@ -7,7 +7,7 @@ use Rattle.reg_core.specs.declared.command.ClerkCommand.TheVariants.{AddPool}
 use Rattle.reg_core.specs.declared.content.Content.TheVariants.{Pooled}
 use Rattle.reg_core.proofs.Fitting.{pool_fits}
 use Rattle.reg_office.specs.Answers.{answer_at_desk}
-use Rattle.reg_office.proofs.Decided.{Decides, follows, makes_fitting, performs_decided}
+use Rattle.reg_office.proofs.Decided.{Decides, follows, makes_fitting, performs_decided, the_value}
 use Rattle.reg_office.proofs.Prefixes.{found_in}
 use Rattle.reg_office.proofs.Rows.{selected_after}
 use Rattle.reg_office.proofs.registers.add_pool.Given.{Over}
@@ -39,15 +39,16 @@ module _ (g : Over) (c : After-decide_pool g) where
     premise = c.in_ok-pool.ensures.premise;
   }
 
-pub carry_out-requires : goal.carry_out-requires
-carry_out-requires g c =
+pub conclude-requires : goal.conclude-requires
+conclude-requires g c =
     makes_fitting c.in_ok-decision.decision
-    (decides g (goal.at.carry_out-requires g c).After-decide_pool)
+    (decides g (goal.at.conclude-requires g c).After-decide_pool)
     (follows _ c.in_ok-decision.decision (sym c.in_ok-decision.ensures))
 
 pub returns : goal.returns
 returns g c =
+    let concluded = c.in_ok-conclude.ensures in
     performs_decided c.in_ok-decision.decision
     (decides g (goal.at.returns g c).After-decide_pool)
-    (follows _ c.in_ok-decision.decision (sym c.in_ok-decision.ensures)) refl
-    c.in_ok-carry_out.ensures
+    (follows _ c.in_ok-decision.decision (sym c.in_ok-decision.ensures))
+    (the_value (Pooled c.args.prefix) concluded.told refl) concluded.change
