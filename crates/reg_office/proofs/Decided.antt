@@ -14,9 +14,9 @@ use Rattle.reg_core.specs.declared.decide.Deny.{Deny}
 use Rattle.reg_core.specs.declared.decide.Deny.TheVariants as deny
 use Rattle.reg_core.specs.declared.refusal.Refusal.{Refusal}
 use Rattle.reg_core.specs.declared.reply.Reply.TheVariants.{Accepted}
-use Rattle.reg_store.specs.Keeper.{GoesOn, MayFault, Makes, Selects}
-use Rattle.reg_store.specs.declared.keeper.Fault.{Fault as KeeperFault}
-use Rattle.reg_store.proofs.Premises.{goes_on_anyway, goes_on_then}
+use Rattle.reg_keeper.specs.Keeper.{GoesOn, MayFault, Makes, Selects}
+use Rattle.reg_keeper.specs.declared.keeper.Fault.{Fault as KeeperFault}
+use Rattle.reg_keeper.proofs.Premises.{goes_on_anyway, goes_on_then}
 use Rattle.reg_office.specs.Decisions.{CanMake}
 use Rattle.reg_office.specs.Performs.{Finds, Performs}
 use Rattle.reg_office.specs.Stops.{MayStop, Refuses, stop_of}

@@ -8,7 +8,7 @@ use Rattle.reg_core.specs.World.{World, applied_if}
 use Rattle.reg_core.specs.declared.content.Content.{Content}
 use Rattle.reg_core.specs.declared.refusal.Refusal.{Refusal}
 use Rattle.reg_core.specs.declared.reply.Reply.TheVariants.{Accepted}
-use Rattle.reg_store.proofs.Premises.{goes_on_then}
+use Rattle.reg_keeper.proofs.Premises.{goes_on_then}
 use Rattle.reg_office.specs.Performs.{Finds, Performs}
 use Rattle.reg_office.specs.Stops.{Refuses}
 use Rattle.reg_office.specs.declared.stop.Stop.{Stop}

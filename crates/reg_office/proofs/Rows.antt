@@ -14,8 +14,8 @@ use Rattle.reg_core.specs.declared.queue.QueueRow.{QueueRow}
 use Rattle.reg_core.specs.declared.refusal.Refusal.TheVariants as no
 use Rattle.reg_core.specs.declared.request.Case.{Case}
 use Rattle.reg_core.specs.declared.request.Request.{Request}
-use Rattle.reg_store.specs.Keeper.{Selects}
-use Rattle.reg_store.specs.declared.keeper.Fault.{Fault}
+use Rattle.reg_keeper.specs.Keeper.{Selects}
+use Rattle.reg_keeper.specs.declared.keeper.Fault.{Fault}
 
 -- ---- Selected
 

@@ -5,7 +5,7 @@ use Rattle.reg_core.specs.World.{World, applied_if}
 use Rattle.reg_core.specs.declared.content.Content.{Content}
 use Rattle.reg_core.specs.declared.refusal.Refusal.{Refusal}
 use Rattle.reg_core.specs.declared.reply.Reply.TheVariants.{Accepted}
-use Rattle.reg_store.specs.Keeper.{GoesOn}
+use Rattle.reg_keeper.specs.Keeper.{GoesOn}
 use Rattle.reg_office.specs.Stops.{MayStop, Refuses}
 use Rattle.reg_office.specs.declared.stop.Stop.{Stop}
 

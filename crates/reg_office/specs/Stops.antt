@@ -3,8 +3,8 @@ use Rattle.std.specs.Prelude.{◌≡◌, Bool, Result, Err}
 use Rattle.reg_core.specs.declared.decide.Deny.{Deny}
 use Rattle.reg_core.specs.declared.decide.Deny.TheVariants as deny
 use Rattle.reg_core.specs.declared.refusal.Refusal.{Refusal}
-use Rattle.reg_store.specs.Keeper.{MayFault}
-use Rattle.reg_store.specs.declared.keeper.Fault.TheVariants.{Memory}
+use Rattle.reg_keeper.specs.Keeper.{MayFault}
+use Rattle.reg_keeper.specs.declared.keeper.Fault.TheVariants.{Memory}
 use Rattle.reg_office.specs.declared.stop.Stop.{Stop}
 use Rattle.reg_office.specs.declared.stop.Stop.TheVariants.{Refused, Fault}
 

@@ -10,7 +10,7 @@ use crate::stop::Stop;
 use reg_core::capability::{Cap, Kind};
 use reg_core::refusal::Refusal;
 use reg_core::text::Digest;
-use reg_store::keeper::Keeper;
+use reg_keeper::keeper::Keeper;
 use std::alloc::Global;
 
 /// A caller who is admitted.

@@ -22,7 +22,7 @@ use reg_core::refusal::Refusal;
 use reg_core::request::{Request, State};
 use reg_core::text::{Account, Ref};
 use reg_ranges::formed::Formed;
-use reg_store::keeper::Keeper;
+use reg_keeper::keeper::Keeper;
 use std::alloc::{AllocError, Global};
 
 /// What a command of this account's is answered.

@@ -4,13 +4,13 @@ ghost use Rattle.reg_core.specs.Answer.{change_by};
 ghost use Rattle.reg_core.specs.WellKept.{WellKept, CanApply};
 ghost use Rattle.reg_core.specs.World.{applied, applied_if};
 ghost use Rattle.reg_core.specs.declared.decide.Decision.TheVariants.{Same};
-ghost use Rattle.reg_store.specs.Keeper.{Makes};
+ghost use Rattle.reg_keeper.specs.Keeper.{Makes};
 ghost use Rattle.reg_office.specs.Decisions.{CanMake, row_by};
 
 use reg_core::change::Change;
 use reg_core::decide::Decision;
 use reg_core::request::Request;
-use reg_store::keeper::{Fault, Keeper};
+use reg_keeper::keeper::{Fault, Keeper};
 use std::alloc::AllocError;
 
 /// Makes a change that fits every well kept world with the rows that it was decided over.

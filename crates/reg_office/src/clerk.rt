@@ -17,7 +17,7 @@ use reg_core::content::Content;
 use reg_core::decide::{decide_grant, decide_revoke};
 use reg_core::text::{Digest, Token};
 use reg_early::day::Day;
-use reg_store::keeper::Keeper;
+use reg_keeper::keeper::Keeper;
 use std::alloc::Global;
 
 /// What a clerk's command is answered on a day; `in_use` is the digest of the clerk's own token.

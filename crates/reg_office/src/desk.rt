@@ -18,7 +18,7 @@ use reg_core::request::State;
 use reg_core::text::{Account, Ref, Text};
 use reg_early::day::Day;
 use reg_ranges::formed::Formed;
-use reg_store::keeper::Keeper;
+use reg_keeper::keeper::Keeper;
 use std::alloc::Global;
 
 /// All requests.

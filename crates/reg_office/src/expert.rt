@@ -15,7 +15,7 @@ use reg_core::queue::QueueRow;
 use reg_core::refusal::Refusal;
 use reg_core::text::{Account, Ref};
 use reg_ranges::formed::Formed;
-use reg_store::keeper::Keeper;
+use reg_keeper::keeper::Keeper;
 use std::alloc::AllocError;
 
 /// What a command of this expert's is answered.

@@ -2,14 +2,14 @@
 ghost use Rattle.std.specs.Prelude.{◌≡◌, Err, IfOk, IfErr, OnOk, OnErr, false};
 ghost use Rattle.reg_core.specs.Laws.{clerk_cap as first_clerk};
 ghost use Rattle.reg_core.specs.Names.{is_token};
-ghost use Rattle.reg_store.specs.Keeper.{GoesOn};
+ghost use Rattle.reg_keeper.specs.Keeper.{GoesOn};
 ghost use Rattle.reg_office.specs.Found.{WasFounded, IsCause, MayFound};
 
 use crate::clerk::grant;
 use crate::stop::Stop;
 use reg_core::capability::{Cap, Kind, Until};
 use reg_core::text::{Account, Token};
-use reg_store::keeper::{Fault, Keeper};
+use reg_keeper::keeper::{Fault, Keeper};
 use std::alloc::{AllocError, Global};
 
 /// Why no first clerk was made.
@@ -25,7 +25,7 @@ pub enum FoundFault {
 
 impl From<AllocError> for FoundFault {
     ghost use Rattle.std.specs.Prelude.{◌≡◌};
-    ghost use Rattle.reg_store.specs.declared.keeper.Fault.TheVariants.{Memory};
+    ghost use Rattle.reg_keeper.specs.declared.keeper.Fault.TheVariants.{Memory};
     ghost use Rattle.reg_office.specs.declared.found.FoundFault.TheVariants.{Fault as OfKeeper};
 
     ghost from_gives = { λ _ e. e ≡ OfKeeper Memory };

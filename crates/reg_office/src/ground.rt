@@ -4,7 +4,7 @@ ghost use Rattle.std.specs.List.Sorted.{IsStrictlyIncreasing};
 ghost use Rattle.reg_core.specs.Allowance.{ground_of};
 ghost use Rattle.reg_core.specs.Ground.{seen};
 ghost use Rattle.reg_core.specs.View.{published};
-ghost use Rattle.reg_store.specs.Keeper.{Selects};
+ghost use Rattle.reg_keeper.specs.Keeper.{Selects};
 ghost use Rattle.reg_office.specs.Values.{values_in};
 
 use reg_core::ask::{Ask, Want};
@@ -12,7 +12,7 @@ use reg_core::decide::Ground;
 use reg_core::entry::Entry;
 use reg_core::text::Name;
 use reg_ranges::table::RangeTable;
-use reg_store::keeper::{Fault, Keeper};
+use reg_keeper::keeper::{Fault, Keeper};
 use std::alloc::{AllocError, Global};
 use std::marker::Model;
 

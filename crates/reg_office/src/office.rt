@@ -5,7 +5,7 @@ ghost use Rattle.reg_early.specs.Moment.{is_in_clock};
 ghost use Rattle.reg_core.specs.Command.{kind_of};
 ghost use Rattle.reg_core.specs.Names.{is_token};
 ghost use Rattle.reg_core.specs.Step.{answer_to};
-ghost use Rattle.reg_store.specs.Keeper.{MayFault, IsUnfailed, GoesOn};
+ghost use Rattle.reg_keeper.specs.Keeper.{MayFault, IsUnfailed, GoesOn};
 ghost use Rattle.reg_office.specs.Caller.{caller_of as caller, step_by, token_digest};
 ghost use Rattle.reg_office.specs.Found.{WasFounded, IsCause, MayFound};
 ghost use Rattle.reg_office.specs.Performs.{Performs};
@@ -20,7 +20,7 @@ use reg_core::content::Content;
 use reg_core::refusal::Refusal;
 use reg_core::reply::Reply;
 use reg_early::day::day_of;
-use reg_store::keeper::{Fault, Keeper};
+use reg_keeper::keeper::{Fault, Keeper};
 use std::alloc::Global;
 use std::marker::Model;
 

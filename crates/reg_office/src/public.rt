@@ -4,7 +4,7 @@ ghost use Rattle.reg_core.specs.Answer.{public_answer};
 ghost use Rattle.reg_core.specs.Page.{page_entries};
 ghost use Rattle.reg_core.specs.View.{published};
 ghost use Rattle.reg_core.specs.declared.command.PublicCommand.TheVariants.{Registries, Registry, RegistryListing, PoolList};
-ghost use Rattle.reg_store.specs.Keeper.{Selects};
+ghost use Rattle.reg_keeper.specs.Keeper.{Selects};
 ghost use Rattle.reg_office.specs.Pages.{page_on, shown_on};
 ghost use Rattle.reg_office.specs.Performs.{Finds, Performs};
 
@@ -17,7 +17,7 @@ use reg_core::refusal::Refusal;
 use reg_core::rows::Rows;
 use reg_core::text::Name;
 use reg_early::day::Day;
-use reg_store::keeper::{Fault, Keeper};
+use reg_keeper::keeper::{Fault, Keeper};
 use std::alloc::{AllocError, Global};
 
 /// What anybody's command is answered on a day.

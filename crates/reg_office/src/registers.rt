@@ -11,7 +11,7 @@ use reg_core::decide::{decide_define, decide_pool};
 use reg_core::text::Name;
 use reg_ranges::formed::Formed;
 use reg_ranges::table::RangeTable;
-use reg_store::keeper::Keeper;
+use reg_keeper::keeper::Keeper;
 
 /// Opens a registry.
 pub fn define<K: Keeper>(keeper: &mut K, name: &Name, table: &RangeTable) -> Result<Content, Stop>

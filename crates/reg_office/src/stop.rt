@@ -1,7 +1,7 @@
 //! Why a command comes to nothing.
 use reg_core::decide::Deny;
 use reg_core::refusal::Refusal;
-use reg_store::keeper::Fault;
+use reg_keeper::keeper::Fault;
 use std::alloc::AllocError;
 
 /// Why a command comes to nothing. Nothing has changed then.
@@ -37,7 +37,7 @@ impl From<Fault> for Stop {
 
 impl From<AllocError> for Stop {
     ghost use Rattle.std.specs.Prelude.{◌≡◌};
-    ghost use Rattle.reg_store.specs.declared.keeper.Fault.TheVariants.{Memory};
+    ghost use Rattle.reg_keeper.specs.declared.keeper.Fault.TheVariants.{Memory};
     ghost use Rattle.reg_office.specs.declared.stop.Stop.TheVariants.{Fault as OfKeeper};
 
     ghost from_gives = { λ _ stop. stop ≡ OfKeeper Memory };

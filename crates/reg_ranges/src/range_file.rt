@@ -183,14 +183,24 @@ pub fn read_ranges(alloc: Global, file: &[u8]) -> Result<Vec<Range>, RowFault>
     ensures fault { IfErr result (IsFaultOf (file_ranges file.now)) }
 {
     let mut rows = rows_of(alloc, file);
-    let Some(first) = next_row(&mut rows)? else {
+    ranges_of(alloc, &mut rows)
+}
+
+// The ranges of the rows that a reader of a file still has to give.
+fn ranges_of(alloc: Global, rows: &mut ByteRecordsIntoIter<&[u8]>) -> Result<Vec<Range>, RowFault>
+    ensures ranges { (text : List ℕ) → HasRead text [] rows.old
+        → IfOk result (λ ranges. file_ranges text ≡ Ok ranges.items) }
+    ensures fault { (text : List ℕ) → HasRead text [] rows.old
+        → IfErr result (IsFaultOf (file_ranges text)) }
+{
+    let Some(first) = next_row(rows)? else {
         return Err(RowFault::Header);
     };
     if !is_header(&first) {
         return Err(RowFault::Header);
     }
     let mut ranges = Vec::new(alloc);
-    while let Some(row) = next_row(&mut rows)? {
+    while let Some(row) = next_row(rows)? {
         let range = read_row(alloc, ranges.len(), &row)?;
         ranges.push(range)?;
     }

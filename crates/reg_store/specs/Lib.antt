@@ -1,4 +1,3 @@
 pub mod Maps
 pub mod Groups
-pub mod Keeper
 pub mod Lists

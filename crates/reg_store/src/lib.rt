@@ -1,7 +1,8 @@
-//! What keeps the content of an office, and the keeper in memory.
+//! The keeper in memory.
 #![tactic(auto)]
 
 mod groups;
-pub mod keeper;
 pub mod lists;
 mod maps;
+
+pub use reg_keeper::keeper;

@@ -16,7 +16,7 @@ mod registries;
 mod requests;
 mod reviews;
 
-use crate::keeper::{Fault, Keeper};
+use reg_keeper::keeper::{Fault, Keeper};
 use crate::maps::{set_row, unset_row};
 use caps::{Caps, cap_in};
 use entries::{Entries, entries_in, entry_in, put_entry};

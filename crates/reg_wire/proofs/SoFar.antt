@@ -3,8 +3,8 @@ use Rattle.std.proofs.Common.{◌≡◌, ◌≢◌, ℕ, List, [], ◌∷◌, �
 use Rattle.std.specs.Prelude.{MatchOption}
 use Rattle.std.specs.List.{AllByRecursion}
 use Rattle.reg_core.specs.World.{World}
-use Rattle.reg_store.specs.Keeper.{GoesOn}
-use Rattle.reg_store.proofs.Premises.{goes_on_both, goes_on_there}
+use Rattle.reg_keeper.specs.Keeper.{GoesOn}
+use Rattle.reg_keeper.proofs.Premises.{goes_on_both, goes_on_there}
 use Rattle.reg_wire.specs.Exchange.{Call}
 use Rattle.reg_wire.specs.Script.Answers.{Serves, ServesOver}
 use Rattle.reg_wire.specs.Script.Laws.{LinesStandSoFar}

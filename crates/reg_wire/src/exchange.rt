@@ -1,7 +1,7 @@
 //! A call and its answer, whatever carries them.
 ghost use Rattle.std.specs.Prelude.{◌≡◌, IfOk};
 ghost use Rattle.reg_office.specs.Caller.{step_by};
-ghost use Rattle.reg_store.specs.Keeper.{Makes};
+ghost use Rattle.reg_keeper.specs.Keeper.{Makes};
 ghost use Rattle.reg_wire.specs.Exchange.{call_view, answer_to, world_then, IsAnswered};
 
 use reg_core::command::Command;
@@ -11,7 +11,7 @@ use reg_office::Office;
 use reg_parse::command::read_command;
 use reg_parse::route::Routes;
 use reg_print::answer::Answer;
-use reg_store::keeper::{Fault, Keeper};
+use reg_keeper::keeper::{Fault, Keeper};
 use std::alloc::Global;
 
 /// What is asked at a moment, by whoever has a token.

@@ -15,7 +15,7 @@ use crate::wire_fault::WireFault;
 use lines::respond_all;
 use reg_office::Office;
 use reg_parse::route::Routes;
-use reg_store::keeper::Keeper;
+use reg_keeper::keeper::Keeper;
 use std::alloc::Global;
 use std::io::{Read, Write};
 

@@ -11,7 +11,7 @@ use reg_core::request::Request;
 use reg_core::rows::Rows;
 use reg_core::text::{Account, Digest, Name, Ref};
 use reg_ranges::table::RangeTable;
-use reg_store::keeper::{Fault, Keeper};
+use reg_keeper::keeper::{Fault, Keeper};
 
 /// A keeper over a store that takes changes, gives back capabilities, and registries with their
 /// entries, and fails at all else.

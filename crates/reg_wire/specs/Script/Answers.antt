@@ -6,7 +6,7 @@ use Rattle.std.specs.Str.{bytes_eq}
 use Rattle.reg_core.specs.World.{World}
 use Rattle.reg_print.specs.Answer.{status_of, body_text}
 use Rattle.reg_print.specs.declared.answer.Answer.{Answer}
-use Rattle.reg_store.specs.Keeper.{GoesOn}
+use Rattle.reg_keeper.specs.Keeper.{GoesOn}
 use Rattle.reg_wire.specs.Exchange.{Call, answer_to, world_then, answers_to, world_after_calls}
 use Rattle.reg_wire.specs.Script.Line.{line_of}
 use Rattle.reg_wire.specs.Script.Lines.{refusal, storage}

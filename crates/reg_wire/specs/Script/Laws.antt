@@ -14,7 +14,7 @@ use Rattle.reg_core.specs.declared.wire_refusal.WireRefusal.TheVariants as wire
 use Rattle.reg_office.specs.Caller.{token_digest, caller_of}
 use Rattle.reg_print.specs.declared.answer.Answer.{Answer}
 use Rattle.reg_print.specs.declared.answer.Answer.TheVariants as answer
-use Rattle.reg_store.specs.Keeper.{GoesOn}
+use Rattle.reg_keeper.specs.Keeper.{GoesOn}
 use Rattle.reg_wire.specs.Exchange.{Call, event_of, events_of, answers_with}
 use Rattle.reg_wire.specs.Laws.{LookAlike}
 use Rattle.reg_wire.specs.Script.Answers.{Serves, ServesOver, answer_line, lines_with, calls_of, AnswerCalls, without_faults, faultless_lines, faultless_answers, faultless_calls}

@@ -2,7 +2,7 @@
 ghost use Rattle.reg_wire.specs.Script.Laws.{LinesAreRead, IsCutOneWay, AnswersAreLines, AreAnswers, RunsAsTheModel, LinesAreAnsweredAlike, UnseenLinesLeaveNoTrace, LinesStandSoFar};
 
 use crate::laws::{calls_are_answered_alike, calls_run_as_the_model, unseen_calls_leave_no_trace};
-use reg_store::keeper::Keeper;
+use reg_keeper::keeper::Keeper;
 
 /// A line is read as it is written: `moment token METHOD path body`, with one space between. Other
 /// bytes are no line.

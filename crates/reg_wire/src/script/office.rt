@@ -1,6 +1,6 @@
 //! The office as the responder of a script.
 ghost use Rattle.std.specs.Prelude.{◌≡◌, map, IfOk};
-ghost use Rattle.reg_store.specs.Keeper.{Makes};
+ghost use Rattle.reg_keeper.specs.Keeper.{Makes};
 ghost use Rattle.reg_wire.specs.Exchange.{answer_to, world_then, IsAnswered};
 ghost use Rattle.reg_wire.specs.Script.Answers.{ServesOver, answer_line, tab_of as tab};
 ghost use Rattle.reg_wire.specs.Script.Line.{call_of, line_feed_of as line_feed};
@@ -11,7 +11,7 @@ use crate::script::responder::{Responder, Unanswered};
 use reg_office::Office;
 use reg_parse::route::Routes;
 use reg_print::answer::{Answer, body_of};
-use reg_store::keeper::{Fault, Keeper};
+use reg_keeper::keeper::{Fault, Keeper};
 use std::alloc::{AllocError, Global};
 
 impl<K: Keeper> Responder for Office<K> {

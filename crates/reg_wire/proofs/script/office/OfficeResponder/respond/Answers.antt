@@ -1,5 +1,5 @@
 use Rattle.std.proofs.Common.{ap, inl}
-use Rattle.reg_store.proofs.Premises.{goes_on_anyway}
+use Rattle.reg_keeper.proofs.Premises.{goes_on_anyway}
 use Rattle.reg_wire.specs.Script.Answers.{answer_line}
 use Rattle.reg_wire.proofs.AnswerLines.{answered_is_another}
 use Rattle.reg_wire.proofs.script.office.OfficeResponder.respond.Goals as goal

@@ -1,6 +1,6 @@
 -- What becomes of the premise in two steps.
 use Rattle.std.proofs.Common.{◌≡◌, sym, subst}
-use Rattle.reg_store.specs.Keeper.{GoesOn}
+use Rattle.reg_keeper.specs.Keeper.{GoesOn}
 
 -- in one step and then another
 pub goes_on_then : {S : Type 0} {Holds Sound : S → Type 0} {old mid new : S} {Unfailed : Type 0}

@@ -1,8 +1,8 @@
 -- What the calls of a keeper promise.
 use Rattle.std.specs.Prelude.{◌≡◌, Bool, false, IsTrue, Result, IfOk, IfErr, OnOk, OnErr}
 use Rattle.reg_core.specs.World.{World}
-use Rattle.reg_store.specs.declared.keeper.Fault.{Fault}
-use Rattle.reg_store.specs.declared.keeper.Fault.TheVariants.{Memory, Store}
+use Rattle.reg_keeper.specs.declared.keeper.Fault.{Fault}
+use Rattle.reg_keeper.specs.declared.keeper.Fault.TheVariants.{Memory, Store}
 
 -- want of memory, or a fault of the store where the keeper has one
 abbrev pub MayFault : Bool → Fault → Type 0

@@ -9,7 +9,7 @@ ghost use Rattle.reg_core.specs.Request.{request_row, request_rows};
 ghost use Rattle.reg_core.specs.View.{entries_of, queue_of, requests_of};
 ghost use Rattle.reg_core.specs.WellKept.{WellKept, CanApply};
 ghost use Rattle.reg_core.specs.World.{World, applied};
-ghost use Rattle.reg_store.specs.Keeper.{Selects, Makes};
+ghost use Rattle.reg_keeper.specs.Keeper.{Selects, Makes};
 
 use reg_blocks::pool::Pool;
 use reg_core::capability::Cap;
@@ -34,7 +34,7 @@ pub enum Fault {
 
 impl From<AllocError> for Fault {
     ghost use Rattle.std.specs.Prelude.{◌≡◌};
-    ghost use Rattle.reg_store.specs.declared.keeper.Fault.TheVariants.{Memory};
+    ghost use Rattle.reg_keeper.specs.declared.keeper.Fault.TheVariants.{Memory};
 
     ghost from_gives = { λ _ fault. fault ≡ Memory };
 

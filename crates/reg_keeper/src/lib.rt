@@ -1,0 +1,4 @@
+//! What an office asks of whatever keeps its content.
+#![tactic(auto)]
+
+pub mod keeper;
