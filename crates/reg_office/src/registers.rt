@@ -9,9 +9,9 @@ use crate::stop::Stop;
 use reg_core::content::Content;
 use reg_core::decide::{decide_define, decide_pool};
 use reg_core::text::Name;
+use reg_keeper::keeper::Keeper;
 use reg_ranges::formed::Formed;
 use reg_ranges::table::RangeTable;
-use reg_keeper::keeper::Keeper;
 
 /// Opens a registry.
 pub fn define<K: Keeper>(keeper: &mut K, name: &Name, table: &RangeTable) -> Result<Content, Stop>
