@@ -1,10 +1,8 @@
 -- What is allowed is a free value that is assigned one by one.
-use Rattle.std.proofs.Common.{◌≡◌, ℕ, ◌<◌, ◌^◌, zero, suc, slice_index_or, Bool, true, false, cond, ◌&&◌, List, [], ◌∷◌, length, map, refl, sym, ap, subst, ◌∙◌, arith}
+use Rattle.std.proofs.Common.{◌≡◌, ℕ, ◌<◌, ◌^◌, Bool, true, false, ◌&&◌, List, [], ◌∷◌, map, refl, ap, subst, ◌∙◌, arith}
 use Rattle.std.specs.Prelude.{Option, Some, None, Result, Ok, Err, Contains, is_some, is_none, is_ok, nat_lt, option_and_then}
 use Rattle.std.specs.List.{list_all, list_any}
-use Rattle.std.specs.declared.cmp.Ordering.{Ordering}
-use Rattle.std.specs.Ordering.{eq_by_cmp}
-use Rattle.std.specs.FinMap.{FinMap, get, entries, get-entries, find}
+use Rattle.std.specs.FinMap.{FinMap, get, entries}
 use Rattle.std.specs.Cmp.{first_so, second_so}
 use Rattle.std.proofs.lemmas.Bool.Decides.{nat_tests}
 use Rattle.reg_ranges.specs.FreeValues.{IsLeastFree, least_value}
@@ -39,7 +37,7 @@ use Rattle.reg_core.specs.declared.refusal.Refusal.{Refusal}
 use Rattle.reg_core.specs.declared.refusal.Refusal.TheVariants as no
 use Rattle.reg_core.specs.declared.request.Given.TheVariants as given
 use Rattle.reg_core.proofs.Cases.{by_test}
-use Rattle.reg_core.proofs.MapLaws.{IsKeyOrder, place_keys, get-select, tied}
+use Rattle.reg_core.proofs.MapLaws.{place_keys, get-select, Contains-map, Contains-entries}
 use Rattle.reg_core.proofs.SamenessIsDecided.{same_text-itself}
 
 -- ---- Checks in turn
@@ -155,45 +153,6 @@ open_below table v form is_open =
     below false h bounded = grind (arith, nat_tests, h, bounded)
 
 -- ---- Values that have entries
-
-module _ {A : Type 0} where
-  is_first : (x : A) (xs : List A) → Contains (x ∷ xs) x
-  is_first x xs = (0, omega arith, refl)
-
-  is_later : (y x : A) (xs : List A) → Contains xs x → Contains (y ∷ xs) x
-  is_later y x xs h = let inside = h.1 in (suc h.0, omega (arith, inside), h.2)
-
-map_at : {A B : Type 0} (f : A → B) (xs : List A) (x : A) (k : ℕ) → k < length xs
-    → slice_index_or xs k x ≡ x → Contains (map f xs) (f x)
-map_at f [] x k inside is = absurd (omega (arith, inside))
-map_at f (y ∷ ys) x zero inside is =
-    subst (λ z. Contains (f y ∷ map f ys) (f z)) is (is_first (f y) (map f ys))
-map_at f (y ∷ ys) x (suc k) inside is =
-    is_later (f y) (f x) (map f ys) (map_at f ys x k (omega (arith, inside)) is)
-
-pub Contains-map : {A B : Type 0} (f : A → B) (xs : List A) (x : A) → Contains xs x
-    → Contains (map f xs) (f x)
-Contains-map f xs x h = map_at f xs x h.0 h.1 h.2
-
--- the row at a key is among the entries
-pub Contains-entries : {K X : Type 0} {R : K → K → Ordering} → IsKeyOrder R
-    → (m : FinMap R X) (k : K) (x : X) → get m k ≡ Some x → Contains (entries m) (k, x)
-Contains-entries {K} {X} {R} o m k x is_there =
-    among (entries m) (sym (get-entries m k) ∙ is_there)
-  where
-    among : (es : List (K × X)) → find R k es ≡ Some x → Contains es (k, x)
-    among [] h = absurd (cc)
-    among (e ∷ es) h =
-        elim (eq_by_cmp R k e.0) as
-        (λ b. eq_by_cmp R k e.0 ≡ b → cond b (Some e.1) (find R k es) ≡ Some x
-        → Contains (e ∷ es) (k, x)) [
-          | true ↦ λ t h.
-              let value : e.1 ≡ x = cc in
-              let key = tied o k e.0 t in
-              subst (λ (p : K × X). Contains (e ∷ es) p) (λ i. (sym key i, value i))
-              (is_first e es)
-          | false ↦ λ t h. is_later e (k, x) es (among es h)
-        ] refl h
 
 -- a value that is not among those that have entries has none
 none_at : (m : FinMap place_cmp Registration) (registry : List ℕ) (v : ℕ)
