@@ -4,8 +4,9 @@ use Rattle.std.specs.FinMap.{get, contains_key, keys}
 use Rattle.std.specs.List.Sorted.{IsStrictlySortedBy}
 use Rattle.reg_blocks.specs.Pool.{is_pool_prefix}
 use Rattle.reg_early.specs.Moment.{is_in_clock, utc_day}
-use Rattle.reg_core.specs.Allowance.{allowed, ground_of, needs_advice}
+use Rattle.reg_core.specs.Allowance.{allowance_on, allowed, ground_of, needs_advice}
 use Rattle.reg_core.specs.Answer.{change_of}
+use Rattle.reg_core.specs.Award.{Award, new_entry, Allowance, given_in}
 use Rattle.reg_ranges.specs.Tables.{Table}
 use Rattle.reg_core.specs.Capability.{last_until}
 use Rattle.reg_core.specs.Command.{kind_of, has_command_form}
@@ -14,7 +15,7 @@ use Rattle.reg_core.specs.Names.{is_token, is_digest}
 use Rattle.reg_core.specs.Queue.{queue_rows}
 use Rattle.reg_core.specs.Request.{case_of, is_pending, request_rows, word_of}
 use Rattle.reg_core.specs.Page.{page_entries}
-use Rattle.reg_core.specs.Rules.{award}
+use Rattle.reg_core.specs.Rules.{change_to_give}
 use Rattle.reg_core.specs.Run.{Event, have_forms, world_after}
 use Rattle.reg_core.specs.Step.{answer_to, step}
 use Rattle.reg_core.specs.View.{published, requests_of, queue_of, cap_at, view_of}
@@ -23,6 +24,7 @@ use Rattle.reg_core.specs.World.{World, Place, RequestName, name_cmp, empty_worl
 use Rattle.reg_core.specs.declared.advice.Advice.{Advice}
 use Rattle.reg_core.specs.declared.advice.Verdict.TheVariants.{For}
 use Rattle.reg_core.specs.declared.ask.Ask.{Ask}
+use Rattle.reg_core.specs.declared.ask.Ask.TheVariants.{Code}
 use Rattle.reg_core.specs.declared.capability.Cap.{Cap}
 use Rattle.reg_core.specs.declared.capability.Kind.{Kind}
 use Rattle.reg_core.specs.declared.capability.Kind.TheVariants as kind
@@ -213,6 +215,26 @@ AnswersAreDone digest_of =
     → let after = step digest_of w caller moment command in
     WasDone digest_of after.world (cap_at w caller) (utc_day moment) command after.reply
 
+-- what is given is of what the ask names, in the account's name
+abbrev pub IsOfAsk : List ℕ → Ask → Award → Type 0
+IsOfAsk account (Code ask) (new_entry e) =
+    (e.registry ≡ ask.registry) × (e.label ≡ ask.label) × (e.assignee ≡ account)
+
+-- the change gives a request what its ask is allowed, on a day
+pub record GivesWhatIsAllowed (w : World) (today : ℕ) (name : RequestName) (change : Change) :
+    Type 0 where
+  -- the request is there, and pending
+  pub case : Case
+  pub is_there : get w.requests name ≡ Some case
+  pub pending : case.state ≡ Pending
+  -- the published registers allow its ask this
+  pub allowance : Allowance
+  pub allows : allowance_on (ground_of (published w) case.ask) name.0 case.ask ≡ Ok allowance
+  pub given : allowed (published w) name.0 case.ask ≡ Ok (given_in allowance.award)
+  pub of_ask : IsOfAsk name.0 case.ask allowance.award
+  -- and of it, the name and the day alone the change is made
+  pub is : change ≡ change_to_give name today allowance.award
+
 -- an approval that changes something gives exactly what is allowed, on the day of the moment
 abbrev pub ApprovalsGiveWhatIsAllowed : (List ℕ → List ℕ) → Type 0
 ApprovalsGiveWhatIsAllowed digest_of =
@@ -220,9 +242,7 @@ ApprovalsGiveWhatIsAllowed digest_of =
     (change : Change)
     → change_of (answer_to digest_of w caller moment (Clerk (Approve account reference)))
     ≡ Some change
-    → (case : Case) × (get w.requests (account, reference) ≡ Some case) × (case.state ≡ Pending)
-    × (given : Given) × (allowed (published w) account case.ask ≡ Ok given)
-    × (change ≡ award (account, reference) case.ask (utc_day moment) given)
+    → GivesWhatIsAllowed w (utc_day moment) (account, reference) change
 
 -- an expert to whom the request is assigned is for it
 abbrev pub IsAdvised : World → RequestName → Type 0
