@@ -72,13 +72,11 @@ fn award(request: &Request, today: Day, given: Given) -> Result<Change, AllocErr
     let Ask::Code(code) = &request.ask;
     let Given::Value(value) = given;
     let entry = Entry {
-        registry: code.registry.copy()?,
+        registry: code.registry,
         value,
         label: code.label.copy()?,
-        assignee: request.account.copy()?,
+        assignee: request.account,
         term: Term::permanent(today),
     };
-    let account = request.account.copy()?;
-    let reference = request.reference.copy()?;
-    Ok(Change::GiveValue(account, reference, entry))
+    Ok(Change::GiveValue(request.account, request.reference, entry))
 }
