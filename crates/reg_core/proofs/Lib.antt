@@ -1,3 +1,4 @@
+pub mod Places
 pub mod Cases
 pub mod MapLaws
 pub mod KeySets

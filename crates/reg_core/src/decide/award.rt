@@ -50,7 +50,7 @@ impl Award<'_> {
         match self {
             Award::Entry(entry) => {
                 let entry = entry.from_day(today)?;
-                Ok(Change::GiveValue(account.copy()?, reference.copy()?, entry))
+                Ok(Change::GiveValue(*account, *reference, entry))
             }
         }
     }
@@ -62,10 +62,10 @@ impl NewEntry<'_> {
         ensures { IfOk result (λ e. e ≡ entry_on today (entry_view self.now)) }
     {
         Ok(Entry {
-            registry: self.registry.copy()?,
+            registry: *self.registry,
             value: self.value,
             label: self.label.copy()?,
-            assignee: self.assignee.copy()?,
+            assignee: *self.assignee,
             term: Term::permanent(today),
         })
     }
