@@ -14,8 +14,8 @@ use reg_core::decide::decide_advise;
 use reg_core::queue::QueueRow;
 use reg_core::refusal::Refusal;
 use reg_core::text::{Account, Ref};
-use reg_ranges::formed::Formed;
 use reg_keeper::keeper::Keeper;
+use reg_ranges::formed::Formed;
 use std::alloc::AllocError;
 
 /// What a command of this expert's is answered.
