@@ -130,8 +130,8 @@ fn pending(account: &Account, reference: &Ref, ask: &Ask) -> Result<Request, All
         IfOk result (λ row. row ≡ request_row name (pending_case ask.now)) }
 {
     Ok(Request {
-        account: account.copy()?,
-        reference: reference.copy()?,
+        account: *account,
+        reference: *reference,
         ask: ask.copy()?,
         state: State::Pending,
     })

@@ -20,8 +20,9 @@ pub fn define<K: Keeper>(keeper: &mut K, name: &Name, table: &RangeTable) -> Res
 {
     let existing = keeper.ranges(name)?;
     let decision = decide_define(existing.as_ref(), name, table)?;
+    name.formed();
     table.formed();
-    Ok(Content::Defined(conclude(keeper, name.copy(), decision)?))
+    Ok(Content::Defined(conclude(keeper, Ok(*name), decision)?))
 }
 
 /// Adds a prefix to the pool.

@@ -16,7 +16,6 @@ mod registries;
 mod requests;
 mod reviews;
 
-use reg_keeper::keeper::{Fault, Keeper};
 use crate::maps::{set_row, unset_row};
 use caps::{Caps, cap_in};
 use entries::{Entries, entries_in, entry_in, put_entry};
@@ -30,6 +29,7 @@ use reg_core::queue::QueueRow;
 use reg_core::request::Request;
 use reg_core::rows::Rows;
 use reg_core::text::{Account, Digest, Name, Ref};
+use reg_keeper::keeper::{Fault, Keeper};
 use reg_ranges::table::RangeTable;
 use registries::{Registries, names_in, table_in};
 use requests::{all_rows, own_rows, request_in};
@@ -92,7 +92,7 @@ impl Keeper for ListKeeper {
     ghost well_kept = { λ keeper holds. keeper.well };
 
     fn cap(&mut self, digest: &Digest) -> Result<Option<Cap>, Fault> {
-        Ok(cap_in(&self.caps, digest)?)
+        Ok(cap_in(&self.caps, digest))
     }
 
     fn names(&mut self) -> Result<Rows<Name>, Fault> {
