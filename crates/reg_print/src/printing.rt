@@ -9,7 +9,7 @@ ghost use Rattle.reg_print.specs.Printed.{Added, Printed, PrintedMembers};
 
 use json::Writer;
 use reg_core::rows::Rows;
-use reg_core::text::{Form, Word};
+use reg_core::text::{Form, Text, Word};
 use std::alloc::{AllocError, Global};
 
 /// Prints JSON, a name or a value at a time.
@@ -51,6 +51,16 @@ pub(crate) fn printed<As, T: Print<As>>(alloc: Global, value: &T) -> Result<Vec<
 }
 
 impl<F: Form> Print<Itself> for Word<F> {
+    ghost tree = { string };
+
+    ghost levels = { 0 };
+
+    fn print(&self, out: &mut Printer) -> Result<(), AllocError> {
+        out.text(self.as_str())
+    }
+}
+
+impl Print<Itself> for Text {
     ghost tree = { string };
 
     ghost levels = { 0 };
