@@ -7,11 +7,11 @@ ghost use Rattle.reg_wire.specs.Exchange.{call_view, answer_to, world_then, IsAn
 use reg_core::command::Command;
 use reg_core::reply::Reply;
 use reg_core::wire_refusal::ReadFault;
+use reg_keeper::keeper::{Fault, Keeper};
 use reg_office::Office;
 use reg_parse::command::read_command;
 use reg_parse::route::Routes;
 use reg_print::answer::Answer;
-use reg_keeper::keeper::{Fault, Keeper};
 use std::alloc::Global;
 
 /// What is asked at a moment, by whoever has a token.
