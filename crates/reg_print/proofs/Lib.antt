@@ -3,3 +3,4 @@ pub mod ListedMembers
 pub mod ListingText
 pub mod PrintedTokens
 pub mod ReadObjects
+pub mod WrittenRecords

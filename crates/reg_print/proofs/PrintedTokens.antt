@@ -182,7 +182,7 @@ all_by_recursion P (x ∷ xs) h =
     (h 0 x (search rules), all_by_recursion P xs (λ k d b. h (suc k) d (search rules)))
 
 -- one more of them
-one_more : {X : Type 0} (xs : List X) (i : ℕ) (x : X) → i < length xs → x ≡ get_or xs i x
+pub one_more : {X : Type 0} (xs : List X) (i : ℕ) (x : X) → i < length xs → x ≡ get_or xs i x
     → take (i + 1) xs ≡ take i xs ++ x ∷ []
 one_more xs i x b is = take_more xs i x b ∙ ap (λ y. take i xs ++ y ∷ []) (sym is)
 

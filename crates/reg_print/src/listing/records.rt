@@ -1,34 +1,35 @@
 //! Writes registries as CSV (RFC 4180 section 2), each record ended by a line feed.
-ghost use Rattle.std.specs.Prelude.{◌≡◌, ◌∷◌, [], map, IfOk};
+ghost use Rattle.std.specs.Prelude.{◌≡◌, ℕ, List, ◌∷◌, [], map, IfOk, OnOk};
 ghost use Rattle.std.specs.String.{string_bytes};
-ghost use Rattle.csv.specs.Writing.{default_writer, row_text};
-ghost use Rattle.reg_print.specs.Listing.{assignee_text, expiry_text, first_text, header, policy_text, row_fields, row_view, listing_text};
+ghost use Rattle.reg_print.specs.Listing.{assignee_text, csv_text, expiry_text, first_text, header, policy_text, row_fields, row_view, listing_text};
+ghost use Rattle.reg_print.specs.Records.{Adds, HasWritten};
 
 use crate::listing::rows::{ListingRow, rows};
-use csv::WriterBuilder;
+use csv::{Writer, WriterBuilder};
 use reg_core::page::Page;
 use reg_early::day::day_text;
 use reg_ranges::policy::Policy;
 use std::alloc::{AllocError, Global};
+use std::io::Write;
 
-/// A registry as a listing.
-#[tactic(auto, unfolding(crate::specs::Listing::listing_text))]
+/// A registry as a listing. One writer writes all of its records.
 pub fn listing(alloc: Global, page: &Page) -> Result<Vec<u8>, AllocError>
     ensures { IfOk result (λ v. v.items ≡ listing_text page.now) }
 {
     let rows = rows(alloc, page)?;
-    let mut text = header(alloc)?;
+    let mut writer = empty(alloc);
+    write_header(&mut writer)?;
     for row in &rows {
-        text.extend_from_slice(row_text(alloc, row)?.as_slice())?;
+        write_row(alloc, &mut writer, row)?;
     }
-    Ok(text)
+    text_of(writer)
 }
 
-fn header(alloc: Global) -> Result<Vec<u8>, AllocError>
-    ensures { IfOk result (λ v. v.items ≡ row_text default_writer header) }
+fn write_header<W: Write + Drop>(writer: &mut Writer<W>) -> Result<(), AllocError>
+    ensures { OnOk result (Adds W.contents writer.old writer.new header) }
 {
-    record(
-        alloc,
+    write_record(
+        writer,
         &[
             b"Value".as_slice(),
             b"Description".as_slice(),
@@ -41,14 +42,18 @@ fn header(alloc: Global) -> Result<Vec<u8>, AllocError>
     )
 }
 
-fn row_text(alloc: Global, row: &ListingRow<'_>) -> Result<Vec<u8>, AllocError>
-    ensures { IfOk result (λ v. v.items ≡ row_text default_writer (row_fields (row_view row.now))) }
+fn write_row<W: Write + Drop>(
+    alloc: Global,
+    writer: &mut Writer<W>,
+    row: &ListingRow<'_>,
+) -> Result<(), AllocError>
+    ensures { OnOk result (Adds W.contents writer.old writer.new (row_fields (row_view row.now))) }
 {
     let values = format!(in alloc; "{}", row.values)?;
     let first = first_text(alloc, row)?;
     let expiry = expiry_text(alloc, row)?;
-    record_of(
-        alloc,
+    write_fields(
+        writer,
         values.as_str(),
         row.description,
         row.status.word(),
@@ -60,8 +65,8 @@ fn row_text(alloc: Global, row: &ListingRow<'_>) -> Result<Vec<u8>, AllocError>
 }
 
 // A record of the seven fields of a row.
-fn record_of<'a>(
-    alloc: Global,
+fn write_fields<'a, W: Write + Drop>(
+    writer: &mut Writer<W>,
     values: &'a str,
     description: &'a str,
     status: &'a str,
@@ -69,14 +74,14 @@ fn record_of<'a>(
     first: &'a str,
     expiry: &'a str,
     assignee: &'a str,
-) -> Result<Vec<u8>, AllocError>
-    ensures { IfOk result
-        (λ v. v.items ≡ row_text default_writer
+) -> Result<(), AllocError>
+    ensures { OnOk result
+        (Adds W.contents writer.old writer.new
         (values.now ∷ description.now ∷ status.now ∷ policy.now ∷ first.now ∷ expiry.now
         ∷ assignee.now ∷ [])) }
 {
-    record(
-        alloc,
+    write_record(
+        writer,
         &[
             values.as_bytes(),
             description.as_bytes(),
@@ -133,13 +138,28 @@ fn policy_word(policy: Option<Policy>) -> &'static str
 }
 
 // One record of these fields. Only memory can be wanting.
-fn record(alloc: Global, fields: &[&[u8]]) -> Result<Vec<u8>, AllocError>
-    ensures { IfOk result (λ v. v.items ≡ row_text default_writer (map (λ f. f.now) fields.now)) }
+fn write_record<W: Write + Drop>(writer: &mut Writer<W>, fields: &[&[u8]]) -> Result<(), AllocError>
+    ensures { OnOk result (Adds W.contents writer.old writer.new (map (λ f. f.now) fields.now)) }
 {
-    let mut writer = WriterBuilder::new().from_writer(Vec::new(alloc));
-    if writer.write_fields(fields).is_err() {
-        return Err(AllocError);
+    match writer.write_fields(fields) {
+        Ok(()) => Ok(()),
+        Err(_) => Err(AllocError),
     }
+}
+
+// A writer that has written nothing.
+fn empty(alloc: Global) -> Writer<Vec<u8>>
+    ensures { HasWritten ⟦<Vec<u8> as Write>⟧.contents result [] }
+{
+    WriterBuilder::new().from_writer(Vec::new(alloc))
+}
+
+// The text of the records that were written.
+fn text_of(writer: Writer<Vec<u8>>) -> Result<Vec<u8>, AllocError>
+    ensures { (records : List (List (List ℕ)))
+        → HasWritten ⟦<Vec<u8> as Write>⟧.contents writer records
+        → IfOk result (λ v. v.items ≡ csv_text records) }
+{
     match writer.into_inner() {
         Ok(text) => Ok(text),
         Err(_) => Err(AllocError),

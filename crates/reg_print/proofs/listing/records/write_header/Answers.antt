@@ -1,7 +1,7 @@
-use Rattle.reg_print.proofs.listing.records.header.Goals as goal
+use Rattle.reg_print.proofs.listing.records.write_header.Goals as goal
 
 pub returns : goal.returns
-returns c =
+returns g c =
     rw (
       c.as_slice.ensures,
       c.as_slice-2.ensures,
@@ -10,4 +10,4 @@ returns c =
       c.as_slice-5.ensures,
       c.as_slice-6.ensures,
       c.as_slice-7.ensures,
-    ) at c.record.ensures
+    ) at c.write_record.ensures
