@@ -77,19 +77,19 @@ fn command_of(
 {
     match operation {
         Operation::Registries => without_body(Command::Public(PublicCommand::Registries), body),
-        Operation::Registry => read_registry(alloc, path, body),
-        Operation::RegistryListing => read_registry_csv(alloc, path, body),
+        Operation::Registry => read_registry(path, body),
+        Operation::RegistryListing => read_registry_csv(path, body),
         Operation::PoolList => without_body(Command::Public(PublicCommand::PoolList), body),
         Operation::Own => without_body(Command::Applicant(ApplicantCommand::Own), body),
-        Operation::OwnOne => read_own_one(alloc, path, body),
+        Operation::OwnOne => read_own_one(path, body),
         Operation::Submit => read_submit(alloc, path, body),
-        Operation::Withdraw => read_withdraw(alloc, path, body),
+        Operation::Withdraw => read_withdraw(path, body),
         Operation::Queue => without_body(Command::Expert(ExpertCommand::Queue), body),
         Operation::Advise => read_advise(alloc, path, body),
         Operation::AllRequests => without_body(Command::Clerk(ClerkCommand::AllRequests), body),
-        Operation::OneRequest => read_one_request(alloc, path, body),
-        Operation::AssignExpert => read_assign_expert(alloc, path, body),
-        Operation::Approve => read_approve(alloc, path, body),
+        Operation::OneRequest => read_one_request(path, body),
+        Operation::AssignExpert => read_assign_expert(path, body),
+        Operation::Approve => read_approve(path, body),
         Operation::Decline => read_decline(alloc, path, body),
         Operation::Define => read_define(alloc, path, body),
         Operation::AddPool => read_add_pool(path, body),
@@ -99,38 +99,38 @@ fn command_of(
 }
 
 #[tactic(auto, unfolding(crate::specs::Command::registry_of))]
-fn read_registry(alloc: Global, path: &str, body: &[u8]) -> Result<Command, ReadFault>
+fn read_registry(path: &str, body: &[u8]) -> Result<Command, ReadFault>
     ensures { Gives result (registry_of path.now body.now) }
 {
     empty(body)?;
-    let name = word_at(alloc, REGISTRY_PATH, path, Item::Name)?;
+    let name = word_at(REGISTRY_PATH, path, Item::Name)?;
     Ok(Command::Public(PublicCommand::Registry(name)))
 }
 
 #[tactic(auto, unfolding(crate::specs::Command::registry_csv_of))]
-fn read_registry_csv(alloc: Global, path: &str, body: &[u8]) -> Result<Command, ReadFault>
+fn read_registry_csv(path: &str, body: &[u8]) -> Result<Command, ReadFault>
     ensures { Gives result (registry_csv_of path.now body.now) }
 {
     empty(body)?;
-    let name = word_at(alloc, LISTING_PATH, path, Item::Name)?;
+    let name = word_at(LISTING_PATH, path, Item::Name)?;
     Ok(Command::Public(PublicCommand::RegistryListing(name)))
 }
 
 #[tactic(auto, unfolding(crate::specs::Command::own_one_of))]
-fn read_own_one(alloc: Global, path: &str, body: &[u8]) -> Result<Command, ReadFault>
+fn read_own_one(path: &str, body: &[u8]) -> Result<Command, ReadFault>
     ensures { Gives result (own_one_of path.now body.now) }
 {
     empty(body)?;
-    let reference = word_at(alloc, REQUEST_PATH, path, Item::Reference)?;
+    let reference = word_at(REQUEST_PATH, path, Item::Reference)?;
     Ok(Command::Applicant(ApplicantCommand::OwnOne(reference)))
 }
 
 #[tactic(auto, unfolding(crate::specs::Command::withdraw_of))]
-fn read_withdraw(alloc: Global, path: &str, body: &[u8]) -> Result<Command, ReadFault>
+fn read_withdraw(path: &str, body: &[u8]) -> Result<Command, ReadFault>
     ensures { Gives result (withdraw_of path.now body.now) }
 {
     empty(body)?;
-    let reference = word_at(alloc, REQUEST_PATH, path, Item::Reference)?;
+    let reference = word_at(REQUEST_PATH, path, Item::Reference)?;
     Ok(Command::Applicant(ApplicantCommand::Withdraw(reference)))
 }
 
@@ -139,7 +139,7 @@ fn read_submit(alloc: Global, path: &str, body: &[u8]) -> Result<Command, ReadFa
     ensures { Gives result (submit_of path.now body.now) }
 {
     let json = members::object_of(alloc, body)?;
-    let reference = word_at(alloc, REQUEST_PATH, path, Item::Reference)?;
+    let reference = word_at(REQUEST_PATH, path, Item::Reference)?;
     let ask = ask::read_ask(alloc, &json)?;
     Ok(Command::Applicant(ApplicantCommand::Submit(reference, ask)))
 }
@@ -149,41 +149,41 @@ fn read_advise(alloc: Global, path: &str, body: &[u8]) -> Result<Command, ReadFa
     ensures { Gives result (advise_of path.now body.now) }
 {
     let json = members::object_of(alloc, body)?;
-    let account = word_at(alloc, REVIEW_PATH, path, Item::Account)?;
-    let reference = word_at(alloc, REVIEW_PATH, path, Item::Reference)?;
+    let account = word_at(REVIEW_PATH, path, Item::Account)?;
+    let reference = word_at(REVIEW_PATH, path, Item::Reference)?;
     let advice = advice::read_advice(alloc, &json)?;
     members::only(&[Item::Verdict, Item::Text], &json)?;
     Ok(Command::Expert(ExpertCommand::Advise(account, reference, advice)))
 }
 
 #[tactic(auto, unfolding(crate::specs::Command::one_request_of))]
-fn read_one_request(alloc: Global, path: &str, body: &[u8]) -> Result<Command, ReadFault>
+fn read_one_request(path: &str, body: &[u8]) -> Result<Command, ReadFault>
     ensures { Gives result (one_request_of path.now body.now) }
 {
     empty(body)?;
-    let account = word_at(alloc, CASE_PATH, path, Item::Account)?;
-    let reference = word_at(alloc, CASE_PATH, path, Item::Reference)?;
+    let account = word_at(CASE_PATH, path, Item::Account)?;
+    let reference = word_at(CASE_PATH, path, Item::Reference)?;
     Ok(Command::Clerk(ClerkCommand::OneRequest(account, reference)))
 }
 
 #[tactic(auto, unfolding(crate::specs::Command::assign_expert_of))]
-fn read_assign_expert(alloc: Global, path: &str, body: &[u8]) -> Result<Command, ReadFault>
+fn read_assign_expert(path: &str, body: &[u8]) -> Result<Command, ReadFault>
     ensures { Gives result (assign_expert_of path.now body.now) }
 {
     empty(body)?;
-    let account = word_at(alloc, EXPERT_PATH, path, Item::Account)?;
-    let reference = word_at(alloc, EXPERT_PATH, path, Item::Reference)?;
-    let expert = word_at(alloc, EXPERT_PATH, path, Item::Expert)?;
+    let account = word_at(EXPERT_PATH, path, Item::Account)?;
+    let reference = word_at(EXPERT_PATH, path, Item::Reference)?;
+    let expert = word_at(EXPERT_PATH, path, Item::Expert)?;
     Ok(Command::Clerk(ClerkCommand::AssignExpert(account, reference, expert)))
 }
 
 #[tactic(auto, unfolding(crate::specs::Command::approve_of))]
-fn read_approve(alloc: Global, path: &str, body: &[u8]) -> Result<Command, ReadFault>
+fn read_approve(path: &str, body: &[u8]) -> Result<Command, ReadFault>
     ensures { Gives result (approve_of path.now body.now) }
 {
     empty(body)?;
-    let account = word_at(alloc, APPROVAL_PATH, path, Item::Account)?;
-    let reference = word_at(alloc, APPROVAL_PATH, path, Item::Reference)?;
+    let account = word_at(APPROVAL_PATH, path, Item::Account)?;
+    let reference = word_at(APPROVAL_PATH, path, Item::Reference)?;
     Ok(Command::Clerk(ClerkCommand::Approve(account, reference)))
 }
 
@@ -192,9 +192,9 @@ fn read_decline(alloc: Global, path: &str, body: &[u8]) -> Result<Command, ReadF
     ensures { Gives result (decline_of path.now body.now) }
 {
     let json = members::object_of(alloc, body)?;
-    let account = word_at(alloc, DECLINE_PATH, path, Item::Account)?;
-    let reference = word_at(alloc, DECLINE_PATH, path, Item::Reference)?;
-    let reason = members::word(alloc, &json, Item::Reason)?;
+    let account = word_at(DECLINE_PATH, path, Item::Account)?;
+    let reference = word_at(DECLINE_PATH, path, Item::Reference)?;
+    let reason = members::text(alloc, &json, Item::Reason)?;
     members::only(&[Item::Reason], &json)?;
     Ok(Command::Clerk(ClerkCommand::Decline(account, reference, reason)))
 }
@@ -203,7 +203,7 @@ fn read_decline(alloc: Global, path: &str, body: &[u8]) -> Result<Command, ReadF
 fn read_define(alloc: Global, path: &str, body: &[u8]) -> Result<Command, ReadFault>
     ensures { Gives result (define_of path.now body.now) }
 {
-    let name = word_at(alloc, DEFINITION_PATH, path, Item::Name)?;
+    let name = word_at(DEFINITION_PATH, path, Item::Name)?;
     let max = number_at(DEFINITION_PATH, path, Item::Max)?;
     let table = read_table(alloc, max, body)?;
     Ok(Command::Clerk(ClerkCommand::Define(name, table)))
@@ -223,8 +223,8 @@ fn read_grant(alloc: Global, body: &[u8]) -> Result<Command, ReadFault>
     ensures { Gives result (grant_of body.now) }
 {
     let json = members::object_of(alloc, body)?;
-    let token = members::word(alloc, &json, Item::Token)?;
-    let cap = capability::read_cap(alloc, &json)?;
+    let token = members::word(&json, Item::Token)?;
+    let cap = capability::read_cap(&json)?;
     members::only(
         &[Item::Token, Item::Account, Item::Kind, Item::Until],
         &json,
@@ -237,7 +237,7 @@ fn read_revoke(alloc: Global, body: &[u8]) -> Result<Command, ReadFault>
     ensures { Gives result (revoke_of body.now) }
 {
     let json = members::object_of(alloc, body)?;
-    let token = members::word(alloc, &json, Item::Token)?;
+    let token = members::word(&json, Item::Token)?;
     members::only(&[Item::Token], &json)?;
     Ok(Command::Clerk(ClerkCommand::Revoke(token)))
 }
@@ -260,16 +260,11 @@ fn empty(body: &[u8]) -> Result<(), ReadFault>
 }
 
 // The segment where the pattern names this part, in its form.
-fn word_at<F: Form>(
-    alloc: Global,
-    pattern: &str,
-    path: &str,
-    part: Item,
-) -> Result<Word<F>, ReadFault>
+fn word_at<F: Form>(pattern: &str, path: &str, part: Item) -> Result<Word<F>, ReadFault>
     ensures { Gives result (segment part (read_text F.fits) pattern.now path.now) }
 {
     match path::segment(pattern, path, part) {
-        Some(text) => match Word::read(alloc, text.as_bytes())? {
+        Some(text) => match Word::read(text.as_bytes()) {
             Some(word) => Ok(word),
             None => Err(ReadFault::field(part)),
         },

@@ -16,6 +16,6 @@ pub fn read_advice(alloc: Global, json: &Value) -> Result<Advice, ReadFault>
     ensures { Gives result (advice_of (view json.now)) }
 {
     let verdict = members::verdict(json, Item::Verdict)?;
-    let text = members::word(alloc, json, Item::Text)?;
+    let text = members::text(alloc, json, Item::Text)?;
     Ok(Advice { verdict, text })
 }

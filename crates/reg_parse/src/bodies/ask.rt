@@ -54,9 +54,9 @@ fn ask_kind_named(word: &str) -> Option<AskKind>
 fn read_code(alloc: Global, json: &Value) -> Result<CodeAsk, ReadFault>
     ensures { Gives result (code_of (view json.now)) }
 {
-    let registry = members::word(alloc, json, Item::Registry)?;
+    let registry = members::word(json, Item::Registry)?;
     let want = read_want(json)?;
-    let label = members::word(alloc, json, Item::Label)?;
+    let label = members::text(alloc, json, Item::Label)?;
     let evidence = read_evidence(alloc, json)?;
     members::only(
         &[

@@ -8,14 +8,14 @@ use reg_core::capability::Cap;
 use reg_core::item::Item;
 use reg_core::wire_refusal::ReadFault;
 use serde_json::Value;
-use std::alloc::Global;
 
 /// The capability that stands in this object, or the first of its members that has not its form.
+/// It takes no memory.
 #[tactic(auto, unfolding(crate::specs::Bodies::Capability::cap_of))]
-pub fn read_cap(alloc: Global, json: &Value) -> Result<Cap, ReadFault>
+pub fn read_cap(json: &Value) -> Result<Cap, ReadFault>
     ensures { Gives result (cap_of (view json.now)) }
 {
-    let account = members::word(alloc, json, Item::Account)?;
+    let account = members::word(json, Item::Account)?;
     let kind = members::kind(json, Item::Kind)?;
     let until = members::until(json, Item::Until)?;
     Ok(Cap {

@@ -17,10 +17,10 @@ use std::alloc::Global;
 pub fn read_evidence(alloc: Global, json: &Value) -> Result<Evidence, ReadFault>
     ensures { Gives result (evidence_of (view json.now)) }
 {
-    let contact = members::word_if_there(alloc, json, Item::Contact)?;
-    let spec = members::word_if_there(alloc, json, Item::Specification)?;
+    let contact = members::text_if_there(alloc, json, Item::Contact)?;
+    let spec = members::text_if_there(alloc, json, Item::Specification)?;
     let rfc = rfc_if_there(json)?;
-    let minute = members::word_if_there(alloc, json, Item::Minute)?;
+    let minute = members::text_if_there(alloc, json, Item::Minute)?;
     Ok(Evidence {
         contact,
         spec,

@@ -6,12 +6,13 @@ ghost use Rattle.std.specs.List.{list_all};
 ghost use Rattle.std.specs.String.{string_bytes};
 ghost use Rattle.serde_json.specs.View.{view};
 ghost use Rattle.serde_json.specs.Find.{as_object};
+ghost use Rattle.reg_ranges.specs.Texts.{is_text};
 ghost use Rattle.reg_parse.specs.Bodies.Members.{Gives, GivesSeen, object_of, needed, optional, only, is_among, names_any, text_form, number_form, until_form, kind_form, kind_named, verdict_form};
 
 use reg_core::advice::Verdict;
 use reg_core::capability::{Kind, Until};
 use reg_core::item::Item;
-use reg_core::text::{Form, Word};
+use reg_core::text::{Form, Text, Word};
 use reg_core::wire_refusal::{ReadFault, WireRefusal};
 use serde_json::{Map, Value};
 use std::alloc::Global;
@@ -35,13 +36,27 @@ pub fn object_of(alloc: Global, body: &[u8]) -> Result<Value, ReadFault>
     }
 }
 
-/// The text of this member. `Field` with the item where it is missing or has not the form.
-pub fn word<F: Form>(alloc: Global, object: &Value, item: Item) -> Result<Word<F>, ReadFault>
+/// The name of this member. `Field` with the item where it is missing or has not the form. It takes
+/// no memory.
+pub fn word<F: Form>(object: &Value, item: Item) -> Result<Word<F>, ReadFault>
     ensures { Gives result (needed item (text_form F.fits) (view object.now)) }
 {
     match object.get(item.name()).and_then(Value::as_str) {
-        Some(text) => match Word::read(alloc, text.as_bytes())? {
+        Some(text) => match Word::read(text.as_bytes()) {
             Some(word) => Ok(word),
+            None => Err(ReadFault::field(item)),
+        },
+        None => Err(ReadFault::field(item)),
+    }
+}
+
+/// The text of this member. `Field` with the item where it is missing or has not the form.
+pub fn text(alloc: Global, object: &Value, item: Item) -> Result<Text, ReadFault>
+    ensures { Gives result (needed item (text_form is_text) (view object.now)) }
+{
+    match object.get(item.name()).and_then(Value::as_str) {
+        Some(text) => match Text::read(alloc, text.as_bytes())? {
+            Some(text) => Ok(text),
             None => Err(ReadFault::field(item)),
         },
         None => Err(ReadFault::field(item)),
@@ -50,17 +65,13 @@ pub fn word<F: Form>(alloc: Global, object: &Value, item: Item) -> Result<Word<F
 
 /// The text of this member, or none where it is missing. `Field` with the item where it has not the
 /// form.
-pub fn word_if_there<F: Form>(
-    alloc: Global,
-    object: &Value,
-    item: Item,
-) -> Result<Option<Word<F>>, ReadFault>
-    ensures { Gives result (optional item (text_form F.fits) (view object.now)) }
+pub fn text_if_there(alloc: Global, object: &Value, item: Item) -> Result<Option<Text>, ReadFault>
+    ensures { Gives result (optional item (text_form is_text) (view object.now)) }
 {
     if object.get(item.name()).is_none() {
         return Ok(None);
     }
-    Ok(Some(word(alloc, object, item)?))
+    Ok(Some(text(alloc, object, item)?))
 }
 
 /// The whole number that this is, 0 to 4294967295, written with digits alone.
