@@ -87,8 +87,8 @@ fn last_with(spans: &Spans, value: u32) -> u32
     }
 }
 
-// Puts a run around a number in the place of the two beside it. The step that may need memory comes
-// first.
+// Puts a run around a number in the place of the two beside it. The step that may need memory
+// comes first.
 fn join(spans: &mut Spans, first: u32, last: u32, value: u32) -> Result<(), AllocError>
     requires apart { Apart spans.old }
     requires first { first ≤ value }

@@ -1,4 +1,5 @@
--- The least free value: a walk over the ranges finds it, so does the search, and there is no other.
+-- The least free value: a walk over the ranges finds it, so does the search, and there is no
+-- other.
 use Rattle.std.proofs.Common.{◌≡◌, ℕ, zero, suc, ◌+◌, ◌<◌, ◌≤◌, Bool, true, false, cond, not, nat_eq, List, [], ◌∷◌, length, get_or, drop, Option, Some, None, refl, sym, ap, ◌∙◌, ◌⊎◌, inl, inr, arith, add-one, drop-cons}
 use Rattle.std.specs.Prelude.{Contains, IsTrue, IsNone, ◌↔◌, find}
 use Rattle.std.specs.Bool.{Decides}
@@ -19,10 +20,11 @@ use Rattle.reg_ranges.proofs.LeastGap.{has_cases}
 -- ---- the walk over the ranges
 
 -- each value under the policy below the ranges that are left is taken
-pub record Searched (table : Table) (p : Policy) (Taken : ℕ → Type 0) (left : List Range) : Type 0 where
-  pub next : ℕ
-  pub chain : Chain next table.max left
-  pub all_taken : (u : ℕ) → u < next → IsUnder table p u → Taken u
+pub record Searched (table : Table) (p : Policy) (Taken : ℕ → Type 0) (left : List Range) : Type 0
+  where
+    pub next : ℕ
+    pub chain : Chain next table.max left
+    pub all_taken : (u : ℕ) → u < next → IsUnder table p u → Taken u
 
 pub search_starts : (table : Table) (p : Policy) (Taken : ℕ → Type 0) → IsPartition table
     → Searched table p Taken table.ranges
@@ -41,7 +43,8 @@ under_as_range : (table : Table) (p : Policy) (range : Range) (u : ℕ) → IsPa
 under_as_range table p range u partition has low high under =
     let of = treatment_in table partition range u has (lies range u low high) in cc
 
-search_goes_on : (table : Table) (p : Policy) (Taken : ℕ → Type 0) (range : Range) (rest : List Range)
+search_goes_on : (table : Table) (p : Policy) (Taken : ℕ → Type 0) (range : Range)
+    (rest : List Range)
     → IsPartition table → Contains table.ranges range
     → Searched table p Taken (range ∷ rest) → IsLeastIn range p Taken None
     → Searched table p Taken rest
@@ -58,7 +61,8 @@ search_goes_on table p Taken range rest partition has s full = record {
   ];
 }
 
-search_finds : (table : Table) (p : Policy) (Taken : ℕ → Type 0) (range : Range) (rest : List Range)
+search_finds : (table : Table) (p : Policy) (Taken : ℕ → Type 0) (range : Range)
+    (rest : List Range)
     (v : ℕ) → IsPartition table → Contains table.ranges range
     → Searched table p Taken (range ∷ rest) → IsLeastIn range p Taken (Some v)
     → IsLeastFreeWhere table p Taken (Some v)
@@ -111,7 +115,8 @@ pub turn_goes_on : (table : Table) (p : Policy) (Taken : ℕ → Type 0) (items 
     → IsLeastIn range p Taken None → Searched table p Taken (drop (i + 1) table.ranges)
 turn_goes_on table p Taken items i range of partition lt is s full =
     let at = search_at table p Taken i range (rw of at lt) (rw of at is) s in
-    search_goes_on table p Taken range (drop (i + 1) table.ranges) partition at.has at.searched full
+    search_goes_on table p Taken range (drop (i + 1) table.ranges) partition at.has at.searched
+    full
 
 pub turn_finds : (table : Table) (p : Policy) (Taken : ℕ → Type 0) (items : List Range) (i : ℕ)
     (range : Range) (v : ℕ) → items ≡ table.ranges → IsPartition table → i < length items
@@ -175,7 +180,8 @@ free_true table p taken v h =
       any_not v taken (not-true (list_any (nat_eq v) taken) parts.1),
     )
 
-free_false : (table : Table) (p : Policy) (taken : List ℕ) (v : ℕ) → is_free table p taken v ≡ false
+free_false : (table : Table) (p : Policy) (taken : List ℕ) (v : ℕ)
+    → is_free table p taken v ≡ false
     → IsUnder table p v → Contains taken v
 free_false table p taken v h under =
     elim (and_cases (is_under table p v) (not (list_any (nat_eq v) taken)) h) [
