@@ -7,6 +7,7 @@ pub mod Stepping
 pub mod Queues
 pub mod Files
 pub mod Allowances
+pub mod ValuesIn
 pub mod Outcomes
 pub mod Fitting
 pub mod Keeping
