@@ -1,6 +1,6 @@
 //! The command line.
 use crate::jobs::{Job, JobFault};
-use clap::{Arg, ArgAction, Command};
+use clap::{Arg, ArgAction, ArgMatches, Command};
 use std::alloc::Global;
 
 /// The job that the words of a command line ask for, the program's own name first. `Line` where
@@ -16,6 +16,13 @@ pub fn job(alloc: Global, words: &[&str]) -> Result<Job, JobFault> {
     let script = Command::new(alloc, "script").arg(clerk)?;
     let office = Command::new(alloc, "reg_cli").subcommand(script)?;
     let matches = office.try_get_matches_from(words)?;
+    let job = job_of(alloc, &matches);
+    drop(matches);
+    job
+}
+
+// The job that a command line says.
+fn job_of(alloc: Global, matches: &ArgMatches) -> Result<Job, JobFault> {
     let Some((_, inner)) = matches.subcommand() else {
         return Err(JobFault::Line);
     };

@@ -1,6 +1,6 @@
 //! Why a job was not done.
-use reg_office::FoundFault;
 use reg_keeper::keeper::Fault;
+use reg_office::FoundFault;
 use reg_wire::wire_fault::WireFault;
 use std::fmt;
 use std::fmt::{Display, Formatter, Write};

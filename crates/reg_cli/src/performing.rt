@@ -50,7 +50,20 @@ fn script<R: Read, W: Write>(
     output: &mut W,
 ) -> Result<(), JobFailure> {
     let mut office = Office::new(alloc, ListKeeper::new(alloc));
+    let done = found_and_run(alloc, &mut office, clerk, input, output);
+    drop(office);
+    done
+}
+
+// Founds the office, and answers the lines.
+fn found_and_run<R: Read, W: Write>(
+    alloc: Global,
+    office: &mut Office<ListKeeper>,
+    clerk: &str,
+    input: &mut R,
+    output: &mut W,
+) -> Result<(), JobFailure> {
     office.found(clerk.as_bytes())?;
-    run(alloc, &mut office, input, output)?;
+    run(alloc, office, input, output)?;
     Ok(())
 }

@@ -1,10 +1,8 @@
 -- What is allowed is a free value that is assigned one by one.
-use Rattle.std.proofs.Common.{◌≡◌, ℕ, ◌<◌, ◌^◌, zero, suc, slice_index_or, Bool, true, false, cond, ◌&&◌, List, [], ◌∷◌, length, map, refl, sym, ap, subst, ◌∙◌, arith}
+use Rattle.std.proofs.Common.{◌≡◌, ℕ, ◌<◌, ◌^◌, Bool, true, false, ◌&&◌, List, [], ◌∷◌, map, refl, sym, ap, subst, ◌∙◌, arith}
 use Rattle.std.specs.Prelude.{Option, Some, None, Result, Ok, Err, Contains, is_some, is_none, is_ok, nat_lt, option_and_then}
 use Rattle.std.specs.List.{list_all, list_any}
-use Rattle.std.specs.declared.cmp.Ordering.{Ordering}
-use Rattle.std.specs.Ordering.{eq_by_cmp}
-use Rattle.std.specs.FinMap.{FinMap, get, entries, get-entries, find}
+use Rattle.std.specs.FinMap.{FinMap, get, entries}
 use Rattle.std.specs.Cmp.{first_so, second_so}
 use Rattle.std.proofs.lemmas.Bool.Decides.{nat_tests}
 use Rattle.reg_ranges.specs.FreeValues.{IsLeastFree, least_value}
@@ -19,7 +17,8 @@ use Rattle.reg_ranges.specs.declared.policy.Policy.{Policy}
 use Rattle.reg_ranges.specs.declared.policy.Treatment.{Treatment}
 use Rattle.reg_ranges.specs.declared.policy.Treatment.TheVariants.{Under, Reserved}
 use Rattle.reg_ranges.specs.declared.evidence.Item.{Item}
-use Rattle.reg_core.specs.Allowance.{Ground, ◌>>=◌, or_refusal, open_policy, policy_for, is_met, value_for, allowance_on, allowed, ground_of, entry_wanted, values_taken, is_reviewed, policy_wanted, needs_advice}
+use Rattle.reg_core.specs.Allowance.{Ground, ◌>>=◌, or_refusal, open_policy, policy_for, is_met, value_for, allowance_on, allowed, ground_of, entry_wanted, values_taken, is_reviewed, policy_wanted, needs_advice, entry_asked}
+use Rattle.reg_core.specs.Award.{Allowance, new_entry, given_in}
 use Rattle.reg_core.specs.Ask.{has_note_form}
 use Rattle.reg_core.specs.Maps.{same_text, only_if}
 use Rattle.reg_core.specs.MayBeGiven.{IsWanted, MayBeGiven}
@@ -33,13 +32,12 @@ use Rattle.reg_core.specs.declared.ask.Ask.TheVariants.{Code}
 use Rattle.reg_core.specs.declared.ask.CodeAsk.{CodeAsk}
 use Rattle.reg_core.specs.declared.ask.Want.{Want}
 use Rattle.reg_core.specs.declared.ask.Want.TheVariants.{Value, Least}
-use Rattle.reg_core.specs.declared.decide.allowance.Allowance.{Allowance}
 use Rattle.reg_core.specs.declared.entry.Registration.{Registration}
 use Rattle.reg_core.specs.declared.refusal.Refusal.{Refusal}
 use Rattle.reg_core.specs.declared.refusal.Refusal.TheVariants as no
 use Rattle.reg_core.specs.declared.request.Given.TheVariants as given
 use Rattle.reg_core.proofs.Cases.{by_test}
-use Rattle.reg_core.proofs.MapLaws.{IsKeyOrder, place_keys, get-select, tied}
+use Rattle.reg_core.proofs.MapLaws.{place_keys, get-select, Contains-map, Contains-entries}
 use Rattle.reg_core.proofs.SamenessIsDecided.{same_text-itself}
 
 -- ---- Checks in turn
@@ -156,45 +154,6 @@ open_below table v form is_open =
 
 -- ---- Values that have entries
 
-module _ {A : Type 0} where
-  is_first : (x : A) (xs : List A) → Contains (x ∷ xs) x
-  is_first x xs = (0, omega arith, refl)
-
-  is_later : (y x : A) (xs : List A) → Contains xs x → Contains (y ∷ xs) x
-  is_later y x xs h = let inside = h.1 in (suc h.0, omega (arith, inside), h.2)
-
-map_at : {A B : Type 0} (f : A → B) (xs : List A) (x : A) (k : ℕ) → k < length xs
-    → slice_index_or xs k x ≡ x → Contains (map f xs) (f x)
-map_at f [] x k inside is = absurd (omega (arith, inside))
-map_at f (y ∷ ys) x zero inside is =
-    subst (λ z. Contains (f y ∷ map f ys) (f z)) is (is_first (f y) (map f ys))
-map_at f (y ∷ ys) x (suc k) inside is =
-    is_later (f y) (f x) (map f ys) (map_at f ys x k (omega (arith, inside)) is)
-
-pub Contains-map : {A B : Type 0} (f : A → B) (xs : List A) (x : A) → Contains xs x
-    → Contains (map f xs) (f x)
-Contains-map f xs x h = map_at f xs x h.0 h.1 h.2
-
--- the row at a key is among the entries
-pub Contains-entries : {K X : Type 0} {R : K → K → Ordering} → IsKeyOrder R
-    → (m : FinMap R X) (k : K) (x : X) → get m k ≡ Some x → Contains (entries m) (k, x)
-Contains-entries {K} {X} {R} o m k x is_there =
-    among (entries m) (sym (get-entries m k) ∙ is_there)
-  where
-    among : (es : List (K × X)) → find R k es ≡ Some x → Contains es (k, x)
-    among [] h = absurd (cc)
-    among (e ∷ es) h =
-        elim (eq_by_cmp R k e.0) as
-        (λ b. eq_by_cmp R k e.0 ≡ b → cond b (Some e.1) (find R k es) ≡ Some x
-        → Contains (e ∷ es) (k, x)) [
-          | true ↦ λ t h.
-              let value : e.1 ≡ x = cc in
-              let key = tied o k e.0 t in
-              subst (λ (p : K × X). Contains (e ∷ es) p) (λ i. (sym key i, value i))
-              (is_first e es)
-          | false ↦ λ t h. is_later e (k, x) es (among es h)
-        ] refl h
-
 -- a value that is not among those that have entries has none
 none_at : (m : FinMap place_cmp Registration) (registry : List ℕ) (v : ℕ)
     → ¬ (Contains (map (λ (e : Place × Registration). e.0.1) (entries (entries_of registry m))) v)
@@ -293,7 +252,8 @@ module _ (w : World) (kept : WellKept w) (registry : List ℕ) (table : Table)
 -- ---- What is allowed
 
 -- the checks of an allowance for a value, each of which was met
-record Allows (rows : Ground) (ask : CodeAsk) (allowance : Allowance) : Type 0 where
+record Allows (rows : Ground) (account : List ℕ) (ask : CodeAsk)
+    (allowance : Allowance) : Type 0 where
   table : Table
   is_there : rows.table ≡ Some table
   policy : Policy
@@ -301,11 +261,11 @@ record Allows (rows : Ground) (ask : CodeAsk) (allowance : Allowance) : Type 0 w
   met : unmet policy ask.evidence ≡ []
   value : ℕ
   chosen : value_for rows table ask.want ≡ Ok value
-  given_it : given.Value value ≡ allowance.given
+  awards : new_entry (entry_asked account ask value) ≡ allowance.award
   needs : is_expert_policy policy ≡ allowance.needs_advice
 
 allows : (rows : Ground) (account : List ℕ) (ask : CodeAsk) (allowance : Allowance)
-    → allowance_on rows account (Code ask) ≡ Ok allowance → Allows rows ask allowance
+    → allowance_on rows account (Code ask) ≡ Ok allowance → Allows rows account ask allowance
 allows rows account ask allowance h =
     let there = went_on (or_refusal no.Registry rows.table) _ allowance h in
     let policy = went_on (policy_for there.0 ask.want) _ allowance there.2 in
@@ -319,13 +279,20 @@ allows rows account ask allowance h =
       met = all_met (unmet policy.0 ask.evidence) met.0 met.1;
       value = last.0;
       chosen = last.1;
-      given_it = ap (λ r. (unwrap_ok r allowance).given) last.2;
+      awards = ap (λ r. (unwrap_ok r allowance).award) last.2;
       needs = ap (λ r. (unwrap_ok r allowance).needs_advice) last.2;
     }
   where
     unwrap_ok : Result Allowance Refusal → Allowance → Allowance
     unwrap_ok (Ok a) other = a
     unwrap_ok (Err refusal) other = other
+
+-- what is allowed to an ask for a value is an entry for it
+pub allowed_entry : (rows : Ground) (account : List ℕ) (ask : CodeAsk) (allowance : Allowance)
+    → allowance_on rows account (Code ask) ≡ Ok allowance
+    → (v : ℕ) × (allowance.award ≡ new_entry (entry_asked account ask v))
+allowed_entry rows account ask allowance h =
+    let is = allows rows account ask allowance h in (is.value, sym is.awards)
 
 -- what is allowed to an ask for a value is a free value of its registry
 pub allowed_free : (w : World) → WellKept w → (account : List ℕ) (ask : CodeAsk) (v : ℕ)
@@ -335,7 +302,7 @@ allowed_free w kept account ask v h =
     let whole = went_on (allowance_on (ground_of (published w) (Code ask)) account (Code ask)) _
     (given.Value v) h in
     let is = allows (ground_of (published w) (Code ask)) account ask whole.0 whole.1 in
-    let of = is.given_it in
+    let of = ap given_in is.awards in
     let same : is.value ≡ v = cc in
     subst (IsFree w ask.registry) same
     (wanted_free w kept ask.registry is.table is.is_there ask.want is.policy is.value is.decides
@@ -349,7 +316,7 @@ allowed_may_be_given w kept account ask v h =
     let whole = went_on (allowance_on (ground_of (published w) (Code ask)) account (Code ask)) _
     (given.Value v) h in
     let is = allows (ground_of (published w) (Code ask)) account ask whole.0 whole.1 in
-    let of = is.given_it in
+    let of = ap given_in is.awards in
     let same : is.value ≡ v = cc in
     let under = wanted_under w kept ask.registry is.table is.is_there ask.want is.policy is.value
     is.decides is.chosen in

@@ -16,8 +16,7 @@ use Rattle.reg_core.specs.declared.advice.Advice.{Advice}
 use Rattle.reg_core.specs.declared.advice.Opinion.{Opinion}
 use Rattle.reg_core.specs.declared.advice.Verdict.{Verdict}
 use Rattle.reg_core.specs.declared.advice.Verdict.TheVariants.{For, Against}
-use Rattle.reg_core.proofs.Allowances.{Contains-map, Contains-entries}
-use Rattle.reg_core.proofs.MapLaws.{seat_keys, get-select, All-entries}
+use Rattle.reg_core.proofs.MapLaws.{seat_keys, get-select, All-entries, Contains-map, Contains-entries}
 use Rattle.reg_core.proofs.SamenessIsDecided.{same_text-itself}
 
 -- ---- Names

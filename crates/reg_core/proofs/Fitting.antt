@@ -1,6 +1,6 @@
 -- What each rule decides to change fits the world over whose rows it was decided, and so does what
 -- each step changes.
-use Rattle.std.proofs.Common.{◌≡◌, ℕ, Bool, true, List, refl, subst, arith}
+use Rattle.std.proofs.Common.{◌≡◌, ℕ, Bool, true, List, refl, sym, ap, subst, ◌∙◌, arith}
 use Rattle.std.proofs.lemmas.Bool.Decides.{nat_tests}
 use Rattle.std.specs.Cmp.{first_so, second_so}
 use Rattle.std.specs.Cmp.Derive.{both_true}
@@ -11,13 +11,14 @@ use Rattle.reg_early.proofs.MomentsHaveDays.{IsDay-utc_day}
 use Rattle.reg_ranges.specs.Tables.{Table}
 use Rattle.reg_ranges.specs.Texts.{is_text}
 use Rattle.reg_core.specs.Advice.{has_advice_form}
-use Rattle.reg_core.specs.Allowance.{allowed, ground_of}
+use Rattle.reg_core.specs.Allowance.{◌>>=◌, allowance_on, allowed, ground_of}
+use Rattle.reg_core.specs.Award.{Allowance, given_in}
 use Rattle.reg_core.specs.Ask.{has_ask_form}
 use Rattle.reg_core.specs.Capability.{last_until, has_cap_form}
 use Rattle.reg_core.specs.Entry.{has_day_form}
 use Rattle.reg_core.specs.Laws.{GivesDigests, ChangesFit}
 use Rattle.reg_core.specs.Names.{is_name, is_digest}
-use Rattle.reg_core.specs.Rules.{withdraw_rule, decline_rule, assign_rule, advise_rule, award, approve_rule, define_rule, pool_rule, grant_rule, revoke_rule, submit_rule}
+use Rattle.reg_core.specs.Rules.{withdraw_rule, decline_rule, assign_rule, advise_rule, change_to_give, approve_rule, define_rule, pool_rule, grant_rule, revoke_rule, submit_rule}
 use Rattle.reg_core.specs.View.{Queued, published, cap_at}
 use Rattle.reg_core.specs.WellKept.{WellKept, CanApply, has_grant_form, has_registry_form, has_request_form}
 use Rattle.reg_core.specs.World.{World, RequestName, pending}
@@ -33,7 +34,7 @@ use Rattle.reg_core.specs.declared.request.Case.{Case}
 use Rattle.reg_core.specs.declared.request.Given.{Given}
 use Rattle.reg_core.specs.declared.request.Given.TheVariants.{Value}
 use Rattle.reg_core.specs.declared.request.State.TheVariants.{Pending, Approved, Declined, Withdrawn}
-use Rattle.reg_core.proofs.Allowances.{allowed_free}
+use Rattle.reg_core.proofs.Allowances.{allowed_entry, allowed_free}
 use Rattle.reg_core.proofs.Keeping.Changes.{can_grant, can_revoke, can_define, can_add_pool, can_submit, can_close, can_assign, can_advise, can_give}
 use Rattle.reg_core.proofs.Outcomes.Deciding.{where_made, Defines, Pools, Grants, Revokes, Submits, Withdraws, Declines, Assigns, Advises, Approves, define_decides, pool_decides, grant_decides, revoke_decides, submit_decides, withdraw_decides, decline_decides, assign_decides, advise_decides, approve_decides}
 use Rattle.reg_core.proofs.Outcomes.Dues.{Due, has_change_form, changes_due}
@@ -125,12 +126,19 @@ advise_fits w name expert advice queued change kept is form made =
     (λ pending. can_advise w name expert advice kept is.assigned form)
 
 -- what is given to a request fits the world over whose published rows it is allowed
-given_fits : (w : World) (name : RequestName) (case : Case) (ask : Ask) (today : ℕ) (given : Given)
-    → WellKept w → get w.requests name ≡ Some case
-    → case.ask ≡ ask → has_day_form today ≡ true → allowed (published w) name.0 ask ≡ Ok given
-    → CanApply w (award name ask today given)
-given_fits w name case (Code ask) today (Value v) kept is_there asks day is =
-    can_give w name case ask today v kept is_there asks (allowed_free w kept name.0 ask v is) day
+given_fits : (w : World) (name : RequestName) (case : Case) (ask : Ask) (today : ℕ)
+    (allowance : Allowance) → WellKept w → get w.requests name ≡ Some case
+    → case.ask ≡ ask → has_day_form today ≡ true
+    → allowance_on (ground_of (published w) ask) name.0 ask ≡ Ok allowance
+    → CanApply w (change_to_give name today allowance.award)
+given_fits w name case (Code ask) today allowance kept is_there asks day is =
+    let entry = allowed_entry (ground_of (published w) (Code ask)) name.0 ask allowance is in
+    let allows : allowed (published w) name.0 (Code ask) ≡ Ok (Value entry.0) =
+    ap (λ r. r >>= (λ (a : Allowance). Ok (given_in a.award))) is
+    ∙ ap (λ a. Ok (given_in a)) entry.1 in
+    subst (λ a. CanApply w (change_to_give name today a)) (sym entry.1)
+    (can_give w name case ask today entry.0 kept is_there asks
+    (allowed_free w kept name.0 ask entry.0 allows) day)
 
 -- an approval that is to be made on a day fits the world over whose published rows it was decided
 pub approve_fits : (w : World) (advised : Bool) (name : RequestName) (case : Case) (today : ℕ)

@@ -9,7 +9,9 @@ use Rattle.std.specs.FinSet.{FinSet}
 use Rattle.reg_early.specs.Moment.{utc_day}
 use Rattle.reg_ranges.specs.Tables.{Table}
 use Rattle.reg_core.specs.Command.{has_command_form}
-use Rattle.reg_core.specs.Entry.{registration_in, entry_for}
+use Rattle.reg_core.specs.Allowance.{entry_asked}
+use Rattle.reg_core.specs.Award.{entry_on}
+use Rattle.reg_core.specs.Entry.{registration_in}
 use Rattle.reg_core.specs.Laws.{GivesDigests, GivenStays, SameReview, Stays, StillGiven, StillStands, StillAsks}
 use Rattle.reg_core.specs.Maps.{text_cmp, update}
 use Rattle.reg_core.specs.Request.{is_pending}
@@ -287,7 +289,7 @@ module _ (w : World) (kept : WellKept w) (caller : Option (List ℕ)) (moment : 
       let is = due.1 in
       subst (λ e. Stays w (applied w (GiveValue account reference e))) is.is
       (give_stays w (account, reference)
-      (entry_for account is.ask (utc_day moment) entry.value) is.pending
+      (entry_on (utc_day moment) (entry_asked account is.ask entry.value)) is.pending
       (allowed_free w kept account is.ask entry.value is.allows).is_new)
 
 -- ---- Steps and runs

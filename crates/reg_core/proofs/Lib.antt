@@ -1,3 +1,4 @@
+pub mod Places
 pub mod Cases
 pub mod MapLaws
 pub mod KeySets
@@ -6,8 +7,8 @@ pub mod SamenessIsDecided
 pub mod Stepping
 pub mod Queues
 pub mod Files
-pub mod Allowances
 pub mod ValuesIn
+pub mod Allowances
 pub mod Outcomes
 pub mod Fitting
 pub mod Keeping

@@ -3,6 +3,7 @@
 pub mod Deciding
 pub mod Accepted
 pub mod Dues
+pub mod WholeLists
 pub mod AnswersAreDone
 pub mod ApprovalsGiveAndAreAdvised
 pub mod RefusalsChangeNothing

@@ -4,26 +4,23 @@ use Rattle.std.specs.Prelude.{Option, Some, None, Ok}
 use Rattle.std.specs.FinMap.{get}
 use Rattle.std.proofs.lemmas.Slice.Eq.{bytes_eq-Decides}
 use Rattle.reg_core.specs.Allowance.{allowed}
-use Rattle.reg_core.specs.Answer.{change_of}
 use Rattle.reg_core.specs.Entry.{registration_in}
 use Rattle.reg_core.specs.Laws.{GivesDigests, StillGiven}
 use Rattle.reg_core.specs.Run.{Event, world_after}
 use Rattle.reg_core.specs.MayBeGiven.{MayBeGiven, IsGivenDuly, AsksMeetTheirPolicy, NoValueIsGivenTwice, place_of}
-use Rattle.reg_core.specs.Step.{answer_to, step}
+use Rattle.reg_core.specs.Step.{step}
 use Rattle.reg_core.specs.View.{published}
 use Rattle.reg_core.specs.WellKept.{WellKept, is_registered_to, stands_in}
-use Rattle.reg_core.specs.World.{World, Place, RequestName, pending, applied, applied_if}
+use Rattle.reg_core.specs.World.{World, pending, applied, applied_if}
 use Rattle.reg_core.specs.declared.ask.Ask.{Ask}
 use Rattle.reg_core.specs.declared.ask.Ask.TheVariants.{Code}
 use Rattle.reg_core.specs.declared.ask.CodeAsk.{CodeAsk}
 use Rattle.reg_core.specs.declared.change.Change.TheVariants.{GiveValue}
 use Rattle.reg_core.specs.declared.entry.Entry.{Entry}
 use Rattle.reg_core.specs.declared.entry.Registration.{Registration}
-use Rattle.reg_core.specs.declared.request.Case.{Case}
 use Rattle.reg_core.specs.declared.request.Given.{Given}
 use Rattle.reg_core.specs.declared.request.Given.TheVariants.{Value}
 use Rattle.reg_core.specs.declared.request.State.{State}
-use Rattle.reg_core.specs.declared.request.State.TheVariants.{Approved}
 use Rattle.reg_core.proofs.Allowances.{allowed_may_be_given}
 use Rattle.reg_core.proofs.GivenStays.{runs_stay}
 use Rattle.reg_core.proofs.Keeping.RunsKeepWell.{step_keeps_well, runs_keep}

@@ -11,8 +11,7 @@ use Rattle.reg_core.specs.Maps.{same_text, only_if}
 use Rattle.reg_core.specs.View.{entries_of}
 use Rattle.reg_core.specs.World.{Place, place_cmp}
 use Rattle.reg_core.specs.declared.entry.Registration.{Registration}
-use Rattle.reg_core.proofs.Allowances.{Contains-entries, Contains-map}
-use Rattle.reg_core.proofs.MapLaws.{place_keys, get-select, All-entries}
+use Rattle.reg_core.proofs.MapLaws.{place_keys, get-select, All-entries, Contains-map, Contains-entries}
 use Rattle.reg_core.proofs.SamenessIsDecided.{same_text-itself}
 
 module _ (registry : List ℕ) (m : FinMap place_cmp Registration) where
@@ -69,3 +68,11 @@ module _ (registry : List ℕ) (m : FinMap place_cmp Registration) where
         (All-entries place_keys.total (λ e. contains_key m (registry, e.0.1) ≡ true)
         (entries_of registry m) at_value)) has),
   )
+
+  -- a value that is not among them has no entry
+  pub no_entry : (v : ℕ) → ¬ (Contains (values_in registry m) v) → get m (registry, v) ≡ None
+  no_entry v free = from (get m (registry, v)) refl
+    where
+      from : (at : Option Registration) → get m (registry, v) ≡ at → at ≡ None
+      from None is = refl
+      from (Some a) is = absurd (free ((has_entry v).0 (ap is_some is)))

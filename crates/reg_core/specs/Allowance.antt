@@ -10,17 +10,17 @@ use Rattle.reg_ranges.specs.declared.evidence.Item.{Item}
 use Rattle.reg_ranges.specs.declared.policy.Policy.{Policy}
 use Rattle.reg_ranges.specs.declared.policy.Treatment.{Treatment}
 use Rattle.reg_ranges.specs.declared.policy.Treatment.TheVariants.{Under, Reserved}
+use Rattle.reg_core.specs.Award.{new_entry, NewEntry, Allowance, given_in}
 use Rattle.reg_core.specs.View.{Published, entries_of}
 use Rattle.reg_core.specs.declared.ask.Ask.{Ask}
 use Rattle.reg_core.specs.declared.ask.Ask.TheVariants.{Code}
-use Rattle.reg_core.specs.declared.decide.allowance.Allowance.{Allowance}
+use Rattle.reg_core.specs.declared.ask.CodeAsk.{CodeAsk}
 use Rattle.reg_core.specs.declared.ask.Want.{Want}
 use Rattle.reg_core.specs.declared.ask.Want.TheVariants.{Value, Least}
 use Rattle.reg_core.specs.declared.refusal.Refusal.{Refusal}
 use Rattle.reg_core.specs.declared.refusal.Refusal.TheVariants as no
 use Rattle.reg_core.specs.declared.entry.Registration.{Registration}
 use Rattle.reg_core.specs.declared.request.Given.{Given}
-use Rattle.reg_core.specs.declared.request.Given.TheVariants as given
 
 -- the published rows that an ask needs: its registry, the entry at the value that it names, and
 -- the values that have entries where it wants the least
@@ -67,21 +67,34 @@ abbrev pub value_for : Ground → Table → Want → Result ℕ Refusal
 value_for rows table (Value v) = if is_some rows.entry then Err no.Taken else Ok v
 value_for rows table (Least policy) = or_refusal no.Exhausted (least_value table policy rows.taken)
 
--- what an ask of an account is allowed, or the first refusal that it meets: what it is given, and
--- whether a designated expert has to approve (RFC 8126 sections 4.5 and 4.6)
+-- the entry that an ask of an account is given at a value: of the registry and with the label that
+-- it names, in the name of the account
+abbrev pub entry_asked : List ℕ → CodeAsk → ℕ → NewEntry
+entry_asked account ask value =
+    record {
+      registry = ask.registry;
+      value = value;
+      label = ask.label;
+      assignee = account;
+    }
+
+-- what an ask of an account is allowed, or the first refusal that it meets
 abbrev pub allowance_on : Ground → List ℕ → Ask → Result Allowance Refusal
 allowance_on rows account (Code ask) = do
   table ← or_refusal no.Registry rows.table
   policy ← policy_for table ask.want
   nothing ← is_met (first_item (unmet policy ask.evidence))
   value ← value_for rows table ask.want
-  Ok (record { given = given.Value value; needs_advice = is_expert_policy policy })
+  Ok (record {
+    award = new_entry (entry_asked account ask value);
+    needs_advice = is_expert_policy policy;
+  })
 
 -- what it would be given
 abbrev pub allowed_on : Ground → List ℕ → Ask → Result Given Refusal
 allowed_on rows account ask = do
   allowance ← allowance_on rows account ask
-  Ok allowance.given
+  Ok (given_in allowance.award)
 
 -- ---- In the published registers
 

@@ -1,10 +1,9 @@
 -- Entries with their places, and without.
 use Rattle.std.specs.Prelude.{ℕ, Bool, ◌&&◌, List}
 pub use Rattle.reg_early.specs.Forms.{is_day as has_day_form, has_term_form}
-use Rattle.reg_early.specs.Terms.{permanent_term, status_on}
+use Rattle.reg_early.specs.Terms.{status_on}
 use Rattle.reg_ranges.specs.Texts.{is_text}
 use Rattle.reg_core.specs.Names.{is_name}
-use Rattle.reg_core.specs.declared.ask.CodeAsk.{CodeAsk}
 use Rattle.reg_core.specs.declared.entry.Registration.{Registration}
 use Rattle.reg_core.specs.declared.entry.Entry.{Entry}
 use Rattle.reg_core.specs.declared.entry.PageEntry.{PageEntry}
@@ -39,17 +38,3 @@ page_entry today value a =
 
 abbrev pub has_registration_form : Registration → Bool
 has_registration_form a = is_text a.label && is_name a.assignee && has_term_form a.term
-
--- ---- What is given
-
--- the entry that an ask for a value is given on a day
-abbrev pub entry_for : List ℕ → CodeAsk → ℕ → ℕ → Entry
-entry_for account ask today value =
-    record {
-      registry = ask.registry;
-      value = value;
-      label = ask.label;
-      assignee = account;
-      term =
-          permanent_term today;
-    }

@@ -1,10 +1,12 @@
 -- The laws of the office.
-use Rattle.std.specs.Prelude.{◌≡◌, ◌<◌, ◌↔◌, ℕ, Bool, true, false, List, Option, Some, None, Ok, IsTrue, All, codes}
+use Rattle.std.specs.Prelude.{◌≡◌, ◌<◌, ◌↔◌, ℕ, Bool, true, false, List, map, Option, Some, None, Ok, IsTrue, All, Contains, codes}
 use Rattle.std.specs.FinMap.{get, contains_key, keys}
+use Rattle.std.specs.List.Sorted.{IsStrictlySortedBy}
 use Rattle.reg_blocks.specs.Pool.{is_pool_prefix}
 use Rattle.reg_early.specs.Moment.{is_in_clock, utc_day}
-use Rattle.reg_core.specs.Allowance.{allowed, ground_of, needs_advice}
+use Rattle.reg_core.specs.Allowance.{allowance_on, allowed, ground_of, needs_advice}
 use Rattle.reg_core.specs.Answer.{change_of}
+use Rattle.reg_core.specs.Award.{Award, new_entry, Allowance, given_in}
 use Rattle.reg_ranges.specs.Tables.{Table}
 use Rattle.reg_core.specs.Capability.{last_until}
 use Rattle.reg_core.specs.Command.{kind_of, has_command_form}
@@ -13,15 +15,16 @@ use Rattle.reg_core.specs.Names.{is_token, is_digest}
 use Rattle.reg_core.specs.Queue.{queue_rows}
 use Rattle.reg_core.specs.Request.{case_of, is_pending, request_rows, word_of}
 use Rattle.reg_core.specs.Page.{page_entries}
-use Rattle.reg_core.specs.Rules.{award}
+use Rattle.reg_core.specs.Rules.{change_to_give}
 use Rattle.reg_core.specs.Run.{Event, have_forms, world_after}
 use Rattle.reg_core.specs.Step.{answer_to, step}
 use Rattle.reg_core.specs.View.{published, requests_of, queue_of, cap_at, view_of}
 use Rattle.reg_core.specs.WellKept.{WellKept, CanApply}
-use Rattle.reg_core.specs.World.{World, Place, RequestName, empty_world, applied}
+use Rattle.reg_core.specs.World.{World, Place, RequestName, name_cmp, empty_world, applied}
 use Rattle.reg_core.specs.declared.advice.Advice.{Advice}
 use Rattle.reg_core.specs.declared.advice.Verdict.TheVariants.{For}
 use Rattle.reg_core.specs.declared.ask.Ask.{Ask}
+use Rattle.reg_core.specs.declared.ask.Ask.TheVariants.{Code}
 use Rattle.reg_core.specs.declared.capability.Cap.{Cap}
 use Rattle.reg_core.specs.declared.capability.Kind.{Kind}
 use Rattle.reg_core.specs.declared.capability.Kind.TheVariants as kind
@@ -125,6 +128,33 @@ IsItem w expert account reference row =
     × (case : Case) × (get w.requests (account, reference) ≡ Some case) × (row.ask ≡ case.ask)
     × (row.word ≡ word_of case.state)
 
+-- the rows are an account's own list
+pub record OwnList (w : World) (account : List ℕ) (rows : List Request) : Type 0 where
+  -- they are the requests of the account, as its view has them
+  pub viewed : rows ≡ request_rows (requests_of account w)
+  -- each is of a request of the account
+  pub own : All (HasRowOf w account) rows
+  -- each request of the account has its row among them
+  pub every : (reference : List ℕ) (case : Case)
+      → get w.requests (account, reference) ≡ Some case
+      → (row : Request) × Contains rows row × IsRow w account reference row
+  -- they ascend by reference, so no request has two
+  pub ascending : IsStrictlySortedBy name_cmp (map (λ row. (row.account, row.reference)) rows)
+
+-- the rows are an expert's queue
+pub record QueueList (w : World) (expert : List ℕ) (rows : List QueueRow) : Type 0 where
+  -- they are the queue of the expert, as its view has it
+  pub viewed : rows ≡ queue_rows (queue_of expert w)
+  -- each is of a request that is assigned to the expert, with the expert's own advice
+  pub assigned : All (λ row. IsItem w expert row.account row.reference row) rows
+  -- each request that is assigned to the expert has its row among them
+  pub every : (account reference : List ℕ) (case : Case)
+      → get w.requests (account, reference) ≡ Some case
+      → contains_key w.queue ((account, reference), expert) ≡ true
+      → (row : QueueRow) × Contains rows row × IsItem w expert account reference row
+  -- they ascend by account and reference, so no request has two
+  pub ascending : IsStrictlySortedBy name_cmp (map (λ row. (row.account, row.reference)) rows)
+
 abbrev pub IsApproved : State → Type 0
 IsApproved state = (given : Given) × (state ≡ Approved given)
 
@@ -142,8 +172,7 @@ IsDone digest_of w by today (Public (RegistryListing name)) (Listing page) =
     Shows w name today page
 IsDone digest_of w by today (Public PoolList) (Pool prefixes) = prefixes ≡ keys w.pool
 IsDone digest_of w by today (Applicant Own) (Rows rows) =
-    (cap : Cap) × (by ≡ Some cap) × (rows ≡ request_rows (requests_of cap.account w))
-    × All (HasRowOf w cap.account) rows
+    (cap : Cap) × (by ≡ Some cap) × OwnList w cap.account rows
 IsDone digest_of w by today (Applicant (OwnOne reference)) (Row row) = IsOwnRow w by reference row
 IsDone digest_of w by today (Applicant (Submit reference ask)) (Made row) =
     (row.ask ≡ ask) × IsOwnRow w by reference row
@@ -152,7 +181,7 @@ IsDone digest_of w by today (Applicant (Submit reference ask)) (Row row) =
 IsDone digest_of w by today (Applicant (Withdraw reference)) (Row row) =
     (row.state ≡ Withdrawn) × IsOwnRow w by reference row
 IsDone digest_of w by today (Expert Queue) (Items rows) =
-    (cap : Cap) × (by ≡ Some cap) × (rows ≡ queue_rows (queue_of cap.account w))
+    (cap : Cap) × (by ≡ Some cap) × QueueList w cap.account rows
 IsDone digest_of w by today (Expert (Advise account reference advice)) (Item row) =
     (row.advice ≡ Some advice) × (cap : Cap) × (by ≡ Some cap)
     × IsItem w cap.account account reference row
@@ -186,6 +215,26 @@ AnswersAreDone digest_of =
     → let after = step digest_of w caller moment command in
     WasDone digest_of after.world (cap_at w caller) (utc_day moment) command after.reply
 
+-- what is given is of what the ask names, in the account's name
+abbrev pub IsOfAsk : List ℕ → Ask → Award → Type 0
+IsOfAsk account (Code ask) (new_entry e) =
+    (e.registry ≡ ask.registry) × (e.label ≡ ask.label) × (e.assignee ≡ account)
+
+-- the change gives a request what its ask is allowed, on a day
+pub record GivesWhatIsAllowed (w : World) (today : ℕ) (name : RequestName) (change : Change) :
+    Type 0 where
+  -- the request is there, and pending
+  pub case : Case
+  pub is_there : get w.requests name ≡ Some case
+  pub pending : case.state ≡ Pending
+  -- the published registers allow its ask this
+  pub allowance : Allowance
+  pub allows : allowance_on (ground_of (published w) case.ask) name.0 case.ask ≡ Ok allowance
+  pub given : allowed (published w) name.0 case.ask ≡ Ok (given_in allowance.award)
+  pub of_ask : IsOfAsk name.0 case.ask allowance.award
+  -- and of it, the name and the day alone the change is made
+  pub is : change ≡ change_to_give name today allowance.award
+
 -- an approval that changes something gives exactly what is allowed, on the day of the moment
 abbrev pub ApprovalsGiveWhatIsAllowed : (List ℕ → List ℕ) → Type 0
 ApprovalsGiveWhatIsAllowed digest_of =
@@ -193,9 +242,7 @@ ApprovalsGiveWhatIsAllowed digest_of =
     (change : Change)
     → change_of (answer_to digest_of w caller moment (Clerk (Approve account reference)))
     ≡ Some change
-    → (case : Case) × (get w.requests (account, reference) ≡ Some case) × (case.state ≡ Pending)
-    × (given : Given) × (allowed (published w) account case.ask ≡ Ok given)
-    × (change ≡ award (account, reference) case.ask (utc_day moment) given)
+    → GivesWhatIsAllowed w (utc_day moment) (account, reference) change
 
 -- an expert to whom the request is assigned is for it
 abbrev pub IsAdvised : World → RequestName → Type 0

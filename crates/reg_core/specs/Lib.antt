@@ -13,6 +13,7 @@ pub mod View
 pub mod Queue
 pub mod Page
 pub mod LeastFree
+pub mod Award
 pub mod Allowance
 pub mod Ground
 pub mod Rules

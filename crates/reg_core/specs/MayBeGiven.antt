@@ -17,7 +17,6 @@ use Rattle.reg_core.specs.declared.ask.Ask.TheVariants.{Code}
 use Rattle.reg_core.specs.declared.ask.CodeAsk.{CodeAsk}
 use Rattle.reg_core.specs.declared.ask.Want.{Want}
 use Rattle.reg_core.specs.declared.ask.Want.TheVariants.{Value, Least}
-use Rattle.reg_core.specs.declared.change.Change.{Change}
 use Rattle.reg_core.specs.declared.change.Change.TheVariants.{Submit, GiveValue}
 use Rattle.reg_core.specs.declared.command.Command.{Command}
 use Rattle.reg_core.specs.declared.entry.Entry.{Entry}

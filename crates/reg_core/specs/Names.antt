@@ -1,7 +1,9 @@
 -- The forms of names: which lists of bytes are an account, a reference, a registry's name, a
 -- token, a digest.
-use Rattle.std.specs.Prelude.{◌≡◌, ℕ, Bool, true, ◌||◌, ◌==◌, List}
+use Rattle.std.specs.Prelude.{◌≡◌, ◌≤◌, ℕ, Bool, true, ◌||◌, ◌==◌, nat_le, ◌-◌, ◌++◌, List, length, replicate}
+use Rattle.std.specs.List.{list_all}
 use Rattle.std.specs.Str.{IsAscii}
+use Rattle.std.specs.Cmp.{first_so, second_so}
 use Rattle.std.proofs.Common.{arith}
 use Rattle.std.proofs.lemmas.Bool.Decides.{nat_tests}
 use Rattle.reg_ranges.specs.Texts.{is_within, is_run, ascii_run}
@@ -38,6 +40,10 @@ is_token s = is_run is_token_byte 16 64 s
 abbrev pub is_digest : List ℕ → Bool
 is_digest s = is_run is_digest_byte 64 64 s
 
+-- a name in 64 bytes, with zeros after it
+abbrev pub in_place : List ℕ → List ℕ
+in_place s = s ++ replicate (64 - length s) 0
+
 -- each form is of ASCII texts
 pub ascii_name : (s : List ℕ) → is_name s ≡ true → IsAscii s
 ascii_name s h = ascii_run is_name_byte 1 32 (λ b h. grind (arith, nat_tests)) s h
@@ -47,3 +53,21 @@ ascii_token s h = ascii_run is_token_byte 16 64 (λ b h. grind (arith, nat_tests
 
 pub ascii_digest : (s : List ℕ) → is_digest s ≡ true → IsAscii s
 ascii_digest s h = ascii_run is_digest_byte 64 64 (λ b h. grind (arith, nat_tests)) s h
+
+-- each form is of at most 64 bytes
+short_run : (kind : ℕ → Bool) (low high : ℕ) → high ≤ 64 → (s : List ℕ)
+    → is_run kind low high s ≡ true → length s ≤ 64
+short_run kind low high below s h =
+    let within : _ = first_so (is_within low high (length s)) (list_all kind s) h in
+    let most : nat_le (length s) high ≡ true =
+    second_so (nat_le low (length s)) (nat_le (length s) high) within in
+    grind (arith, nat_tests)
+
+pub short_name : (s : List ℕ) → is_name s ≡ true → length s ≤ 64
+short_name s h = short_run is_name_byte 1 32 (omega arith) s h
+
+pub short_token : (s : List ℕ) → is_token s ≡ true → length s ≤ 64
+short_token s h = short_run is_token_byte 16 64 (omega arith) s h
+
+pub short_digest : (s : List ℕ) → is_digest s ≡ true → length s ≤ 64
+short_digest s h = short_run is_digest_byte 64 64 (omega arith) s h

@@ -7,25 +7,22 @@ use Rattle.reg_core.specs.Advice.{is_given}
 use Rattle.reg_core.specs.Maps.{same_text}
 use Rattle.reg_core.specs.Allowance.{Ground, allowance_on}
 use Rattle.reg_core.specs.Ask.{same_ask}
+use Rattle.reg_core.specs.Award.{Award, new_entry, Allowance, entry_on}
 use Rattle.reg_core.specs.Capability.{same_cap}
-use Rattle.reg_core.specs.Entry.{entry_for}
 use Rattle.reg_core.specs.World.{RequestName}
 use Rattle.reg_core.specs.declared.advice.Advice.{Advice as AdviceOf}
 use Rattle.reg_core.specs.declared.ask.Ask.{Ask}
-use Rattle.reg_core.specs.declared.ask.Ask.TheVariants.{Code}
 use Rattle.reg_core.specs.declared.capability.Cap.{Cap}
 use Rattle.reg_core.specs.declared.change.Change.{Change}
 use Rattle.reg_core.specs.declared.change.Change.TheVariants.{Grant, Revoke, Define, AddPool, Submit, Close, Assign, Advise, GiveValue}
 use Rattle.reg_core.specs.declared.decide.Decision.{Decision}
 use Rattle.reg_core.specs.declared.decide.Decision.TheVariants.{Make, Same}
-use Rattle.reg_core.specs.declared.decide.allowance.Allowance.{Allowance}
 use Rattle.reg_core.specs.declared.decide.Deny.{Deny}
 use Rattle.reg_core.specs.declared.decide.Deny.TheVariants.{Refused, Memory}
 use Rattle.reg_core.specs.declared.refusal.Refusal.{Refusal}
 use Rattle.reg_core.specs.declared.refusal.Refusal.TheVariants.{Ref, Closed, Advice, Own, Exists, Bits}
 use Rattle.reg_core.specs.declared.request.Case.{Case}
 use Rattle.reg_core.specs.declared.request.Given.{Given}
-use Rattle.reg_core.specs.declared.request.Given.TheVariants.{Value}
 use Rattle.reg_core.specs.declared.request.State.{State}
 use Rattle.reg_core.specs.declared.request.State.TheVariants.{Pending, Approved, Declined, Withdrawn}
 use Rattle.reg_core.specs.declared.request.StateWord.{StateWord}
@@ -75,23 +72,22 @@ abbrev pub advise_rule : RequestName → List ℕ → AdviceOf → Option Advice
 advise_rule name expert advice old word =
     if is_given old advice then Ok Same else new_advice_rule name expert advice word
 
--- the change by which a request is given what it is allowed
-abbrev pub award : RequestName → Ask → ℕ → Given → Change
-award name (Code ask) today (Value v) = GiveValue name.0 name.1 (entry_for name.0 ask today v)
+-- the change by which a request is given this on a day
+abbrev pub change_to_give : RequestName → ℕ → Award → Change
+change_to_give name today (new_entry e) = GiveValue name.0 name.1 (entry_on today e)
 
 -- what is allowed is given, unless an expert's advice is wanting
-abbrev pub give_rule : RequestName → Ask → ℕ → Bool → Result Allowance Refusal
-    → Result Decision Refusal
-give_rule name ask today advised (Err refusal) = Err refusal
-give_rule name ask today advised (Ok allowance) =
+abbrev pub give_rule : RequestName → ℕ → Bool → Result Allowance Refusal → Result Decision Refusal
+give_rule name today advised (Err refusal) = Err refusal
+give_rule name today advised (Ok allowance) =
     if allowance.needs_advice && not advised then Err Advice
-    else Ok (Make (award name ask today allowance.given))
+    else Ok (Make (change_to_give name today allowance.award))
 
 -- a pending request is approved on a day, over the published rows that its ask needs, and whether
 -- one of its experts is for it
 abbrev pub approve_rule : Ground → Bool → RequestName → Ask → ℕ → State → Result Decision Refusal
 approve_rule rows advised name ask today Pending =
-    give_rule name ask today advised (allowance_on rows name.0 ask)
+    give_rule name today advised (allowance_on rows name.0 ask)
 approve_rule rows advised name ask today (Approved given) = Ok Same
 approve_rule rows advised name ask today (Declined reason) = Err Closed
 approve_rule rows advised name ask today Withdrawn = Err Closed

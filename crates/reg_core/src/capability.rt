@@ -1,10 +1,9 @@
 //! Capabilities: what the holder of a token may do, and until when.
-ghost use Rattle.std.specs.Prelude.{◌≡◌, ◌≤◌, true, IfOk, IfSome, IfNone, IsTrue, ◌↔◌, ◌<◌, nat_le};
-ghost use Rattle.reg_core.specs.Capability.{last_until, has_cap_form, read_until};
+ghost use Rattle.std.specs.Prelude.{◌≡◌, ◌≤◌};
+ghost use Rattle.reg_core.specs.Capability.{last_until, read_until};
 
 use crate::text::Account;
 use reg_ranges::formed::Formed;
-use std::alloc::AllocError;
 use std::marker::Model;
 
 /// Whom a capability is for.
@@ -59,7 +58,7 @@ impl Until {
 }
 
 /// What the holder of a token may do, valid while the moment is before `until`.
-#[derive(Clone, Drop, PartialEq, Eq)]
+#[derive(Clone, Copy, PartialEq, Eq)]
 pub struct Cap {
     pub account: Account,
     pub kind: Kind,
@@ -75,16 +74,5 @@ impl Formed for Cap {
     fn formed(&self) {
         self.account.formed();
         let _seconds = self.until.seconds();
-    }
-}
-
-impl Cap {
-    /// An equal capability.
-    pub fn copy(&self) -> Result<Self, AllocError>
-        ensures equal { IfOk result (λ c. c ≡ self.now) }
-        ensures form { has_cap_form self.now ≡ true }
-    {
-        self.formed();
-        self.clone()
     }
 }

@@ -19,7 +19,7 @@ pub enum Command {
 }
 
 /// What anybody may ask.
-#[derive(Drop)]
+#[derive(Clone, Copy)]
 pub enum PublicCommand {
     /// Lists the names of all registries.
     Registries,

@@ -3,6 +3,7 @@ mod advise;
 mod allowance;
 mod approve;
 mod assign;
+mod award;
 mod decline;
 mod define;
 mod grant;

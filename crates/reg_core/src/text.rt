@@ -1,13 +1,152 @@
 //! The names that the office goes by: accounts, references, registry names, tokens and their
-//! digests.
-ghost use Rattle.std.specs.Prelude.{◌≡◌};
+//! digests. A name is kept in place, in 64 bytes: it is copied without memory.
+ghost use Rattle.std.specs.Prelude.{◌≡◌, ◌≤◌, ℕ, Bool, true, nat_eq, List, Some, length, refl};
+ghost use Rattle.std.specs.Cmp.{partial_equiv_from_equiv};
+ghost use Rattle.std.specs.Cmp.Lexicographic.{slice_cmp, pointwise, nat_list_cmp_total, nat_list_eq_equiv, texts_po, texts_ties};
+ghost use Rattle.std.specs.Ordering.{nat_cmp};
 ghost use Rattle.std.specs.List.{list_all};
-ghost use Rattle.reg_core.specs.Names.{is_name_byte as name_byte, is_token_byte as token_byte, is_digest_byte as digest_byte, is_name as name, is_token, is_digest, ascii_name, ascii_token, ascii_digest};
+ghost use Rattle.std.specs.Str.{IsAscii};
+ghost use Rattle.reg_ranges.specs.Texts.{read_text};
+ghost use Rattle.reg_core.specs.Names.{is_name_byte as name_byte, is_token_byte as token_byte, is_digest_byte as digest_byte, is_name as name, is_token, is_digest, ascii_name, ascii_token, ascii_digest, in_place, short_name, short_token, short_digest};
 
-pub use reg_ranges::text::{Form, Text, TextForm, Word};
+use reg_ranges::formed::Formed;
+pub use reg_ranges::text::Text;
+use std::cmp::Ordering;
+use std::marker::{Model, PhantomData};
+use std::str;
+
+/// Which bytes a kind of name may have.
+pub trait Form: Copy {
+    /// The names of this form.
+    ghost fits: { List ℕ → Bool };
+
+    /// Whether the bytes are a name of this form.
+    fn accepts(bytes: &[u8]) -> bool
+        ensures { result ≡ fits bytes.now };
+
+    /// They are ASCII.
+    ghost ascii: { (s : List ℕ) → fits s ≡ true → IsAscii s };
+
+    /// They have at most 64 bytes.
+    ghost short: { (s : List ℕ) → fits s ≡ true → length s ≤ 64 };
+}
+
+/// A name of the form `F`, kept in place.
+#[derive(Clone, Copy)]
+pub struct Word<F: Form> {
+    // The bytes, and zeros after them.
+    place: [u8; 64],
+    len: usize,
+    form: PhantomData<F>,
+}
+
+impl<F: Form> Model for Word<F> {
+    ghost use Rattle.std.specs.Prelude.{◌≡◌, List, ℕ, true, length, take};
+    ghost use Rattle.reg_core.specs.Names.{in_place};
+
+    ghost Value = { List ℕ };
+
+    ghost view = { λ w. take w.len w.place };
+
+    ghost invariant = { λ w. (in_place (take w.len w.place) ≡ w.place)
+        × (length (take w.len w.place) ≡ w.len)
+        × (F.fits (take w.len w.place) ≡ true) };
+
+    ghost inverse = { λ s. record { place = in_place s; len = length s; form = record {} } };
+
+    ghost inverse_ok = { λ w h i. record { place = h.0 i; len = h.1 i; form = record {} } };
+}
+
+impl<F: Form> Word<F> {
+    /// The name of these bytes; none where they have not the form.
+    pub fn read(bytes: &[u8]) -> Option<Self>
+        ensures { result ≡ read_text F.fits bytes.now }
+    {
+        if !F::accepts(bytes) {
+            return None;
+        }
+        Some(Word {
+            place: in_place(bytes),
+            len: bytes.len(),
+            form: PhantomData,
+        })
+    }
+
+    /// The name, in its form.
+    pub fn as_str(&self) -> &str
+        ensures text { result.now ≡ self.now }
+        ensures form { F.fits self.now ≡ true }
+    {
+        str::from_utf8(self.as_bytes()).unwrap()
+    }
+
+    fn as_bytes(&self) -> &[u8]
+        ensures bytes { result.now ≡ self.now }
+        ensures form { F.fits self.now ≡ true }
+        ensures ascii { IsAscii self.now }
+    {
+        &self.place[..self.len]
+    }
+}
+
+impl<F: Form> Formed for Word<F> {
+    ghost has_form = { F.fits };
+
+    fn formed(&self) {
+        let _ = &self.len;
+    }
+}
+
+// The bytes in 64, with zeros after them.
+fn in_place(bytes: &[u8]) -> [u8; 64]
+    requires { length bytes.now ≤ 64 }
+    ensures { result ≡ in_place bytes.now }
+{
+    let mut place = [0; 64];
+    place[..bytes.len()].copy_from_slice(bytes);
+    place
+}
+
+impl<F: Form> PartialEq for Word<F> {
+    ghost eq = { pointwise nat_eq };
+
+    ghost laws = { partial_equiv_from_equiv nat_list_eq_equiv };
+
+    fn eq(&self, other: &Self) -> bool {
+        self.as_bytes() == other.as_bytes()
+    }
+}
+
+impl<F: Form> Eq for Word<F> {
+    ghost laws = { nat_list_eq_equiv };
+}
+
+impl<F: Form> PartialOrd for Word<F> {
+    ghost partial_cmp = { λ x y. Some (slice_cmp nat_cmp x y) };
+
+    ghost laws = { texts_po };
+
+    fn partial_cmp(&self, other: &Self) -> Option<Ordering> {
+        Some(self.cmp(other))
+    }
+}
+
+impl<F: Form> Ord for Word<F> {
+    ghost cmp = { slice_cmp nat_cmp };
+
+    ghost total = { nat_list_cmp_total };
+
+    ghost matches_partial_cmp = { λ x y. refl };
+
+    ghost matches_eq = { texts_ties };
+
+    fn cmp(&self, other: &Self) -> Ordering {
+        self.as_bytes().cmp(other.as_bytes())
+    }
+}
 
 /// 1 to 32 of `a` to `z`, `0` to `9` and `-`: whose capability, request or entry it is.
-#[derive(Clone, Copy, Debug)]
+#[derive(Clone, Copy)]
 pub struct AccountForm;
 
 impl Form for AccountForm {
@@ -15,13 +154,15 @@ impl Form for AccountForm {
 
     ghost ascii = { ascii_name };
 
+    ghost short = { short_name };
+
     fn accepts(bytes: &[u8]) -> bool {
         is_name(bytes)
     }
 }
 
 /// 1 to 32 of `a` to `z`, `0` to `9` and `-`: the applicant's own word for a request.
-#[derive(Clone, Copy, Debug)]
+#[derive(Clone, Copy)]
 pub struct RefForm;
 
 impl Form for RefForm {
@@ -29,19 +170,23 @@ impl Form for RefForm {
 
     ghost ascii = { ascii_name };
 
+    ghost short = { short_name };
+
     fn accepts(bytes: &[u8]) -> bool {
         is_name(bytes)
     }
 }
 
 /// 1 to 32 of `a` to `z`, `0` to `9` and `-`: what a registry is called.
-#[derive(Clone, Copy, Debug)]
+#[derive(Clone, Copy)]
 pub struct NameForm;
 
 impl Form for NameForm {
     ghost fits = { name };
 
     ghost ascii = { ascii_name };
+
+    ghost short = { short_name };
 
     fn accepts(bytes: &[u8]) -> bool {
         is_name(bytes)
@@ -50,7 +195,7 @@ impl Form for NameForm {
 
 /// 16 to 64 of letters, digits, `-`, `.`, `_` and `~`: a bearer token (RFC 6750 section 2.1,
 /// narrowed).
-#[derive(Clone, Copy, Debug)]
+#[derive(Clone, Copy)]
 pub struct TokenForm;
 
 impl Form for TokenForm {
@@ -58,19 +203,23 @@ impl Form for TokenForm {
 
     ghost ascii = { ascii_token };
 
+    ghost short = { short_token };
+
     fn accepts(bytes: &[u8]) -> bool {
         (16..=64).contains(&bytes.len()) && all_token_bytes(bytes)
     }
 }
 
 /// 64 lower-case hexadecimal digits: what the office keeps of a token.
-#[derive(Clone, Copy, Debug)]
+#[derive(Clone, Copy)]
 pub struct DigestForm;
 
 impl Form for DigestForm {
     ghost fits = { is_digest };
 
     ghost ascii = { ascii_digest };
+
+    ghost short = { short_digest };
 
     fn accepts(bytes: &[u8]) -> bool {
         bytes.len() == 64 && all_digest_bytes(bytes)

@@ -140,6 +140,17 @@ performs_denied {fails = fails} {rule = rule} {told = told} deny decides follows
     performs_refused rule told (stop_of deny) decides.answered decides.same (goes_on_anyway decides.premise)
     (λ h. denies rule deny follows) (may_stop fails deny) stops
 
+-- so is one that is decided without memory
+pub performs_declined : {S : Type 0} {world : S → World} {Holds Sound : S → Type 0} {fails : Bool}
+    {old new : S} {result : Result Content Stop} {answer : World → Answer}
+    {rule : Result Decision Refusal} {told : Decision → Content} (refusal : Refusal)
+    → Decides world Holds Sound old new answer rule told → rule ≡ Err refusal
+    → IsErrAnd result (λ stop. stop ≡ Refused refusal)
+    → Performs world Holds Sound fails old new result answer
+performs_declined {rule = rule} {told = told} refusal decides is stops =
+    performs_refused rule told (Refused refusal) decides.answered decides.same
+    (goes_on_anyway decides.premise) (λ h. is) tt stops
+
 -- and one whose decision was carried out did what it is answered
 pub performs_found : {S T : Type 0} {world : S → World} {Holds Sound : S → Type 0} {fails : Bool}
     {old mid new : S} {content : Content} {answer : World → Answer} {x : T}

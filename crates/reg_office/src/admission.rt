@@ -11,10 +11,9 @@ use reg_core::capability::{Cap, Kind};
 use reg_core::refusal::Refusal;
 use reg_core::text::Digest;
 use reg_keeper::keeper::Keeper;
-use std::alloc::Global;
 
 /// A caller who is admitted.
-#[derive(Drop)]
+#[derive(Clone, Copy)]
 pub struct Caller {
     /// The digest of the caller's token.
     pub digest: Digest,
@@ -23,9 +22,8 @@ pub struct Caller {
 }
 
 /// The caller with this token, where it may give commands of this kind at this moment, or the first
-/// refusal: `Token`, then `Kind`. A caller without a token is answered without memory.
+/// refusal: `Token`, then `Kind`. A caller without a token is answered without a look at the keeper.
 pub fn admit<K: Keeper>(
-    alloc: Global,
     keeper: &mut K,
     token: Option<&[u8]>,
     moment: u64,
@@ -37,7 +35,7 @@ pub fn admit<K: Keeper>(
         result ≡ Err (Stop.Refused Refusal.Token) }
     ensures untouched { caller (option_copied token.entry) ≡ None → keeper.new ≡ keeper.old }
 {
-    let digest = caller_of(alloc, token)?.ok_or(Refusal::Token)?;
+    let digest = caller_of(token).ok_or(Refusal::Token)?;
     let existing = keeper.cap(&digest)?;
     let cap = serving(existing, moment, kind)?;
     Ok(Caller { digest, cap })

@@ -21,8 +21,8 @@ use reg_core::decide::{Decision, decide_submit, decide_withdraw};
 use reg_core::refusal::Refusal;
 use reg_core::request::{Request, State};
 use reg_core::text::{Account, Ref};
-use reg_ranges::formed::Formed;
 use reg_keeper::keeper::Keeper;
+use reg_ranges::formed::Formed;
 use std::alloc::{AllocError, Global};
 
 /// What a command of this account's is answered.
@@ -130,8 +130,8 @@ fn pending(account: &Account, reference: &Ref, ask: &Ask) -> Result<Request, All
         IfOk result (λ row. row ≡ request_row name (pending_case ask.now)) }
 {
     Ok(Request {
-        account: account.copy()?,
-        reference: reference.copy()?,
+        account: *account,
+        reference: *reference,
         ask: ask.copy()?,
         state: State::Pending,
     })

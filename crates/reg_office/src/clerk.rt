@@ -18,6 +18,7 @@ use reg_core::decide::{decide_grant, decide_revoke};
 use reg_core::text::{Digest, Token};
 use reg_early::day::Day;
 use reg_keeper::keeper::Keeper;
+use reg_ranges::formed::Formed;
 use std::alloc::Global;
 
 /// What a clerk's command is answered on a day; `in_use` is the digest of the clerk's own token.
@@ -45,51 +46,37 @@ pub fn perform<K: Keeper>(
         }
         ClerkCommand::Define(name, table) => registers::define(keeper, name, table),
         ClerkCommand::AddPool(prefix) => registers::add_pool(keeper, *prefix),
-        ClerkCommand::Grant(token, cap) => tell_grant(alloc, keeper, token, cap),
-        ClerkCommand::Revoke(token) => revoke(alloc, keeper, in_use, token),
+        ClerkCommand::Grant(token, cap) => tell_grant(keeper, token, cap),
+        ClerkCommand::Revoke(token) => revoke(keeper, in_use, token),
     }
 }
 
 // Gives a token a capability.
-fn tell_grant<K: Keeper>(
-    alloc: Global,
-    keeper: &mut K,
-    token: &Token,
-    cap: &Cap,
-) -> Result<Content, Stop>
+fn tell_grant<K: Keeper>(keeper: &mut K, token: &Token, cap: &Cap) -> Result<Content, Stop>
     ensures { Performs K.world K.Holds K.Sound K.FAILS keeper.old keeper.new result
         (answer_at_desk (Grant token.now cap.now)) }
 {
-    Ok(Content::Granted(grant(alloc, keeper, token, cap)?))
+    Ok(Content::Granted(grant(keeper, token, cap)?))
 }
 
 /// Gives a token a capability, and gives what is told of it.
-pub fn grant<K: Keeper>(
-    alloc: Global,
-    keeper: &mut K,
-    token: &Token,
-    cap: &Cap,
-) -> Result<Cap, Stop>
+pub fn grant<K: Keeper>(keeper: &mut K, token: &Token, cap: &Cap) -> Result<Cap, Stop>
     ensures { Performs K.world K.Holds K.Sound K.FAILS keeper.old keeper.new
         (result_map_both Granted (λ stop. stop) result) (answer_at_desk (Grant token.now cap.now)) }
 {
-    let digest = digest_of(alloc, token.as_str().as_bytes())?;
+    let digest = digest_of(token.as_str().as_bytes());
     let existing = keeper.cap(&digest)?;
     let decision = decide_grant(existing.as_ref(), &digest, cap)?;
-    Ok(conclude(keeper, cap.copy(), decision)?)
+    cap.formed();
+    Ok(conclude(keeper, Ok(*cap), decision)?)
 }
 
 // Takes a token's capability away; in_use is the digest of the clerk's own token.
-fn revoke<K: Keeper>(
-    alloc: Global,
-    keeper: &mut K,
-    in_use: &Digest,
-    token: &Token,
-) -> Result<Content, Stop>
+fn revoke<K: Keeper>(keeper: &mut K, in_use: &Digest, token: &Token) -> Result<Content, Stop>
     ensures { Performs K.world K.Holds K.Sound K.FAILS keeper.old keeper.new result
         (answer_to_clerk in_use.now 0 (Revoke token.now)) }
 {
-    let digest = digest_of(alloc, token.as_str().as_bytes())?;
+    let digest = digest_of(token.as_str().as_bytes());
     let existing = keeper.cap(&digest)?;
     let decision = decide_revoke(in_use, existing.as_ref(), &digest)?;
     Ok(conclude(keeper, Ok(Content::Revoked), decision)?)

@@ -17,8 +17,8 @@ use reg_core::refusal::Refusal;
 use reg_core::request::State;
 use reg_core::text::{Account, Ref, Text};
 use reg_early::day::Day;
-use reg_ranges::formed::Formed;
 use reg_keeper::keeper::Keeper;
+use reg_ranges::formed::Formed;
 use std::alloc::Global;
 
 /// All requests.

@@ -14,8 +14,8 @@ use reg_core::decide::decide_advise;
 use reg_core::queue::QueueRow;
 use reg_core::refusal::Refusal;
 use reg_core::text::{Account, Ref};
-use reg_ranges::formed::Formed;
 use reg_keeper::keeper::Keeper;
+use reg_ranges::formed::Formed;
 use std::alloc::AllocError;
 
 /// What a command of this expert's is answered.
@@ -65,15 +65,9 @@ fn advise<K: Keeper>(
 }
 
 // A queued request after its expert gave this advice.
-fn with_advice(row: QueueRow, advice: &Advice) -> Result<QueueRow, AllocError>
+fn with_advice(mut row: QueueRow, advice: &Advice) -> Result<QueueRow, AllocError>
     ensures { IfOk result (λ r. r ≡ advised_row advice.now row) }
 {
-    let advice = advice.copy()?;
-    Ok(QueueRow {
-        account: row.account,
-        reference: row.reference,
-        ask: row.ask,
-        word: row.word,
-        advice: Some(advice),
-    })
+    row.advice = Some(advice.copy()?);
+    Ok(row)
 }

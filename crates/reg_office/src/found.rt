@@ -10,7 +10,6 @@ use crate::stop::Stop;
 use reg_core::capability::{Cap, Kind, Until};
 use reg_core::text::{Account, Token};
 use reg_keeper::keeper::{Fault, Keeper};
-use std::alloc::{AllocError, Global};
 
 /// Why no first clerk was made.
 #[derive(Clone, Copy, Debug, PartialEq, Eq)]
@@ -23,20 +22,8 @@ pub enum FoundFault {
     Fault(Fault),
 }
 
-impl From<AllocError> for FoundFault {
-    ghost use Rattle.std.specs.Prelude.{◌≡◌};
-    ghost use Rattle.reg_keeper.specs.declared.keeper.Fault.TheVariants.{Memory};
-    ghost use Rattle.reg_office.specs.declared.found.FoundFault.TheVariants.{Fault as OfKeeper};
-
-    ghost from_gives = { λ _ e. e ≡ OfKeeper Memory };
-
-    fn from(_error: AllocError) -> FoundFault {
-        FoundFault::Fault(Fault::Memory)
-    }
-}
-
 /// Gives a token the first clerk's capability.
-pub fn found<K: Keeper>(alloc: Global, keeper: &mut K, token: &[u8]) -> Result<(), FoundFault>
+pub fn found<K: Keeper>(keeper: &mut K, token: &[u8]) -> Result<(), FoundFault>
     ensures founded { K.Holds keeper.new →
         OnOk result (WasFounded (K.world keeper.old) (K.world keeper.new) token.now) }
     ensures ill_formed { is_token token.now ≡ false → result ≡ Err FoundFault.Token }
@@ -46,9 +33,8 @@ pub fn found<K: Keeper>(alloc: Global, keeper: &mut K, token: &[u8]) -> Result<(
         (IfErr result (MayFound false)) }
     ensures fault { IfErr result (MayFound K.FAILS) }
 {
-    let token = Token::read(alloc, token)?.ok_or(FoundFault::Token)?;
-    let cap = clerk_cap(alloc)?;
-    match grant(alloc, keeper, &token, &cap) {
+    let token = Token::read(token).ok_or(FoundFault::Token)?;
+    match grant(keeper, &token, &clerk_cap()) {
         Ok(_) => Ok(()),
         Err(Stop::Refused(_)) => Err(FoundFault::Exists),
         Err(Stop::Fault(fault)) => Err(FoundFault::Fault(fault)),
@@ -56,12 +42,12 @@ pub fn found<K: Keeper>(alloc: Global, keeper: &mut K, token: &[u8]) -> Result<(
 }
 
 // The capability of the first clerk.
-fn clerk_cap(alloc: Global) -> Result<Cap, AllocError>
-    ensures { IfOk result (λ cap. cap ≡ first_clerk) }
+fn clerk_cap() -> Cap
+    ensures { result ≡ first_clerk }
 {
-    Ok(Cap {
-        account: Account::read(alloc, b"clerk")?.unwrap(),
+    Cap {
+        account: Account::read(b"clerk").unwrap(),
         kind: Kind::Clerk,
         until: Until::from_seconds(Until::LAST).unwrap(),
-    })
+    }
 }

@@ -11,8 +11,8 @@ use reg_core::ask::{Ask, Want};
 use reg_core::decide::Ground;
 use reg_core::entry::Entry;
 use reg_core::text::Name;
-use reg_ranges::table::RangeTable;
 use reg_keeper::keeper::{Fault, Keeper};
+use reg_ranges::table::RangeTable;
 use std::alloc::{AllocError, Global};
 use std::marker::Model;
 

@@ -65,7 +65,7 @@ impl<K: Keeper> Office<K> {
             (IfErr result (MayFound false)) }
         ensures fault { IfErr result (MayFound K.FAILS) }
     {
-        found(self.alloc, &mut self.keeper, token)
+        found(&mut self.keeper, token)
     }
 
     /// Answers one command at a moment, in seconds since 1970-01-01T00:00:00Z, of the caller with
@@ -120,15 +120,15 @@ fn answer<K: Keeper>(
     match command {
         Command::Public(command) => public::perform(alloc, keeper, today, command),
         Command::Applicant(command) => {
-            let caller = admit(alloc, keeper, token, moment, Kind::Applicant)?;
+            let caller = admit(keeper, token, moment, Kind::Applicant)?;
             applicant::perform(alloc, keeper, &caller.cap.account, command)
         }
         Command::Expert(command) => {
-            let caller = admit(alloc, keeper, token, moment, Kind::Expert)?;
+            let caller = admit(keeper, token, moment, Kind::Expert)?;
             expert::perform(keeper, &caller.cap.account, command)
         }
         Command::Clerk(command) => {
-            let caller = admit(alloc, keeper, token, moment, Kind::Clerk)?;
+            let caller = admit(keeper, token, moment, Kind::Clerk)?;
             clerk::perform(alloc, keeper, &caller.digest, today, command)
         }
     }

@@ -87,9 +87,8 @@ fn page<K: Keeper>(alloc: Global, keeper: &mut K, today: Day, name: &Name) -> Re
 {
     let table = keeper.ranges(name)?.ok_or(Refusal::Registry)?;
     let entries = entries_on(alloc, keeper, today, name)?;
-    let name = name.copy()?;
     Ok(Page {
-        name,
+        name: *name,
         table,
         entries,
     })

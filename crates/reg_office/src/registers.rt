@@ -9,9 +9,9 @@ use crate::stop::Stop;
 use reg_core::content::Content;
 use reg_core::decide::{decide_define, decide_pool};
 use reg_core::text::Name;
+use reg_keeper::keeper::Keeper;
 use reg_ranges::formed::Formed;
 use reg_ranges::table::RangeTable;
-use reg_keeper::keeper::Keeper;
 
 /// Opens a registry.
 pub fn define<K: Keeper>(keeper: &mut K, name: &Name, table: &RangeTable) -> Result<Content, Stop>
@@ -20,8 +20,9 @@ pub fn define<K: Keeper>(keeper: &mut K, name: &Name, table: &RangeTable) -> Res
 {
     let existing = keeper.ranges(name)?;
     let decision = decide_define(existing.as_ref(), name, table)?;
+    name.formed();
     table.formed();
-    Ok(Content::Defined(conclude(keeper, name.copy(), decision)?))
+    Ok(Content::Defined(conclude(keeper, Ok(*name), decision)?))
 }
 
 /// Adds a prefix to the pool.

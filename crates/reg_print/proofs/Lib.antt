@@ -1,4 +1,5 @@
 pub mod Covered
+pub mod ListedMembers
 pub mod ListingText
-pub mod Plain
-pub mod PlainTrees
+pub mod PrintedTokens
+pub mod ReadObjects

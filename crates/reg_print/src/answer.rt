@@ -1,16 +1,30 @@
 //! Answers, and their status and body.
 ghost use Rattle.std.specs.Prelude.{◌≡◌, IfOk};
 ghost use Rattle.reg_print.specs.Answer.{status_of, reply_status, content_status, answer_body, reply_body, content_body, body_text};
-ghost use Rattle.reg_print.specs.Body.{body_view, format_of, ReadsBack};
+ghost use Rattle.reg_print.specs.Body.{format_of, json, text_of, ReadsBack};
+ghost use Rattle.reg_print.specs.Refusal.{row_view};
+ghost use Rattle.reg_print.specs.Trees.Refusal.{error_tree};
 
-pub use crate::payload::Format;
-use crate::payload::Payload;
-use crate::refusal::{office_row, storage_row, wire_row};
-use crate::trees::{capability, file, members, page, pool, queue, refusal, request};
+use crate::bodies::capability::Revoked;
+use crate::bodies::page::Defined;
+use crate::bodies::pool::Pooled;
+use crate::bodies::request::Desk;
+use crate::listing::records::listing;
+use crate::printing::{Itself, printed};
+use crate::refusal::{RefusalRow, office_row, storage_row, wire_row};
 use reg_core::content::Content;
 use reg_core::reply::Reply;
 use reg_core::wire_refusal::{ReadFault, WireRefusal};
 use std::alloc::{AllocError, Global};
+
+/// What the bytes of a body are.
+#[derive(Clone, Copy, Debug, PartialEq, Eq)]
+pub enum Format {
+    /// JSON (RFC 8259) without white space, its members in byte order of their names.
+    Json,
+    /// CSV (RFC 4180 section 2), each record ended by a line feed alone.
+    Csv,
+}
 
 /// What is answered to the bytes of a request.
 #[derive(Drop)]
@@ -49,12 +63,13 @@ impl From<ReadFault> for Answer {
 }
 
 /// The status (RFC 9110 section 15) and the body of an answer, whose format is `Answer::format`.
+#[tactic(auto, unfolding(crate::specs::Answer::body_text))]
 pub fn body_of(alloc: Global, answer: &Answer) -> Result<(u16, Vec<u8>), AllocError>
     ensures status { IfOk result (λ r. r.0 ≡ status_of answer.now) }
     ensures body { IfOk result (λ r. r.1.items ≡ body_text answer.now) }
     ensures reads_back { IfOk result (λ r. ReadsBack (answer_body answer.now) r.1.items) }
 {
-    let body = payload_of(alloc, answer)?.text(alloc)?;
+    let body = answer_bytes(alloc, answer)?;
     Ok((status_of(answer), body))
 }
 
@@ -100,48 +115,54 @@ fn content_status(content: &Content) -> u16
     }
 }
 
-// What the body of an answer holds.
-fn payload_of(alloc: Global, answer: &Answer) -> Result<Payload<'_>, AllocError>
-    ensures { IfOk result (λ c. body_view c ≡ answer_body answer.now) }
+// The body of an answer.
+fn answer_bytes(alloc: Global, answer: &Answer) -> Result<Vec<u8>, AllocError>
+    ensures text { IfOk result (λ v. v.items ≡ text_of (answer_body answer.now)) }
+    ensures reads_back { IfOk result (λ v. ReadsBack (answer_body answer.now) v.items) }
 {
     match answer {
-        Answer::Reply(reply) => reply_payload(alloc, reply),
-        Answer::Wire(fault) => Ok(Payload::Json(refusal::error(alloc, wire_row(*fault))?)),
-        Answer::Storage => Ok(Payload::Json(refusal::error(alloc, storage_row())?)),
+        Answer::Reply(reply) => reply_bytes(alloc, reply),
+        Answer::Wire(refusal) => refusal_bytes(alloc, wire_row(*refusal)),
+        Answer::Storage => refusal_bytes(alloc, storage_row()),
     }
 }
 
-fn reply_payload(alloc: Global, reply: &Reply) -> Result<Payload<'_>, AllocError>
-    ensures { IfOk result (λ c. body_view c ≡ reply_body reply.now) }
+fn reply_bytes(alloc: Global, reply: &Reply) -> Result<Vec<u8>, AllocError>
+    ensures text { IfOk result (λ v. v.items ≡ text_of (reply_body reply.now)) }
+    ensures reads_back { IfOk result (λ v. ReadsBack (reply_body reply.now) v.items) }
 {
     match reply {
-        Reply::Accepted(content) => content_payload(alloc, content),
-        Reply::Refused(fault) => Ok(Payload::Json(refusal::error(alloc, office_row(*fault))?)),
+        Reply::Accepted(content) => content_bytes(alloc, content),
+        Reply::Refused(refusal) => refusal_bytes(alloc, office_row(*refusal)),
     }
 }
 
-fn content_payload(alloc: Global, content: &Content) -> Result<Payload<'_>, AllocError>
-    ensures { IfOk result (λ c. body_view c ≡ content_body content.now) }
+fn refusal_bytes(alloc: Global, row: RefusalRow) -> Result<Vec<u8>, AllocError>
+    ensures text { IfOk result (λ v. v.items ≡ text_of (json (error_tree (row_view row)))) }
+    ensures reads_back { IfOk result (λ v. ReadsBack (json (error_tree (row_view row))) v.items) }
 {
-    Ok(match content {
-        Content::Names(names) => Payload::Json(members::texts(alloc, names.as_slice())?),
-        Content::Page(page) => Payload::Json(page::page(alloc, page)?),
-        Content::Listing(page) => Payload::Csv(page),
-        Content::Pool(pool) => Payload::Json(pool::pool(alloc, pool)?),
-        Content::Made(request) | Content::Row(request) => {
-            Payload::Json(request::request(alloc, request)?)
-        },
-        Content::Rows(requests) => {
-            Payload::Json(request::requests(alloc, requests.as_slice())?)
-        },
-        Content::Item(row) => Payload::Json(queue::row(alloc, row)?),
-        Content::Items(rows) => Payload::Json(queue::rows(alloc, rows.as_slice())?),
-        Content::Desk(request) => Payload::Json(request::desk(alloc, request)?),
-        Content::Desks(requests) => { Payload::Json(request::desks(alloc, requests.as_slice())?) },
-        Content::Filed(file) => Payload::Json(file::file(alloc, file)?),
-        Content::Defined(name) => Payload::Json(page::defined(alloc, name)?),
-        Content::Pooled(prefix) => Payload::Json(pool::pooled(alloc, *prefix)?),
-        Content::Granted(cap) => Payload::Json(capability::cap(alloc, cap)?),
-        Content::Revoked => Payload::Json(capability::revoked(alloc)?),
-    })
+    printed(alloc, &row)
+}
+
+fn content_bytes(alloc: Global, content: &Content) -> Result<Vec<u8>, AllocError>
+    ensures text { IfOk result (λ v. v.items ≡ text_of (content_body content.now)) }
+    ensures reads_back { IfOk result (λ v. ReadsBack (content_body content.now) v.items) }
+{
+    match content {
+        Content::Names(names) => printed::<Itself, _>(alloc, names),
+        Content::Page(page) => printed(alloc, page),
+        Content::Listing(page) => listing(alloc, page),
+        Content::Pool(pool) => printed(alloc, pool),
+        Content::Made(request) | Content::Row(request) => printed::<Itself, _>(alloc, request),
+        Content::Rows(requests) => printed::<Itself, _>(alloc, requests),
+        Content::Item(row) => printed(alloc, row),
+        Content::Items(rows) => printed::<Itself, _>(alloc, rows),
+        Content::Desk(request) => printed::<Desk, _>(alloc, request),
+        Content::Desks(requests) => printed::<Desk, _>(alloc, requests),
+        Content::Filed(file) => printed(alloc, file),
+        Content::Defined(name) => printed::<Defined, _>(alloc, name),
+        Content::Pooled(prefix) => printed::<Pooled, _>(alloc, prefix),
+        Content::Granted(cap) => printed(alloc, cap),
+        Content::Revoked => printed(alloc, &Revoked),
+    }
 }

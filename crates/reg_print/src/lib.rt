@@ -2,10 +2,10 @@
 #![tactic(auto)]
 
 pub mod answer;
+mod bodies;
 pub mod detail;
 pub mod laws;
 mod listing;
 mod note;
-mod payload;
+mod printing;
 pub mod refusal;
-mod trees;

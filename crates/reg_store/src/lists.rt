@@ -99,7 +99,7 @@ impl Keeper for ListKeeper {
     ghost well_kept = { λ keeper holds. keeper.well };
 
     fn cap(&mut self, digest: &Digest) -> Result<Option<Cap>, Fault> {
-        Ok(cap_in(&self.caps, digest)?)
+        Ok(cap_in(&self.caps, digest))
     }
 
     fn names(&mut self) -> Result<Rows<Name>, Fault> {

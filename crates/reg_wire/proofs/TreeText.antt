@@ -1,11 +1,7 @@
 -- What is printed of a tree of texts and whole numbers reads back as the tree.
-use Rattle.std.proofs.Common.{◌≡◌, ℕ, suc, ◌^◌, ◌<◌, ◌≤◌, List, [], ◌∷◌, Bool, true, false, ◌&&◌, Option, Some, None, Ok, Ordering, Less, Equal, Greater, nat_cmp, refl, sym, ap, ◌∙◌, option_and_then, arith, append-nil}
-use Rattle.std.specs.Cmp.{first_so, second_so}
-use Rattle.std.specs.Cmp.Lexicographic.{slice_cmp}
+use Rattle.std.proofs.Common.{◌≡◌, ℕ, suc, ◌^◌, ◌<◌, ◌≤◌, List, [], ◌∷◌, Bool, true, false, Option, Some, None, Ok, refl, sym, ap, ◌∙◌, option_and_then, arith, append-nil}
 use Rattle.std.specs.Fmt.{decimal}
-use Rattle.std.specs.Ordering.{is_lt, is_gt, ordering_reverse}
 use Rattle.std.specs.Str.{IsUtf8}
-use Rattle.std.proofs.lemmas.Cmp.{nat_list_cmp_total}
 use Rattle.std.proofs.lemmas.Fmt.{IsAscii-decimal}
 use Rattle.std.proofs.lemmas.Str.{IsUtf8-from_ascii, IsUtf8-append, IsUtf8-nil, is_utf8-from_IsUtf8}
 use Rattle.json.specs.Json as json
@@ -17,14 +13,15 @@ use Rattle.json.proofs.Printed.Decimals.{IsNumber-decimal}
 use Rattle.json.proofs.Printed.Tokens.{tokens-print}
 use Rattle.json.proofs.Printed.Trees.{value-json_tokens, ArePrintable-json_tokens}
 use Rattle.json.proofs.Printed.Utf8.{IsUtf8-quoted, IsUtf8-are_ascii}
-use Rattle.serde_json.specs.Data.{Data, null, boolean, number, string, array, object, Items, no_items, item, Members, no_members, member, put, Num, unsigned, negative, float}
-use Rattle.serde_json.specs.Read.{read, of_json, of_members, max_depth}
+use Rattle.serde_json.specs.Data.{Data, null, boolean, number, string, array, object, Items, no_items, item, Members, no_members, member, Num, unsigned, negative, float}
+use Rattle.serde_json.specs.Read.{read, of_json, max_depth}
 use Rattle.serde_json.specs.Written.{outline, members_outline, compact_text, items_text, members_text, comma_if}
 use Rattle.serde_json.proofs.Numbers.{number_of-decimal}
 use Rattle.serde_json.proofs.Texts.{print-outline}
 use Rattle.reg_print.specs.Trees.Members.{Listed, object_with}
 use Rattle.reg_parse.specs.Bodies.Members.{object_of}
-use Rattle.reg_wire.proofs.ListedMembers.{as_listed, ascends, is_before, some_member, with_members-as_listed}
+use Rattle.reg_print.proofs.ListedMembers.{as_listed, ascends, some_member, with_members-as_listed}
+use Rattle.reg_print.proofs.ReadObjects.{IfReads, AllRead, listed-reads}
 
 -- what JSON's outline reads as is what its text reads as
 pub read-compact_text : (d : Data) → HasNumbers (outline d) → tree.depth (outline d) ≤ max_depth
@@ -161,95 +158,13 @@ are_shallow : (n : ℕ) (ms : Listed) → AllReadable n ms
 are_shallow n [] h = omega arith
 are_shallow n (m ∷ ms) h = shallow_at n m.0 m.1 (as_listed ms) h.1 (are_shallow n ms h.2)
 
--- ---- members that ascend go in one behind another
+if_reads : (n : ℕ) (o : Option Data) → IfReadable n o → IfReads o
+if_reads n None h = tt
+if_reads n (Some d) h = h.same
 
-abbrev join : Members → Members → Members
-join no_members more = more
-join (member k d ms) more = member k d (join ms more)
-
-join-assoc : (a : Members) (k : List ℕ) (d : Data) (more : Members)
-    → join (join a (member k d no_members)) more ≡ join a (member k d more)
-join-assoc no_members k d more = refl
-join-assoc (member l e a) k d more = ap (member l e) (join-assoc a k d more)
-
-join-nil : (a : Members) → join a no_members ≡ a
-join-nil no_members = refl
-join-nil (member l e a) = ap (member l e) (join-nil a)
-
--- a name stands behind all of these
-abbrev is_after : List ℕ → Members → Bool
-is_after k no_members = true
-is_after k (member l e ms) = is_gt (slice_cmp nat_cmp k l) && is_after k ms
-
-is_greater : (o : Ordering) → is_gt o ≡ true → o ≡ Greater
-is_greater Less h = cc
-is_greater Equal h = cc
-is_greater Greater h = refl
-
-turned : (o p : Ordering) → p ≡ ordering_reverse o → is_lt o ≡ true → is_gt p ≡ true
-turned Less p e h = rw e refl
-turned Equal p e h = cc
-turned Greater p e h = cc
-
-above : (k l : List ℕ) → is_lt (slice_cmp nat_cmp k l) ≡ true → is_gt (slice_cmp nat_cmp l k) ≡ true
-above k l h =
-    turned (slice_cmp nat_cmp k l) (slice_cmp nat_cmp l k) (nat_list_cmp_total.antisymm l k) h
-
-put_last : (k : List ℕ) (d : Data) (found : Members) → is_after k found ≡ true
-    → put k d found ≡ join found (member k d no_members)
-put_last k d no_members h = refl
-put_last k d (member l e found) h =
-    rw (is_greater (slice_cmp nat_cmp k l)
-    (first_so (is_gt (slice_cmp nat_cmp k l)) (is_after k found) h))
-    (ap (member l e)
-    (put_last k d found (second_so (is_gt (slice_cmp nat_cmp k l)) (is_after k found) h)))
-
-after_join : (q k : List ℕ) (d : Data) (found : Members) → is_after q found ≡ true
-    → is_gt (slice_cmp nat_cmp q k) ≡ true → is_after q (join found (member k d no_members)) ≡ true
-after_join q k d no_members h g = rw g refl
-after_join q k d (member l e found) h g =
-    rw (first_so (is_gt (slice_cmp nat_cmp q l)) (is_after q found) h)
-    (after_join q k d found (second_so (is_gt (slice_cmp nat_cmp q l)) (is_after q found) h) g)
-
-abbrev all_after : Members → Listed → Bool
-all_after found [] = true
-all_after found (m ∷ ms) = is_after m.0 found && all_after found ms
-
-all_after_join : (k : List ℕ) (d : Data) (found : Members) (ms : Listed) → all_after found ms ≡ true
-    → is_before k ms ≡ true → all_after (join found (member k d no_members)) ms ≡ true
-all_after_join k d found [] h b = refl
-all_after_join k d found (m ∷ ms) h b =
-    rw (after_join m.0 k d found (first_so (is_after m.0 found) (all_after found ms) h)
-    (above k m.0 (first_so (is_lt (slice_cmp nat_cmp k m.0)) (is_before k ms) b)))
-    (all_after_join k d found ms (second_so (is_after m.0 found) (all_after found ms) h)
-    (second_so (is_lt (slice_cmp nat_cmp k m.0)) (is_before k ms) b))
-
-put_at : (n : ℕ) (k : List ℕ) (o : Option Data) (ms found : Members) → IfReadable n o
-    → is_after k found ≡ true → of_members (members_outline ms) found ≡ Some (join found ms)
-    → ((d : Data) → of_members (members_outline ms) (join found (member k d no_members))
-    ≡ Some (join (join found (member k d no_members)) ms))
-    → of_members (members_outline (some_member k o ms)) found
-    ≡ Some (join found (some_member k o ms))
-put_at n k None ms found h a absent there = absent
-put_at n k (Some d) ms found h a absent there =
-    rw (h.same, put_last k d found a) (there d ∙ ap Some (join-assoc found k d ms))
-
-of_members-as_listed : (n : ℕ) (ms : Listed) (found : Members) → ascends ms ≡ true
-    → all_after found ms ≡ true → AllReadable n ms
-    → of_members (members_outline (as_listed ms)) found ≡ Some (join found (as_listed ms))
-of_members-as_listed n [] found h a r = ap Some (sym (join-nil found))
-of_members-as_listed n (m ∷ ms) found h a r =
-    let before = first_so (is_before m.0 ms) (ascends ms) h in
-    let later = second_so (is_before m.0 ms) (ascends ms) h in
-    let behind = second_so (is_after m.0 found) (all_after found ms) a in
-    put_at n m.0 m.1 (as_listed ms) found r.1 (first_so (is_after m.0 found) (all_after found ms) a)
-    (of_members-as_listed n ms found later behind r.2)
-    (λ d. of_members-as_listed n ms (join found (member m.0 d no_members)) later
-    (all_after_join m.0 d found ms behind before) r.2)
-
-none_before : (ms : Listed) → all_after no_members ms ≡ true
-none_before [] = refl
-none_before (m ∷ ms) = none_before ms
+all_read : (n : ℕ) (ms : Listed) → AllReadable n ms → AllRead ms
+all_read n [] h = tt
+all_read n (m ∷ ms) h = (if_reads n m.1 h.1, all_read n ms h.2)
 
 listed-readable : (n : ℕ) (ms : Listed) → ascends ms ≡ true → AllReadable n ms
     → Readable (suc n) (object (as_listed ms))
@@ -257,7 +172,7 @@ listed-readable n ms h r = record {
   plain = are_plain n ms r;
   numbers = have_numbers n ms r;
   shallow = let within = are_shallow n ms r in omega arith;
-  same = rw (of_members-as_listed n ms no_members h (none_before ms) r) refl;
+  same = listed-reads ms h (all_read n ms r);
 }
 
 pub object_with-readable : (n : ℕ) (ms : Listed) → ascends ms ≡ true → AllReadable n ms

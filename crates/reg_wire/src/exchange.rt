@@ -7,11 +7,11 @@ ghost use Rattle.reg_wire.specs.Exchange.{call_view, answer_to, world_then, IsAn
 use reg_core::command::Command;
 use reg_core::reply::Reply;
 use reg_core::wire_refusal::ReadFault;
+use reg_keeper::keeper::{Fault, Keeper};
 use reg_office::Office;
 use reg_parse::command::read_command;
 use reg_parse::route::Routes;
 use reg_print::answer::Answer;
-use reg_keeper::keeper::{Fault, Keeper};
 use std::alloc::Global;
 
 /// What is asked at a moment, by whoever has a token.
@@ -60,5 +60,7 @@ fn handle<K: Keeper>(
     ensures world { Makes K.world K.Holds K.Sound K.FAILS office.old office.new result
         (λ w. (step_by w (call_view call.now).token call.now.moment command).world) }
 {
-    office.handle(call.moment, call.token, &command)
+    let reply = office.handle(call.moment, call.token, &command);
+    drop(command);
+    reply
 }

@@ -13,9 +13,9 @@ mod sending;
 
 use crate::wire_fault::WireFault;
 use lines::respond_all;
+use reg_keeper::keeper::Keeper;
 use reg_office::Office;
 use reg_parse::route::Routes;
-use reg_keeper::keeper::Keeper;
 use std::alloc::Global;
 use std::io::{Read, Write};
 

@@ -10,9 +10,9 @@ use reg_core::queue::QueueRow;
 use reg_core::request::Request;
 use reg_core::rows::Rows;
 use reg_core::text::{Account, Digest, Name, Ref};
+use reg_keeper::keeper::{Fault, Keeper};
 use reg_ranges::policy::Policy;
 use reg_ranges::table::RangeTable;
-use reg_keeper::keeper::{Fault, Keeper};
 
 /// A keeper over a store that takes changes, gives back capabilities, and registries with their
 /// entries and least values, and fails at all else.

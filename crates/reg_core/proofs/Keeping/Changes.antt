@@ -11,7 +11,9 @@ use Rattle.reg_ranges.specs.Tables.{Table}
 use Rattle.reg_ranges.specs.Texts.{is_text}
 use Rattle.reg_core.specs.Advice.{has_advice_form}
 use Rattle.reg_core.specs.Ask.{has_want_form, has_evidence_form, has_code_form, has_ask_form}
-use Rattle.reg_core.specs.Entry.{registration_in, has_day_form, has_registration_form, entry_for}
+use Rattle.reg_core.specs.Allowance.{entry_asked}
+use Rattle.reg_core.specs.Award.{entry_on}
+use Rattle.reg_core.specs.Entry.{registration_in, has_day_form, has_registration_form}
 use Rattle.reg_core.specs.Maps.{text_cmp, same_text}
 use Rattle.reg_core.specs.Names.{is_name}
 use Rattle.reg_core.specs.Request.{has_state_form}
@@ -295,10 +297,10 @@ module _ (entries : FinMap place_cmp Registration) (place : Place) (a : Registra
 pub can_give : (w : World) (name : RequestName) (case : Case) (ask : CodeAsk) (today v : ℕ)
     → WellKept w → get w.requests name ≡ Some case → case.ask ≡ Code ask
     → IsFree w ask.registry v → has_day_form today ≡ true
-    → CanApply w (GiveValue name.0 name.1 (entry_for name.0 ask today v))
+    → CanApply w (GiveValue name.0 name.1 (entry_on today (entry_asked name.0 ask v)))
 can_give w name case ask today v kept is_there asks free day =
     let place : Place = (ask.registry, v) in
-    let a = registration_in (entry_for name.0 ask today v) in
+    let a = registration_in (entry_on today (entry_asked name.0 ask v)) in
     let state = Approved (Value v) in
     let form = kept.requests name case is_there in
     let names = first_so (is_name name.0 && is_name name.1) (has_ask_form case.ask)

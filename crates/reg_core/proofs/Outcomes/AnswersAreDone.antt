@@ -1,13 +1,11 @@
 -- The world after a command has what its reply says.
 use Rattle.std.proofs.Common.{◌≡◌, ℕ, false, List, refl, sym, ap, subst, ◌∙◌}
 use Rattle.std.specs.Prelude.{Option, Some, None, Ok, Err, option_map}
-use Rattle.std.specs.FinMap.{get, entries}
-use Rattle.std.proofs.lemmas.List.Elements.{All-map}
+use Rattle.std.specs.FinMap.{get}
 use Rattle.reg_early.specs.Moment.{utc_day}
+use Rattle.reg_core.specs.Award.{Award, new_entry}
 use Rattle.reg_core.specs.Maps.{update}
-use Rattle.reg_core.specs.Request.{request_row}
 use Rattle.reg_core.specs.World.{World, RequestName, in_state, applied, applied_if, pending, Seat}
-use Rattle.reg_core.specs.declared.ask.Ask.{Ask}
 use Rattle.reg_core.specs.declared.change.Change.{Change}
 use Rattle.reg_core.specs.declared.command.Command.{Command}
 use Rattle.reg_core.specs.declared.command.Command.TheVariants.{Public, Applicant, Expert, Clerk}
@@ -18,23 +16,21 @@ use Rattle.reg_core.specs.declared.command.PublicCommand.TheVariants.{Registries
 use Rattle.reg_core.specs.declared.decide.Decision.{Decision}
 use Rattle.reg_core.specs.declared.decide.Decision.TheVariants.{Make, Same}
 use Rattle.reg_core.specs.declared.request.Case.{Case}
-use Rattle.reg_core.specs.declared.ask.Ask.TheVariants.{Code}
-use Rattle.reg_core.specs.declared.request.Given.{Given}
 use Rattle.reg_core.specs.declared.request.Given.TheVariants.{Value}
 use Rattle.reg_core.specs.declared.request.State.{State}
 use Rattle.reg_core.specs.declared.request.State.TheVariants.{Approved, Declined, Withdrawn}
-use Rattle.reg_core.proofs.MapLaws.{number_keys, text_keys, name_keys, seat_keys, get-inserted, get-updated, get-removed, All-entries}
+use Rattle.reg_core.proofs.MapLaws.{number_keys, text_keys, name_keys, seat_keys, get-inserted, get-updated, get-removed}
 use Rattle.reg_core.proofs.KeySets.{is_inserted}
-use Rattle.reg_core.proofs.Stepping.{own_row_found, own_row_is_own}
 use Rattle.reg_core.specs.Answer.{Outcome, Answer, reply_of, change_of, change_by, made_row}
-use Rattle.reg_core.specs.Rules.{award}
+use Rattle.reg_core.specs.Rules.{change_to_give}
 use Rattle.reg_core.specs.Step.{desk_by, answer_to}
-use Rattle.reg_core.specs.Laws.{HasRow, HasRowOf, IsDone, WasDone, AnswersAreDone, is_refused}
-use Rattle.reg_core.specs.View.{requests_of, cap_at}
+use Rattle.reg_core.specs.Laws.{IsDone, WasDone, AnswersAreDone, is_refused}
+use Rattle.reg_core.specs.View.{cap_at}
 use Rattle.reg_core.specs.declared.content.Content.{Content}
 use Rattle.reg_core.proofs.Outcomes.Deciding.{Rule, Decides}
 use Rattle.reg_core.specs.declared.change.Change.TheVariants as change
 use Rattle.reg_core.proofs.Outcomes.Accepted.{Comes, CommandSo, accepted}
+use Rattle.reg_core.proofs.Outcomes.WholeLists.{own_list, queue_list}
 
 -- ---- The forms of an outcome
 
@@ -76,15 +72,15 @@ module _ (digest_of : List ℕ → List ℕ) (w : World) (caller : Option (List 
   DoneBy command content change =
       IsDone digest_of (applied w change) (cap_at w caller) (utc_day moment) command content
 
-  -- a change approves the request, a line for each ask and gift
-  given_done : (account reference : List ℕ) (case : Case) (ask : Ask) (given : Given)
+  -- a change approves the request, a line for each award
+  given_done : (account reference : List ℕ) (case : Case) (award : Award)
       → get w.requests (account, reference) ≡ Some case
-      → let change = award (account, reference) ask (utc_day moment) given in
+      → let change = change_to_give (account, reference) (utc_day moment) award in
       DoneBy (Clerk (Approve account reference))
       (desk_by (account, reference) case (Make change)) change
-  given_done account reference case (Code ask) (Value v) is_there = (
-    (Value v, refl),
-    (refl, refl, in_new_state w (account, reference) case (Approved (Value v)) is_there),
+  given_done account reference case (new_entry e) is_there = (
+    (Value e.value, refl),
+    (refl, refl, in_new_state w (account, reference) case (Approved (Value e.value)) is_there),
   )
 
   -- a line for each command
@@ -97,13 +93,8 @@ module _ (digest_of : List ℕ → List ℕ) (w : World) (caller : Option (List 
       subst (Done (Public (RegistryListing name))) (sym so.so) (refl, so.is, refl)
   done (Public PoolList) o so = subst (Done (Public PoolList)) (sym so) refl
   done (Applicant Own) o so =
-      let account = so.0.cap.account in
-      let row = λ (e : RequestName × Case). request_row e.0 e.1 in
-      let all = All-map (HasRowOf w account) row (entries (requests_of account w))
-      (All-entries name_keys.total (λ e. HasRowOf w account (row e)) (requests_of account w)
-      (λ name case is_there.
-      (own_row_is_own account w name case is_there, own_row_found account w name case is_there))) in
-      subst (Done (Applicant Own)) (sym so.1) (so.0.cap, so.0.is_there, refl, all)
+      subst (Done (Applicant Own)) (sym so.1)
+      (so.0.cap, so.0.is_there, own_list w so.0.cap.account)
   done (Applicant (OwnOne reference)) o so =
       subst (Done (Applicant (OwnOne reference))) (sym so.1.so)
       (so.0.cap, so.0.is_there, (refl, refl, so.1.is))
@@ -138,7 +129,9 @@ module _ (digest_of : List ℕ → List ℕ) (w : World) (caller : Option (List 
           (refl, refl, in_new_state w name is.row Withdrawn is.is),
         ),
       ))
-  done (Expert Queue) o so = subst (Done (Expert Queue)) (sym so.1) (so.0.cap, so.0.is_there, refl)
+  done (Expert Queue) o so =
+      subst (Done (Expert Queue)) (sym so.1)
+      (so.0.cap, so.0.is_there, queue_list w so.0.cap.account)
   done (Expert (Advise account reference advice)) o so =
       let seat : Seat = ((account, reference), so.0.cap.account) in
       let is = so.1 in
@@ -178,7 +171,7 @@ module _ (digest_of : List ℕ → List ℕ) (w : World) (caller : Option (List 
   done (Clerk (Approve account reference)) o so =
       decided (Done (Clerk (Approve account reference))) so.1.so
       (λ there. (there, (refl, refl, so.1.is)))
-      (λ facts. given_done account reference so.1.row so.1.row.ask facts.2 so.1.is)
+      (λ facts. given_done account reference so.1.row facts.2.award so.1.is)
   done (Clerk (Decline account reference reason)) o so =
       let is = so.1 in
       decided (Done (Clerk (Decline account reference reason))) is.so

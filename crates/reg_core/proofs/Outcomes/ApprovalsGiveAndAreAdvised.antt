@@ -1,20 +1,24 @@
 -- What goes with an approval that changes something.
-use Rattle.std.proofs.Common.{◌≡◌, ℕ, true, List, sym, subst, ◌∙◌}
-use Rattle.std.specs.Prelude.{Option, Some}
+use Rattle.std.proofs.Common.{◌≡◌, ℕ, true, List, refl, sym, ap, subst, ◌∙◌}
+use Rattle.std.specs.Prelude.{Option, Some, Ok}
 use Rattle.std.specs.FinMap.{get}
-use Rattle.reg_core.specs.Allowance.{ground_of, needs_advice}
+use Rattle.reg_core.specs.Allowance.{Ground, ◌>>=◌, allowance_on, ground_of, needs_advice}
+use Rattle.reg_core.specs.Award.{Allowance, given_in}
 use Rattle.reg_early.specs.Moment.{utc_day}
 use Rattle.reg_core.specs.Answer.{change_of}
 use Rattle.reg_core.specs.File.{was_advised}
-use Rattle.reg_core.specs.Laws.{ApprovalsGiveWhatIsAllowed, ApprovalsAreAdvised}
+use Rattle.reg_core.specs.Laws.{IsOfAsk, ApprovalsGiveWhatIsAllowed, ApprovalsAreAdvised}
 use Rattle.reg_core.specs.Step.{answer_to}
 use Rattle.reg_core.specs.View.{published}
 use Rattle.reg_core.specs.World.{World}
+use Rattle.reg_core.specs.declared.ask.Ask.{Ask}
+use Rattle.reg_core.specs.declared.ask.Ask.TheVariants.{Code}
 use Rattle.reg_core.specs.declared.change.Change.{Change}
 use Rattle.reg_core.specs.declared.command.Command.TheVariants.{Clerk}
 use Rattle.reg_core.specs.declared.command.ClerkCommand.TheVariants.{Approve}
 use Rattle.reg_core.specs.declared.decide.Decision.TheVariants.{Make}
 use Rattle.reg_core.specs.declared.request.Case.{Case}
+use Rattle.reg_core.proofs.Allowances.{allowed_entry}
 use Rattle.reg_core.proofs.Files.{advised_by}
 use Rattle.reg_core.proofs.Outcomes.Accepted.{Row, accepted}
 use Rattle.reg_core.proofs.Outcomes.Deciding.{Decides, Approves}
@@ -37,10 +41,27 @@ approval digest_of w caller moment account reference change made =
     (Clerk (Approve account reference)) by.0 by.1).so.1 in
     record { row = is.row; is = is.is; so = makes _ _ by.0 change is.so by.2 }
 
+-- what is allowed is of what the ask names
+of_ask : (rows : Ground) (account : List ℕ) (ask : Ask) (allowance : Allowance)
+    → allowance_on rows account ask ≡ Ok allowance → IsOfAsk account ask allowance.award
+of_ask rows account (Code ask) allowance h =
+    let entry = allowed_entry rows account ask allowance h in
+    subst (IsOfAsk account (Code ask)) (sym entry.1) (refl, refl, refl)
+
 pub approvals_give : (digest_of : List ℕ → List ℕ) → ApprovalsGiveWhatIsAllowed digest_of
 approvals_give digest_of w caller moment account reference change made =
     let is = approval digest_of w caller moment account reference change made in
-    (is.row, is.is, is.so.0.0, is.so.0.2, is.so.0.3, sym is.so.1)
+    let allowance = is.so.0.2 in
+    record {
+      case = is.row;
+      is_there = is.is;
+      pending = is.so.0.0;
+      allowance = allowance;
+      allows = is.so.0.3;
+      given = ap (λ r. r >>= (λ (a : Allowance). Ok (given_in a.award))) is.so.0.3;
+      of_ask = of_ask (ground_of (published w) is.row.ask) account is.row.ask allowance is.so.0.3;
+      is = sym is.so.1;
+    }
 
 pub approvals_advised : (digest_of : List ℕ → List ℕ) → ApprovalsAreAdvised digest_of
 approvals_advised digest_of w caller moment account reference change case made is_there needed =

@@ -7,20 +7,20 @@ use Rattle.std.specs.Prelude.{Option, Some, None, Result, Ok, Err, IfOk, IsSome,
 use Rattle.reg_blocks.specs.Pool.{is_pool_prefix}
 use Rattle.reg_ranges.specs.Sameness.{same_table}
 use Rattle.reg_ranges.specs.Tables.{Table}
-use Rattle.reg_core.specs.Allowance.{Ground, ◌>>=◌, allowance_on, allowed_on, needs_advice}
+use Rattle.reg_core.specs.Allowance.{Ground, allowance_on, needs_advice}
+use Rattle.reg_core.specs.Award.{Allowance}
 use Rattle.reg_core.specs.Advice.{is_given}
 use Rattle.reg_core.specs.Laws.{IsApproved}
 use Rattle.reg_core.specs.Ask.{same_ask}
 use Rattle.reg_core.specs.Capability.{same_cap}
 use Rattle.reg_core.specs.Maps.{same_text}
-use Rattle.reg_core.specs.Rules.{withdraw_rule, decline_rule, assign_rule, new_advice_rule, advise_rule, award, give_rule, approve_rule, define_rule, pool_rule, grant_rule, revoke_rule, submit_rule}
+use Rattle.reg_core.specs.Rules.{withdraw_rule, decline_rule, assign_rule, new_advice_rule, advise_rule, change_to_give, give_rule, approve_rule, define_rule, pool_rule, grant_rule, revoke_rule, submit_rule}
 use Rattle.reg_core.specs.World.{RequestName}
 use Rattle.reg_core.specs.declared.advice.Advice.{Advice as AdviceOf}
 use Rattle.reg_core.specs.declared.ask.Ask.{Ask}
 use Rattle.reg_core.specs.declared.capability.Cap.{Cap}
 use Rattle.reg_core.specs.declared.change.Change.{Change}
 use Rattle.reg_core.specs.declared.change.Change.TheVariants.{Grant, Revoke, Define, AddPool, Submit, Close, Assign, Advise}
-use Rattle.reg_core.specs.declared.decide.allowance.Allowance.{Allowance}
 use Rattle.reg_core.specs.declared.decide.Decision.{Decision}
 use Rattle.reg_core.specs.declared.decide.Decision.TheVariants.{Make, Same}
 use Rattle.reg_core.specs.declared.refusal.Refusal.{Refusal}
@@ -249,8 +249,8 @@ abbrev pub Approves : Ground → Bool → RequestName → Ask → ℕ → State 
 Approves rows advised name ask today state = record {
   there = IsApproved state;
   made = (state ≡ Pending) × (needs_advice rows ask ≡ true → advised ≡ true)
-      × (given : Given) × (allowed_on rows name.0 ask ≡ Ok given);
-  change = λ ready. award name ask today ready.2;
+      × (allowance : Allowance) × (allowance_on rows name.0 ask ≡ Ok allowance);
+  change = λ ready. change_to_give name today ready.2.award;
 }
 
 pub approve_decides : (rows : Ground) (advised : Bool) (name : RequestName) (ask : Ask) (today : ℕ)
@@ -266,20 +266,20 @@ approve_decides rows advised name ask today Pending = by (allowance_on rows name
     was_advised false false ready need = absurd (cc)
 
     by : (allowance : Result Allowance Refusal) → allowance_on rows name.0 ask ≡ allowance
-        → IfOk (give_rule name ask today advised allowance)
+        → IfOk (give_rule name today advised allowance)
         (Decides (Approves rows advised name ask today Pending))
     by (Err refusal) is = tt
     by (Ok allowance) is =
         let needs = allowance_needs rows name.0 ask allowance is in
         branches (Approves rows advised name ask today Pending)
         (allowance.needs_advice && not advised) (Err WithoutAdvice)
-        (Ok (Make (award name ask today allowance.given))) (λ wanting. tt)
+        (Ok (Make (change_to_give name today allowance.award))) (λ wanting. tt)
         (λ ready. (
           (
             refl,
             λ need. was_advised allowance.needs_advice advised ready (sym needs ∙ need),
-            allowance.given,
-            ap (λ r. r >>= (λ (a : Allowance). Ok a.given)) is,
+            allowance,
+            is,
           ),
           refl,
         ))

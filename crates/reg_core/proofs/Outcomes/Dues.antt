@@ -9,18 +9,18 @@ use Rattle.reg_blocks.specs.Pool.{is_pool_prefix}
 use Rattle.reg_early.specs.Moment.{is_in_clock, utc_day}
 use Rattle.reg_ranges.specs.Texts.{is_text}
 use Rattle.reg_core.specs.Advice.{has_advice_form}
-use Rattle.reg_core.specs.Allowance.{allowed, ground_of, needs_advice}
+use Rattle.reg_core.specs.Allowance.{◌>>=◌, allowance_on, allowed, ground_of, needs_advice, entry_asked}
+use Rattle.reg_core.specs.Award.{Award, new_entry, Allowance, given_in, entry_on}
 use Rattle.reg_core.specs.Answer.{Outcome, Answer, change_of, change_by}
 use Rattle.reg_core.specs.Ask.{has_ask_form}
 use Rattle.reg_core.specs.Capability.{has_cap_form}
 use Rattle.reg_core.specs.Command.{own_name, about, has_command_form}
-use Rattle.reg_core.specs.Entry.{entry_for}
 use Rattle.reg_core.specs.File.{was_advised}
 use Rattle.reg_core.specs.Laws.{GivesDigests}
 use Rattle.reg_core.specs.Maps.{same_text}
 use Rattle.reg_core.specs.Names.{is_name, is_token}
 use Rattle.reg_core.specs.Request.{word_of}
-use Rattle.reg_core.specs.Rules.{award}
+use Rattle.reg_core.specs.Rules.{change_to_give}
 use Rattle.reg_core.specs.Step.{answer_to}
 use Rattle.reg_core.specs.View.{published, cap_at}
 use Rattle.reg_core.specs.WellKept.{has_grant_form, has_registry_form}
@@ -49,6 +49,7 @@ use Rattle.reg_core.specs.declared.request.State.{State}
 use Rattle.reg_core.specs.declared.request.State.TheVariants.{Pending, Approved, Declined, Withdrawn}
 use Rattle.reg_core.specs.declared.request.StateWord.TheVariants as word
 use Rattle.reg_core.proofs.Outcomes.Deciding.{Rule, Decides}
+use Rattle.reg_core.proofs.Allowances.{allowed_entry}
 use Rattle.reg_core.proofs.Outcomes.Accepted.{Tells, Comes, Row, Serves, ClerkServes, IsAccepted, accepted}
 
 -- ---- What was so, by the change
@@ -83,7 +84,7 @@ pub record Gives (w : World) (today : ℕ) (name : RequestName) (entry : Entry) 
   pub ask : CodeAsk
   pub asks : pending.case.ask ≡ Code ask
   pub allows : allowed (published w) name.0 (Code ask) ≡ Ok (Value entry.value)
-  pub is : entry_for name.0 ask today entry.value ≡ entry
+  pub is : entry_on today (entry_asked name.0 ask entry.value) ≡ entry
   pub advised : needs_advice (ground_of (published w) (Code ask)) (Code ask) ≡ true
       → was_advised w name ≡ true
 
@@ -209,37 +210,44 @@ module _ (digest_of : List ℕ → List ℕ) (w : World) (caller : Option (List 
   pending_word (Declined reason) h = absurd (cc)
   pending_word Withdrawn h = absurd (cc)
 
-  -- a line for each ask and gift
+  -- a line for each ask
   gives_due : ClerkServes w caller moment → {name : RequestName} (was : WasPending w name)
-      (given : Given) → allowed (published w) name.0 was.case.ask ≡ Ok given
+      (allowance : Allowance)
+      → allowance_on (ground_of (published w) was.case.ask) name.0 was.case.ask ≡ Ok allowance
       → (needs_advice (ground_of (published w) was.case.ask) was.case.ask ≡ true
       → was_advised w name ≡ true)
-      → Due w caller moment (award name was.case.ask (utc_day moment) given)
-  gives_due by {name = name} was given allows advised = at was.case.ask given refl allows advised
+      → Due w caller moment (change_to_give name (utc_day moment) allowance.award)
+  gives_due by {name = name} was allowance allows advised = at was.case.ask refl allows advised
     where
-      at : (ask : Ask) (given : Given) → was.case.ask ≡ ask
-          → allowed (published w) name.0 ask ≡ Ok given
+      at : (ask : Ask) → was.case.ask ≡ ask
+          → allowance_on (ground_of (published w) ask) name.0 ask ≡ Ok allowance
           → (needs_advice (ground_of (published w) ask) ask ≡ true → was_advised w name ≡ true)
-          → Due w caller moment (award name ask (utc_day moment) given)
-      at (Code ask) (Value v) asks allows advised = (
-        by,
-        record {
-          pending = was;
-          ask = ask;
-          asks = asks;
-          allows = allows;
-          is = refl;
-          advised = advised;
-        },
-      )
+          → Due w caller moment (change_to_give name (utc_day moment) allowance.award)
+      at (Code ask) asks allows advised =
+          let entry = allowed_entry (ground_of (published w) (Code ask)) name.0 ask allowance
+          allows in
+          subst (λ a. Due w caller moment (change_to_give name (utc_day moment) a)) (sym entry.1) (
+            by,
+            record {
+              pending = was;
+              ask = ask;
+              asks = asks;
+              allows =
+                  ap (λ r. r >>= (λ (a : Allowance). Ok (given_in a.award))) allows
+                  ∙ ap (λ a. Ok (given_in a)) entry.1;
+              is = refl;
+              advised = advised;
+            },
+          )
 
-  award_about : (name : RequestName) (ask : Ask) (today : ℕ) (given : Given)
-      → change_about (award name ask today given) ≡ Some name
-  award_about name (Code ask) today (Value v) = refl
+  -- a line for each award
+  award_about : (name : RequestName) (today : ℕ) (award : Award)
+      → change_about (change_to_give name today award) ≡ Some name
+  award_about name today (new_entry e) = refl
 
-  award_form : (name : RequestName) (ask : Ask) (today : ℕ) (given : Given)
-      → has_change_form (award name ask today given) ≡ true
-  award_form name (Code ask) today (Value v) = refl
+  award_form : (name : RequestName) (today : ℕ) (award : Award)
+      → has_change_form (change_to_give name today award) ≡ true
+  award_form name today (new_entry e) = refl
 
   due_so : (command : Command) (o : Outcome) (change : Change)
       → IsAccepted digest_of w caller moment command o → o.change ≡ Some change
@@ -300,9 +308,9 @@ module _ (digest_of : List ℕ → List ℕ) (w : World) (caller : Option (List 
       due_by a.so.1.so made (λ facts. record {
         is_open = a.is_open;
         due = gives_due a.so.0 (was_pending a.so.1 facts.0) facts.2 facts.3 facts.1;
-        about = award_about (account, reference) a.so.1.row.ask (utc_day moment) facts.2;
+        about = award_about (account, reference) (utc_day moment) facts.2.award;
         form = λ digests form.
-            award_form (account, reference) a.so.1.row.ask (utc_day moment) facts.2;
+            award_form (account, reference) (utc_day moment) facts.2.award;
       })
   due_so (Clerk (clerk.Decline account reference reason)) o change a made =
       due_by a.so.1.so made (λ pending. record {

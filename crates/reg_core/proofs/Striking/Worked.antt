@@ -6,6 +6,7 @@ use Rattle.std.specs.FinMap.{get, contains_key, get-insert, get-empty}
 use Rattle.std.specs.List.{list_any}
 use Rattle.std.specs.Prelude.{Some, None, Ok, Err, codes, filter}
 use Rattle.reg_early.specs.Moment.{utc_day}
+use Rattle.reg_early.specs.Terms.{permanent_term}
 use Rattle.reg_ranges.specs.Tables.{Table}
 use Rattle.reg_ranges.specs.declared.policy.Policy.TheVariants.{FirstComeFirstServed}
 use Rattle.reg_ranges.specs.declared.policy.Treatment.TheVariants.{Under}
@@ -13,7 +14,6 @@ use Rattle.reg_core.specs.Answer.{Answer, reply_of, change_of, desk_row}
 use Rattle.reg_core.specs.Laws.{clerk_cap, founded_world}
 use Rattle.reg_core.specs.Maps.{same_text}
 use Rattle.reg_core.specs.Request.{request_row}
-use Rattle.reg_core.specs.Rules.{award}
 use Rattle.reg_core.specs.Run.{Event, run}
 use Rattle.reg_core.specs.Step.{answer_to}
 use Rattle.reg_core.specs.Unseen.{Stage, stages, reveals_if, stays_in, struck}
@@ -32,6 +32,7 @@ use Rattle.reg_core.specs.declared.command.Command.{Command}
 use Rattle.reg_core.specs.declared.refusal.Refusal.TheVariants as no
 use Rattle.reg_core.specs.declared.content.Content.{Content}
 use Rattle.reg_core.specs.declared.content.Content.TheVariants.{Made}
+use Rattle.reg_core.specs.declared.entry.Entry.{Entry}
 use Rattle.reg_core.specs.declared.request.Given.TheVariants as given
 use Rattle.reg_core.specs.declared.request.State.TheVariants.{Approved, Declined}
 use Rattle.reg_core.specs.declared.request.State.{State}
@@ -188,12 +189,22 @@ declined = Ok
 declines_at : answers asked declines ≡ declined
 declines_at = rw (clerk-there, was_asked) refl
 
+-- the entry that it is given
+abbrev red : Entry
+red = record {
+  registry = codes "colours";
+  value = 7;
+  label = codes "red";
+  assignee = codes "alice";
+  term = permanent_term (utc_day 1700000000);
+}
+
 abbrev approved : Answer
 approved = Ok
     (record {
       content = shown (Approved (given.Value 7));
       change =
-          Some (award name ask (utc_day 1700000000) (given.Value 7));
+          Some (change.GiveValue (codes "alice") (codes "a-1") red);
     })
 
 approves_at : answers asked approves ≡ approved

@@ -6,6 +6,7 @@ use Rattle.std.specs.FinMap.{get}
 use Rattle.reg_core.specs.Advice.{is_advised}
 use Rattle.reg_core.specs.Allowance.{Ground, allowance_on, needs_advice}
 use Rattle.reg_core.specs.Maps.{only_if}
+use Rattle.reg_core.specs.Award.{Allowance}
 use Rattle.reg_core.specs.Rules.{approve_rule}
 use Rattle.reg_core.specs.Step.{Stepped, step}
 use Rattle.reg_core.specs.View.{as_queued, queue_of, queued_to}
@@ -24,7 +25,6 @@ use Rattle.reg_core.specs.declared.refusal.Refusal.{Refusal}
 use Rattle.reg_core.specs.declared.refusal.Refusal.TheVariants as no
 use Rattle.reg_core.specs.declared.content.Content.TheVariants.{Item, Desk}
 use Rattle.reg_core.specs.declared.reply.Reply.TheVariants.{Accepted, Refused}
-use Rattle.reg_core.specs.declared.decide.allowance.Allowance.{Allowance}
 use Rattle.reg_core.proofs.Allowances.{allowance_needs}
 use Rattle.reg_core.specs.declared.request.State.TheVariants.{Pending, Declined}
 use Rattle.reg_core.specs.declared.request.StateWord.TheVariants as word

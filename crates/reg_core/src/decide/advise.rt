@@ -30,11 +30,8 @@ fn take_advice(row: &QueueRow, expert: &Account, advice: &Advice) -> Result<Deci
 {
     match row.word {
         StateWord::Pending => {
-            let account = row.account.copy()?;
-            let reference = row.reference.copy()?;
-            let expert = expert.copy()?;
             let advice = advice.copy()?;
-            Ok(Decision::Make(Change::Advise(account, reference, expert, advice)))
+            Ok(Decision::Make(Change::Advise(row.account, row.reference, *expert, advice)))
         }
         StateWord::Approved | StateWord::Declined | StateWord::Withdrawn => {
             Err(Deny::Refused(Refusal::Closed))

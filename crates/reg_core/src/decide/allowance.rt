@@ -1,13 +1,16 @@
 //! Whether an ask meets the published registers.
 ghost use Rattle.std.specs.Prelude.{◌≡◌};
 ghost use Rattle.std.specs.List.{list_any};
+ghost use Rattle.std.specs.Result.{result_map_both};
 ghost use Rattle.reg_ranges.specs.Requirements.{first_item, is_closed_policy, unmet};
 ghost use Rattle.reg_ranges.specs.Sameness.{same_treatment};
 ghost use Rattle.std.specs.List.Sorted.{IsStrictlyIncreasing};
 ghost use Rattle.reg_core.specs.Allowance.{allowance_on, allowed_on, is_met, open_policy, policy_for, policy_in, value_for as value_wanted};
+ghost use Rattle.reg_core.specs.Award.{allowance_view};
 ghost use Rattle.reg_core.specs.Ground.{seen};
 
 use crate::ask::{Ask, Want};
+use crate::decide::award::{Award, NewEntry};
 use crate::entry::Entry;
 use crate::refusal::Refusal;
 use crate::request::Given;
@@ -30,11 +33,11 @@ pub struct Ground<'a> {
     pub taken: &'a [u32],
 }
 
-/// What an ask is allowed.
+/// What an ask is allowed. It borrows from the ask and the account.
 #[derive(Clone, Copy)]
-pub struct Allowance {
+pub struct Allowance<'a> {
     /// What the ask is given.
-    pub given: Given,
+    pub award: Award<'a>,
     /// Whether an expert's favourable advice is needed for it (RFC 8126 sections 4.5 and 4.6).
     pub needs_advice: bool,
 }
@@ -47,13 +50,18 @@ pub fn check_ask(account: &Account, ask: &Ask, rows: Ground<'_>) -> Result<Given
     ensures { result ≡ allowed_on (seen rows.entry) account.now ask.now }
 {
     let allowance = allowance_for(account, ask, rows)?;
-    Ok(allowance.given)
+    Ok(allowance.award.given())
 }
 
 /// What an ask of an account is allowed now, or the first refusal that it meets.
-pub fn allowance_for(_account: &Account, ask: &Ask, rows: Ground<'_>) -> Result<Allowance, Refusal>
+pub fn allowance_for<'a>(
+    account: &'a Account,
+    ask: &'a Ask,
+    rows: Ground<'_>,
+) -> Result<Allowance<'a>, Refusal>
     requires { IsStrictlyIncreasing rows.taken.now }
-    ensures { result ≡ allowance_on (seen rows.entry) _account.now ask.now }
+    ensures { result_map_both allowance_view (λ refusal. refusal) result
+        ≡ allowance_on (seen rows.entry) account.now ask.now }
 {
     match ask {
         Ask::Code(code) => {
@@ -61,8 +69,14 @@ pub fn allowance_for(_account: &Account, ask: &Ask, rows: Ground<'_>) -> Result<
             let policy = policy_for(table, code.want)?;
             check_evidence(policy, &code.evidence)?;
             let value = value_for(rows, table, code.want)?;
+            let entry = NewEntry {
+                registry: &code.registry,
+                value,
+                label: &code.label,
+                assignee: account,
+            };
             Ok(Allowance {
-                given: Given::Value(value),
+                award: Award::Entry(entry),
                 needs_advice: needs_expert(policy),
             })
         }

@@ -1,25 +1,20 @@
 //! A clerk approves a request.
-ghost use Rattle.std.specs.Prelude.{◌≡◌, IfOk};
+ghost use Rattle.std.specs.Prelude.{◌≡◌};
 ghost use Rattle.std.specs.List.Sorted.{IsStrictlyIncreasing};
 ghost use Rattle.reg_core.specs.Advice.{is_advised as given_advice};
 ghost use Rattle.reg_core.specs.Allowance.{allowance_on};
 ghost use Rattle.reg_core.specs.Ground.{seen};
-ghost use Rattle.reg_core.specs.Rules.{Follows, approve_rule, award as awarded, give_rule};
+ghost use Rattle.reg_core.specs.Rules.{Follows, approve_rule, give_rule};
 ghost use Rattle.reg_core.specs.World.{RequestName};
 
 use crate::advice::Opinion;
-use crate::ask::Ask;
-use crate::change::Change;
 use crate::decide::allowance::allowance_for;
 use crate::decide::review::is_advised;
 use crate::decide::{Decision, Deny, Ground};
-use crate::entry::Entry;
 use crate::refusal::Refusal;
-use crate::request::{Given, Request, State};
+use crate::request::{Request, State};
 use crate::text::Account;
 use reg_early::day::Day;
-use reg_early::term::Term;
-use std::alloc::AllocError;
 
 /// Decides an approval on a day, over the request, the experts to whom it is assigned, all advice
 /// on it, and the published rows that its ask needs: one that is approved already stays so; one
@@ -55,30 +50,14 @@ fn decide_pending(
     requires { IsStrictlyIncreasing rows.taken.now }
     ensures { let name : RequestName = (request.now.account, request.now.reference) in
         let allowance = allowance_on (seen rows.entry) request.now.account request.now.ask in
-        Follows (give_rule name request.now.ask today advised allowance) result }
+        Follows (give_rule name today advised allowance) result }
 {
     let allowance = allowance_for(&request.account, &request.ask, rows)?;
     if allowance.needs_advice && !advised {
         return Err(Deny::Refused(Refusal::Advice));
     }
-    Ok(Decision::Make(award(request, today, allowance.given)?))
-}
-
-// The change by which a request is given this.
-fn award(request: &Request, today: Day, given: Given) -> Result<Change, AllocError>
-    ensures { let name : RequestName = (request.now.account, request.now.reference) in
-        IfOk result (λ change. change ≡ awarded name request.now.ask today given) }
-{
-    let Ask::Code(code) = &request.ask;
-    let Given::Value(value) = given;
-    let entry = Entry {
-        registry: code.registry.copy()?,
-        value,
-        label: code.label.copy()?,
-        assignee: request.account.copy()?,
-        term: Term::permanent(today),
-    };
-    let account = request.account.copy()?;
-    let reference = request.reference.copy()?;
-    Ok(Change::GiveValue(account, reference, entry))
+    let change = allowance
+        .award
+        .change(&request.account, &request.reference, today)?;
+    Ok(Decision::Make(change))
 }

@@ -17,10 +17,8 @@ pub fn decide_decline(request: &Request, reason: &Text) -> Result<Decision, Deny
     match &request.state {
         State::Declined(old) if old == reason => Ok(Decision::Same),
         State::Pending => {
-            let account = request.account.copy()?;
-            let reference = request.reference.copy()?;
             let state = State::Declined(reason.copy()?);
-            Ok(Decision::Make(Change::Close(account, reference, state)))
+            Ok(Decision::Make(Change::Close(request.account, request.reference, state)))
         }
         _ => Err(Deny::Refused(Refusal::Closed)),
     }

@@ -20,6 +20,6 @@ pub fn decide_define(
     match existing {
         Some(old) if old == table => Ok(Decision::Same),
         Some(_) => Err(Deny::Refused(Refusal::Exists)),
-        None => Ok(Decision::Make(Change::Define(name.copy()?, table.copy()?))),
+        None => Ok(Decision::Make(Change::Define(*name, table.copy()?))),
     }
 }

@@ -1,21 +1,22 @@
 //! A clerk gives a token a capability.
+ghost use Rattle.std.specs.Prelude.{◌≡◌};
 ghost use Rattle.std.specs.Option.{option_copied};
-ghost use Rattle.reg_core.specs.Rules.{Follows, grant_rule};
+ghost use Rattle.reg_core.specs.Rules.{grant_rule};
 
 use crate::capability::Cap;
 use crate::change::Change;
-use crate::decide::{Decision, Deny};
+use crate::decide::Decision;
 use crate::refusal::Refusal;
 use crate::text::Digest;
 
 /// Decides a grant over the capability that is at the digest already: the same one again changes
-/// nothing, and another one is refused as `Exists`.
-pub fn decide_grant(existing: Option<&Cap>, digest: &Digest, cap: &Cap) -> Result<Decision, Deny>
-    ensures { Follows (grant_rule (option_copied existing.entry) digest.now cap.now) result }
+/// nothing, and another one is refused as `Exists`. It takes no memory.
+pub fn decide_grant(existing: Option<&Cap>, digest: &Digest, cap: &Cap) -> Result<Decision, Refusal>
+    ensures { result ≡ grant_rule (option_copied existing.entry) digest.now cap.now }
 {
     match existing {
         Some(old) if old == cap => Ok(Decision::Same),
-        Some(_) => Err(Deny::Refused(Refusal::Exists)),
-        None => Ok(Decision::Make(Change::Grant(digest.copy()?, cap.copy()?))),
+        Some(_) => Err(Refusal::Exists),
+        None => Ok(Decision::Make(Change::Grant(*digest, *cap))),
     }
 }

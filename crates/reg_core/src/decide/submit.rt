@@ -34,7 +34,7 @@ pub fn decide_submit(
         Some(_) => Err(Deny::Refused(Refusal::Ref)),
         None => {
             check_ask(account, ask, rows)?;
-            let change = Change::Submit(account.copy()?, reference.copy()?, ask.copy()?);
+            let change = Change::Submit(*account, *reference, ask.copy()?);
             Ok(Decision::Make(change))
         }
     }

@@ -1,25 +1,25 @@
 //! An applicant takes a request back.
-ghost use Rattle.reg_core.specs.Rules.{Follows, withdraw_rule};
+ghost use Rattle.std.specs.Prelude.{◌≡◌};
+ghost use Rattle.reg_core.specs.Rules.{withdraw_rule};
 ghost use Rattle.reg_core.specs.World.{RequestName};
 
 use crate::change::Change;
-use crate::decide::{Decision, Deny};
+use crate::decide::Decision;
 use crate::refusal::Refusal;
 use crate::request::{Request, State};
 
 /// Decides a withdrawal of a request of the applicant's: one that is withdrawn already stays so,
-/// and one that was decided is refused as `Closed`.
-pub fn decide_withdraw(request: &Request) -> Result<Decision, Deny>
+/// and one that was decided is refused as `Closed`. It takes no memory.
+pub fn decide_withdraw(request: &Request) -> Result<Decision, Refusal>
     ensures { let name : RequestName = (request.now.account, request.now.reference) in
-        Follows (withdraw_rule name request.now.state) result }
+        result ≡ withdraw_rule name request.now.state }
 {
     match &request.state {
         State::Withdrawn => Ok(Decision::Same),
         State::Pending => {
-            let account = request.account.copy()?;
-            let reference = request.reference.copy()?;
+            let (account, reference) = (request.account, request.reference);
             Ok(Decision::Make(Change::Close(account, reference, State::Withdrawn)))
         }
-        State::Approved(_) | State::Declined(_) => Err(Deny::Refused(Refusal::Closed)),
+        State::Approved(_) | State::Declined(_) => Err(Refusal::Closed),
     }
 }

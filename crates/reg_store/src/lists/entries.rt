@@ -51,10 +51,10 @@ fn entry_row(registry: &Name, value: u32, registration: &Registration) -> Result
 {
     let term = registration.term;
     Ok(Entry {
-        registry: registry.copy()?,
+        registry: *registry,
         value,
         label: registration.label.copy()?,
-        assignee: registration.assignee.copy()?,
+        assignee: registration.assignee,
         term,
     })
 }

@@ -57,7 +57,7 @@ fn review_in(
         let given = seats_of (account.now, reference.now) advice in
         IfOk result (λ review. review.1 ≡ map (λ e. opinion e.0 e.1) (fin.entries given)) }
 {
-    let name = (account.copy()?, reference.copy()?);
+    let name = (*account, *reference);
     let experts = experts_in(alloc, panels, &name)?;
     Ok((experts, opinions_in(alloc, opinions, &name)?))
 }

@@ -45,7 +45,7 @@ fn opinion(expert: &Account, advice: &Advice) -> Result<Opinion, AllocError>
     ensures { IfOk result (λ row. row ≡ record { expert = expert.now; advice = advice.now }) }
 {
     Ok(Opinion {
-        expert: expert.copy()?,
+        expert: *expert,
         advice: advice.copy()?,
     })
 }

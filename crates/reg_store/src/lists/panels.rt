@@ -17,14 +17,6 @@ pub type Panel = BTreeMap<Account, ()>;
 /// Experts by request.
 pub type Panels = BTreeMap<RequestName, Panel>;
 
-/// An equal request's name, and an equal expert's account.
-pub fn copy_seat(name: &RequestName, expert: &Account) -> Result<(RequestName, Account), AllocError>
-    ensures { IfOk result (λ copy. copy ≡ (name.now, expert.now)) }
-{
-    let name = (name.0.copy()?, name.1.copy()?);
-    Ok((name, expert.copy()?))
-}
-
 /// The experts to whom a request is assigned, in order.
 pub fn experts_in(
     alloc: Global,
@@ -34,5 +26,5 @@ pub fn experts_in(
     ensures { IfOk result (λ experts. experts ≡
         map (λ e. e.0.1) (fin.entries (seats_of name.now (seats panels.now)))) }
 {
-    Ok(Rows::from_vec(list_group(alloc, panels, name, |expert, _| expert.copy())?))
+    Ok(Rows::from_vec(list_group(alloc, panels, name, |expert, _| Ok(*expert))?))
 }

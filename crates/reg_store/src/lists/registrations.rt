@@ -89,7 +89,7 @@ fn put_both(
         (entry.registry, entry.value) (registration_in entry)) }
     ensures err { OnErr result (all_entries entries.new ≡ all_entries entries.old) }
 {
-    let registry = entry.registry.copy()?;
+    let registry = entry.registry;
     let value = entry.value;
     put_entry(alloc, entries, entry)?;
     match put_value(alloc, taken, &registry, value) {

@@ -19,7 +19,7 @@ pub fn names_in(alloc: Global, registries: &Registries) -> Result<Rows<Name>, Al
     ensures { IfOk result (λ names. names ≡ fin.keys (finite_map text_cmp registries.now)) }
 {
     let mut names = Vec::with_capacity(alloc, registries.len())?;
-    push_rows(&mut names, registries, |name, _| name.copy())?;
+    push_rows(&mut names, registries, |name, _| Ok(*name))?;
     Ok(Rows::from_vec(names))
 }
 

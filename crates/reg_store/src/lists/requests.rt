@@ -71,8 +71,8 @@ fn request_row(account: &Account, reference: &Ref, case: &Case) -> Result<Reques
     ensures { IfOk result (λ row. row ≡ request_of (account.now, reference.now) case.now) }
 {
     Ok(Request {
-        account: account.copy()?,
-        reference: reference.copy()?,
+        account: *account,
+        reference: *reference,
         ask: case.ask.copy()?,
         state: case.state.copy()?,
     })

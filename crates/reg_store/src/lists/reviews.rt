@@ -16,7 +16,7 @@ ghost use Rattle.reg_store.specs.Lists.Queues.{AreInStep, all_queues, row_for};
 use crate::groups::{list_group, put_row, row_in, take_row};
 use crate::lists::file::file_in;
 use crate::lists::opinions::{Opinions, advice_in};
-use crate::lists::panels::{Panels, copy_seat};
+use crate::lists::panels::Panels;
 use crate::lists::queues::{Queues, queued_in, set_advice, set_words};
 use crate::lists::requests::{RequestName, Requests, set_state};
 use reg_core::advice::Advice;
@@ -102,7 +102,7 @@ impl Reviews {
         ensures { IfOk result (λ row. row ≡ option_map (queue_row_of (account.now, reference.now))
             (fin.get (queue_of expert.now (world_of self.now)) (account.now, reference.now))) }
     {
-        let name = (account.copy()?, reference.copy()?);
+        let name = (*account, *reference);
         queued_in(&self.queues, expert, &name)
     }
 
@@ -173,8 +173,7 @@ impl Reviews {
             applied (world_of self.old) (Advise name.0 name.1 expert advice)) }
         ensures err { OnErr result (world_of self.new ≡ world_of self.old) }
     {
-        let (first, second) = copy_seat(&name, &expert)?;
-        put_row(alloc, &mut self.opinions, first, second, advice.copy()?)?;
+        put_row(alloc, &mut self.opinions, name, expert, advice.copy()?)?;
         set_advice(&mut self.queues, &expert, &name, advice);
         Ok(())
     }
@@ -192,8 +191,8 @@ fn row_to_queue(
 {
     match row_in(requests, &name.0, &name.1) {
         Some(case) => Ok(Some(QueueRow {
-            account: name.0.copy()?,
-            reference: name.1.copy()?,
+            account: name.0,
+            reference: name.1,
             ask: case.ask.copy()?,
             word: case.state.word(),
             advice: advice_in(opinions, name, expert)?,
@@ -220,29 +219,12 @@ fn put_seat(
     ensures same_seats { OnErr result (seats panels.new ≡ seats panels.old) }
     ensures same_rows { OnErr result (all_queues queues.new ≡ all_queues queues.old) }
 {
-    let (panel, seat) = copy_seat(name, expert)?;
-    put_queued(alloc, queues, name, expert, row)?;
-    match put_row(alloc, panels, panel, seat, ()) {
+    put_row(alloc, queues, *expert, *name, row)?;
+    match put_row(alloc, panels, *name, *expert, ()) {
         Ok(()) => Ok(()),
         Err(error) => {
             take_row(queues, expert, name);
             Err(error)
         }
     }
-}
-
-// Puts a row into an expert's queue.
-fn put_queued(
-    alloc: Global,
-    queues: &mut Queues,
-    name: &RequestName,
-    expert: &Account,
-    row: QueueRow,
-) -> Result<(), AllocError>
-    ensures ok { OnOk result (all_queues queues.new ≡
-        fin.insert (all_queues queues.old) (expert.now, name.now) row) }
-    ensures err { OnErr result (all_queues queues.new ≡ all_queues queues.old) }
-{
-    let (queued, queue) = copy_seat(name, expert)?;
-    put_row(alloc, queues, queue, queued, row)
 }

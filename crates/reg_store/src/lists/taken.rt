@@ -28,7 +28,7 @@ pub fn put_value(
         None => {
             let mut runs = Runs::new(alloc);
             runs.insert(value)?;
-            taken.insert(registry.copy()?, runs)?;
+            taken.insert(*registry, runs)?;
         }
     }
     Ok(())

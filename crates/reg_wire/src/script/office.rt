@@ -8,10 +8,10 @@ ghost use Rattle.reg_wire.specs.Script.Line.{call_of, line_feed_of as line_feed}
 use crate::exchange::{Call, answer_to};
 use crate::script::line::Line;
 use crate::script::responder::{Responder, Unanswered};
+use reg_keeper::keeper::{Fault, Keeper};
 use reg_office::Office;
 use reg_parse::route::Routes;
 use reg_print::answer::{Answer, body_of};
-use reg_keeper::keeper::{Fault, Keeper};
 use std::alloc::{AllocError, Global};
 
 impl<K: Keeper> Responder for Office<K> {
@@ -75,7 +75,9 @@ fn line_feed_of(b: u8) -> u8
 fn into_line(alloc: Global, answer: Answer) -> Result<Vec<u8>, AllocError>
     ensures { IfOk result (λ v. v.items ≡ answer_line answer) }
 {
-    answer_line(alloc, &answer)
+    let line = answer_line(alloc, &answer);
+    drop(answer);
+    line
 }
 
 // An answer as a line: its status, and its body with a TAB for each line feed.

@@ -9,7 +9,7 @@ use Rattle.reg_core.specs.declared.request.Request.{Request}
 use Rattle.reg_core.proofs.Fitting.{withdraw_fits}
 use Rattle.reg_office.specs.Answers.{answer_to_account}
 use Rattle.reg_office.specs.Decisions.{row_by}
-use Rattle.reg_office.proofs.Decided.{Decides, always, the_value, makes_fitting, performs_denied, performs_decided}
+use Rattle.reg_office.proofs.Decided.{Decides, always, the_value, makes_found, performs_declined, performs_found}
 use Rattle.reg_office.proofs.Rows.{IsRowOf, answer_about, selected_after, there}
 use Rattle.reg_office.proofs.applicant.withdraw.Given.{Over}
 use Rattle.reg_office.proofs.applicant.withdraw.Goals.{After-decide_withdraw}
@@ -50,21 +50,22 @@ module _ (g : Over) (c : After-decide_withdraw g) where
 
 pub returns-in_err-decision : goal.returns-in_err-decision
 returns-in_err-decision g c =
-    performs_denied c.in_err-decision.field-0.0
+    performs_declined c.in_err-decision.field-0.0
     (decides g (goal.at.returns-in_err-decision g c).After-decide_withdraw)
-    c.in_err-decision.ensures c.from_residual-in_err-decision.ensures.1
+    (sym c.in_err-decision.ensures) c.from_residual-in_err-decision.ensures.1
 
 pub conclude-requires : goal.conclude-requires
 conclude-requires g c =
     always c.row_after-row.result
-    (makes_fitting c.in_ok-decision.decision
-    (decides g (goal.at.conclude-requires g c).After-decide_withdraw) c.in_ok-decision.ensures)
+    (makes_found c.in_ok-decision.decision
+    (decides g (goal.at.conclude-requires g c).After-decide_withdraw)
+    (λ h. sym c.in_ok-decision.ensures))
 
 pub returns : goal.returns
 returns g c =
     let d = (goal.at.returns g c).After-decide_withdraw in
     let concluded = c.in_ok-conclude.ensures in
-    performs_decided c.in_ok-decision.decision (decides g d) c.in_ok-decision.ensures
+    performs_found c.in_ok-decision.decision (decides g d) (λ h. sym c.in_ok-decision.ensures)
     (ap Row (the_value (row_by c.in_ok-decision.decision (row g d)) concluded.told
     c.row_after-row.ensures))
     concluded.change

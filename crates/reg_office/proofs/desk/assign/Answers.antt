@@ -16,7 +16,7 @@ use Rattle.reg_core.proofs.Files.{among_experts}
 use Rattle.reg_core.proofs.Fitting.{assign_fits}
 use Rattle.reg_office.specs.Answers.{answer_at_desk}
 use Rattle.reg_office.specs.Decisions.{row_by}
-use Rattle.reg_office.proofs.Decided.{Decides, always, the_value, makes_fitting, performs_denied, performs_decided}
+use Rattle.reg_office.proofs.Decided.{Decides, always, the_value, makes_found, performs_declined, performs_found}
 use Rattle.reg_office.proofs.Rows.{IsFileOf, answer_about, file_is, selected_after, there}
 use Rattle.reg_office.proofs.desk.assign.Given.{Over}
 use Rattle.reg_office.proofs.desk.assign.Goals.{After-decide_assign}
@@ -76,21 +76,22 @@ module _ (g : Over) (c : After-decide_assign g) where
 
 pub returns-in_err-decision : goal.returns-in_err-decision
 returns-in_err-decision g c =
-    performs_denied c.in_err-decision.field-0.0
+    performs_declined c.in_err-decision.field-0.0
     (decides g (goal.at.returns-in_err-decision g c).After-decide_assign)
-    c.in_err-decision.ensures c.from_residual-in_err-decision.ensures.1
+    (sym c.in_err-decision.ensures) c.from_residual-in_err-decision.ensures.1
 
 pub conclude-requires : goal.conclude-requires
 conclude-requires g c =
     always c.row_after-row.result
-    (makes_fitting c.in_ok-decision.decision
-    (decides g (goal.at.conclude-requires g c).After-decide_assign) c.in_ok-decision.ensures)
+    (makes_found c.in_ok-decision.decision
+    (decides g (goal.at.conclude-requires g c).After-decide_assign)
+    (λ h. sym c.in_ok-decision.ensures))
 
 pub returns : goal.returns
 returns g c =
     let d = (goal.at.returns g c).After-decide_assign in
     let concluded = c.in_ok-conclude.ensures in
-    performs_decided c.in_ok-decision.decision (decides g d) c.in_ok-decision.ensures
+    performs_found c.in_ok-decision.decision (decides g d) (λ h. sym c.in_ok-decision.ensures)
     (ap Desk (the_value (row_by c.in_ok-decision.decision (row g d)) concluded.told
     c.row_after-row.ensures))
     concluded.change

@@ -1,7 +1,10 @@
 use Rattle.std.proofs.Common.{arith}
 use Rattle.std.proofs.lemmas.Grind.{common_steps}
 use Rattle.std.proofs.lemmas.Str.{IsUtf8-from_ascii}
+use Rattle.reg_ranges.specs.Texts.{ascii_text}
 use Rattle.reg_ranges.proofs.text.text_of.Goals as goal
 
 pub unwrap-requires : goal.unwrap-requires
-unwrap-requires c = grind (arith, common_steps, IsUtf8-from_ascii c.args.bytes.now c.requires)
+unwrap-requires c =
+    let ascii : _ = ascii_text c.args.bytes.now c.requires in
+    grind (arith, common_steps, IsUtf8-from_ascii c.args.bytes.now ascii)

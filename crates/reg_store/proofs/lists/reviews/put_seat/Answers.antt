@@ -1,4 +1,4 @@
-use Rattle.std.proofs.Common.{◌≡◌, List, ℕ, sym, ap, ◌∙◌}
+use Rattle.std.proofs.Common.{◌≡◌, List, ℕ, ap, ◌∙◌}
 use Rattle.std.specs.Prelude.{None}
 use Rattle.std.specs.FinMap.{get, remove}
 use Rattle.reg_core.specs.World.{RequestName}
@@ -13,7 +13,6 @@ returns-in-Err-clause-same_rows c =
     let old = all_queues c.args.queues.now in
     let place : List ℕ × RequestName = (c.args.expert.now, c.args.name.now) in
     let absent : get (seats c.args.panels.now) (c.args.name.now, c.args.expert.now) ≡ None =
-    (λ i. get (seats c.args.panels.now) (sym c.in_ok-panel.ensures i))
-    ∙ c.in-Err.ensures.absent in
-    c.take_row.ensures ∙ ap (λ rows. remove rows place) c.in_ok-put_queued.ensures.ok
+    c.in-Err.ensures.absent in
+    c.take_row.ensures ∙ ap (λ rows. remove rows place) c.in_ok-put_row.ensures.ok
     ∙ remove-inserted queue_keys old place c.args.row (c.requires absent)

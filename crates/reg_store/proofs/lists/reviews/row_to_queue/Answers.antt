@@ -1,4 +1,4 @@
-use Rattle.std.proofs.Common.{sym, ap, ◌∙◌}
+use Rattle.std.proofs.Common.{ap, ◌∙◌}
 use Rattle.std.specs.Prelude.{Some, option_map}
 use Rattle.std.specs.FinMap.{get}
 use Rattle.reg_core.specs.Maps.{text_cmp}
@@ -13,9 +13,9 @@ returns-in_ok-advice_in-in-Some c =
     let name = c.args.name.now in
     let advice = get (pair_map name_cmp text_cmp c.args.opinions.now) (name, c.args.expert.now) in
     (λ i. Some (record {
-      account = c.in_ok-copy-in-Some.ensures.equal i;
-      reference = c.in_ok-copy-in-Some-2.ensures.equal i;
-      ask = c.in_ok-copy-in-Some-3.ensures.equal i;
+      account = name.0;
+      reference = name.1;
+      ask = c.in_ok-copy-in-Some.ensures.equal i;
       word = c.word.ensures i;
       advice = c.in_ok-advice_in-in-Some.ensures i;
     }))

@@ -28,10 +28,8 @@ returns-in_ok-insert-in-None-2-clause-ok c =
     takes c.args.taken.now c.insert-in-None-2.new.self c.args.registry.now None runs
     (sym c.in-None.ensures.value)
     (λ name. c.in_ok-insert-in-None-2.ensures.updates.0 name
-    ∙ ap (λ m. cond (tree.is_at (text_cmp c.in_ok-copy-in-None.field-0) name) (Some runs)
-    (tree.get text_cmp m name)) c.get_mut.follows.holds-at-none
-    ∙ ap (λ key. cond (tree.is_at (text_cmp key) name) (Some runs)
-    (tree.get text_cmp c.args.taken.now name)) c.in_ok-copy-in-None.ensures.equal)
+    ∙ ap (λ m. cond (tree.is_at (text_cmp c.args.registry.now) name) (Some runs)
+    (tree.get text_cmp m name)) c.get_mut.follows.holds-at-none)
     c.args.value
     (λ n. c.in_ok-insert-in-None.ensures.ok n
     ∙ ap (λ b. nat_eq n c.args.value || b) (c.new-runs.ensures n))

@@ -17,8 +17,7 @@ invariant_of-self-2 c =
     let put : pair_map name_cmp text_cmp c.put_row.new.groups
     ≡ insert w.advice (c.args.name, c.args.expert) c.args.advice =
     c.in_ok-put_row.ensures.ok
-    ∙ (λ i. insert w.advice (c.in_ok-first.ensures i)
-    (c.in_ok-copy.ensures.equal i)) in
+    ∙ (λ i. insert w.advice (c.args.name, c.args.expert) (c.in_ok-copy.ensures.equal i)) in
     let in_step : FinMap seat_cmp Advice → Type 0 =
     λ advice. AreInStep (record w { advice = advice }) (all_queues c.set_advice.new.queues) in
     record {
@@ -35,5 +34,4 @@ returns-clause-ok c =
     let w : World = world_of c.args.self.now in
     ap (λ (advice : FinMap seat_cmp Advice). record w { advice = advice })
     (c.in_ok-put_row.ensures.ok
-    ∙ (λ i. insert w.advice (c.in_ok-first.ensures i)
-    (c.in_ok-copy.ensures.equal i)))
+    ∙ (λ i. insert w.advice (c.args.name, c.args.expert) (c.in_ok-copy.ensures.equal i)))

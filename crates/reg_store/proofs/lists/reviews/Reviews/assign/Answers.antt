@@ -1,6 +1,6 @@
 use Rattle.std.proofs.Common.{◌≡◌, sym, ap, subst, ◌∙◌}
 use Rattle.std.specs.Prelude.{Some, None}
-use Rattle.std.specs.FinMap.{FinMap, insert}
+use Rattle.std.specs.FinMap.{insert}
 use Rattle.std.specs.FinSet.{FinSet}
 use Rattle.std.proofs.lemmas.Result.{on_ok_weaker}
 use Rattle.reg_core.specs.World.{World, seat_cmp}
@@ -16,8 +16,8 @@ put_seat-requires c =
     let self = c.args.self.now in
     unseated (world_of self) (all_queues self.queues) self.in_step c.args.name c.args.expert
 
-pub invariant_of-self-in-Some-1 : goal.invariant_of-self-in-Some-1
-invariant_of-self-in-Some-1 c =
+pub invariant_of-self-in-Some : goal.invariant_of-self-in-Some
+invariant_of-self-in-Some c =
     let self = c.args.self.now in
     let w : World = world_of self in
     let old = all_queues self.queues in

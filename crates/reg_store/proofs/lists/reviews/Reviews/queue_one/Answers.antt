@@ -6,7 +6,7 @@ use Rattle.reg_core.specs.Queue.{queue_row}
 use Rattle.reg_core.specs.View.{queue_of}
 use Rattle.reg_core.specs.World.{RequestName}
 use Rattle.reg_core.specs.declared.queue.QueueRow.{QueueRow}
-use Rattle.reg_store.specs.Lists.Queues.{all_queues, row_in_queue}
+use Rattle.reg_store.specs.Lists.Queues.{all_queues}
 use Rattle.reg_store.specs.Lists.Reviews.{world_of}
 use Rattle.reg_store.proofs.lists.reviews.Reviews.queue_one.Goals as goal
 
@@ -15,13 +15,9 @@ returns c =
     let self = c.args.self.now in
     let expert = c.args.expert.now in
     let asked : RequestName = (c.args.account.now, c.args.reference.now) in
-    let name : RequestName = (c.in_ok-copy.field-0, c.in_ok-copy-2.field-0) in
     IfOk-weaker c.queued_in.result
-    (λ (row : Option QueueRow). row ≡ get (all_queues self.queues) (expert, name))
+    (λ (row : Option QueueRow). row ≡ get (all_queues self.queues) (expert, asked))
     (λ (row : Option QueueRow). row
     ≡ option_map (queue_row asked) (get (queue_of expert (world_of self)) asked))
-    (λ row same.
-    same ∙ self.in_step expert name
-    ∙ (λ i. row_in_queue (world_of self) expert
-    (c.in_ok-copy.ensures.equal i, c.in_ok-copy-2.ensures.equal i)))
+    (λ row same. same ∙ self.in_step expert asked)
     c.queued_in.ensures

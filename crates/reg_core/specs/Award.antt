@@ -1,0 +1,60 @@
+-- What an ask is given, part by part.
+use Rattle.std.specs.Prelude.{ℕ, Bool, List}
+use Rattle.reg_early.specs.Terms.{permanent_term}
+use Rattle.reg_core.specs.declared.decide.award.Award.{Award as AwardRow}
+use Rattle.reg_core.specs.declared.decide.award.Award.TheVariants.{Entry as EntryRow}
+use Rattle.reg_core.specs.declared.decide.award.NewEntry.{NewEntry as NewEntryRow}
+use Rattle.reg_core.specs.declared.decide.allowance.Allowance.{Allowance as AllowanceRow}
+use Rattle.reg_core.specs.declared.entry.Entry.{Entry}
+use Rattle.reg_core.specs.declared.request.Given.{Given}
+use Rattle.reg_core.specs.declared.request.Given.TheVariants.{Value}
+
+-- an entry, but for its term
+pub record NewEntry : Type 0 where
+  pub registry : List ℕ
+  pub value : ℕ
+  pub label : List ℕ
+  pub assignee : List ℕ
+
+-- what an ask is given: with the name of the request and the day, all that the change is made of
+pub data Award : Type 0 where
+  new_entry : NewEntry → Award
+
+-- what an ask is allowed: what it is given, and whether a designated expert has to approve (RFC
+-- 8126 sections 4.5 and 4.6)
+pub record Allowance : Type 0 where
+  pub award : Award
+  pub needs_advice : Bool
+
+-- what a request that has this award was given
+abbrev pub given_in : Award → Given
+given_in (new_entry e) = Value e.value
+
+-- the entry, from a day on and for good
+abbrev pub entry_on : ℕ → NewEntry → Entry
+entry_on today e =
+    record {
+      registry = e.registry;
+      value = e.value;
+      label = e.label;
+      assignee = e.assignee;
+      term =
+          permanent_term today;
+    }
+
+-- ---- As the code has it
+
+abbrev pub entry_view : NewEntryRow → NewEntry
+entry_view e =
+    record {
+      registry = e.registry.now;
+      value = e.value;
+      label = e.label.now;
+      assignee = e.assignee.now;
+    }
+
+abbrev pub award_view : AwardRow → Award
+award_view (EntryRow e) = new_entry (entry_view e)
+
+abbrev pub allowance_view : AllowanceRow → Allowance
+allowance_view a = record { award = award_view a.award; needs_advice = a.needs_advice }

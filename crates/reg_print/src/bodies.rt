@@ -1,0 +1,11 @@
+//! The JSON of what is answered.
+
+pub mod advice;
+pub mod ask;
+pub mod capability;
+pub mod file;
+pub mod page;
+pub mod pool;
+pub mod queue;
+pub mod refusal;
+pub mod request;

@@ -1,0 +1,78 @@
+//! Prints asks. Members that are absent are not printed.
+ghost use Rattle.std.specs.Prelude.{[], ◌∷◌, codes, OnOk};
+ghost use Rattle.reg_print.specs.Printed.{PrintedMembers};
+ghost use Rattle.reg_print.specs.Trees.Ask.{ask_tree, code_tree, least_if, rfc_tree, value_if};
+
+use crate::printing::{Itself, Print, Printer};
+use reg_core::ask::{Ask, CodeAsk, Want};
+use reg_ranges::evidence::Rfc;
+use std::alloc::AllocError;
+
+/// An ask, with its kind.
+impl Print<Itself> for Ask {
+    ghost tree = { ask_tree };
+
+    ghost levels = { 2 };
+
+    fn print(&self, out: &mut Printer) -> Result<(), AllocError> {
+        match self {
+            Ask::Code(ask) => ask.print(out),
+        }
+    }
+}
+
+impl Print<Itself> for CodeAsk {
+    ghost tree = { code_tree };
+
+    ghost levels = { 2 };
+
+    fn print(&self, out: &mut Printer) -> Result<(), AllocError> {
+        out.open_object()?;
+        out.put_if("contact", &self.evidence.contact)?;
+        out.put_text("kind", "code")?;
+        out.put("label", &self.label)?;
+        put_least_if(out, self.want)?;
+        out.put_if("minute", &self.evidence.minute)?;
+        out.put("registry", &self.registry)?;
+        out.put_if("rfc", &self.evidence.rfc)?;
+        out.put_if("specification", &self.evidence.spec)?;
+        put_value_if(out, self.want)?;
+        out.close_object()?;
+        Ok(())
+    }
+}
+
+impl Print<Itself> for Rfc {
+    ghost tree = { rfc_tree };
+
+    ghost levels = { 1 };
+
+    fn print(&self, out: &mut Printer) -> Result<(), AllocError> {
+        out.open_object()?;
+        out.put_number("number", u64::from(self.number()))?;
+        out.put_text("stream", self.stream().word())?;
+        out.put_text("track", self.track().word())?;
+        out.close_object()?;
+        Ok(())
+    }
+}
+
+fn put_value_if(out: &mut Printer, want: Want) -> Result<(), AllocError>
+    ensures { OnOk result
+        (PrintedMembers out.old.json out.new.json 0 ((codes "value", value_if want) ∷ [])) }
+{
+    match want {
+        Want::Value(value) => out.put_number("value", u64::from(value)),
+        Want::Least(_) => Ok(()),
+    }
+}
+
+fn put_least_if(out: &mut Printer, want: Want) -> Result<(), AllocError>
+    ensures { OnOk result
+        (PrintedMembers out.old.json out.new.json 0 ((codes "least", least_if want) ∷ [])) }
+{
+    match want {
+        Want::Value(_) => Ok(()),
+        Want::Least(policy) => out.put_text("least", policy.word()),
+    }
+}

@@ -1,0 +1,49 @@
+//! Prints capabilities.
+ghost use Rattle.std.specs.Prelude.{◌≡◌};
+ghost use Rattle.reg_print.specs.Trees.Capability.{cap_tree, kind_word, revoked_tree};
+
+use crate::printing::{Itself, Print, Printer};
+use reg_core::capability::{Cap, Kind};
+use std::alloc::AllocError;
+
+/// That a token has no capability now.
+pub(crate) struct Revoked;
+
+/// A capability: whose it is, of what kind, and until when it is valid.
+impl Print<Itself> for Cap {
+    ghost tree = { cap_tree };
+
+    ghost levels = { 1 };
+
+    fn print(&self, out: &mut Printer) -> Result<(), AllocError> {
+        out.open_object()?;
+        out.put("account", &self.account)?;
+        out.put_text("kind", kind_word(self.kind))?;
+        out.put_number("until", self.until.seconds())?;
+        out.close_object()?;
+        Ok(())
+    }
+}
+
+impl Print<Itself> for Revoked {
+    ghost tree = { λ _. revoked_tree };
+
+    ghost levels = { 1 };
+
+    fn print(&self, out: &mut Printer) -> Result<(), AllocError> {
+        out.open_object()?;
+        out.put_flag("revoked", true)?;
+        out.close_object()?;
+        Ok(())
+    }
+}
+
+fn kind_word(kind: Kind) -> &'static str
+    ensures { result.now ≡ kind_word kind }
+{
+    match kind {
+        Kind::Applicant => "applicant",
+        Kind::Expert => "expert",
+        Kind::Clerk => "clerk",
+    }
+}

@@ -1,0 +1,125 @@
+//! Prints registries.
+ghost use Rattle.std.specs.Prelude.{[], ◌∷◌, codes, Some, OnOk};
+ghost use Rattle.reg_print.specs.Printed.{PrintedMembers};
+ghost use Rattle.reg_print.specs.Trees.Page.{day_data, defined_tree, entry_tree, expires_if, page_tree, range_tree, ranges_tree, renewed_if};
+
+use crate::note::note_text;
+use crate::printing::{Itself, Print, Printer};
+use reg_core::entry::PageEntry;
+use reg_core::page::Page;
+use reg_core::text::Name;
+use reg_early::day::{Day, day_text};
+use reg_early::term::Term;
+use reg_ranges::range::Range;
+use reg_ranges::table::RangeTable;
+use std::alloc::AllocError;
+
+/// That the registry of a name is there.
+pub(crate) struct Defined;
+
+/// A registry: its name, its largest value, its ranges in order, and its entries by value.
+impl Print<Itself> for Page {
+    ghost tree = { page_tree };
+
+    ghost levels = { 3 };
+
+    fn print(&self, out: &mut Printer) -> Result<(), AllocError> {
+        out.open_object()?;
+        out.put("entries", &self.entries)?;
+        out.put_number("max", u64::from(self.table.max()))?;
+        out.put("name", &self.name)?;
+        out.put("ranges", &self.table)?;
+        out.close_object()?;
+        Ok(())
+    }
+}
+
+impl Print<Defined> for Name {
+    ghost tree = { defined_tree };
+
+    ghost levels = { 1 };
+
+    fn print(&self, out: &mut Printer) -> Result<(), AllocError> {
+        out.open_object()?;
+        out.put("defined", self)?;
+        out.close_object()?;
+        Ok(())
+    }
+}
+
+impl Print<Itself> for PageEntry {
+    ghost tree = { entry_tree };
+
+    ghost levels = { 1 };
+
+    fn print(&self, out: &mut Printer) -> Result<(), AllocError> {
+        out.open_object()?;
+        out.put("assignee", &self.assignee)?;
+        put_expires_if(out, self.term)?;
+        put_day(out, "first", self.term.first)?;
+        out.put("label", &self.label)?;
+        put_renewed_if(out, self.term)?;
+        out.put_text("status", self.status.word())?;
+        out.put_number("value", u64::from(self.value))?;
+        out.close_object()?;
+        Ok(())
+    }
+}
+
+// Whether the term was renewed, where it has an expiry.
+fn put_renewed_if(out: &mut Printer, term: Term) -> Result<(), AllocError>
+    ensures { OnOk result
+        (PrintedMembers out.old.json out.new.json 0 ((codes "renewed", renewed_if term) ∷ [])) }
+{
+    match term.expires {
+        Some(_) => out.put_flag("renewed", term.renewed),
+        None => Ok(()),
+    }
+}
+
+// The day from which the entry no longer stands, where there is one.
+fn put_expires_if(out: &mut Printer, term: Term) -> Result<(), AllocError>
+    ensures { OnOk result
+        (PrintedMembers out.old.json out.new.json 0 ((codes "expires", expires_if term) ∷ [])) }
+{
+    match term.expires {
+        Some(day) => put_day(out, "expires", day),
+        None => Ok(()),
+    }
+}
+
+// This day under this name.
+fn put_day(out: &mut Printer, name: &str, day: Day) -> Result<(), AllocError>
+    ensures { OnOk result
+        (PrintedMembers out.old.json out.new.json 0 ((name.now, Some (day_data day)) ∷ [])) }
+{
+    let text = day_text(out.alloc, day)?;
+    out.put_text(name, text.as_str())
+}
+
+/// The ranges of a table, in order.
+impl Print<Itself> for RangeTable {
+    ghost tree = { λ table. ranges_tree table.ranges };
+
+    ghost levels = { 2 };
+
+    fn print(&self, out: &mut Printer) -> Result<(), AllocError> {
+        out.list(self.ranges())
+    }
+}
+
+impl Print<Itself> for Range {
+    ghost tree = { range_tree };
+
+    ghost levels = { 1 };
+
+    fn print(&self, out: &mut Printer) -> Result<(), AllocError> {
+        out.open_object()?;
+        out.put_number("hi", u64::from(self.hi))?;
+        out.put_number("lo", u64::from(self.lo))?;
+        out.put_text("note", note_text(&self.note))?;
+        out.put_text("treatment", self.treatment.word())?;
+        out.close_object()?;
+        Ok(())
+    }
+}

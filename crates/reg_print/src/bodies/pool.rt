@@ -1,0 +1,49 @@
+//! Prints the pool.
+ghost use Rattle.reg_print.specs.Trees.Pool.{pool_tree, pooled_tree, prefix_tree};
+
+use crate::printing::{Itself, Print, Printer};
+use reg_blocks::pool::Pool;
+use reg_blocks::prefix;
+use std::alloc::AllocError;
+
+/// A number as the text of a prefix.
+pub(crate) struct Prefix;
+
+/// That a prefix is in the pool.
+pub(crate) struct Pooled;
+
+/// The prefixes of the pool, each as a text, ascending.
+impl Print<Itself> for Pool {
+    ghost tree = { pool_tree };
+
+    ghost levels = { 1 };
+
+    fn print(&self, out: &mut Printer) -> Result<(), AllocError> {
+        out.list::<Prefix, u32>(self.prefixes())
+    }
+}
+
+impl Print<Prefix> for u32 {
+    ghost tree = { prefix_tree };
+
+    ghost levels = { 0 };
+
+    fn print(&self, out: &mut Printer) -> Result<(), AllocError> {
+        let text = prefix::text(out.alloc, *self)?;
+        out.text(text.as_str())
+    }
+}
+
+impl Print<Pooled> for u32 {
+    ghost tree = { pooled_tree };
+
+    ghost levels = { 1 };
+
+    fn print(&self, out: &mut Printer) -> Result<(), AllocError> {
+        let text = prefix::text(out.alloc, *self)?;
+        out.open_object()?;
+        out.put_text("pool", text.as_str())?;
+        out.close_object()?;
+        Ok(())
+    }
+}

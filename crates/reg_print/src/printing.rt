@@ -1,0 +1,216 @@
+//! Prints JSON straight from what it tells of: no value of JSON is built.
+ghost use Rattle.std.specs.Prelude.{◌≡◌, ◌≤◌, ℕ, suc, [], ◌∷◌, map, Some, IfOk, OnOk, option_map};
+ghost use Rattle.json.specs.Token.{begin_object, end_object, begin_array, end_array, key};
+ghost use Rattle.serde_json.specs.Data.{Data, array, boolean, number, string, unsigned};
+ghost use Rattle.serde_json.specs.Read.{read, max_depth};
+ghost use Rattle.serde_json.specs.View.{items_of};
+ghost use Rattle.serde_json.specs.Written.{compact_text};
+ghost use Rattle.reg_print.specs.Printed.{Added, Printed, PrintedMembers};
+
+use json::Writer;
+use reg_core::rows::Rows;
+use reg_core::text::{Form, Text, Word};
+use std::alloc::{AllocError, Global};
+
+/// Prints JSON, a name or a value at a time.
+#[derive(Drop)]
+pub(crate) struct Printer {
+    pub alloc: Global,
+    pub json: Writer,
+}
+
+/// The way in which a value is printed where no other is named.
+pub(crate) struct Itself;
+
+/// What is printed as JSON. `As` names the way, since some types are printed in more than one.
+pub(crate) trait Print<As> {
+    /// What its text spells.
+    ghost tree: { Self → Data };
+
+    /// How deep that nests at most.
+    ghost levels: { ℕ };
+
+    fn print(&self, out: &mut Printer) -> Result<(), AllocError>
+        ensures { OnOk result (Printed out.old.json out.new.json levels (tree self.now)) };
+}
+
+/// The JSON of this, without white space.
+pub(crate) fn printed<As, T: Print<As>>(alloc: Global, value: &T) -> Result<Vec<u8>, AllocError>
+    requires { T.levels ≤ max_depth }
+    ensures text { IfOk result (λ v. v.items ≡ compact_text (T.tree value.now)) }
+    ensures reads_back { IfOk result (λ v. read v.items ≡ Some (T.tree value.now)) }
+{
+    let bytes = Vec::with_capacity(alloc, 128)?;
+    let mut out = Printer {
+        alloc,
+        json: Writer::new(bytes),
+    };
+    value.print(&mut out)?;
+    let Printer { json, .. } = out;
+    Ok(json.into_inner())
+}
+
+impl<F: Form> Print<Itself> for Word<F> {
+    ghost tree = { string };
+
+    ghost levels = { 0 };
+
+    fn print(&self, out: &mut Printer) -> Result<(), AllocError> {
+        out.text(self.as_str())
+    }
+}
+
+impl Print<Itself> for Text {
+    ghost tree = { string };
+
+    ghost levels = { 0 };
+
+    fn print(&self, out: &mut Printer) -> Result<(), AllocError> {
+        out.text(self.as_str())
+    }
+}
+
+impl<As, T: Print<As>> Print<As> for Rows<T> {
+    ghost tree = { λ rows. array (items_of (map T.tree rows)) };
+
+    ghost levels = { suc T.levels };
+
+    fn print(&self, out: &mut Printer) -> Result<(), AllocError> {
+        out.list(self.as_slice())
+    }
+}
+
+impl Printer {
+    /// The bracket that opens an object.
+    pub fn open_object(&mut self) -> Result<(), AllocError>
+        ensures { OnOk result (Added self.old.json self.new.json (begin_object ∷ [])) }
+    {
+        self.json.begin_object()?;
+        Ok(())
+    }
+
+    /// The bracket that closes an object.
+    pub fn close_object(&mut self) -> Result<(), AllocError>
+        ensures { OnOk result (Added self.old.json self.new.json (end_object ∷ [])) }
+    {
+        self.json.end_object()?;
+        Ok(())
+    }
+
+    fn open_array(&mut self) -> Result<(), AllocError>
+        ensures { OnOk result (Added self.old.json self.new.json (begin_array ∷ [])) }
+    {
+        self.json.begin_array()?;
+        Ok(())
+    }
+
+    fn close_array(&mut self) -> Result<(), AllocError>
+        ensures { OnOk result (Added self.old.json self.new.json (end_array ∷ [])) }
+    {
+        self.json.end_array()?;
+        Ok(())
+    }
+
+    fn name(&mut self, name: &str) -> Result<(), AllocError>
+        ensures { OnOk result (Added self.old.json self.new.json (key name.now ∷ [])) }
+    {
+        self.json.key(name)?;
+        Ok(())
+    }
+
+    /// A text.
+    pub fn text(&mut self, text: &str) -> Result<(), AllocError>
+        ensures { OnOk result (Printed self.old.json self.new.json 0 (string text.now)) }
+    {
+        self.json.string(text)?;
+        Ok(())
+    }
+
+    fn number(&mut self, n: u64) -> Result<(), AllocError>
+        ensures { OnOk result (Printed self.old.json self.new.json 0 (number (unsigned n))) }
+    {
+        self.json.u64(n)?;
+        Ok(())
+    }
+
+    fn flag(&mut self, flag: bool) -> Result<(), AllocError>
+        ensures { OnOk result (Printed self.old.json self.new.json 0 (boolean flag)) }
+    {
+        self.json.boolean(flag)?;
+        Ok(())
+    }
+
+    /// An array of these, in their order.
+    pub fn list<As, T: Print<As>>(&mut self, items: &[T]) -> Result<(), AllocError>
+        ensures { OnOk result
+            (Printed self.old.json self.new.json (suc T.levels)
+            (array (items_of (map T.tree items.now)))) }
+    {
+        self.open_array()?;
+        for item in items {
+            item.print(self)?;
+        }
+        self.close_array()?;
+        Ok(())
+    }
+
+    /// A member.
+    pub fn put<T: Print<Itself>>(&mut self, name: &str, value: &T) -> Result<(), AllocError>
+        ensures { OnOk result
+            (PrintedMembers self.old.json self.new.json T.levels
+            ((name.now, Some (T.tree value.now)) ∷ [])) }
+    {
+        self.name(name)?;
+        value.print(self)?;
+        Ok(())
+    }
+
+    /// A member, where there is one.
+    pub fn put_if<T: Print<Itself>>(
+        &mut self,
+        name: &str,
+        value: &Option<T>,
+    ) -> Result<(), AllocError>
+        ensures { OnOk result
+            (PrintedMembers self.old.json self.new.json T.levels
+            ((name.now, option_map T.tree value.now) ∷ [])) }
+    {
+        match value {
+            Some(value) => self.put(name, value),
+            None => Ok(()),
+        }
+    }
+
+    /// A member that is a text.
+    pub fn put_text(&mut self, name: &str, text: &str) -> Result<(), AllocError>
+        ensures { OnOk result
+            (PrintedMembers self.old.json self.new.json 0
+            ((name.now, Some (string text.now)) ∷ [])) }
+    {
+        self.name(name)?;
+        self.text(text)?;
+        Ok(())
+    }
+
+    /// A member that is a number.
+    pub fn put_number(&mut self, name: &str, n: u64) -> Result<(), AllocError>
+        ensures { OnOk result
+            (PrintedMembers self.old.json self.new.json 0
+            ((name.now, Some (number (unsigned n))) ∷ [])) }
+    {
+        self.name(name)?;
+        self.number(n)?;
+        Ok(())
+    }
+
+    /// A member that is true or false.
+    pub fn put_flag(&mut self, name: &str, flag: bool) -> Result<(), AllocError>
+        ensures { OnOk result
+            (PrintedMembers self.old.json self.new.json 0
+            ((name.now, Some (boolean flag)) ∷ [])) }
+    {
+        self.name(name)?;
+        self.flag(flag)?;
+        Ok(())
+    }
+}
