@@ -1,8 +1,8 @@
 -- What is allowed is a free value that is assigned one by one.
-use Rattle.std.proofs.Common.{◌≡◌, ℕ, ◌<◌, ◌^◌, Bool, true, false, ◌&&◌, List, [], ◌∷◌, map, refl, sym, ap, subst, ◌∙◌, arith}
-use Rattle.std.specs.Prelude.{Option, Some, None, Result, Ok, Err, Contains, is_some, is_none, is_ok, nat_lt, option_and_then}
+use Rattle.std.proofs.Common.{◌≡◌, ℕ, ◌<◌, ◌^◌, Bool, true, false, ◌&&◌, List, [], ◌∷◌, refl, sym, ap, subst, ◌∙◌, arith}
+use Rattle.std.specs.Prelude.{Option, Some, None, Result, Ok, Err, is_some, is_none, is_ok, nat_lt, option_and_then}
 use Rattle.std.specs.List.{list_all, list_any}
-use Rattle.std.specs.FinMap.{FinMap, get, entries}
+use Rattle.std.specs.FinMap.{get}
 use Rattle.std.specs.Cmp.{first_so, second_so}
 use Rattle.std.proofs.lemmas.Bool.Decides.{nat_tests}
 use Rattle.reg_ranges.specs.FreeValues.{IsLeastFree, least_value}
@@ -17,28 +17,26 @@ use Rattle.reg_ranges.specs.declared.policy.Policy.{Policy}
 use Rattle.reg_ranges.specs.declared.policy.Treatment.{Treatment}
 use Rattle.reg_ranges.specs.declared.policy.Treatment.TheVariants.{Under, Reserved}
 use Rattle.reg_ranges.specs.declared.evidence.Item.{Item}
-use Rattle.reg_core.specs.Allowance.{Ground, ◌>>=◌, or_refusal, open_policy, policy_for, is_met, value_for, allowance_on, allowed, ground_of, entry_wanted, values_taken, is_reviewed, policy_wanted, needs_advice, entry_asked}
+use Rattle.reg_core.specs.Allowance.{Ground, ◌>>=◌, or_refusal, open_policy, policy_for, is_met, value_for, allowance_on, allowed, ground_of, entry_wanted, least_wanted, is_reviewed, policy_wanted, needs_advice, entry_asked}
 use Rattle.reg_core.specs.Award.{Allowance, new_entry, given_in}
 use Rattle.reg_core.specs.Ask.{has_note_form}
-use Rattle.reg_core.specs.Maps.{same_text, only_if}
+use Rattle.reg_core.specs.LeastFree.{values_in}
 use Rattle.reg_core.specs.MayBeGiven.{IsWanted, MayBeGiven}
 use Rattle.reg_core.specs.Names.{is_name}
 use Rattle.reg_core.specs.Registry.{has_table_form, is_partition}
-use Rattle.reg_core.specs.View.{published, entries_of}
+use Rattle.reg_core.specs.View.{published}
 use Rattle.reg_core.specs.WellKept.{WellKept, is_open_at}
-use Rattle.reg_core.specs.World.{World, Place, place_cmp}
+use Rattle.reg_core.specs.World.{World}
 use Rattle.reg_core.specs.declared.ask.Ask.{Ask}
 use Rattle.reg_core.specs.declared.ask.Ask.TheVariants.{Code}
 use Rattle.reg_core.specs.declared.ask.CodeAsk.{CodeAsk}
 use Rattle.reg_core.specs.declared.ask.Want.{Want}
 use Rattle.reg_core.specs.declared.ask.Want.TheVariants.{Value, Least}
-use Rattle.reg_core.specs.declared.entry.Registration.{Registration}
 use Rattle.reg_core.specs.declared.refusal.Refusal.{Refusal}
 use Rattle.reg_core.specs.declared.refusal.Refusal.TheVariants as no
 use Rattle.reg_core.specs.declared.request.Given.TheVariants as given
 use Rattle.reg_core.proofs.Cases.{by_test}
-use Rattle.reg_core.proofs.MapLaws.{place_keys, get-select, Contains-map, Contains-entries}
-use Rattle.reg_core.proofs.SamenessIsDecided.{same_text-itself}
+use Rattle.reg_core.proofs.ValuesIn.{no_entry}
 
 -- ---- Checks in turn
 
@@ -152,26 +150,6 @@ open_below table v form is_open =
     below true h bounded = absurd (above h)
     below false h bounded = grind (arith, nat_tests, h, bounded)
 
--- ---- Values that have entries
-
--- a value that is not among those that have entries has none
-none_at : (m : FinMap place_cmp Registration) (registry : List ℕ) (v : ℕ)
-    → ¬ (Contains (map (λ (e : Place × Registration). e.0.1) (entries (entries_of registry m))) v)
-    → get m (registry, v) ≡ None
-none_at m registry v free =
-    elim (get m (registry, v)) as (λ o. get m (registry, v) ≡ o → o ≡ None) [
-      | None ↦ λ is. refl
-      | Some a ↦ λ is.
-          let kept : get (entries_of registry m) (registry, v) ≡ Some a =
-          get-select place_keys (λ place a. only_if (same_text place.0 registry) a) m (registry, v)
-          ∙ ap (option_and_then (λ a. only_if (same_text registry registry) a)) is
-          ∙ ap (λ b. only_if b a) (same_text-itself registry) in
-          absurd (free
-          (Contains-map (λ (e : Place × Registration). e.0.1) (entries (entries_of registry m))
-          ((registry, v), a)
-          (Contains-entries place_keys (entries_of registry m) (registry, v) a kept)))
-    ] refl
-
 -- ---- Free values
 
 -- the value is assigned one by one, and has no entry
@@ -194,11 +172,23 @@ module _ (w : World) (kept : WellKept w) (registry : List ℕ) (table : Table)
     below = open_below table v form is_open;
   }
 
+  -- the least value that is wanted is the least under its policy without an entry
+  wanted_least : (least : Policy) (v : ℕ)
+      → or_refusal no.Exhausted (least_wanted (published w) registry (Least least)) ≡ Ok v
+      → IsLeastFree table least (values_in registry w.entries) (Some v)
+  wanted_least least v h =
+      let taken = values_in registry w.entries in
+      let is : least_value table least taken ≡ Some v =
+      sym (ap (option_and_then (λ table. least_value table least taken)) is_there)
+      ∙ was_some (least_wanted (published w) registry (Least least)) no.Exhausted v h in
+      subst (IsLeastFree table least taken) is
+      (least_value_is_least table (table_partition table form) least taken)
+
   wanted_free : (want : Want) (policy : Policy) (v : ℕ) → policy_for table want ≡ Ok policy
       → value_for (record {
         table = get w.registries registry;
         entry = entry_wanted (published w) registry want;
-        taken = values_taken (published w) registry want;
+        least = least_wanted (published w) registry want;
       }) table want ≡ Ok v
       → IsFree w registry v
   wanted_free (Value u) policy v by h =
@@ -210,21 +200,16 @@ module _ (w : World) (kept : WellKept w) (registry : List ℕ) (table : Table)
       (is_free u (value_open table u policy by) (not_some (get w.entries (registry, u)) gone)))
       h
   wanted_free (Least least) policy v by h =
-      let taken = values_taken (published w) registry (Least least) in
-      let is : least_value table least taken ≡ Some v =
-      was_some (least_value table least taken) no.Exhausted v h in
-      let facts : IsLeastFree table least taken (Some v) =
-      subst (IsLeastFree table least taken) is
-      (least_value_is_least table (table_partition table form) least taken) in
+      let facts = wanted_least least v h in
       is_free v (ap (λ t. is_ok (open_policy t)) facts.0 ∙ under_open table least policy by)
-      (none_at w.entries registry v facts.1)
+      (no_entry registry w.entries v facts.1)
 
   -- the policy is that of the value's range
   wanted_under : (want : Want) (policy : Policy) (v : ℕ) → policy_for table want ≡ Ok policy
       → value_for (record {
         table = get w.registries registry;
         entry = entry_wanted (published w) registry want;
-        taken = values_taken (published w) registry want;
+        least = least_wanted (published w) registry want;
       }) table want ≡ Ok v
       → IsWanted want policy v × (treatment_of table v ≡ Some (Under policy))
       × (is_closed_policy policy ≡ false)
@@ -240,12 +225,7 @@ module _ (w : World) (kept : WellKept w) (registry : List ℕ) (table : Table)
       (same, subst (λ x. treatment_of table x ≡ Some (Under policy)) same is.0, is.1))
       h
   wanted_under (Least least) policy v by h =
-      let taken = values_taken (published w) registry (Least least) in
-      let is : least_value table least taken ≡ Some v =
-      was_some (least_value table least taken) no.Exhausted v h in
-      let facts : IsLeastFree table least taken (Some v) =
-      subst (IsLeastFree table least taken) is
-      (least_value_is_least table (table_partition table form) least taken) in
+      let facts = wanted_least least v h in
       let asked = least_policy table least policy by in
       (asked.0, facts.0 ∙ ap (λ p. Some (Under p)) asked.0, asked.1)
 

@@ -7,6 +7,7 @@ pub mod SamenessIsDecided
 pub mod Stepping
 pub mod Queues
 pub mod Files
+pub mod ValuesIn
 pub mod Allowances
 pub mod Outcomes
 pub mod Fitting

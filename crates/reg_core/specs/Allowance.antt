@@ -1,8 +1,7 @@
 -- Whether an ask meets the published registers (RFC 8126 section 4).
-use Rattle.std.specs.Prelude.{ℕ, Bool, false, nat_lt, List, [], map, is_some, Option, Some, None, Result, Ok, Err, if◌then◌else◌}
-use Rattle.std.specs.FinMap.{get, entries}
+use Rattle.std.specs.Prelude.{ℕ, Bool, false, nat_lt, List, is_some, Option, Some, None, Result, Ok, Err, if◌then◌else◌}
+use Rattle.std.specs.FinMap.{get}
 use Rattle.std.specs.List.{list_any}
-use Rattle.reg_ranges.specs.FreeValues.{least_value}
 use Rattle.reg_ranges.specs.Requirements.{first_item, is_closed_policy, is_expert_policy, unmet}
 use Rattle.reg_ranges.specs.Sameness.{same_treatment}
 use Rattle.reg_ranges.specs.Tables.{Table, treatment_of}
@@ -11,7 +10,8 @@ use Rattle.reg_ranges.specs.declared.policy.Policy.{Policy}
 use Rattle.reg_ranges.specs.declared.policy.Treatment.{Treatment}
 use Rattle.reg_ranges.specs.declared.policy.Treatment.TheVariants.{Under, Reserved}
 use Rattle.reg_core.specs.Award.{new_entry, NewEntry, Allowance, given_in}
-use Rattle.reg_core.specs.View.{Published, entries_of}
+use Rattle.reg_core.specs.LeastFree.{least_free_in}
+use Rattle.reg_core.specs.View.{Published}
 use Rattle.reg_core.specs.declared.ask.Ask.{Ask}
 use Rattle.reg_core.specs.declared.ask.Ask.TheVariants.{Code}
 use Rattle.reg_core.specs.declared.ask.CodeAsk.{CodeAsk}
@@ -22,12 +22,12 @@ use Rattle.reg_core.specs.declared.refusal.Refusal.TheVariants as no
 use Rattle.reg_core.specs.declared.entry.Registration.{Registration}
 use Rattle.reg_core.specs.declared.request.Given.{Given}
 
--- the published rows that an ask needs: its registry, the entry at the value that it names, and
--- the values that have entries where it wants the least
+-- what an ask needs of the published rows: its registry, the entry at the value that it names, and
+-- the least value without an entry where it wants that
 pub record Ground : Type 0 where
   pub table : Option Table
   pub entry : Option Registration
-  pub taken : List ℕ
+  pub least : Option ℕ
 
 -- each check in turn, as far as none refuses
 infixl 10 ◌>>=◌
@@ -65,7 +65,7 @@ is_met (Some item) = Err (no.Evidence item)
 -- the value that is wanted, where it has no entry
 abbrev pub value_for : Ground → Table → Want → Result ℕ Refusal
 value_for rows table (Value v) = if is_some rows.entry then Err no.Taken else Ok v
-value_for rows table (Least policy) = or_refusal no.Exhausted (least_value table policy rows.taken)
+value_for rows table (Least policy) = or_refusal no.Exhausted rows.least
 
 -- the entry that an ask of an account is given at a value: of the registry and with the label that
 -- it names, in the name of the account
@@ -102,15 +102,15 @@ abbrev pub entry_wanted : Published → List ℕ → Want → Option Registratio
 entry_wanted p registry (Value v) = get p.entries (registry, v)
 entry_wanted p registry (Least policy) = None
 
-abbrev pub values_taken : Published → List ℕ → Want → List ℕ
-values_taken p registry (Value v) = []
-values_taken p registry (Least policy) = map (λ e. e.0.1) (entries (entries_of registry p.entries))
+abbrev pub least_wanted : Published → List ℕ → Want → Option ℕ
+least_wanted p registry (Value v) = None
+least_wanted p registry (Least policy) = least_free_in p.registries p.entries registry policy
 
 abbrev pub ground_of : Published → Ask → Ground
 ground_of p (Code ask) = record {
   table = get p.registries ask.registry;
   entry = entry_wanted p ask.registry ask.want;
-  taken = values_taken p ask.registry ask.want;
+  least = least_wanted p ask.registry ask.want;
 }
 
 abbrev pub allowed : Published → List ℕ → Ask → Result Given Refusal

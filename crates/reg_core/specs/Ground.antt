@@ -9,5 +9,5 @@ abbrev pub seen : Rows → Ground
 seen rows = record {
   table = option_copied rows.table;
   entry = option_map registration_in (option_copied rows.entry);
-  taken = rows.taken.now;
+  least = rows.least;
 }

@@ -12,6 +12,7 @@ pub mod File
 pub mod View
 pub mod Queue
 pub mod Page
+pub mod LeastFree
 pub mod Award
 pub mod Allowance
 pub mod Ground

@@ -3,6 +3,7 @@ ghost use Rattle.std.specs.Prelude.{◌≡◌, Bool, option_map};
 ghost use Rattle.std.specs.FinMap.{get, keys};
 ghost use Rattle.reg_core.specs.Entry.{entry_row};
 ghost use Rattle.reg_core.specs.File.{file as file_of};
+ghost use Rattle.reg_core.specs.LeastFree.{least_free_in};
 ghost use Rattle.reg_core.specs.Page.{entry_rows};
 ghost use Rattle.reg_core.specs.Queue.{queue_row, queue_rows};
 ghost use Rattle.reg_core.specs.Request.{request_row, request_rows};
@@ -20,6 +21,7 @@ use reg_core::queue::QueueRow;
 use reg_core::request::Request;
 use reg_core::rows::Rows;
 use reg_core::text::{Account, Digest, Name, Ref};
+use reg_ranges::policy::Policy;
 use reg_ranges::table::RangeTable;
 use std::alloc::AllocError;
 
@@ -88,6 +90,12 @@ pub trait Keeper {
     fn entries(&mut self, registry: &Name) -> Result<Rows<Entry>, Fault>
         ensures { Selects world Holds Sound FAILS self.old self.new result
             (λ w entries. entries ≡ entry_rows (entries_of registry.now w.entries)) };
+
+    /// The least value of a registry that lies in a range under a policy and has no entry, if
+    /// there is the registry and such a value.
+    fn least(&mut self, registry: &Name, policy: Policy) -> Result<Option<u32>, Fault>
+        ensures { Selects world Holds Sound FAILS self.old self.new result
+            (λ w value. value ≡ least_free_in w.registries w.entries registry.now policy) };
 
     /// The prefixes of the pool.
     fn pool(&mut self) -> Result<Pool, Fault>

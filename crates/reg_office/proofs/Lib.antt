@@ -2,8 +2,8 @@ pub mod Admitted
 pub mod Approvals
 pub mod Decided
 pub mod Digests
+pub mod Pages
 pub mod Performing
 pub mod Prefixes
 pub mod Rows
 pub mod Submissions
-pub mod Values

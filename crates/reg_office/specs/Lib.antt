@@ -6,4 +6,3 @@ pub mod Pages
 pub mod Performs
 pub mod Rows
 pub mod Stops
-pub mod Values

@@ -23,11 +23,10 @@ use reg_core::request::{Request, State};
 use reg_core::text::{Account, Ref};
 use reg_keeper::keeper::Keeper;
 use reg_ranges::formed::Formed;
-use std::alloc::{AllocError, Global};
+use std::alloc::AllocError;
 
 /// What a command of this account's is answered.
 pub fn perform<K: Keeper>(
-    alloc: Global,
     keeper: &mut K,
     account: &Account,
     command: &ApplicantCommand,
@@ -38,9 +37,7 @@ pub fn perform<K: Keeper>(
     match command {
         ApplicantCommand::Own => list_own(keeper, account),
         ApplicantCommand::OwnOne(reference) => show_own(keeper, account, reference),
-        ApplicantCommand::Submit(reference, ask) => {
-            submit(alloc, keeper, account, reference, ask)
-        }
+        ApplicantCommand::Submit(reference, ask) => { submit(keeper, account, reference, ask) }
         ApplicantCommand::Withdraw(reference) => withdraw(keeper, account, reference),
     }
 }
@@ -64,7 +61,6 @@ fn show_own<K: Keeper>(keeper: &mut K, account: &Account, reference: &Ref) -> Re
 
 // A request of the applicant's.
 fn submit<K: Keeper>(
-    alloc: Global,
     keeper: &mut K,
     account: &Account,
     reference: &Ref,
@@ -75,7 +71,7 @@ fn submit<K: Keeper>(
 {
     let existing = keeper.own_one(account, reference)?;
     request_formed(account, reference, ask);
-    let decision = submission(alloc, keeper, existing.as_ref(), account, reference, ask)?;
+    let decision = submission(keeper, existing.as_ref(), account, reference, ask)?;
     let told = told_of(existing, account, reference, ask);
     Ok(conclude(keeper, told, decision)?)
 }
@@ -83,7 +79,6 @@ fn submit<K: Keeper>(
 // What is decided of a request that is asked for, where this one is there already, or none. No
 // registry is looked at for one that is there.
 fn submission<K: Keeper>(
-    alloc: Global,
     keeper: &mut K,
     existing: Option<&Request>,
     account: &Account,
@@ -94,7 +89,7 @@ fn submission<K: Keeper>(
         (λ w. submit_rule (allowed (published w) account.now ask.now)
         (account.now, reference.now) ask.now (option_map case_of (option_copied existing.entry))) }
 {
-    let rows = ground_if(alloc, keeper, existing.is_none(), ask)?;
+    let rows = ground_if(keeper, existing.is_none(), ask)?;
     Ok(decide_submit(existing, account, reference, ask, rows.ground())?)
 }
 

@@ -19,11 +19,9 @@ use reg_core::text::{Digest, Token};
 use reg_early::day::Day;
 use reg_keeper::keeper::Keeper;
 use reg_ranges::formed::Formed;
-use std::alloc::Global;
 
 /// What a clerk's command is answered on a day; `in_use` is the digest of the clerk's own token.
 pub fn perform<K: Keeper>(
-    alloc: Global,
     keeper: &mut K,
     in_use: &Digest,
     today: Day,
@@ -39,7 +37,7 @@ pub fn perform<K: Keeper>(
             desk::assign(keeper, account, reference, expert)
         }
         ClerkCommand::Approve(account, reference) => {
-            desk::approve(alloc, keeper, account, reference, today)
+            desk::approve(keeper, account, reference, today)
         }
         ClerkCommand::Decline(account, reference, reason) => {
             desk::decline(keeper, account, reference, reason)

@@ -19,7 +19,6 @@ use reg_core::text::{Account, Ref, Text};
 use reg_early::day::Day;
 use reg_keeper::keeper::Keeper;
 use reg_ranges::formed::Formed;
-use std::alloc::Global;
 
 /// All requests.
 pub fn list_all<K: Keeper>(keeper: &mut K) -> Result<Content, Stop>
@@ -61,7 +60,6 @@ pub fn assign<K: Keeper>(
 
 /// Approves a request on a day, over its experts and all advice on it.
 pub fn approve<K: Keeper>(
-    alloc: Global,
     keeper: &mut K,
     account: &Account,
     reference: &Ref,
@@ -72,23 +70,18 @@ pub fn approve<K: Keeper>(
 {
     let file = keeper.file(account, reference)?.ok_or(Refusal::Request)?;
     today.formed();
-    let decision = approval(alloc, keeper, &file, today)?;
+    let decision = approval(keeper, &file, today)?;
     let row = row_after(file.request, &decision);
     Ok(Content::Desk(conclude(keeper, row, decision)?))
 }
 
 // What is decided of an approval. No registry is looked at for a request that is not pending.
-fn approval<K: Keeper>(
-    alloc: Global,
-    keeper: &mut K,
-    file: &File,
-    today: Day,
-) -> Result<Decision, Stop>
+fn approval<K: Keeper>(keeper: &mut K, file: &File, today: Day) -> Result<Decision, Stop>
     ensures { Finds K.world K.Holds K.Sound K.FAILS keeper.old keeper.new result
         (λ w. approval_of (published w) file.now today) }
 {
     let request = &file.request;
-    let rows = ground_if(alloc, keeper, is_pending(&request.state), &request.ask)?;
+    let rows = ground_if(keeper, is_pending(&request.state), &request.ask)?;
     let (experts, opinions) = (file.experts.as_slice(), file.advice.as_slice());
     Ok(decide_approve(request, experts, opinions, rows.ground(), today)?)
 }

@@ -121,7 +121,7 @@ fn answer<K: Keeper>(
         Command::Public(command) => public::perform(alloc, keeper, today, command),
         Command::Applicant(command) => {
             let caller = admit(keeper, token, moment, Kind::Applicant)?;
-            applicant::perform(alloc, keeper, &caller.cap.account, command)
+            applicant::perform(keeper, &caller.cap.account, command)
         }
         Command::Expert(command) => {
             let caller = admit(keeper, token, moment, Kind::Expert)?;
@@ -129,7 +129,7 @@ fn answer<K: Keeper>(
         }
         Command::Clerk(command) => {
             let caller = admit(keeper, token, moment, Kind::Clerk)?;
-            clerk::perform(alloc, keeper, &caller.digest, today, command)
+            clerk::perform(keeper, &caller.digest, today, command)
         }
     }
 }

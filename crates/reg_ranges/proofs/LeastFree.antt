@@ -1,6 +1,7 @@
--- The least free value: a walk over the ranges finds it, so does the search, and there is no other.
+-- The least free value: a walk over the ranges finds it, so does the search, and there is no
+-- other.
 use Rattle.std.proofs.Common.{◌≡◌, ℕ, zero, suc, ◌+◌, ◌<◌, ◌≤◌, Bool, true, false, cond, not, nat_eq, List, [], ◌∷◌, length, get_or, drop, Option, Some, None, refl, sym, ap, ◌∙◌, ◌⊎◌, inl, inr, arith, add-one, drop-cons}
-use Rattle.std.specs.Prelude.{Contains, IsTrue, IsNone, find}
+use Rattle.std.specs.Prelude.{Contains, IsTrue, IsNone, ◌↔◌, find}
 use Rattle.std.specs.Bool.{Decides}
 use Rattle.std.specs.List.{list_any, range_with_len}
 use Rattle.std.proofs.lemmas.Bool.{cases_lt, cases_order, le-leb, eqb-true, eqb-false, and_parts, and_cases, or_cases, or_parts, not-true, not-false}
@@ -9,7 +10,7 @@ use Rattle.reg_ranges.specs.declared.range.Range.{Range}
 use Rattle.reg_ranges.specs.declared.policy.Policy.{Policy}
 use Rattle.reg_ranges.specs.declared.policy.Treatment.TheVariants as treatment
 use Rattle.reg_ranges.specs.Tables.{Table, IsPartition, lies_in, treatment_of}
-use Rattle.reg_ranges.specs.FreeValues.{IsUnder, IsLeastFree, IsLeastIn, is_under, is_free, least_value}
+use Rattle.reg_ranges.specs.FreeValues.{IsUnder, IsLeastFree, IsLeastFreeWhere, IsLeastIn, is_under, is_free, least_value}
 use Rattle.reg_ranges.specs.Sameness.{same_treatment}
 use Rattle.reg_ranges.proofs.SamenessDecides.{option_decided, treatment_decided}
 use Rattle.reg_ranges.proofs.Partitions.{Chain, chain_from_partition}
@@ -19,14 +20,15 @@ use Rattle.reg_ranges.proofs.LeastGap.{has_cases}
 -- ---- the walk over the ranges
 
 -- each value under the policy below the ranges that are left is taken
-pub record Searched (table : Table) (p : Policy) (taken : List ℕ) (left : List Range) : Type 0 where
-  pub next : ℕ
-  pub chain : Chain next table.max left
-  pub all_taken : (u : ℕ) → u < next → IsUnder table p u → Contains taken u
+pub record Searched (table : Table) (p : Policy) (Taken : ℕ → Type 0) (left : List Range) : Type 0
+  where
+    pub next : ℕ
+    pub chain : Chain next table.max left
+    pub all_taken : (u : ℕ) → u < next → IsUnder table p u → Taken u
 
-pub search_starts : (table : Table) (p : Policy) (taken : List ℕ) → IsPartition table
-    → Searched table p taken table.ranges
-search_starts table p taken partition = record {
+pub search_starts : (table : Table) (p : Policy) (Taken : ℕ → Type 0) → IsPartition table
+    → Searched table p Taken table.ranges
+search_starts table p Taken partition = record {
   next = 0;
   chain = chain_from_partition table partition;
   all_taken = λ u lt under. absurd (omega arith);
@@ -41,11 +43,12 @@ under_as_range : (table : Table) (p : Policy) (range : Range) (u : ℕ) → IsPa
 under_as_range table p range u partition has low high under =
     let of = treatment_in table partition range u has (lies range u low high) in cc
 
-search_goes_on : (table : Table) (p : Policy) (taken : List ℕ) (range : Range) (rest : List Range)
+search_goes_on : (table : Table) (p : Policy) (Taken : ℕ → Type 0) (range : Range)
+    (rest : List Range)
     → IsPartition table → Contains table.ranges range
-    → Searched table p taken (range ∷ rest) → IsLeastIn range p taken None
-    → Searched table p taken rest
-search_goes_on table p taken range rest partition has s full = record {
+    → Searched table p Taken (range ∷ rest) → IsLeastIn range p Taken None
+    → Searched table p Taken rest
+search_goes_on table p Taken range rest partition has s full = record {
   next = range.hi + 1;
   chain = s.chain.2;
   all_taken = λ u lt under. elim (cases_lt u s.next) [
@@ -58,11 +61,12 @@ search_goes_on table p taken range rest partition has s full = record {
   ];
 }
 
-search_finds : (table : Table) (p : Policy) (taken : List ℕ) (range : Range) (rest : List Range)
+search_finds : (table : Table) (p : Policy) (Taken : ℕ → Type 0) (range : Range)
+    (rest : List Range)
     (v : ℕ) → IsPartition table → Contains table.ranges range
-    → Searched table p taken (range ∷ rest) → IsLeastIn range p taken (Some v)
-    → IsLeastFree table p taken (Some v)
-search_finds table p taken range rest v partition has s least =
+    → Searched table p Taken (range ∷ rest) → IsLeastIn range p Taken (Some v)
+    → IsLeastFreeWhere table p Taken (Some v)
+search_finds table p Taken range rest v partition has s least =
     let gap = least.1 in
     let under : IsUnder table p v =
     treatment_in table partition range v has (lies range v gap.0 gap.1) ∙ ap Some least.0 in (
@@ -83,51 +87,52 @@ under_max table p u partition under = elim (cases_lt table.max u) [
   | inr small ↦ small
 ]
 
-search_ends : (table : Table) (p : Policy) (taken : List ℕ) → IsPartition table
-    → Searched table p taken [] → IsLeastFree table p taken None
-search_ends table p taken partition s u under =
+search_ends : (table : Table) (p : Policy) (Taken : ℕ → Type 0) → IsPartition table
+    → Searched table p Taken [] → IsLeastFreeWhere table p Taken None
+search_ends table p Taken partition s u under =
     let small = under_max table p u partition under in
     let end : s.next ≡ table.max + 1 = s.chain in
     s.all_taken u (omega arith) under
 
 -- the walk stands at the i-th range
-record At (table : Table) (p : Policy) (taken : List ℕ) (i : ℕ) (range : Range) : Type 0 where
+record At (table : Table) (p : Policy) (Taken : ℕ → Type 0) (i : ℕ) (range : Range) : Type 0 where
   pub has : Contains table.ranges range
-  pub searched : Searched table p taken (range ∷ drop (i + 1) table.ranges)
+  pub searched : Searched table p Taken (range ∷ drop (i + 1) table.ranges)
 
-search_at : (table : Table) (p : Policy) (taken : List ℕ) (i : ℕ) (range : Range)
+search_at : (table : Table) (p : Policy) (Taken : ℕ → Type 0) (i : ℕ) (range : Range)
     → i < length table.ranges → range ≡ get_or table.ranges i range
-    → Searched table p taken (drop i table.ranges) → At table p taken i range
-search_at table p taken i range lt is s =
+    → Searched table p Taken (drop i table.ranges) → At table p Taken i range
+search_at table p Taken i range lt is s =
     let at : drop i table.ranges ≡ range ∷ drop (i + 1) table.ranges =
     rw add-one
     (drop-cons table.ranges i range lt
     ∙ ap (λ x. x ∷ drop (suc i) table.ranges) (sym is)) in
     record { has = (i, lt, sym is); searched = rw at at s }
 
-pub turn_goes_on : (table : Table) (p : Policy) (taken : List ℕ) (items : List Range) (i : ℕ)
+pub turn_goes_on : (table : Table) (p : Policy) (Taken : ℕ → Type 0) (items : List Range) (i : ℕ)
     (range : Range) → items ≡ table.ranges → IsPartition table → i < length items
-    → range ≡ get_or items i range → Searched table p taken (drop i table.ranges)
-    → IsLeastIn range p taken None → Searched table p taken (drop (i + 1) table.ranges)
-turn_goes_on table p taken items i range of partition lt is s full =
-    let at = search_at table p taken i range (rw of at lt) (rw of at is) s in
-    search_goes_on table p taken range (drop (i + 1) table.ranges) partition at.has at.searched full
+    → range ≡ get_or items i range → Searched table p Taken (drop i table.ranges)
+    → IsLeastIn range p Taken None → Searched table p Taken (drop (i + 1) table.ranges)
+turn_goes_on table p Taken items i range of partition lt is s full =
+    let at = search_at table p Taken i range (rw of at lt) (rw of at is) s in
+    search_goes_on table p Taken range (drop (i + 1) table.ranges) partition at.has at.searched
+    full
 
-pub turn_finds : (table : Table) (p : Policy) (taken : List ℕ) (items : List Range) (i : ℕ)
+pub turn_finds : (table : Table) (p : Policy) (Taken : ℕ → Type 0) (items : List Range) (i : ℕ)
     (range : Range) (v : ℕ) → items ≡ table.ranges → IsPartition table → i < length items
-    → range ≡ get_or items i range → Searched table p taken (drop i table.ranges)
-    → IsLeastIn range p taken (Some v) → IsLeastFree table p taken (Some v)
-turn_finds table p taken items i range v of partition lt is s least =
-    let at = search_at table p taken i range (rw of at lt) (rw of at is) s in
-    search_finds table p taken range (drop (i + 1) table.ranges) v partition at.has at.searched
+    → range ≡ get_or items i range → Searched table p Taken (drop i table.ranges)
+    → IsLeastIn range p Taken (Some v) → IsLeastFreeWhere table p Taken (Some v)
+turn_finds table p Taken items i range v of partition lt is s least =
+    let at = search_at table p Taken i range (rw of at lt) (rw of at is) s in
+    search_finds table p Taken range (drop (i + 1) table.ranges) v partition at.has at.searched
     least
 
-pub turns_end : (table : Table) (p : Policy) (taken : List ℕ) (items : List Range) (i : ℕ)
+pub turns_end : (table : Table) (p : Policy) (Taken : ℕ → Type 0) (items : List Range) (i : ℕ)
     → items ≡ table.ranges → IsPartition table → length items ≤ i
-    → Searched table p taken (drop i table.ranges) → IsLeastFree table p taken None
-turns_end table p taken items i of partition le s =
+    → Searched table p Taken (drop i table.ranges) → IsLeastFreeWhere table p Taken None
+turns_end table p Taken items i of partition le s =
     let past : drop i table.ranges ≡ [] = drop_all i table.ranges (rw of at le) in
-    search_ends table p taken partition (rw past at s)
+    search_ends table p Taken partition (rw past at s)
 
 -- ---- there is one least free value
 
@@ -175,7 +180,8 @@ free_true table p taken v h =
       any_not v taken (not-true (list_any (nat_eq v) taken) parts.1),
     )
 
-free_false : (table : Table) (p : Policy) (taken : List ℕ) (v : ℕ) → is_free table p taken v ≡ false
+free_false : (table : Table) (p : Policy) (taken : List ℕ) (v : ℕ)
+    → is_free table p taken v ≡ false
     → IsUnder table p v → Contains taken v
 free_false table p taken v h under =
     elim (and_cases (is_under table p v) (not (list_any (nat_eq v) taken)) h) [
@@ -240,3 +246,17 @@ pub is_least_value : (table : Table) → IsPartition table
 is_least_value table partition p taken o is =
     one_least table p taken o (least_value table p taken) is
     (least_value_is_least table partition p taken)
+
+-- ---- by another form of what is taken
+
+pub same_where : (table : Table) (p : Policy) (P Q : ℕ → Type 0) → ((n : ℕ) → P n ↔ Q n)
+    → (o : Option ℕ) → IsLeastFreeWhere table p P o → IsLeastFreeWhere table p Q o
+same_where table p P Q same None all = λ u under. (same u).0 (all u under)
+same_where table p P Q same (Some v) least =
+    (least.0, λ taken. least.1 ((same v).1 taken), λ u lt under. (same u).0 (least.2 u lt under))
+
+pub is_value_where : (table : Table) → IsPartition table → (p : Policy) (P : ℕ → Type 0)
+    (taken : List ℕ) → ((n : ℕ) → P n ↔ Contains taken n) → (o : Option ℕ)
+    → IsLeastFreeWhere table p P o → o ≡ least_value table p taken
+is_value_where table partition p P taken same o is =
+    is_least_value table partition p taken o (same_where table p P (Contains taken) same o is)

@@ -13,11 +13,14 @@ abbrev pub IsUnder : Table → Policy → ℕ → Type 0
 IsUnder table p v = treatment_of table v ≡ Some (treatment.Under p)
 
 -- the least value under the policy that is not taken, or none where each value under it is taken
+abbrev pub IsLeastFreeWhere : Table → Policy → (ℕ → Type 0) → Option ℕ → Type 0
+IsLeastFreeWhere table p Taken (Some v) =
+    IsUnder table p v × (¬ (Taken v)) × ((u : ℕ) → u < v → IsUnder table p u → Taken u)
+IsLeastFreeWhere table p Taken None = (u : ℕ) → IsUnder table p u → Taken u
+
+-- the same where a list has the values that are taken
 abbrev pub IsLeastFree : Table → Policy → List ℕ → Option ℕ → Type 0
-IsLeastFree table p taken (Some v) =
-    IsUnder table p v × (¬ (Contains taken v))
-    × ((u : ℕ) → u < v → IsUnder table p u → Contains taken u)
-IsLeastFree table p taken None = (u : ℕ) → IsUnder table p u → Contains taken u
+IsLeastFree table p taken o = IsLeastFreeWhere table p (Contains taken) o
 
 -- ---- the same by a search
 
@@ -34,14 +37,18 @@ least_value table p taken = find (is_free table p taken) (range_with_len 0 (tabl
 -- ---- in one range
 
 -- the least value from lo to hi that is not taken, or none where each of them is taken
+abbrev pub IsLeastGapWhere : ℕ → ℕ → (ℕ → Type 0) → Option ℕ → Type 0
+IsLeastGapWhere lo hi Taken (Some v) =
+    (lo ≤ v) × (v ≤ hi) × (¬ (Taken v)) × ((u : ℕ) → lo ≤ u → u < v → Taken u)
+IsLeastGapWhere lo hi Taken None = (u : ℕ) → lo ≤ u → u ≤ hi → Taken u
+
+-- the same where a list has the values that are taken
 abbrev pub IsLeastGap : ℕ → ℕ → List ℕ → Option ℕ → Type 0
-IsLeastGap lo hi taken (Some v) =
-    (lo ≤ v) × (v ≤ hi) × (¬ (Contains taken v)) × ((u : ℕ) → lo ≤ u → u < v → Contains taken u)
-IsLeastGap lo hi taken None = (u : ℕ) → lo ≤ u → u ≤ hi → Contains taken u
+IsLeastGap lo hi taken o = IsLeastGapWhere lo hi (Contains taken) o
 
 -- the same for a range under the policy, and none for any other
-abbrev pub IsLeastIn : Range → Policy → List ℕ → Option ℕ → Type 0
-IsLeastIn range p taken (Some v) =
-    (range.treatment ≡ treatment.Under p) × IsLeastGap range.lo range.hi taken (Some v)
-IsLeastIn range p taken None =
-    range.treatment ≡ treatment.Under p → IsLeastGap range.lo range.hi taken None
+abbrev pub IsLeastIn : Range → Policy → (ℕ → Type 0) → Option ℕ → Type 0
+IsLeastIn range p Taken (Some v) =
+    (range.treatment ≡ treatment.Under p) × IsLeastGapWhere range.lo range.hi Taken (Some v)
+IsLeastIn range p Taken None =
+    range.treatment ≡ treatment.Under p → IsLeastGapWhere range.lo range.hi Taken None

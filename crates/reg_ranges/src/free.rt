@@ -1,5 +1,5 @@
 //! The least free value of a registry under a policy.
-ghost use Rattle.std.specs.Prelude.{◌≡◌, ◌≤◌, filter, nat_le};
+ghost use Rattle.std.specs.Prelude.{◌≡◌, ◌≤◌, Contains, filter, nat_le};
 ghost use Rattle.std.specs.List.Sorted.{IsStrictlyIncreasing};
 ghost use Rattle.reg_ranges.specs.FreeValues.{IsLeastFree, IsLeastGap, IsLeastIn, least_value};
 
@@ -26,7 +26,7 @@ pub fn least_free(table: &RangeTable, policy: Policy, taken: &[u32]) -> Option<u
 fn least_in(range: &Range, policy: Policy, taken: &[u32]) -> Option<u32>
     requires order { range.now.lo ≤ range.now.hi }
     requires ascending { IsStrictlyIncreasing taken.now }
-    ensures { IsLeastIn range.now policy taken.now result }
+    ensures { IsLeastIn range.now policy (Contains taken.now) result }
 {
     if range.treatment != Treatment::Under(policy) {
         return None;

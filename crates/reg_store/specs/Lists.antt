@@ -1,6 +1,7 @@
 -- The content of a keeper in memory.
 use Rattle.reg_core.specs.World.{World}
 use Rattle.reg_store.specs.Lists.Content.{content}
+use Rattle.reg_store.specs.Lists.Registrations.{entries_held}
 use Rattle.reg_store.specs.Lists.Reviews.{world_of}
 use Rattle.reg_store.specs.declared.lists.ListKeeper.{ListKeeper}
 pub mod Entries
@@ -11,7 +12,9 @@ pub mod Pool
 pub mod File
 pub mod Queues
 pub mod Reviews
+pub mod Taken
+pub mod Registrations
 pub mod Content
 
 abbrev pub world_in : ListKeeper → World
-world_in k = content k.caps k.registries k.entries (world_of k.reviews) k.pool
+world_in k = content k.caps k.registries (entries_held k.registrations) (world_of k.reviews) k.pool

@@ -3,6 +3,7 @@ ghost use Rattle.std.specs.Prelude.{◌≡◌};
 ghost use Rattle.reg_core.specs.WellKept.{WellKept};
 ghost use Rattle.reg_core.specs.World.{empty_world};
 ghost use Rattle.reg_store.specs.Lists.Content.{content};
+ghost use Rattle.reg_store.specs.Lists.Registrations.{entries_held};
 ghost use Rattle.reg_store.specs.Lists.Reviews.{world_of};
 
 mod caps;
@@ -12,13 +13,15 @@ mod opinions;
 mod panels;
 mod pool;
 mod queues;
+mod registrations;
 mod registries;
 mod requests;
 mod reviews;
+mod taken;
 
-use crate::maps::{set_row, unset_row};
+use crate::maps::{row_at, set_row, unset_row};
 use caps::{Caps, cap_in};
-use entries::{Entries, entries_in, entry_in, put_entry};
+use entries::{entries_in, entry_in};
 use pool::{pool_in, put_prefix};
 use reg_blocks::pool::Pool;
 use reg_core::capability::Cap;
@@ -30,7 +33,9 @@ use reg_core::request::Request;
 use reg_core::rows::Rows;
 use reg_core::text::{Account, Digest, Name, Ref};
 use reg_keeper::keeper::{Fault, Keeper};
+use reg_ranges::policy::Policy;
 use reg_ranges::table::RangeTable;
+use registrations::Registrations;
 use registries::{Registries, names_in, table_in};
 use requests::{all_rows, own_rows, request_in};
 use reviews::Reviews;
@@ -38,23 +43,25 @@ use std::alloc::Global;
 use std::collections::BTreeMap;
 
 /// The content of an office in memory: capabilities by digest, registries by name, entries by
-/// registry and value, requests by account and reference, their experts and the advice on them by
-/// request, and, once more, by expert, what is assigned to each as the expert sees it; and the
-/// prefixes of the pool.
+/// registry and value, with the values that have entries as runs once more, requests by account and
+/// reference, their experts and the advice on them by request, and, once more, by expert, what is
+/// assigned to each as the expert sees it; and the prefixes of the pool.
 ///
-/// A row by its key and a change take O(log n), whatever else there is, but a change of a request's
-/// state O((1 + experts) log n), for the experts of that request; a registry's ranges, its entries,
-/// an account's own requests, a request's file and an expert's queue O(log n + rows); the names of
-/// all registries, the pool, a prefix more in it, and all requests O(rows).
+/// A row by its key and a change take O(log n), whatever else there is, but a change of a
+/// request's state O((1 + experts) log n), for the experts of that request; the least value without
+/// an entry O(log n) for each range of its policy; a registry's ranges, its entries, an account's
+/// own requests, a request's file and an expert's queue O(log n + rows); the names of all
+/// registries, the pool, a prefix more in it, and all requests O(rows).
 #[derive(Drop)]
 pub struct ListKeeper {
     alloc: Global,
     caps: Caps,
     registries: Registries,
-    entries: Entries,
+    registrations: Registrations,
     reviews: Reviews,
     pool: Pool,
-    ghost well: { WellKept (content caps registries entries (world_of reviews) pool) },
+    ghost well: { WellKept (content caps registries (entries_held registrations)
+        (world_of reviews) pool) },
 }
 
 impl ListKeeper {
@@ -68,7 +75,7 @@ impl ListKeeper {
             alloc,
             caps: BTreeMap::new(alloc),
             registries: BTreeMap::new(alloc),
-            entries: BTreeMap::new(alloc),
+            registrations: Registrations::new(alloc),
             reviews: Reviews::new(alloc),
             pool: Pool::new(alloc),
         }
@@ -104,11 +111,21 @@ impl Keeper for ListKeeper {
     }
 
     fn entry(&mut self, registry: &Name, value: u32) -> Result<Option<Entry>, Fault> {
-        Ok(entry_in(&self.entries, registry, value)?)
+        Ok(entry_in(self.registrations.entries(), registry, value)?)
     }
 
     fn entries(&mut self, registry: &Name) -> Result<Rows<Entry>, Fault> {
-        Ok(entries_in(self.alloc, &self.entries, registry)?)
+        Ok(entries_in(self.alloc, self.registrations.entries(), registry)?)
+    }
+
+    fn least(&mut self, registry: &Name, policy: Policy) -> Result<Option<u32>, Fault> {
+        let Some(table) = row_at(&self.registries, registry) else {
+            return Ok(None);
+        };
+        Ok(
+            self.registrations
+                .least(self.alloc, registry, table, policy),
+        )
     }
 
     fn pool(&mut self) -> Result<Pool, Fault> {
@@ -166,7 +183,7 @@ impl Keeper for ListKeeper {
             }
             Change::GiveValue(account, reference, entry) => {
                 let approval = entry.approval();
-                put_entry(self.alloc, &mut self.entries, entry)?;
+                self.registrations.put(self.alloc, entry)?;
                 self.reviews.set_state(account, reference, approval);
             }
         }

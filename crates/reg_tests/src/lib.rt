@@ -1,5 +1,5 @@
 //! Tests of what the program does not reach yet, or cannot: blocks, the days of early allocation,
-//! and range files that no text can hold. They stand in a crate of their own because the gate
+//! sets of numbers, and range files that no text can hold. They stand in a crate of their own because the gate
 //! proves a crate that has tests a second time, whole, together with them. What the program answers
 //! is tested in `reg_cli`.
 #![tactic(auto)]
@@ -10,5 +10,7 @@ mod blocks;
 mod early;
 #[cfg(test)]
 mod entries;
+#[cfg(test)]
+mod free_values;
 #[cfg(test)]
 mod range_files;

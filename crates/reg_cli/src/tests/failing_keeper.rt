@@ -11,10 +11,11 @@ use reg_core::request::Request;
 use reg_core::rows::Rows;
 use reg_core::text::{Account, Digest, Name, Ref};
 use reg_keeper::keeper::{Fault, Keeper};
+use reg_ranges::policy::Policy;
 use reg_ranges::table::RangeTable;
 
 /// A keeper over a store that takes changes, gives back capabilities, and registries with their
-/// entries, and fails at all else.
+/// entries and least values, and fails at all else.
 #[derive(Drop)]
 pub(crate) struct FailingKeeper<K> {
     pub(crate) keeper: K,
@@ -61,6 +62,13 @@ impl<K: Keeper> Keeper for FailingKeeper<K> {
     fn entries(&mut self, registry: &Name) -> Result<Rows<Entry>, Fault> {
         match self.keeper.entries(registry) {
             Ok(entries) => Ok(entries),
+            Err(_) => Err(Fault::Store),
+        }
+    }
+
+    fn least(&mut self, registry: &Name, policy: Policy) -> Result<Option<u32>, Fault> {
+        match self.keeper.least(registry, policy) {
+            Ok(value) => Ok(value),
             Err(_) => Err(Fault::Store),
         }
     }

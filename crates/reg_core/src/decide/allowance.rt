@@ -4,7 +4,6 @@ ghost use Rattle.std.specs.List.{list_any};
 ghost use Rattle.std.specs.Result.{result_map_both};
 ghost use Rattle.reg_ranges.specs.Requirements.{first_item, is_closed_policy, unmet};
 ghost use Rattle.reg_ranges.specs.Sameness.{same_treatment};
-ghost use Rattle.std.specs.List.Sorted.{IsStrictlyIncreasing};
 ghost use Rattle.reg_core.specs.Allowance.{allowance_on, allowed_on, is_met, open_policy, policy_for, policy_in, value_for as value_wanted};
 ghost use Rattle.reg_core.specs.Award.{allowance_view};
 ghost use Rattle.reg_core.specs.Ground.{seen};
@@ -16,7 +15,6 @@ use crate::refusal::Refusal;
 use crate::request::Given;
 use crate::text::Account;
 use reg_ranges::evidence::Evidence;
-use reg_ranges::free::least_free;
 use reg_ranges::policy::{Policy, Treatment};
 use reg_ranges::range::Range;
 use reg_ranges::requirements::{missing, needs_expert};
@@ -29,8 +27,9 @@ pub struct Ground<'a> {
     pub table: Option<&'a RangeTable>,
     /// The entry at the value that the ask names, if it names one and there is one.
     pub entry: Option<&'a Entry>,
-    /// The values that have entries, ascending, where the ask wants the least.
-    pub taken: &'a [u32],
+    /// The least value without an entry under the policy of which the ask wants it, if it does and
+    /// there is one.
+    pub least: Option<u32>,
 }
 
 /// What an ask is allowed. It borrows from the ask and the account.
@@ -46,7 +45,6 @@ pub struct Allowance<'a> {
 /// `Range`, `Policy`, `Evidence` with its item, then `Taken` or `Exhausted`. Other requests are
 /// not looked at, and no memory is taken.
 pub fn check_ask(account: &Account, ask: &Ask, rows: Ground<'_>) -> Result<Given, Refusal>
-    requires { IsStrictlyIncreasing rows.taken.now }
     ensures { result ≡ allowed_on (seen rows.entry) account.now ask.now }
 {
     let allowance = allowance_for(account, ask, rows)?;
@@ -59,7 +57,6 @@ pub fn allowance_for<'a>(
     ask: &'a Ask,
     rows: Ground<'_>,
 ) -> Result<Allowance<'a>, Refusal>
-    requires { IsStrictlyIncreasing rows.taken.now }
     ensures { result_map_both allowance_view (λ refusal. refusal) result
         ≡ allowance_on (seen rows.entry) account.now ask.now }
 {
@@ -85,13 +82,12 @@ pub fn allowance_for<'a>(
 
 // The value that is wanted, where it has no entry.
 fn value_for(rows: Ground<'_>, table: &RangeTable, want: Want) -> Result<u32, Refusal>
-    requires { IsStrictlyIncreasing rows.taken.now }
     ensures { result ≡ value_wanted (seen rows.entry) table.now want }
 {
     match want {
         Want::Value(_) if rows.entry.is_some() => Err(Refusal::Taken),
         Want::Value(value) => Ok(value),
-        Want::Least(policy) => least_free(table, policy, rows.taken).ok_or(Refusal::Exhausted),
+        Want::Least(_) => rows.least.ok_or(Refusal::Exhausted),
     }
 }
 

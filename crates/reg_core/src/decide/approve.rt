@@ -1,6 +1,5 @@
 //! A clerk approves a request.
 ghost use Rattle.std.specs.Prelude.{◌≡◌};
-ghost use Rattle.std.specs.List.Sorted.{IsStrictlyIncreasing};
 ghost use Rattle.reg_core.specs.Advice.{is_advised as given_advice};
 ghost use Rattle.reg_core.specs.Allowance.{allowance_on};
 ghost use Rattle.reg_core.specs.Ground.{seen};
@@ -28,7 +27,6 @@ pub fn decide_approve(
     rows: Ground<'_>,
     today: Day,
 ) -> Result<Decision, Deny>
-    requires { IsStrictlyIncreasing rows.taken.now }
     ensures { let name : RequestName = (request.now.account, request.now.reference) in
         let advised = given_advice experts.now opinions.now in
         let rule = approve_rule (seen rows.entry) advised name request.now.ask today in
@@ -47,7 +45,6 @@ fn decide_pending(
     rows: Ground<'_>,
     today: Day,
 ) -> Result<Decision, Deny>
-    requires { IsStrictlyIncreasing rows.taken.now }
     ensures { let name : RequestName = (request.now.account, request.now.reference) in
         let allowance = allowance_on (seen rows.entry) request.now.account request.now.ask in
         Follows (give_rule name today advised allowance) result }

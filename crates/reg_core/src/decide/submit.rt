@@ -1,7 +1,6 @@
 //! An applicant files a request.
 ghost use Rattle.std.specs.Prelude.{option_map};
 ghost use Rattle.std.specs.Option.{option_copied};
-ghost use Rattle.std.specs.List.Sorted.{IsStrictlyIncreasing};
 ghost use Rattle.reg_core.specs.Allowance.{allowed_on};
 ghost use Rattle.reg_core.specs.Ground.{seen};
 ghost use Rattle.reg_core.specs.Request.{case_of};
@@ -24,7 +23,6 @@ pub fn decide_submit(
     ask: &Ask,
     rows: Ground<'_>,
 ) -> Result<Decision, Deny>
-    requires { IsStrictlyIncreasing rows.taken.now }
     ensures { let allowance = allowed_on (seen rows.entry) account.now ask.now in
         Follows (submit_rule allowance (account.now, reference.now) ask.now
         (option_map case_of (option_copied existing.entry))) result }

@@ -48,7 +48,7 @@ module _ (g : Over) (c : After-decide_submit g) where
         let needed : c.is_none.result ≡ true =
         wanted c.is_none.result (sym (copied c.args.existing none) ∙ c.is_none.ensures) in
         ap (λ (rows : Ground). allowed_on rows c.args.account.now c.args.ask.now)
-        (c.ground.ensures.rows ∙ selected_after c.in_ok-rows.ensures h needed)
+        (c.ground.ensures ∙ selected_after c.in_ok-rows.ensures h needed)
 
     decides_there : submit_rule allowance name c.args.ask.now (option_map case_of existing)
         ≡ submission w name c.args.ask.now existing

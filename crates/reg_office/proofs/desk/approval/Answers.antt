@@ -37,7 +37,7 @@ module _ (g : Over) (c : After-decide_approve g) where
         approve_read (seen c.ground.result) (ground_of (published w) row.ask) advised
         (row.account, row.reference) row.ask c.args.today row.state
         (λ pending.
-        c.ground.ensures.rows
+        c.ground.ensures
         ∙ selected_after c.in_ok-rows.ensures h (c.is_pending.ensures ∙ pending))
         ∙ ap (λ (advised : Bool).
         approve_rule (ground_of (published w) row.ask) advised (row.account, row.reference) row.ask

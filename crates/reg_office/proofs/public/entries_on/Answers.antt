@@ -2,7 +2,7 @@ use Rattle.std.proofs.Common.{ap, ◌∙◌}
 use Rattle.std.specs.Prelude.{map}
 use Rattle.reg_core.specs.View.{entries_of}
 use Rattle.reg_office.specs.Pages.{shown_on}
-use Rattle.reg_office.proofs.Values.{entries_shown}
+use Rattle.reg_office.proofs.Pages.{entries_shown}
 use Rattle.reg_office.proofs.public.entries_on.Goals as goal
 
 pub returns : goal.returns

@@ -1,0 +1,2 @@
+mod SpanLaws
+mod Joining

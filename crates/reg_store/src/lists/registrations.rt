@@ -1,0 +1,102 @@
+//! The entries of registries, and the values that have them.
+ghost use Rattle.std.specs.Prelude.{◌≡◌, OnOk, OnErr};
+ghost use Rattle.std.specs.FinMap as fin;
+ghost use Rattle.reg_ranges.specs.FreeValues.{least_value};
+ghost use Rattle.reg_core.specs.Entry.{registration_in};
+ghost use Rattle.reg_core.specs.LeastFree.{values_in};
+ghost use Rattle.reg_store.specs.Lists.Entries.{all_entries};
+ghost use Rattle.reg_store.specs.Lists.Taken.{AreTaken};
+
+use crate::groups::take_row;
+use crate::lists::entries::{Entries, put_entry};
+use crate::lists::taken::{Taken, put_value};
+use reg_core::entry::Entry;
+use reg_core::text::Name;
+use reg_free::least::least_free_of;
+use reg_free::runs::Runs;
+use reg_ranges::policy::Policy;
+use reg_ranges::table::RangeTable;
+use std::alloc::{AllocError, Global};
+use std::collections::BTreeMap;
+
+/// The entries of registries by value; and, once more, the values that have entries as a set for
+/// each registry. So no entry is looked at to find the least value without one.
+#[derive(Drop)]
+pub struct Registrations {
+    entries: Entries,
+    taken: Taken,
+    ghost in_step: { AreTaken (all_entries entries) taken },
+}
+
+impl Registrations {
+    ghost use Rattle.reg_store.specs.Lists.Registrations.{entries_held};
+
+    /// No entry.
+    pub fn new(alloc: Global) -> Self
+        ensures { entries_held result ≡ fin.empty }
+    {
+        Registrations {
+            entries: BTreeMap::new(alloc),
+            taken: BTreeMap::new(alloc),
+        }
+    }
+
+    /// All entries.
+    pub fn entries(&self) -> &Entries
+        ensures { result.now ≡ self.now.entries }
+    {
+        &self.entries
+    }
+
+    /// The least value of a registry with these ranges that lies under the policy and has no
+    /// entry, if there is such a value.
+    pub fn least(
+        &self,
+        alloc: Global,
+        registry: &Name,
+        table: &RangeTable,
+        policy: Policy,
+    ) -> Option<u32>
+        ensures { result ≡ least_value table.now policy
+            (values_in registry.now (entries_held self.now)) }
+    {
+        match self.taken.get(registry) {
+            Some(taken) => least_free_of(table, policy, taken),
+            None => least_free_of(table, policy, &Runs::new(alloc)),
+        }
+    }
+
+    /// Adds an entry, or replaces the one at its registry and value.
+    pub fn put(&mut self, alloc: Global, entry: Entry) -> Result<(), AllocError>
+        ensures ok { OnOk result (entries_held self.new ≡ fin.insert (entries_held self.old)
+            (entry.registry, entry.value) (registration_in entry)) }
+        ensures err { OnErr result (entries_held self.new ≡ entries_held self.old) }
+    {
+        put_both(alloc, &mut self.entries, &mut self.taken, entry)
+    }
+}
+
+// The entry and its value, or, where there is no memory for the value, neither.
+fn put_both(
+    alloc: Global,
+    entries: &mut Entries,
+    taken: &mut Taken,
+    entry: Entry,
+) -> Result<(), AllocError>
+    requires { AreTaken (all_entries entries.old) taken.old }
+    ensures in_step { AreTaken (all_entries entries.new) taken.new }
+    ensures ok { OnOk result (all_entries entries.new ≡ fin.insert (all_entries entries.old)
+        (entry.registry, entry.value) (registration_in entry)) }
+    ensures err { OnErr result (all_entries entries.new ≡ all_entries entries.old) }
+{
+    let registry = entry.registry;
+    let value = entry.value;
+    put_entry(alloc, entries, entry)?;
+    match put_value(alloc, taken, &registry, value) {
+        Ok(()) => Ok(()),
+        Err(error) => {
+            take_row(entries, &registry, &value);
+            Err(error)
+        }
+    }
+}
