@@ -36,7 +36,7 @@ fn entry(
     Ok(PageEntry {
         value,
         label: Text::read(alloc, label.as_bytes())?.ok_or("no text")?,
-        assignee: Account::read(alloc, assignee.as_bytes())?.ok_or("no account")?,
+        assignee: Account::read(assignee.as_bytes()).ok_or("no account")?,
         term,
         status: term.status(day(20146)?),
     })
@@ -48,7 +48,7 @@ fn page(alloc: Global) -> Result<Page, Fail> {
     entries.push(entry(alloc, 7, "Early", "alice", Term::early(day(19782)?))?)?;
     entries.push(entry(alloc, 64, "Red", "bob", Term::permanent(day(19675)?))?)?;
     Ok(Page {
-        name: Name::read(alloc, b"flags")?.ok_or("no name")?,
+        name: Name::read(b"flags").ok_or("no name")?,
         table: RangeTable::make(64, read_ranges(alloc, FILE)?)?,
         entries: Rows::from_vec(entries),
     })
