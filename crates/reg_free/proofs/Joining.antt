@@ -248,6 +248,12 @@ was_there old new first last value b j n l =
           inr (record { first = l.first; last = l.last; run = some; low = l.low; high = l.high })
     ]
 
+-- each number of the joined run lies in the new map
+in_joined : (old new : Spans) (first last value n : ℕ) → Joins old new first last value
+    → first ≤ n → n ≤ last → Lies new n
+in_joined old new first last value n j low high =
+    record { first = first; last = last; run = j.put; low = low; high = high }
+
 stays : (old new : Spans) (first last value : ℕ) → Apart old → Between old first last value
     → Joins old new first last value → (n : ℕ) → Lies old n → Lies new n
 stays old new first last value apart b j n l =
@@ -266,27 +272,16 @@ stays old new first last value apart b j n l =
     } in
     elim (cases_lt value l.first) [
       | inl up ↦ elim (b.above l.first l.last l.run up) [
-        | inl same ↦ let e : l.last ≡ last =
-            same.1 in record {
-              first = first;
-              last = last;
-              run = j.put;
-              low = omega arith;
-              high = omega arith;
-            }
+        | inl same ↦
+            let e : l.last ≡ last = same.1 in
+            in_joined old new first last value n j (omega arith) (omega arith)
         | inr far ↦ kept (omega arith) (omega arith)
       ]
       | inr down ↦ elim (b.below l.first l.last l.run down) [
         | inl same ↦
             let e : l.first ≡ first = same.0 in
-            let e' : l.last + 1 ≡ value =
-            same.1 in record {
-              first = first;
-              last = last;
-              run = j.put;
-              low = omega arith;
-              high = omega arith;
-            }
+            let e' : l.last + 1 ≡ value = same.1 in
+            in_joined old new first last value n j (omega arith) (omega arith)
         | inr far ↦ kept (omega arith) (omega arith)
       ]
     ]
@@ -294,14 +289,9 @@ stays old new first last value apart b j n l =
 is_there : (old new : Spans) (first last value : ℕ) → Apart old → Between old first last value
     → Joins old new first last value → (n : ℕ) → (n ≡ value) ⊎ Lies old n → Lies new n
 is_there old new first last value apart b j n (inl e) =
-    let low = b.low in let high =
-    b.high in record {
-      first = first;
-      last = last;
-      run = j.put;
-      low = omega arith;
-      high = omega arith;
-    }
+    let low = b.low in
+    let high = b.high in
+    in_joined old new first last value n j (omega arith) (omega arith)
 is_there old new first last value apart b j n (inr l) =
     stays old new first last value apart b j n l
 
