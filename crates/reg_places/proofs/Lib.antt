@@ -1,0 +1,4 @@
+mod SpanSteps
+mod SizeSteps
+mod Pooling
+mod Following
