@@ -17,8 +17,8 @@ use Rattle.reg_ranges.specs.declared.policy.Policy.{Policy}
 use Rattle.reg_ranges.specs.declared.policy.Treatment.{Treatment}
 use Rattle.reg_ranges.specs.declared.policy.Treatment.TheVariants.{Under, Reserved}
 use Rattle.reg_ranges.specs.declared.evidence.Item.{Item}
-use Rattle.reg_core.specs.Allowance.{Ground, ◌>>=◌, or_refusal, open_policy, policy_for, is_met, value_for, allowance_on, allowed, ground_of, entry_wanted, least_wanted, is_reviewed, policy_wanted, needs_advice, entry_asked}
-use Rattle.reg_core.specs.Award.{Allowance, new_entry, given_in}
+use Rattle.reg_core.specs.Allowance.{Ground, ◌>>=◌, or_refusal, open_policy, policy_for, is_met, value_for, allowance_on, allowed_on, allowed, ground_of, entry_wanted, least_wanted, is_reviewed, policy_wanted, needs_advice, entry_asked, holding_asked}
+use Rattle.reg_core.specs.Award.{Allowance, new_entry, new_holding, given_in}
 use Rattle.reg_core.specs.Ask.{has_note_form}
 use Rattle.reg_core.specs.LeastFree.{values_in}
 use Rattle.reg_core.specs.MayBeGiven.{IsWanted, MayBeGiven}
@@ -28,12 +28,15 @@ use Rattle.reg_core.specs.View.{published}
 use Rattle.reg_core.specs.WellKept.{WellKept, is_open_at}
 use Rattle.reg_core.specs.World.{World}
 use Rattle.reg_core.specs.declared.ask.Ask.{Ask}
-use Rattle.reg_core.specs.declared.ask.Ask.TheVariants.{Code}
+use Rattle.reg_core.specs.declared.ask.Ask.TheVariants.{Code, Block}
+use Rattle.reg_core.specs.declared.ask.BlockAsk.{BlockAsk}
+use Rattle.reg_blocks.specs.Block.{SizedPrefix}
 use Rattle.reg_core.specs.declared.ask.CodeAsk.{CodeAsk}
 use Rattle.reg_core.specs.declared.ask.Want.{Want}
 use Rattle.reg_core.specs.declared.ask.Want.TheVariants.{Value, Least}
 use Rattle.reg_core.specs.declared.refusal.Refusal.{Refusal}
 use Rattle.reg_core.specs.declared.refusal.Refusal.TheVariants as no
+use Rattle.reg_core.specs.declared.request.Given.{Given}
 use Rattle.reg_core.specs.declared.request.Given.TheVariants as given
 use Rattle.reg_core.proofs.Cases.{by_test}
 use Rattle.reg_core.proofs.ValuesIn.{no_entry}
@@ -189,6 +192,7 @@ module _ (w : World) (kept : WellKept w) (registry : List ℕ) (table : Table)
         table = get w.registries registry;
         entry = entry_wanted (published w) registry want;
         least = least_wanted (published w) registry want;
+        due = None;
       }) table want ≡ Ok v
       → IsFree w registry v
   wanted_free (Value u) policy v by h =
@@ -210,6 +214,7 @@ module _ (w : World) (kept : WellKept w) (registry : List ℕ) (table : Table)
         table = get w.registries registry;
         entry = entry_wanted (published w) registry want;
         least = least_wanted (published w) registry want;
+        due = None;
       }) table want ≡ Ok v
       → IsWanted want policy v × (treatment_of table v ≡ Some (Under policy))
       × (is_closed_policy policy ≡ false)
@@ -244,6 +249,10 @@ record Allows (rows : Ground) (account : List ℕ) (ask : CodeAsk)
   awards : new_entry (entry_asked account ask value) ≡ allowance.award
   needs : is_expert_policy policy ≡ allowance.needs_advice
 
+abbrev unwrap_ok : Result Allowance Refusal → Allowance → Allowance
+unwrap_ok (Ok a) other = a
+unwrap_ok (Err refusal) other = other
+
 allows : (rows : Ground) (account : List ℕ) (ask : CodeAsk) (allowance : Allowance)
     → allowance_on rows account (Code ask) ≡ Ok allowance → Allows rows account ask allowance
 allows rows account ask allowance h =
@@ -262,10 +271,6 @@ allows rows account ask allowance h =
       awards = ap (λ r. (unwrap_ok r allowance).award) last.2;
       needs = ap (λ r. (unwrap_ok r allowance).needs_advice) last.2;
     }
-  where
-    unwrap_ok : Result Allowance Refusal → Allowance → Allowance
-    unwrap_ok (Ok a) other = a
-    unwrap_ok (Err refusal) other = other
 
 -- what is allowed to an ask for a value is an entry for it
 pub allowed_entry : (rows : Ground) (account : List ℕ) (ask : CodeAsk) (allowance : Allowance)
@@ -273,6 +278,37 @@ pub allowed_entry : (rows : Ground) (account : List ℕ) (ask : CodeAsk) (allowa
     → (v : ℕ) × (allowance.award ≡ new_entry (entry_asked account ask v))
 allowed_entry rows account ask allowance h =
     let is = allows rows account ask allowance h in (is.value, sym is.awards)
+
+-- the checks of an allowance for a block: one was due
+pub record AllowsBlock (rows : Ground) (account : List ℕ) (ask : BlockAsk)
+    (allowance : Allowance) : Type 0 where
+  pub block : SizedPrefix
+  pub due : rows.due ≡ Some block
+  pub awards : new_holding (holding_asked account ask block) ≡ allowance.award
+  pub needs : false ≡ allowance.needs_advice
+
+-- what is allowed to an ask for a block is the one due
+pub allows_block : (rows : Ground) (account : List ℕ) (ask : BlockAsk) (allowance : Allowance)
+    → allowance_on rows account (Block ask) ≡ Ok allowance
+    → AllowsBlock rows account ask allowance
+allows_block rows account ask allowance h =
+    let one = went_on (or_refusal no.Exhausted rows.due) _ allowance h in
+    record {
+      block = one.0;
+      due = was_some rows.due no.Exhausted one.0 one.1;
+      awards = ap (λ r. (unwrap_ok r allowance).award) one.2;
+      needs = ap (λ r. (unwrap_ok r allowance).needs_advice) one.2;
+    }
+
+-- an ask that is allowed something has an allowance
+pub allowance_of : (rows : Ground) (account : List ℕ) (ask : Ask) (given : Given)
+    → allowed_on rows account ask ≡ Ok given
+    → (allowance : Allowance) × (allowance_on rows account ask ≡ Ok allowance)
+    × (given_in allowance.award ≡ given)
+allowance_of rows account ask given h =
+    let whole = went_on (allowance_on rows account ask) _ given h in
+    let ok = whole.2 in
+    (whole.0, whole.1, cc)
 
 -- what is allowed to an ask for a value is a free value of its registry
 pub allowed_free : (w : World) → WellKept w → (account : List ℕ) (ask : CodeAsk) (v : ℕ)
@@ -318,3 +354,5 @@ pub allowance_needs : (rows : Ground) (account : List ℕ) (ask : Ask) (allowanc
 allowance_needs rows account (Code ask) allowance h =
     let is = allows rows account ask allowance h in
     ap is_reviewed (ap (λ o. policy_wanted o ask.want) is.is_there ∙ is.decides) ∙ is.needs
+allowance_needs rows account (Block ask) allowance h =
+    (allows_block rows account ask allowance h).needs

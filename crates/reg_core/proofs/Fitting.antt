@@ -18,25 +18,29 @@ use Rattle.reg_core.specs.Capability.{last_until, has_cap_form}
 use Rattle.reg_core.specs.Entry.{has_day_form}
 use Rattle.reg_core.specs.Laws.{GivesDigests, ChangesFit}
 use Rattle.reg_core.specs.Names.{is_name, is_digest}
-use Rattle.reg_core.specs.Rules.{withdraw_rule, decline_rule, assign_rule, advise_rule, change_to_give, approve_rule, define_rule, pool_rule, grant_rule, revoke_rule, submit_rule}
+use Rattle.reg_core.specs.Rules.{withdraw_rule, listing_rule, decline_rule, assign_rule, advise_rule, change_to_give, approve_rule, define_rule, pool_rule, grant_rule, revoke_rule, submit_rule}
 use Rattle.reg_core.specs.View.{Queued, published, cap_at}
 use Rattle.reg_core.specs.WellKept.{WellKept, CanApply, has_grant_form, has_registry_form, has_request_form}
 use Rattle.reg_core.specs.World.{World, RequestName, pending}
 use Rattle.reg_core.specs.declared.advice.Advice.{Advice}
 use Rattle.reg_core.specs.declared.ask.Ask.{Ask}
-use Rattle.reg_core.specs.declared.ask.Ask.TheVariants.{Code}
+use Rattle.reg_core.specs.declared.ask.Ask.TheVariants.{Code, Block}
+use Rattle.reg_blocks.specs.Block.{SizedPrefix}
 use Rattle.reg_core.specs.declared.capability.Cap.{Cap}
+use Rattle.reg_core.specs.declared.holding.Holder.{Holder}
 use Rattle.reg_core.specs.declared.change.Change.{Change}
-use Rattle.reg_core.specs.declared.change.Change.TheVariants.{Grant, Revoke, Define, AddPool, Submit, Close, Assign, Advise, GiveValue}
+use Rattle.reg_core.specs.declared.change.Change.TheVariants.{Grant, Revoke, Define, AddPool, Submit, Close, Assign, Advise, GiveValue, GiveBlock, SetPrivate}
 use Rattle.reg_core.specs.declared.decide.Decision.TheVariants.{Make}
 use Rattle.reg_core.specs.declared.refusal.Refusal.{Refusal}
 use Rattle.reg_core.specs.declared.request.Case.{Case}
 use Rattle.reg_core.specs.declared.request.Given.{Given}
 use Rattle.reg_core.specs.declared.request.Given.TheVariants.{Value}
 use Rattle.reg_core.specs.declared.request.State.TheVariants.{Pending, Approved, Declined, Withdrawn}
-use Rattle.reg_core.proofs.Allowances.{allowed_entry, allowed_free}
+use Rattle.reg_core.proofs.Allowances.{allowed_entry, allowed_free, allows_block}
+use Rattle.reg_core.proofs.Blocks.{due_is_due}
 use Rattle.reg_core.proofs.Keeping.Changes.{can_grant, can_revoke, can_define, can_add_pool, can_submit, can_close, can_assign, can_advise, can_give}
-use Rattle.reg_core.proofs.Outcomes.Deciding.{where_made, Defines, Pools, Grants, Revokes, Submits, Withdraws, Declines, Assigns, Advises, Approves, define_decides, pool_decides, grant_decides, revoke_decides, submit_decides, withdraw_decides, decline_decides, assign_decides, advise_decides, approve_decides}
+use Rattle.reg_core.proofs.Keeping.Blocks.{can_give_block, can_mark}
+use Rattle.reg_core.proofs.Outcomes.Deciding.{where_made, Defines, Pools, Grants, Revokes, Submits, Withdraws, Lists, Declines, Assigns, Advises, Approves, define_decides, pool_decides, grant_decides, revoke_decides, submit_decides, withdraw_decides, listing_decides, decline_decides, assign_decides, advise_decides, approve_decides}
 use Rattle.reg_core.proofs.Outcomes.Dues.{Due, has_change_form, changes_due}
 use Rattle.reg_core.proofs.Queues.{IsQueued}
 
@@ -94,6 +98,15 @@ withdraw_fits w name case change kept is_there made =
     (withdraw_decides name case.state) made (CanApply w)
     (λ pending. can_close w name case Withdrawn kept is_there tt refl)
 
+-- a mark that is to be set fits the world that has this block
+pub listing_fits : (w : World) (block : SizedPrefix) (private : Bool) (h : Holder)
+    (change : Change) → WellKept w → get w.blocks block ≡ Some h
+    → listing_rule block private h.private ≡ Make change → CanApply w change
+listing_fits w block private h change kept is_there made =
+    where_made (Lists block private h.private) (Ok (listing_rule block private h.private)) change
+    (listing_decides block private h.private) (ap Ok made) (CanApply w)
+    (λ other. can_mark w block private h kept is_there)
+
 pub decline_fits : (w : World) (name : RequestName) (case : Case) (reason : List ℕ)
     (change : Change) → WellKept w → get w.requests name ≡ Some case
     → is_text reason ≡ true → decline_rule name reason case.state ≡ Ok (Make change)
@@ -139,6 +152,11 @@ given_fits w name case (Code ask) today allowance kept is_there asks day is =
     subst (λ a. CanApply w (change_to_give name today a)) (sym entry.1)
     (can_give w name case ask today entry.0 kept is_there asks
     (allowed_free w kept name.0 ask entry.0 allows) day)
+given_fits w name case (Block ask) today allowance kept is_there asks day is =
+    let its = allows_block (ground_of (published w) (Block ask)) name.0 ask allowance is in
+    subst (λ a. CanApply w (change_to_give name today a)) its.awards
+    (can_give_block w name case ask its.block kept is_there asks
+    (due_is_due w ask.size its.block its.due))
 
 -- an approval that is to be made on a day fits the world over whose published rows it was decided
 pub approve_fits : (w : World) (advised : Bool) (name : RequestName) (case : Case) (today : ℕ)
@@ -202,6 +220,13 @@ module _ (w : World) (kept : WellKept w) (caller : Option (List ℕ)) (moment : 
       subst (λ e. CanApply w (GiveValue account reference e)) is.is
       (can_give w (account, reference) is.pending.case is.ask
       (utc_day moment) entry.value kept is.pending.is_there is.asks free (open_day moment now))
+  due_fits (GiveBlock account reference holding) due form =
+      let is = due.1 in
+      subst (λ h. CanApply w (GiveBlock account reference h)) is.is
+      (can_give_block w (account, reference) is.pending.case is.ask holding.block kept
+      is.pending.is_there is.asks is.due)
+  due_fits (SetPrivate block private) due form =
+      can_mark w block private due.holder kept due.is_there
 
 pub steps_fit : (digest_of : List ℕ → List ℕ) → GivesDigests digest_of → ChangesFit digest_of
 steps_fit digest_of digests w caller moment command change kept form made =

@@ -12,7 +12,9 @@ use Rattle.reg_core.specs.Command.{has_command_form}
 use Rattle.reg_core.specs.Allowance.{entry_asked}
 use Rattle.reg_core.specs.Award.{entry_on}
 use Rattle.reg_core.specs.Entry.{registration_in}
-use Rattle.reg_core.specs.Laws.{GivesDigests, GivenStays, SameReview, Stays, StillGiven, StillStands, StillAsks}
+use Rattle.reg_core.specs.Holding.{holder_in, with_mark}
+use Rattle.reg_blocks.specs.Block.{SizedPrefix, block_cmp}
+use Rattle.reg_core.specs.Laws.{GivesDigests, GivenStays, SameReview, Stays, StillGiven, StillHeld, StillStands, StillAsks}
 use Rattle.reg_core.specs.Maps.{text_cmp, update}
 use Rattle.reg_core.specs.Request.{is_pending}
 use Rattle.reg_core.specs.Run.{Event, have_forms, step_of, world_after}
@@ -24,15 +26,18 @@ use Rattle.reg_core.specs.declared.change.Change.{Change}
 use Rattle.reg_core.specs.declared.capability.Cap.{Cap}
 use Rattle.reg_core.specs.declared.entry.Registration.{Registration}
 use Rattle.reg_core.specs.declared.entry.Entry.{Entry}
+use Rattle.reg_core.specs.declared.holding.Holder.{Holder}
+use Rattle.reg_core.specs.declared.holding.Holding.{Holding}
 use Rattle.reg_core.specs.declared.request.Case.{Case}
-use Rattle.reg_core.specs.declared.request.Given.TheVariants.{Value}
+use Rattle.reg_core.specs.declared.request.Given.TheVariants.{Value, Block}
 use Rattle.reg_core.specs.declared.request.State.{State}
 use Rattle.reg_core.specs.declared.request.State.TheVariants.{Pending, Approved, Declined, Withdrawn}
 use Rattle.reg_core.proofs.Keeping.RunsKeepWell.{step_keeps_well}
 use Rattle.reg_core.proofs.KeySets.{still_in}
-use Rattle.reg_core.proofs.MapLaws.{IsKeyOrder, number_keys, text_keys, name_keys, place_keys, seat_keys, tied, get-at_insert, get-update}
-use Rattle.reg_core.specs.declared.change.Change.TheVariants.{Grant, Revoke, Define, AddPool, Submit, Close, Assign, Advise, GiveValue}
+use Rattle.reg_core.proofs.MapLaws.{IsKeyOrder, number_keys, text_keys, name_keys, place_keys, seat_keys, block_keys, tied, get-at_insert, get-update}
+use Rattle.reg_core.specs.declared.change.Change.TheVariants.{Grant, Revoke, Define, AddPool, Submit, Close, Assign, Advise, GiveValue, GiveBlock, SetPrivate}
 use Rattle.reg_core.proofs.Allowances.{allowed_free}
+use Rattle.reg_core.proofs.Blocks.{due_is_new}
 use Rattle.reg_core.proofs.Outcomes.Dues.{WasPending, Due, each_step}
 
 -- ---- Nothing goes away
@@ -47,6 +52,9 @@ given_itself : (a : Registration) (existing : Option Registration) → existing 
     → StillGiven a existing
 given_itself a existing is = subst (StillGiven a) (sym is) (refl, refl, refl)
 
+held_itself : (h : Holder) (existing : Option Holder) → existing ≡ Some h → StillHeld h existing
+held_itself h existing is = subst (StillHeld h) (sym is) (refl, refl, refl)
+
 asks_itself : (case : Case) (existing : Option Case) → existing ≡ Some case
     → StillAsks case existing
 asks_itself case existing is = subst (StillAsks case) (sym is) (refl, stands_itself case.state)
@@ -58,6 +66,7 @@ stays_itself w = record {
   requests = λ name case is. asks_itself case (get w.requests name) is;
   reviews = λ name case is decided expert. (refl, refl);
   pool = λ prefix there. there;
+  blocks = λ block h is. held_itself h (get w.blocks block) is;
 }
 
 -- ---- What stays goes on to stay
@@ -93,6 +102,15 @@ given_on a (Some b) later h k = on later (k b refl)
     on None k = k
     on (Some c) k = (k.0 ∙ h.0, k.1 ∙ h.1, k.2 ∙ h.2)
 
+held_on : (h : Holder) (now later : Option Holder) → StillHeld h now
+    → ((k : Holder) → now ≡ Some k → StillHeld k later) → StillHeld h later
+held_on h None later still k = absurd still
+held_on h (Some b) later still k = on later (k b refl)
+  where
+    on : (later : Option Holder) → StillHeld b later → StillHeld h later
+    on None k = k
+    on (Some c) k = (k.0 ∙ still.0, k.1 ∙ still.1, k.2 ∙ still.2)
+
 asks_on : (case : Case) (now later : Option Case) → StillAsks case now
     → ((b : Case) → now ≡ Some b → StillAsks b later) → StillAsks case later
 asks_on case None later h k = absurd h
@@ -117,6 +135,9 @@ stays_on w v u first then = record {
       let one = first.reviews name case is decided expert in
       let two = then.reviews name now.0 now.1 now.2 expert in (two.0 ∙ one.0, two.1 ∙ one.1);
   pool = λ prefix there. then.pool prefix (first.pool prefix there);
+  blocks = λ block h is.
+      held_on h (get v.blocks block) (get u.blocks block) (first.blocks block h is)
+      (λ b at. then.blocks block b at);
 }
 
 -- ---- One change
@@ -144,6 +165,7 @@ registers_stay w caps queue advice reviewed = record {
   requests = λ name case is. asks_itself case (get w.requests name) is;
   reviews = reviewed;
   pool = λ prefix there. there;
+  blocks = λ block h is. held_itself h (get w.blocks block) is;
 }
 
 -- a row for a pending request is none of one that is decided
@@ -194,6 +216,7 @@ define_stays w name table free = record {
   requests = λ name case is. asks_itself case (get w.requests name) is;
   reviews = λ name case is decided expert. (refl, refl);
   pool = λ prefix there. there;
+  blocks = λ block h is. held_itself h (get w.blocks block) is;
 }
 
 pool_stays : (w : World) (prefix : ℕ) → Stays w (applied w (AddPool prefix))
@@ -203,6 +226,7 @@ pool_stays w prefix = record {
   requests = λ name case is. asks_itself case (get w.requests name) is;
   reviews = λ name case is decided expert. (refl, refl);
   pool = still_in number_keys w.pool prefix tt;
+  blocks = λ block h is. held_itself h (get w.blocks block) is;
 }
 
 submit_stays : (w : World) (name : RequestName) (ask : Ask) → get w.requests name ≡ None
@@ -214,6 +238,7 @@ submit_stays w name ask free = record {
       asks_itself case _ (stays_there name_keys w.requests name (pending ask) free other case is);
   reviews = λ name case is decided expert. (refl, refl);
   pool = λ prefix there. there;
+  blocks = λ block h is. held_itself h (get w.blocks block) is;
 }
 
 -- a pending request may go into any state
@@ -248,6 +273,7 @@ close_stays w name state was = record {
   requests = state_stays w name state was;
   reviews = λ name case is decided expert. (refl, refl);
   pool = λ prefix there. there;
+  blocks = λ block h is. held_itself h (get w.blocks block) is;
 }
 
 give_stays : (w : World) (name : RequestName) (entry : Entry) → WasPending w name
@@ -262,7 +288,45 @@ give_stays w name entry was free = record {
   requests = state_stays w name (Approved (Value entry.value)) was;
   reviews = λ name case is decided expert. (refl, refl);
   pool = λ prefix there. there;
+  blocks = λ block h is. held_itself h (get w.blocks block) is;
 }
+
+give_block_stays : (w : World) (name : RequestName) (holding : Holding) → WasPending w name
+    → get w.blocks holding.block ≡ None
+    → Stays w (applied w (GiveBlock name.0 name.1 holding))
+give_block_stays w name holding was free = record {
+  registries = λ name table is. is;
+  entries = λ place a is. given_itself a (get w.entries place) is;
+  requests = state_stays w name (Approved (Block holding.block)) was;
+  reviews = λ name case is decided expert. (refl, refl);
+  pool = λ prefix there. there;
+  blocks = λ block h is.
+      held_itself h _
+      (stays_there block_keys w.blocks holding.block (holder_in holding) free block h is);
+}
+
+-- the mark of a block may change
+mark_stays : (w : World) (block : SizedPrefix) (private : Bool)
+    → Stays w (applied w (SetPrivate block private))
+mark_stays w block private = record {
+  registries = λ name table is. is;
+  entries = λ place a is. given_itself a (get w.entries place) is;
+  requests = λ name case is. asks_itself case (get w.requests name) is;
+  reviews = λ name case is decided expert. (refl, refl);
+  pool = λ prefix there. there;
+  blocks = λ other h is.
+      subst (StillHeld h) (sym (get-update block_keys w.blocks block (with_mark private) other))
+      (by other h is (eq_by_cmp block_cmp other block) refl);
+}
+  where
+    by : (other : SizedPrefix) (h : Holder) → get w.blocks other ≡ Some h → (b : Bool)
+        → eq_by_cmp block_cmp other block ≡ b
+        → StillHeld h
+        (cond b (option_map (with_mark private) (get w.blocks block)) (get w.blocks other))
+    by other h is true t =
+        let there = ap (get w.blocks) (sym (tied block_keys other block t)) ∙ is in
+        subst (λ o. StillHeld h (option_map (with_mark private) o)) (sym there) (refl, refl, refl)
+    by other h is false t = held_itself h (get w.blocks other) is
 
 -- ---- Each change of a step
 
@@ -291,6 +355,11 @@ module _ (w : World) (kept : WellKept w) (caller : Option (List ℕ)) (moment : 
       (give_stays w (account, reference)
       (entry_on (utc_day moment) (entry_asked account is.ask entry.value)) is.pending
       (allowed_free w kept account is.ask entry.value is.allows).is_new)
+  due_stays (GiveBlock account reference holding) due =
+      let is = due.1 in
+      give_block_stays w (account, reference) holding is.pending
+      (due_is_new w is.ask.size holding.block is.due)
+  due_stays (SetPrivate block private) due = mark_stays w block private
 
 -- ---- Steps and runs
 

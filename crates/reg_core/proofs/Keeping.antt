@@ -1,3 +1,4 @@
 -- Worlds stay well kept.
 pub mod Changes
+pub mod Blocks
 pub mod RunsKeepWell

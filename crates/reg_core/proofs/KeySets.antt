@@ -30,6 +30,34 @@ module _ {K X : Type 0} {R : K → K → Ordering} (o : IsKeyOrder R) (m : FinMa
       by true t there = subst P (sym (tied o q k t)) new
       by false t there = each q there
 
+  -- a test that no missing row passes is passed by a row after an insertion, and so is it after a
+  -- replacement that keeps what it passes
+  pub insert_passes : (test : Option X → Bool) → test None ≡ false → (v : X) → get m k ≡ None
+      → (q : K) → test (get m q) ≡ true → test (get (insert m k v) q) ≡ true
+  insert_passes test bare v free q h = by (eq_by_cmp R q k) refl
+    where
+      by : (b : Bool) → eq_by_cmp R q k ≡ b → test (get (insert m k v) q) ≡ true
+      by true t =
+          let none : test (get m q) ≡ false =
+          ap test (ap (get m) (tied o q k t) ∙ free) ∙ bare in
+          absurd (cc)
+      by false t =
+          ap test (get-at_insert o m k v q ∙ ap (λ b. cond b (Some v) (get m q)) t) ∙ h
+
+  pub update_passes : (test : Option X → Bool) (f : X → X)
+      → ((x : X) → test (Some x) ≡ true → test (Some (f x)) ≡ true) → (q : K)
+      → test (get m q) ≡ true → test (get (update m k f) q) ≡ true
+  update_passes test f each q h = ap test (get-update o m k f q) ∙ by (eq_by_cmp R q k) refl
+    where
+      mapped : (r : Option X) → test r ≡ true → test (option_map f r) ≡ true
+      mapped None h = h
+      mapped (Some x) h = each x h
+
+      by : (b : Bool) → eq_by_cmp R q k ≡ b
+          → test (cond b (option_map f (get m k)) (get m q)) ≡ true
+      by true t = mapped (get m k) (subst (λ q. test (get m q) ≡ true) (tied o q k t) h)
+      by false t = h
+
   -- a key that was there is so after a replacement
   pub still_at : (f : X → X) (q : K) → IsSome (get m q) → IsSome (get (update m k f) q)
   still_at f q there = ap is_some (get-update o m k f q) ∙ by (eq_by_cmp R q k) refl
@@ -41,3 +69,17 @@ module _ {K X : Type 0} {R : K → K → Ordering} (o : IsKeyOrder R) (m : FinMa
       by : (b : Bool) → eq_by_cmp R q k ≡ b → IsSome (cond b (option_map f (get m k)) (get m q))
       by true t = mapped (get m k) (subst (λ q. IsSome (get m q)) (tied o q k t) there)
       by false t = there
+
+  -- and a key that is there after a replacement was there
+  pub was_at : (f : X → X) (q : K) → IsSome (get (update m k f) q) → IsSome (get m q)
+  was_at f q there = by (eq_by_cmp R q k) refl (sym (ap is_some (get-update o m k f q)) ∙ there)
+    where
+      unmapped : (r : Option X) → IsSome (option_map f r) → IsSome r
+      unmapped None h = absurd (cc)
+      unmapped (Some x) h = refl
+
+      by : (b : Bool) → eq_by_cmp R q k ≡ b
+          → IsSome (cond b (option_map f (get m k)) (get m q)) → IsSome (get m q)
+      by true t there =
+          subst (λ q. IsSome (get m q)) (sym (tied o q k t)) (unmapped (get m k) there)
+      by false t there = there

@@ -5,6 +5,7 @@ pub mod KeySets
 pub mod VerdictsReadBack
 pub mod SamenessIsDecided
 pub mod Stepping
+pub mod Blocks
 pub mod Queues
 pub mod Files
 pub mod ValuesIn
@@ -13,6 +14,7 @@ pub mod Outcomes
 pub mod Fitting
 pub mod Keeping
 pub mod GivenStays
+pub mod BlocksAreGivenDuly
 pub mod TwoWorlds
 pub mod ValuesAreGivenOnce
 pub mod Repeats

@@ -6,7 +6,7 @@ use Rattle.std.specs.Str.{bytes_eq}
 use Rattle.std.proofs.lemmas.Slice.Eq.{bytes_eq-Decides}
 use Rattle.std.specs.Prelude.{Option, Some, None}
 use Rattle.reg_core.specs.Advice.{same_advice, is_given}
-use Rattle.reg_core.specs.Ask.{same_want, same_code, same_ask}
+use Rattle.reg_core.specs.Ask.{same_want, same_code, same_size, same_block, same_ask}
 use Rattle.reg_core.specs.declared.ask.Want.{Want}
 use Rattle.reg_core.specs.declared.ask.Want.TheVariants.{Value, Least}
 use Rattle.reg_core.specs.Capability.{same_cap, same_kind}
@@ -17,7 +17,9 @@ use Rattle.reg_ranges.specs.Tables.{Table}
 use Rattle.reg_ranges.proofs.SamenessDecides.{policy_decided, both_decided, evidence_decided, table_decided}
 use Rattle.reg_core.specs.declared.advice.Advice.{Advice}
 use Rattle.reg_core.specs.declared.ask.Ask.{Ask}
-use Rattle.reg_core.specs.declared.ask.Ask.TheVariants.{Code}
+use Rattle.reg_core.specs.declared.ask.Ask.TheVariants.{Code, Block}
+use Rattle.reg_core.specs.declared.ask.BlockAsk.{BlockAsk}
+use Rattle.reg_blocks.specs.declared.size.Size.{Size}
 use Rattle.reg_core.specs.declared.ask.CodeAsk.{CodeAsk}
 use Rattle.reg_core.specs.declared.capability.Cap.{Cap}
 use Rattle.reg_core.specs.declared.capability.Kind.{Kind}
@@ -108,9 +110,28 @@ code_decided a b =
       ),
     )
 
+pub same_size-is : (a b : Size) → same_size a b ≡ true → a ≡ b
+same_size-is a b = search rules
+
+pub same_size-itself : (size : Size) → same_size size size ≡ true
+same_size-itself size = search rules
+
+same_block-is : (a b : BlockAsk) → same_block a b ≡ true → a ≡ b
+same_block-is a b = search rules
+
+same_block-itself : (ask : BlockAsk) → same_block ask ask ≡ true
+same_block-itself ask = search rules
+
+block_decided : (a b : BlockAsk) → Decides (same_block a b) (a ≡ b)
+block_decided = from_both same_block same_block-is same_block-itself
+
 ask_decided : (a b : Ask) → Decides (same_ask a b) (a ≡ b)
 ask_decided (Code a) (Code b) =
     (λ h. ap Code ((code_decided a b).0 h), λ e. (code_decided a b).1 (cc))
+ask_decided (Block a) (Block b) =
+    (λ h. ap Block ((block_decided a b).0 h), λ e. (block_decided a b).1 (cc))
+ask_decided (Code a) (Block b) = (λ h. absurd (cc), λ e. absurd (cc))
+ask_decided (Block a) (Code b) = (λ h. absurd (cc), λ e. absurd (cc))
 
 pub same_ask-is : (a b : Ask) → same_ask a b ≡ true → a ≡ b
 same_ask-is a b h = (ask_decided a b).0 h

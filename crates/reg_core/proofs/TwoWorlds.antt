@@ -1,13 +1,15 @@
 -- Two worlds that show a caller the same view answer it alike, and show it the same view after its
 -- step.
-use Rattle.std.proofs.Common.{◌≡◌, ℕ, true, false, ◌&&◌, List, refl, sym, ap, subst, ◌∙◌}
+use Rattle.std.proofs.Common.{◌≡◌, ℕ, Bool, true, false, ◌&&◌, List, refl, sym, ap, subst, ◌∙◌}
 use Rattle.reg_core.specs.Capability.{same_kind}
 use Rattle.reg_early.specs.Moment.{is_in_clock, utc_day}
-use Rattle.reg_core.specs.Maps.{update}
+use Rattle.reg_blocks.specs.Block.{SizedPrefix}
+use Rattle.reg_core.specs.Holding.{masked, with_mark}
+use Rattle.reg_core.specs.Maps.{same_text, only_if, update}
 use Rattle.reg_core.specs.Queue.{with_advice}
 use Rattle.reg_core.specs.Laws.{TwoWorlds, IsNoClerk}
 use Rattle.reg_core.specs.Step.{is_clerk, clerk_answer, answer_to}
-use Rattle.reg_core.specs.View.{published, Personal, personal, requests_of, queue_of, View, view_of, cap_at, with_personal}
+use Rattle.reg_core.specs.View.{published, Published, Personal, personal, requests_of, holdings_of, queue_of, View, view_of, cap_at, with_personal}
 use Rattle.reg_core.specs.WellKept.{WellKept}
 use Rattle.reg_core.specs.declared.advice.Advice.{Advice}
 use Rattle.reg_core.specs.declared.ask.Ask.{Ask}
@@ -15,13 +17,15 @@ use Rattle.reg_core.specs.declared.capability.Cap.{Cap}
 use Rattle.reg_core.specs.declared.capability.Kind.{Kind}
 use Rattle.reg_core.specs.declared.capability.Kind.TheVariants.{Applicant, Expert, Clerk}
 use Rattle.reg_core.specs.declared.change.Change.{Change}
-use Rattle.reg_core.specs.declared.change.Change.TheVariants.{Grant, Revoke, Define, AddPool, Submit, Close, Assign, Advise, GiveValue}
+use Rattle.reg_core.specs.declared.change.Change.TheVariants.{Grant, Revoke, Define, AddPool, Submit, Close, Assign, Advise, GiveValue, GiveBlock, SetPrivate}
 use Rattle.reg_core.specs.declared.command.Command.{Command}
 use Rattle.reg_core.specs.declared.command.Command.TheVariants as command
+use Rattle.reg_core.specs.declared.holding.Holder.{Holder}
 use Rattle.reg_core.specs.declared.request.Case.{Case}
 use Rattle.reg_core.specs.declared.request.State.{State}
 use Rattle.reg_core.specs.declared.request.State.TheVariants.{Pending, Approved, Declined, Withdrawn}
-use Rattle.reg_core.proofs.MapLaws.{name_keys, select-insert_same, select-update_same}
+use Rattle.reg_core.proofs.Blocks.{holding_found, own_holding}
+use Rattle.reg_core.proofs.MapLaws.{name_keys, block_keys, select-insert_same, select-update_same}
 use Rattle.reg_core.proofs.Queues.{SameOthers, others_after_insert, others_after_update, queue_same, queue_advised}
 use Rattle.reg_core.proofs.Stepping.{own_request}
 use Rattle.std.specs.Prelude.{Option, Some, None, option_map, unwrap_or, nat_lt, if◌then◌else◌}
@@ -64,6 +68,17 @@ module _ (account : List ℕ) (w v : World) (kept_w : WellKept w) (kept_v : Well
   queues_alike : queue_of account w ≡ queue_of account v
   queues_alike = ap (λ (p : Personal). p.queue) alike.personal
 
+  holdings_alike : holdings_of account w ≡ holdings_of account v
+  holdings_alike = ap (λ (p : Personal). p.holdings) alike.personal
+
+  -- a block that the account holds is the same in both
+  same_block : (block : SizedPrefix) (h : Holder) → get w.blocks block ≡ Some h
+      → h.account ≡ account → get w.blocks block ≡ get v.blocks block
+  same_block block h is mine =
+      let shown = sym (ap (λ m. get m block) holdings_alike)
+      ∙ own_holding account w block h is mine in
+      is ∙ sym (holding_found account v block h shown).0
+
   -- an own request is the same in both
   same_own : (reference : List ℕ)
       → get w.requests (account, reference) ≡ get v.requests (account, reference)
@@ -85,7 +100,11 @@ module _ (account : List ℕ) (w v : World) (kept_w : WellKept w) (kept_v : Well
       record {
         published = alike.published;
         personal =
-            λ i. record { requests = requests i; queue = queues i };
+            λ i. record {
+              requests = requests i;
+              holdings = holdings_alike i;
+              queue = queues i;
+            };
       }
 
   submit_alike : (reference : List ℕ) (ask : Ask)
@@ -120,7 +139,36 @@ module _ (account : List ℕ) (w v : World) (kept_w : WellKept w) (kept_v : Well
       record {
         published = alike.published;
         personal =
-            λ i. record { requests = requests_alike i; queue = queues i };
+            λ i. record {
+              requests = requests_alike i;
+              holdings = holdings_alike i;
+              queue = queues i;
+            };
+      }
+
+  mark_alike : (block : SizedPrefix) (private : Bool) (h : Holder) → get w.blocks block ≡ Some h
+      → h.account ≡ account
+      → ShowAlike account (applied w (SetPrivate block private))
+      (applied v (SetPrivate block private))
+  mark_alike block private h is mine =
+      let same = same_block block h is mine in
+      let shown = select-update_same block_keys (λ block h. Some (masked h)) w.blocks v.blocks
+      block (with_mark private) same (ap (λ (p : Published). p.blocks) alike.published) in
+      let held = select-update_same block_keys
+      (λ block h. only_if (same_text h.account account) h) w.blocks v.blocks block
+      (with_mark private) same holdings_alike in
+      record {
+        published = λ i. record {
+          registries = (alike.published i).registries;
+          entries = (alike.published i).entries;
+          pool = (alike.published i).pool;
+          blocks = shown i;
+        };
+        personal = λ i. record {
+          requests = requests_alike i;
+          holdings = held i;
+          queue = queues_alike i;
+        };
       }
 
 -- ---- The views after the step
@@ -176,6 +224,11 @@ module _ (w v : World) (caller : Option (List ℕ)) (moment : ℕ) (kept_w : Wel
       own_after due.0.serves.cap expert due.0.serves.is_there due.0.own _ _ refl refl
       (λ alike. advise_alike expert w v kept_w kept_v alike account reference advice)
   due_after (GiveValue account reference entry) due = absurd (no_clerk_serves due.0)
+  due_after (GiveBlock account reference holding) due = absurd (no_clerk_serves due.0)
+  due_after (SetPrivate block private) due =
+      own_after due.serves.cap due.serves.cap.account due.serves.is_there refl _ _ refl refl
+      (λ alike. mark_alike due.serves.cap.account w v kept_w kept_v alike block private due.holder
+      due.is_there due.own)
 
 -- ---- A caller who is no clerk
 

@@ -3,7 +3,8 @@ use Rattle.std.proofs.Common.{◌≡◌, ℕ, true, List, refl, sym, ap, subst, 
 use Rattle.std.specs.Prelude.{Option, Some, None, Ok}
 use Rattle.std.specs.FinMap.{get}
 use Rattle.std.proofs.lemmas.Slice.Eq.{bytes_eq-Decides}
-use Rattle.reg_core.specs.Allowance.{allowed}
+use Rattle.reg_core.specs.Allowance.{allowed, ground_of}
+use Rattle.reg_core.specs.Award.{given_in}
 use Rattle.reg_core.specs.Entry.{registration_in}
 use Rattle.reg_core.specs.Laws.{GivesDigests, StillGiven}
 use Rattle.reg_core.specs.Run.{Event, world_after}
@@ -19,9 +20,9 @@ use Rattle.reg_core.specs.declared.change.Change.TheVariants.{GiveValue}
 use Rattle.reg_core.specs.declared.entry.Entry.{Entry}
 use Rattle.reg_core.specs.declared.entry.Registration.{Registration}
 use Rattle.reg_core.specs.declared.request.Given.{Given}
-use Rattle.reg_core.specs.declared.request.Given.TheVariants.{Value}
+use Rattle.reg_core.specs.declared.request.Given.TheVariants.{Value, Block}
 use Rattle.reg_core.specs.declared.request.State.{State}
-use Rattle.reg_core.proofs.Allowances.{allowed_may_be_given}
+use Rattle.reg_core.proofs.Allowances.{allowance_of, allowed_entry, allowed_may_be_given}
 use Rattle.reg_core.proofs.GivenStays.{runs_stay}
 use Rattle.reg_core.proofs.Keeping.RunsKeepWell.{step_keeps_well, runs_keep}
 use Rattle.reg_core.proofs.MapLaws.{place_keys, get-inserted}
@@ -30,6 +31,11 @@ use Rattle.reg_core.proofs.Outcomes.Dues.{Gives, changes_due}
 some_value : (w : World) → WellKept w → (account : List ℕ) (ask : CodeAsk) (given : Given)
     → allowed (published w) account (Code ask) ≡ Ok given → (v : ℕ) × MayBeGiven w ask v
 some_value w kept account ask (Value v) h = (v, allowed_may_be_given w kept account ask v h)
+some_value w kept account ask (Block block) h =
+    let whole = allowance_of (ground_of (published w) (Code ask)) account (Code ask) (Block block) h in
+    let entry = allowed_entry (ground_of (published w) (Code ask)) account ask whole.0 whole.1 in
+    let both : Value entry.0 ≡ Block block = ap given_in (sym entry.1) ∙ whole.2 in
+    absurd (cc)
 
 given_duly : (w : World) → WellKept w → (today : ℕ) (account reference : List ℕ) (entry : Entry)
     → Gives w today (account, reference) entry → IsGivenDuly w today account reference entry
@@ -64,7 +70,7 @@ asks_meet_their_policy digest_of = record {
       (changes_due digest_of w caller moment command _ made).due.1;
   stands = λ w name case ask v kept is asks approved.
       registered name.0 (get w.entries (ask.registry, v))
-      (subst (λ (x : Ask × State). stands_in w.entries name.0 x.0 x.1 ≡ true)
+      (subst (λ (x : Ask × State). stands_in w.entries w.blocks name.0 x.0 x.1 ≡ true)
       (λ i. (asks i, approved i)) (kept.given name case is));
 }
 

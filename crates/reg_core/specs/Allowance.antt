@@ -1,4 +1,5 @@
--- Whether an ask meets the published registers (RFC 8126 section 4).
+-- Whether an ask meets the published registers: one for a value by RFC 8126 section 4, one for a
+-- block where one of its size is free.
 use Rattle.std.specs.Prelude.{ℕ, Bool, false, nat_lt, List, is_some, Option, Some, None, Result, Ok, Err, if◌then◌else◌}
 use Rattle.std.specs.FinMap.{get}
 use Rattle.std.specs.List.{list_any}
@@ -9,11 +10,14 @@ use Rattle.reg_ranges.specs.declared.evidence.Item.{Item}
 use Rattle.reg_ranges.specs.declared.policy.Policy.{Policy}
 use Rattle.reg_ranges.specs.declared.policy.Treatment.{Treatment}
 use Rattle.reg_ranges.specs.declared.policy.Treatment.TheVariants.{Under, Reserved}
-use Rattle.reg_core.specs.Award.{new_entry, NewEntry, Allowance, given_in}
+use Rattle.reg_blocks.specs.Block.{SizedPrefix}
+use Rattle.reg_core.specs.Award.{new_entry, NewEntry, new_holding, NewHolding, Allowance, given_in}
+use Rattle.reg_core.specs.BlockDue.{due_in}
 use Rattle.reg_core.specs.LeastFree.{least_free_in}
 use Rattle.reg_core.specs.View.{Published}
 use Rattle.reg_core.specs.declared.ask.Ask.{Ask}
-use Rattle.reg_core.specs.declared.ask.Ask.TheVariants.{Code}
+use Rattle.reg_core.specs.declared.ask.Ask.TheVariants.{Code, Block}
+use Rattle.reg_core.specs.declared.ask.BlockAsk.{BlockAsk}
 use Rattle.reg_core.specs.declared.ask.CodeAsk.{CodeAsk}
 use Rattle.reg_core.specs.declared.ask.Want.{Want}
 use Rattle.reg_core.specs.declared.ask.Want.TheVariants.{Value, Least}
@@ -23,11 +27,12 @@ use Rattle.reg_core.specs.declared.entry.Registration.{Registration}
 use Rattle.reg_core.specs.declared.request.Given.{Given}
 
 -- what an ask needs of the published rows: its registry, the entry at the value that it names, and
--- the least value without an entry where it wants that
+-- the least value without an entry where it wants that; the block due where it wants a block
 pub record Ground : Type 0 where
   pub table : Option Table
   pub entry : Option Registration
   pub least : Option ℕ
+  pub due : Option SizedPrefix
 
 -- each check in turn, as far as none refuses
 infixl 10 ◌>>=◌
@@ -78,9 +83,18 @@ entry_asked account ask value =
       assignee = account;
     }
 
--- what an ask of an account is allowed, or the first refusal that it meets
-abbrev pub allowance_on : Ground → List ℕ → Ask → Result Allowance Refusal
-allowance_on rows account (Code ask) = do
+-- the block that an ask of an account is given: with the organization and the address that it
+-- names, in the name of the account
+abbrev pub holding_asked : List ℕ → BlockAsk → SizedPrefix → NewHolding
+holding_asked account ask block = record {
+  block = block;
+  holder = account;
+  organization = ask.organization;
+  address = ask.address;
+}
+
+abbrev pub code_allowance : Ground → List ℕ → CodeAsk → Result Allowance Refusal
+code_allowance rows account ask = do
   table ← or_refusal no.Registry rows.table
   policy ← policy_for table ask.want
   nothing ← is_met (first_item (unmet policy ask.evidence))
@@ -89,6 +103,17 @@ allowance_on rows account (Code ask) = do
     award = new_entry (entry_asked account ask value);
     needs_advice = is_expert_policy policy;
   })
+
+-- no expert looks at an ask for a block
+abbrev pub block_allowance : Option SizedPrefix → List ℕ → BlockAsk → Result Allowance Refusal
+block_allowance due account ask = do
+  block ← or_refusal no.Exhausted due
+  Ok (record { award = new_holding (holding_asked account ask block); needs_advice = false })
+
+-- what an ask of an account is allowed, or the first refusal that it meets
+abbrev pub allowance_on : Ground → List ℕ → Ask → Result Allowance Refusal
+allowance_on rows account (Code ask) = code_allowance rows account ask
+allowance_on rows account (Block ask) = block_allowance rows.due account ask
 
 -- what it would be given
 abbrev pub allowed_on : Ground → List ℕ → Ask → Result Given Refusal
@@ -111,7 +136,10 @@ ground_of p (Code ask) = record {
   table = get p.registries ask.registry;
   entry = entry_wanted p ask.registry ask.want;
   least = least_wanted p ask.registry ask.want;
+  due = None;
 }
+ground_of p (Block ask) =
+    record { table = None; entry = None; least = None; due = due_in p.pool p.blocks ask.size }
 
 abbrev pub allowed : Published → List ℕ → Ask → Result Given Refusal
 allowed p account ask = allowed_on (ground_of p ask) account ask
@@ -132,3 +160,4 @@ policy_wanted existing want = do
 -- whatever else the ask meets, the policy is one under which an expert has to approve
 abbrev pub needs_advice : Ground → Ask → Bool
 needs_advice rows (Code ask) = is_reviewed (policy_wanted rows.table ask.want)
+needs_advice rows (Block ask) = false

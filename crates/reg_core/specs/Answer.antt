@@ -4,10 +4,11 @@ use Rattle.std.specs.FinMap.{get, keys}
 use Rattle.reg_early.specs.Moment.{is_in_clock, utc_day}
 use Rattle.reg_core.specs.Allowance.{◌>>=◌, or_refusal, allowed}
 use Rattle.reg_core.specs.Capability.{same_kind}
+use Rattle.reg_core.specs.Holding.{holding_row, holding_rows, listed_rows, with_mark}
 use Rattle.reg_core.specs.Page.{page}
 use Rattle.reg_core.specs.Queue.{queue_row, queue_rows, with_advice}
 use Rattle.reg_core.specs.Request.{request_row, request_rows, after}
-use Rattle.reg_core.specs.Rules.{submit_rule, withdraw_rule, advise_rule}
+use Rattle.reg_core.specs.Rules.{submit_rule, withdraw_rule, listing_rule, advise_rule}
 use Rattle.reg_core.specs.View.{Published, Queued, Personal, View}
 use Rattle.reg_core.specs.World.{RequestName, pending}
 use Rattle.reg_core.specs.declared.ask.Ask.{Ask}
@@ -18,11 +19,11 @@ use Rattle.reg_core.specs.declared.change.Change.{Change}
 use Rattle.reg_core.specs.declared.command.Command.{Command}
 use Rattle.reg_core.specs.declared.command.Command.TheVariants.{Public, Applicant, Expert, Clerk}
 use Rattle.reg_core.specs.declared.command.ApplicantCommand.{ApplicantCommand}
-use Rattle.reg_core.specs.declared.command.ApplicantCommand.TheVariants.{Own, OwnOne, Submit, Withdraw}
+use Rattle.reg_core.specs.declared.command.ApplicantCommand.TheVariants.{Own, OwnOne, Submit, Withdraw, Holdings, SetListing}
 use Rattle.reg_core.specs.declared.command.ExpertCommand.{ExpertCommand}
 use Rattle.reg_core.specs.declared.command.ExpertCommand.TheVariants.{Queue, Advise}
 use Rattle.reg_core.specs.declared.command.PublicCommand.{PublicCommand}
-use Rattle.reg_core.specs.declared.command.PublicCommand.TheVariants.{Registries, Registry, RegistryListing, PoolList}
+use Rattle.reg_core.specs.declared.command.PublicCommand.TheVariants.{Registries, Registry, RegistryListing, PoolList, BlockListing}
 use Rattle.reg_core.specs.declared.content.Content.{Content}
 use Rattle.reg_core.specs.declared.content.Content.TheVariants as content
 use Rattle.reg_core.specs.declared.decide.Decision.{Decision}
@@ -88,6 +89,7 @@ public_answer p today (RegistryListing name) = do
   table ← or_refusal no.Registry (get p.registries name)
   unchanged (content.Listing (page p name table today))
 public_answer p today PoolList = unchanged (content.Pool (keys p.pool))
+public_answer p today BlockListing = unchanged (content.Blocks (listed_rows p.blocks))
 
 -- ---- Admission
 
@@ -122,6 +124,11 @@ own_answer p account my (Withdraw reference) = do
   case ← or_refusal no.Request (get my.requests (account, reference))
   by_rule (withdraw_rule (account, reference) case.state)
       (λ decision. own_row (account, reference) (case_by decision case))
+own_answer p account my Holdings = unchanged (content.Holdings (holding_rows my.holdings))
+own_answer p account my (SetListing block private) = do
+  h ← or_refusal no.Holding (get my.holdings block)
+  by_rule (Ok (listing_rule block private h.private))
+      (λ decision. content.Held (holding_row block (with_mark private h)))
 own_answer p account my (Submit reference ask) =
     let existing = get my.requests (account, reference) in
     by_rule (submit_rule (allowed p account ask) (account, reference) ask existing)

@@ -6,9 +6,12 @@ use Rattle.reg_ranges.specs.Rfcs.{PublishedRfc}
 use Rattle.reg_ranges.specs.Sameness.{same_policy, same_evidence}
 use Rattle.reg_ranges.specs.Texts.{is_text}
 use Rattle.reg_core.specs.Names.{is_name}
+use Rattle.reg_blocks.specs.declared.size.Size.{Size}
+use Rattle.reg_blocks.specs.declared.size.Size.TheVariants.{MaL, MaM, MaS}
+use Rattle.reg_core.specs.declared.ask.BlockAsk.{BlockAsk}
 use Rattle.reg_core.specs.declared.ask.CodeAsk.{CodeAsk}
 use Rattle.reg_core.specs.declared.ask.Ask.{Ask}
-use Rattle.reg_core.specs.declared.ask.Ask.TheVariants.{Code}
+use Rattle.reg_core.specs.declared.ask.Ask.TheVariants.{Code, Block}
 use Rattle.reg_core.specs.declared.ask.Want.{Want}
 use Rattle.reg_core.specs.declared.ask.Want.TheVariants.{Value, Least}
 
@@ -31,8 +34,12 @@ has_code_form ask =
     is_name ask.registry && has_want_form ask.want && is_text ask.label
     && has_evidence_form ask.evidence
 
+abbrev pub has_block_form : BlockAsk → Bool
+has_block_form ask = is_text ask.organization && is_text ask.address
+
 abbrev pub has_ask_form : Ask → Bool
 has_ask_form (Code ask) = has_code_form ask
+has_ask_form (Block ask) = has_block_form ask
 
 -- ---- Sameness
 
@@ -48,5 +55,19 @@ same_code a b =
     && (same_want a.want b.want
     && (bytes_eq a.label b.label && same_evidence a.evidence b.evidence))
 
+abbrev pub same_size : Size → Size → Bool
+same_size MaL MaL = true
+same_size MaM MaM = true
+same_size MaS MaS = true
+same_size a b = false
+
+abbrev pub same_block : BlockAsk → BlockAsk → Bool
+same_block a b =
+    same_size a.size b.size
+    && (bytes_eq a.organization b.organization && bytes_eq a.address b.address)
+
 abbrev pub same_ask : Ask → Ask → Bool
 same_ask (Code a) (Code b) = same_code a b
+same_ask (Block a) (Block b) = same_block a b
+same_ask (Code a) (Block b) = false
+same_ask (Block a) (Code b) = false

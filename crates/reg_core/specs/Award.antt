@@ -1,13 +1,16 @@
 -- What an ask is given, part by part.
-use Rattle.std.specs.Prelude.{ℕ, Bool, List}
+use Rattle.std.specs.Prelude.{ℕ, Bool, false, List}
+use Rattle.reg_blocks.specs.Block.{SizedPrefix}
 use Rattle.reg_early.specs.Terms.{permanent_term}
 use Rattle.reg_core.specs.declared.decide.award.Award.{Award as AwardRow}
-use Rattle.reg_core.specs.declared.decide.award.Award.TheVariants.{Entry as EntryRow}
+use Rattle.reg_core.specs.declared.decide.award.Award.TheVariants.{Entry as EntryRow, Block as BlockRow}
 use Rattle.reg_core.specs.declared.decide.award.NewEntry.{NewEntry as NewEntryRow}
+use Rattle.reg_core.specs.declared.decide.award.NewHolding.{NewHolding as NewHoldingRow}
 use Rattle.reg_core.specs.declared.decide.allowance.Allowance.{Allowance as AllowanceRow}
 use Rattle.reg_core.specs.declared.entry.Entry.{Entry}
+use Rattle.reg_core.specs.declared.holding.Holding.{Holding}
 use Rattle.reg_core.specs.declared.request.Given.{Given}
-use Rattle.reg_core.specs.declared.request.Given.TheVariants.{Value}
+use Rattle.reg_core.specs.declared.request.Given.TheVariants.{Value, Block}
 
 -- an entry, but for its term
 pub record NewEntry : Type 0 where
@@ -16,9 +19,17 @@ pub record NewEntry : Type 0 where
   pub label : List ℕ
   pub assignee : List ℕ
 
+-- a block with its holder, who is not private
+pub record NewHolding : Type 0 where
+  pub block : SizedPrefix
+  pub holder : List ℕ
+  pub organization : List ℕ
+  pub address : List ℕ
+
 -- what an ask is given: with the name of the request and the day, all that the change is made of
 pub data Award : Type 0 where
   new_entry : NewEntry → Award
+  new_holding : NewHolding → Award
 
 -- what an ask is allowed: what it is given, and whether a designated expert has to approve (RFC
 -- 8126 sections 4.5 and 4.6)
@@ -29,6 +40,7 @@ pub record Allowance : Type 0 where
 -- what a request that has this award was given
 abbrev pub given_in : Award → Given
 given_in (new_entry e) = Value e.value
+given_in (new_holding h) = Block h.block
 
 -- the entry, from a day on and for good
 abbrev pub entry_on : ℕ → NewEntry → Entry
@@ -42,6 +54,16 @@ entry_on today e =
           permanent_term today;
     }
 
+-- the holding, listed with organization and address
+abbrev pub holding_from : NewHolding → Holding
+holding_from h = record {
+  block = h.block;
+  holder = h.holder;
+  organization = h.organization;
+  address = h.address;
+  private = false;
+}
+
 -- ---- As the code has it
 
 abbrev pub entry_view : NewEntryRow → NewEntry
@@ -53,8 +75,17 @@ entry_view e =
       assignee = e.assignee.now;
     }
 
+abbrev pub holding_view : NewHoldingRow → NewHolding
+holding_view h = record {
+  block = h.block.now;
+  holder = h.holder.now;
+  organization = h.organization.now;
+  address = h.address.now;
+}
+
 abbrev pub award_view : AwardRow → Award
 award_view (EntryRow e) = new_entry (entry_view e)
+award_view (BlockRow h) = new_holding (holding_view h)
 
 abbrev pub allowance_view : AllowanceRow → Allowance
 allowance_view a = record { award = award_view a.award; needs_advice = a.needs_advice }

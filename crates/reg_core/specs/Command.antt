@@ -1,6 +1,7 @@
 -- What is so of each command by itself: whose it is, which request it is about, and whether it has
 -- its form.
 use Rattle.std.specs.Prelude.{Bool, true, ◌&&◌, List, ℕ, Option, Some, None, option_map}
+use Rattle.reg_blocks.specs.Block.{is_block}
 use Rattle.reg_ranges.specs.Texts.{is_text}
 use Rattle.reg_core.specs.Names.{is_name, is_token}
 use Rattle.reg_core.specs.Advice.{has_advice_form}
@@ -13,8 +14,8 @@ use Rattle.reg_core.specs.declared.capability.Kind.{Kind}
 use Rattle.reg_core.specs.declared.capability.Kind.TheVariants as kind
 use Rattle.reg_core.specs.declared.command.Command.{Command}
 use Rattle.reg_core.specs.declared.command.Command.TheVariants.{Public, Applicant, Expert, Clerk}
-use Rattle.reg_core.specs.declared.command.PublicCommand.TheVariants.{Registries, Registry, RegistryListing, PoolList}
-use Rattle.reg_core.specs.declared.command.ApplicantCommand.TheVariants.{Own, OwnOne, Submit, Withdraw}
+use Rattle.reg_core.specs.declared.command.PublicCommand.TheVariants.{Registries, Registry, RegistryListing, PoolList, BlockListing}
+use Rattle.reg_core.specs.declared.command.ApplicantCommand.TheVariants.{Own, OwnOne, Submit, Withdraw, Holdings, SetListing}
 use Rattle.reg_core.specs.declared.command.ExpertCommand.TheVariants.{Queue, Advise}
 use Rattle.reg_core.specs.declared.command.ClerkCommand.TheVariants.{AllRequests, OneRequest, AssignExpert, Approve, Decline, Define, AddPool, Grant, Revoke}
 
@@ -36,10 +37,13 @@ about by (Public Registries) = None
 about by (Public (Registry name)) = None
 about by (Public (RegistryListing name)) = None
 about by (Public PoolList) = None
+about by (Public BlockListing) = None
 about by (Applicant Own) = None
 about by (Applicant (OwnOne reference)) = own_name by reference
 about by (Applicant (Submit reference ask)) = own_name by reference
 about by (Applicant (Withdraw reference)) = own_name by reference
+about by (Applicant Holdings) = None
+about by (Applicant (SetListing block private)) = None
 about by (Expert Queue) = None
 about by (Expert (Advise account reference advice)) = Some (account, reference)
 about by (Clerk AllRequests) = None
@@ -59,10 +63,13 @@ has_command_form (Public Registries) = true
 has_command_form (Public (Registry name)) = is_name name
 has_command_form (Public (RegistryListing name)) = is_name name
 has_command_form (Public PoolList) = true
+has_command_form (Public BlockListing) = true
 has_command_form (Applicant Own) = true
 has_command_form (Applicant (OwnOne reference)) = is_name reference
 has_command_form (Applicant (Submit reference ask)) = is_name reference && has_ask_form ask
 has_command_form (Applicant (Withdraw reference)) = is_name reference
+has_command_form (Applicant Holdings) = true
+has_command_form (Applicant (SetListing block private)) = is_block block
 has_command_form (Expert Queue) = true
 has_command_form (Expert (Advise account reference advice)) =
     is_name account && is_name reference && has_advice_form advice

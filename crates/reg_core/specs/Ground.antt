@@ -10,4 +10,5 @@ seen rows = record {
   table = option_copied rows.table;
   entry = option_map registration_in (option_copied rows.entry);
   least = rows.least;
+  due = option_copied rows.due;
 }

@@ -1,10 +1,12 @@
 -- What the parts of a request are called.
 use Rattle.std.specs.Prelude.{ℕ, List, codes}
 use Rattle.reg_core.specs.declared.item.Item.{Item}
-use Rattle.reg_core.specs.declared.item.Item.TheVariants.{Account, Contact, Expert, Extra, Kind, Label, Least, Max, Minute, Name, Number, Prefix, Reason, Reference, Registry, Rfc, Specification, Stream, Text, Token, Track, Until, Value, Verdict}
+use Rattle.reg_core.specs.declared.item.Item.TheVariants.{Account, Address, Block, Contact, Expert, Extra, Kind, Label, Least, Max, Minute, Name, Number, Organization, Prefix, Private, Reason, Reference, Registry, Rfc, Size, Specification, Stream, Text, Token, Track, Until, Value, Verdict}
 
 abbrev pub item_name : Item → List ℕ
 item_name Account = codes "account"
+item_name Address = codes "address"
+item_name Block = codes "block"
 item_name Contact = codes "contact"
 item_name Expert = codes "expert"
 item_name Extra = codes "extra"
@@ -15,11 +17,14 @@ item_name Max = codes "max"
 item_name Minute = codes "minute"
 item_name Name = codes "name"
 item_name Number = codes "number"
+item_name Organization = codes "organization"
 item_name Prefix = codes "prefix"
+item_name Private = codes "private"
 item_name Reason = codes "reason"
 item_name Reference = codes "reference"
 item_name Registry = codes "registry"
 item_name Rfc = codes "rfc"
+item_name Size = codes "size"
 item_name Specification = codes "specification"
 item_name Stream = codes "stream"
 item_name Text = codes "text"

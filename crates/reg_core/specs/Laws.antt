@@ -2,15 +2,17 @@
 use Rattle.std.specs.Prelude.{◌≡◌, ◌<◌, ◌↔◌, ℕ, Bool, true, false, List, map, Option, Some, None, Ok, IsTrue, All, Contains, codes}
 use Rattle.std.specs.FinMap.{get, contains_key, keys}
 use Rattle.std.specs.List.Sorted.{IsStrictlySortedBy}
+use Rattle.reg_blocks.specs.Block.{SizedPrefix, block_cmp}
 use Rattle.reg_blocks.specs.Pool.{is_pool_prefix}
 use Rattle.reg_early.specs.Moment.{is_in_clock, utc_day}
 use Rattle.reg_core.specs.Allowance.{allowance_on, allowed, ground_of, needs_advice}
 use Rattle.reg_core.specs.Answer.{change_of}
-use Rattle.reg_core.specs.Award.{Award, new_entry, Allowance, given_in}
+use Rattle.reg_core.specs.Award.{Award, new_entry, new_holding, Allowance, given_in}
 use Rattle.reg_ranges.specs.Tables.{Table}
 use Rattle.reg_core.specs.Capability.{last_until}
 use Rattle.reg_core.specs.Command.{kind_of, has_command_form}
 use Rattle.reg_core.specs.File.{experts_of, opinions_of}
+use Rattle.reg_core.specs.Holding.{holder_in, holding_row, holding_rows, listed_rows}
 use Rattle.reg_core.specs.Names.{is_token, is_digest}
 use Rattle.reg_core.specs.Queue.{queue_rows}
 use Rattle.reg_core.specs.Request.{case_of, is_pending, request_rows, word_of}
@@ -18,13 +20,13 @@ use Rattle.reg_core.specs.Page.{page_entries}
 use Rattle.reg_core.specs.Rules.{change_to_give}
 use Rattle.reg_core.specs.Run.{Event, have_forms, world_after}
 use Rattle.reg_core.specs.Step.{answer_to, step}
-use Rattle.reg_core.specs.View.{published, requests_of, queue_of, cap_at, view_of}
+use Rattle.reg_core.specs.View.{published, requests_of, holdings_of, queue_of, cap_at, view_of}
 use Rattle.reg_core.specs.WellKept.{WellKept, CanApply}
 use Rattle.reg_core.specs.World.{World, Place, RequestName, name_cmp, empty_world, applied}
 use Rattle.reg_core.specs.declared.advice.Advice.{Advice}
 use Rattle.reg_core.specs.declared.advice.Verdict.TheVariants.{For}
 use Rattle.reg_core.specs.declared.ask.Ask.{Ask}
-use Rattle.reg_core.specs.declared.ask.Ask.TheVariants.{Code}
+use Rattle.reg_core.specs.declared.ask.Ask.TheVariants.{Code, Block}
 use Rattle.reg_core.specs.declared.capability.Cap.{Cap}
 use Rattle.reg_core.specs.declared.capability.Kind.{Kind}
 use Rattle.reg_core.specs.declared.capability.Kind.TheVariants as kind
@@ -32,13 +34,15 @@ use Rattle.reg_core.specs.declared.change.Change.{Change}
 use Rattle.reg_core.specs.declared.change.Change.TheVariants.{Grant as GrantIt}
 use Rattle.reg_core.specs.declared.command.Command.{Command}
 use Rattle.reg_core.specs.declared.command.Command.TheVariants.{Public, Applicant, Expert, Clerk}
-use Rattle.reg_core.specs.declared.command.ApplicantCommand.TheVariants.{Own, OwnOne, Submit, Withdraw}
+use Rattle.reg_core.specs.declared.command.ApplicantCommand.TheVariants.{Own, OwnOne, Submit, Withdraw, Holdings as OwnHoldings, SetListing}
 use Rattle.reg_core.specs.declared.command.ExpertCommand.TheVariants.{Queue, Advise}
 use Rattle.reg_core.specs.declared.command.ClerkCommand.TheVariants.{AllRequests, OneRequest, AssignExpert, Approve, Decline, Define, AddPool, Grant, Revoke}
-use Rattle.reg_core.specs.declared.command.PublicCommand.TheVariants.{Registries, Registry, RegistryListing, PoolList}
+use Rattle.reg_core.specs.declared.command.PublicCommand.TheVariants.{Registries, Registry, RegistryListing, PoolList, BlockListing}
 use Rattle.reg_core.specs.declared.content.Content.{Content}
-use Rattle.reg_core.specs.declared.content.Content.TheVariants.{Names, Page, Listing, Pool, Made, Row, Rows, Item, Items, Desk, Desks, Filed, Defined, Pooled, Granted, Revoked}
+use Rattle.reg_core.specs.declared.content.Content.TheVariants.{Names, Page, Listing, Pool, Blocks, Made, Row, Rows, Held, Holdings, Item, Items, Desk, Desks, Filed, Defined, Pooled, Granted, Revoked}
 use Rattle.reg_core.specs.declared.file.File.{File}
+use Rattle.reg_core.specs.declared.holding.Holder.{Holder}
+use Rattle.reg_core.specs.declared.holding.Holding.{Holding}
 use Rattle.reg_core.specs.declared.page.Page.{Page as PageOf}
 use Rattle.reg_core.specs.declared.queue.QueueRow.{QueueRow}
 use Rattle.reg_core.specs.declared.refusal.Refusal.{Refusal}
@@ -141,6 +145,25 @@ pub record OwnList (w : World) (account : List ℕ) (rows : List Request) : Type
   -- they ascend by reference, so no request has two
   pub ascending : IsStrictlySortedBy name_cmp (map (λ row. (row.account, row.reference)) rows)
 
+-- the block of the row has its holder
+abbrev pub HasHolding : World → Holding → Type 0
+HasHolding w row = get w.blocks row.block ≡ Some (holder_in row)
+
+abbrev pub HasHoldingOf : World → List ℕ → Holding → Type 0
+HasHoldingOf w account row = (row.holder ≡ account) × HasHolding w row
+
+-- the rows are the blocks that an account holds
+pub record HoldingList (w : World) (account : List ℕ) (rows : List Holding) : Type 0 where
+  -- they are the blocks of the account, as its view has them
+  pub viewed : rows ≡ holding_rows (holdings_of account w)
+  -- each is of a block that the account holds
+  pub own : All (HasHoldingOf w account) rows
+  -- each block that the account holds has its row among them
+  pub every : (block : SizedPrefix) (h : Holder) → get w.blocks block ≡ Some h
+      → h.account ≡ account → Contains rows (holding_row block h)
+  -- they ascend by first address, so no block has two
+  pub ascending : IsStrictlySortedBy block_cmp (map (λ row. row.block) rows)
+
 -- the rows are an expert's queue
 pub record QueueList (w : World) (expert : List ℕ) (rows : List QueueRow) : Type 0 where
   -- they are the queue of the expert, as its view has it
@@ -171,6 +194,8 @@ IsDone digest_of w by today (Public (Registry name)) (Page page) = Shows w name 
 IsDone digest_of w by today (Public (RegistryListing name)) (Listing page) =
     Shows w name today page
 IsDone digest_of w by today (Public PoolList) (Pool prefixes) = prefixes ≡ keys w.pool
+IsDone digest_of w by today (Public BlockListing) (Blocks rows) =
+    rows ≡ listed_rows (published w).blocks
 IsDone digest_of w by today (Applicant Own) (Rows rows) =
     (cap : Cap) × (by ≡ Some cap) × OwnList w cap.account rows
 IsDone digest_of w by today (Applicant (OwnOne reference)) (Row row) = IsOwnRow w by reference row
@@ -180,6 +205,11 @@ IsDone digest_of w by today (Applicant (Submit reference ask)) (Row row) =
     (row.ask ≡ ask) × IsOwnRow w by reference row
 IsDone digest_of w by today (Applicant (Withdraw reference)) (Row row) =
     (row.state ≡ Withdrawn) × IsOwnRow w by reference row
+IsDone digest_of w by today (Applicant OwnHoldings) (Holdings rows) =
+    (cap : Cap) × (by ≡ Some cap) × HoldingList w cap.account rows
+IsDone digest_of w by today (Applicant (SetListing block private)) (Held row) =
+    (row.block ≡ block) × (row.private ≡ private) × (cap : Cap) × (by ≡ Some cap)
+    × HasHoldingOf w cap.account row
 IsDone digest_of w by today (Expert Queue) (Items rows) =
     (cap : Cap) × (by ≡ Some cap) × QueueList w cap.account rows
 IsDone digest_of w by today (Expert (Advise account reference advice)) (Item row) =
@@ -219,6 +249,11 @@ AnswersAreDone digest_of =
 abbrev pub IsOfAsk : List ℕ → Ask → Award → Type 0
 IsOfAsk account (Code ask) (new_entry e) =
     (e.registry ≡ ask.registry) × (e.label ≡ ask.label) × (e.assignee ≡ account)
+IsOfAsk account (Block ask) (new_holding h) =
+    (h.block.size ≡ ask.size) × (h.holder ≡ account) × (h.organization ≡ ask.organization)
+    × (h.address ≡ ask.address)
+IsOfAsk account (Code ask) (new_holding h) = ⊥
+IsOfAsk account (Block ask) (new_entry e) = ⊥
 
 -- the change gives a request what its ask is allowed, on a day
 pub record GivesWhatIsAllowed (w : World) (today : ℕ) (name : RequestName) (change : Change) :
@@ -307,6 +342,12 @@ StillGiven a None = ⊥
 StillGiven a (Some now) =
     (now.label ≡ a.label) × (now.assignee ≡ a.assignee) × (now.term.first ≡ a.term.first)
 
+-- a block keeps its holder, its organization and its address
+abbrev pub StillHeld : Holder → Option Holder → Type 0
+StillHeld h None = ⊥
+StillHeld h (Some now) =
+    (now.account ≡ h.account) × (now.organization ≡ h.organization) × (now.address ≡ h.address)
+
 -- a request that is not pending keeps its state
 abbrev pub StillStands : State → State → Type 0
 StillStands Pending now = Unit {0}
@@ -325,8 +366,8 @@ SameReview w v name =
     → (contains_key v.queue (name, expert) ≡ contains_key w.queue (name, expert))
     × (get v.advice (name, expert) ≡ get w.advice (name, expert))
 
--- no registry, entry, request or prefix of the pool goes away, and each keeps what it is; a request
--- that is decided keeps its experts and all advice on it
+-- no registry, entry, request, prefix of the pool or block goes away, and each keeps what it is; a
+-- request that is decided keeps its experts and all advice on it
 pub record Stays (w v : World) : Type 0 where
   pub registries : (name : List ℕ) (table : Table) → get w.registries name ≡ Some table
       → get v.registries name ≡ Some table
@@ -337,6 +378,8 @@ pub record Stays (w v : World) : Type 0 where
   pub reviews : (name : RequestName) (case : Case) → get w.requests name ≡ Some case
       → is_pending case.state ≡ false → SameReview w v name
   pub pool : (prefix : ℕ) → contains_key w.pool prefix ≡ true → contains_key v.pool prefix ≡ true
+  pub blocks : (block : SizedPrefix) (h : Holder) → get w.blocks block ≡ Some h
+      → StillHeld h (get v.blocks block)
 
 -- what a well kept world has stays in every run
 abbrev pub GivenStays : (List ℕ → List ℕ) → Type 0

@@ -6,6 +6,7 @@ pub mod Registry
 pub mod Command
 pub mod Maps
 pub mod Entry
+pub mod Holding
 pub mod World
 pub mod Request
 pub mod File
@@ -13,6 +14,7 @@ pub mod View
 pub mod Queue
 pub mod Page
 pub mod LeastFree
+pub mod BlockDue
 pub mod Award
 pub mod Allowance
 pub mod Ground
@@ -25,5 +27,6 @@ pub mod Unseen
 pub mod Striking
 pub mod Laws
 pub mod MayBeGiven
+pub mod BlocksGiven
 pub mod Item
 pub mod WireRefusal

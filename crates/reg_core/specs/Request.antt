@@ -1,13 +1,14 @@
 -- Requests with their names, and without.
 use Rattle.std.specs.Prelude.{Bool, true, false, ◌^◌, nat_lt, List, map, Option, Some, None, unwrap_or}
 use Rattle.std.specs.FinMap.{FinMap, entries}
+use Rattle.reg_blocks.specs.Block.{is_block}
 use Rattle.reg_ranges.specs.Texts.{is_text}
 use Rattle.reg_core.specs.World.{RequestName, name_cmp, in_state}
 use Rattle.reg_core.specs.declared.change.Change.{Change}
-use Rattle.reg_core.specs.declared.change.Change.TheVariants.{Grant, Revoke, Define, AddPool, Submit, Close, Assign, Advise, GiveValue}
+use Rattle.reg_core.specs.declared.change.Change.TheVariants.{Grant, Revoke, Define, AddPool, Submit, Close, Assign, Advise, GiveValue, GiveBlock, SetPrivate}
 use Rattle.reg_core.specs.declared.request.Case.{Case}
 use Rattle.reg_core.specs.declared.request.Given.{Given}
-use Rattle.reg_core.specs.declared.request.Given.TheVariants.{Value}
+use Rattle.reg_core.specs.declared.request.Given.TheVariants.{Value, Block}
 use Rattle.reg_core.specs.declared.request.State.{State}
 use Rattle.reg_core.specs.declared.request.State.TheVariants.{Pending, Approved, Declined, Withdrawn}
 use Rattle.reg_core.specs.declared.request.StateWord.{StateWord}
@@ -28,6 +29,7 @@ request_rows m = map (λ e. request_row e.0 e.1) (entries m)
 
 abbrev pub has_given_form : Given → Bool
 has_given_form (Value v) = nat_lt v (2 ^ 32)
+has_given_form (Block block) = is_block block
 
 abbrev pub has_state_form : State → Bool
 has_state_form Pending = true
@@ -61,6 +63,8 @@ state_by (Close account reference state) = Some state
 state_by (Assign account reference expert) = None
 state_by (Advise account reference expert advice) = None
 state_by (GiveValue account reference entry) = Some (Approved (Value entry.value))
+state_by (GiveBlock account reference holding) = Some (Approved (Block holding.block))
+state_by (SetPrivate block private) = None
 
 -- a request after the change
 abbrev pub after : Change → Case → Case

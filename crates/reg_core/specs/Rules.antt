@@ -1,5 +1,6 @@
 -- The rule by which each command is decided, over just the rows that it needs.
 use Rattle.std.specs.Prelude.{◌≡◌, ℕ, Bool, true, false, ◌&&◌, not, List, Option, Some, None, Result, Ok, Err, is_some, if◌then◌else◌, MatchResult}
+use Rattle.reg_blocks.specs.Block.{SizedPrefix}
 use Rattle.reg_blocks.specs.Pool.{is_pool_prefix}
 use Rattle.reg_ranges.specs.Sameness.{same_table}
 use Rattle.reg_ranges.specs.Tables.{Table}
@@ -7,14 +8,14 @@ use Rattle.reg_core.specs.Advice.{is_given}
 use Rattle.reg_core.specs.Maps.{same_text}
 use Rattle.reg_core.specs.Allowance.{Ground, allowance_on}
 use Rattle.reg_core.specs.Ask.{same_ask}
-use Rattle.reg_core.specs.Award.{Award, new_entry, Allowance, entry_on}
+use Rattle.reg_core.specs.Award.{Award, new_entry, new_holding, Allowance, entry_on, holding_from}
 use Rattle.reg_core.specs.Capability.{same_cap}
 use Rattle.reg_core.specs.World.{RequestName}
 use Rattle.reg_core.specs.declared.advice.Advice.{Advice as AdviceOf}
 use Rattle.reg_core.specs.declared.ask.Ask.{Ask}
 use Rattle.reg_core.specs.declared.capability.Cap.{Cap}
 use Rattle.reg_core.specs.declared.change.Change.{Change}
-use Rattle.reg_core.specs.declared.change.Change.TheVariants.{Grant, Revoke, Define, AddPool, Submit, Close, Assign, Advise, GiveValue}
+use Rattle.reg_core.specs.declared.change.Change.TheVariants.{Grant, Revoke, Define, AddPool, Submit, Close, Assign, Advise, GiveValue, GiveBlock, SetPrivate}
 use Rattle.reg_core.specs.declared.decide.Decision.{Decision}
 use Rattle.reg_core.specs.declared.decide.Decision.TheVariants.{Make, Same}
 use Rattle.reg_core.specs.declared.decide.Deny.{Deny}
@@ -42,6 +43,13 @@ withdraw_rule name Pending = Ok (Make (Close name.0 name.1 Withdrawn))
 withdraw_rule name (Approved given) = Err Closed
 withdraw_rule name (Declined reason) = Err Closed
 withdraw_rule name Withdrawn = Ok Same
+
+-- a block is given the mark that is asked for, unless it has that mark
+abbrev pub listing_rule : SizedPrefix → Bool → Bool → Decision
+listing_rule block true true = Same
+listing_rule block false false = Same
+listing_rule block true false = Make (SetPrivate block true)
+listing_rule block false true = Make (SetPrivate block false)
 
 -- a pending request is declined for a reason
 abbrev pub decline_rule : RequestName → List ℕ → State → Result Decision Refusal
@@ -75,6 +83,7 @@ advise_rule name expert advice old word =
 -- the change by which a request is given this on a day
 abbrev pub change_to_give : RequestName → ℕ → Award → Change
 change_to_give name today (new_entry e) = GiveValue name.0 name.1 (entry_on today e)
+change_to_give name today (new_holding h) = GiveBlock name.0 name.1 (holding_from h)
 
 -- what is allowed is given, unless an expert's advice is wanting
 abbrev pub give_rule : RequestName → ℕ → Bool → Result Allowance Refusal → Result Decision Refusal

@@ -62,6 +62,9 @@ reveals account name (change.Assign applicant reference expert) =
 reveals account name (change.Advise applicant reference expert advice) = false
 reveals account name (change.GiveValue applicant reference entry) =
     same_name (applicant, reference) name
+reveals account name (change.GiveBlock applicant reference holding) =
+    same_name (applicant, reference) name
+reveals account name (change.SetPrivate block private) = false
 
 abbrev pub reveals_if : List ℕ → RequestName → Option Change → Bool
 reveals_if account name None = false

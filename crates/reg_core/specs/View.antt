@@ -3,7 +3,9 @@ use Rattle.std.specs.Prelude.{ℕ, List, Option, option_map, option_and_then}
 use Rattle.std.specs.FinMap.{FinMap, get, contains_key}
 use Rattle.std.specs.FinSet.{FinSet}
 use Rattle.std.specs.Ordering.{nat_cmp}
+use Rattle.reg_blocks.specs.Block.{block_cmp}
 use Rattle.reg_ranges.specs.Tables.{Table}
+use Rattle.reg_core.specs.Holding.{Shown, masked_blocks}
 use Rattle.reg_core.specs.Maps.{text_cmp, same_text, only_if, select}
 use Rattle.reg_core.specs.Request.{word_of}
 use Rattle.reg_core.specs.World.{World, RequestName, name_cmp, place_cmp}
@@ -11,18 +13,25 @@ use Rattle.reg_core.specs.declared.advice.Advice.{Advice}
 use Rattle.reg_core.specs.declared.ask.Ask.{Ask}
 use Rattle.reg_core.specs.declared.entry.Registration.{Registration}
 use Rattle.reg_core.specs.declared.capability.Cap.{Cap}
+use Rattle.reg_core.specs.declared.holding.Holder.{Holder}
 use Rattle.reg_core.specs.declared.request.Case.{Case}
 use Rattle.reg_core.specs.declared.request.StateWord.{StateWord}
 
--- the published registers: the ranges of each registry, and its entries; and the prefixes of the
--- pool
+-- the published registers: the ranges of each registry, and its entries; the prefixes of the pool;
+-- and the blocks that were given, where a private holder is not shown
 pub record Published : Type 0 where
   pub registries : FinMap text_cmp Table
   pub entries : FinMap place_cmp Registration
   pub pool : FinSet nat_cmp
+  pub blocks : FinMap block_cmp Shown
 
 abbrev pub published : World → Published
-published w = record { registries = w.registries; entries = w.entries; pool = w.pool }
+published w = record {
+  registries = w.registries;
+  entries = w.entries;
+  pool = w.pool;
+  blocks = masked_blocks w.blocks;
+}
 
 -- a registry's entries
 abbrev pub entries_of : List ℕ → FinMap place_cmp Registration → FinMap place_cmp Registration
@@ -34,13 +43,17 @@ pub record Queued : Type 0 where
   pub word : StateWord
   pub advice : Option Advice
 
--- an account's own requests, and those that are queued to it
+-- an account's own requests, the blocks that it holds, and the requests that are queued to it
 pub record Personal : Type 0 where
   pub requests : FinMap name_cmp Case
+  pub holdings : FinMap block_cmp Holder
   pub queue : FinMap name_cmp Queued
 
 abbrev pub requests_of : List ℕ → World → FinMap name_cmp Case
 requests_of account w = select (λ name case. only_if (same_text name.0 account) case) w.requests
+
+abbrev pub holdings_of : List ℕ → World → FinMap block_cmp Holder
+holdings_of account w = select (λ block h. only_if (same_text h.account account) h) w.blocks
 
 abbrev pub as_queued : Option Advice → Case → Queued
 as_queued advice case = record { ask = case.ask; word = word_of case.state; advice = advice }
@@ -54,7 +67,11 @@ abbrev pub queue_of : List ℕ → World → FinMap name_cmp Queued
 queue_of account w = select (λ name case. queued_to account w name case) w.requests
 
 abbrev pub personal : List ℕ → World → Personal
-personal account w = record { requests = requests_of account w; queue = queue_of account w }
+personal account w = record {
+  requests = requests_of account w;
+  holdings = holdings_of account w;
+  queue = queue_of account w;
+}
 
 pub record View : Type 0 where
   pub published : Published
@@ -67,8 +84,8 @@ cap_at w caller = option_and_then (get w.caps) caller
 abbrev pub with_personal : World → Cap → Cap × Personal
 with_personal w cap = (cap, personal cap.account w)
 
--- what a caller sees: the published registers, its own capability, and its account's own requests
--- and queue
+-- what a caller sees: the published registers, its own capability, and its account's own requests,
+-- blocks and queue
 abbrev pub view_of : World → Option (List ℕ) → View
 view_of w caller =
     record { published = published w; me = option_map (with_personal w) (cap_at w caller) }

@@ -1,13 +1,15 @@
 -- What holds of every world that an office keeps, and the changes that fit it.
 use Rattle.std.specs.Prelude.{◌≡◌, ◌^◌, Bool, true, false, ◌&&◌, not, nat_lt, List, ℕ, Option, Some, None, IsSome, is_ok}
 use Rattle.std.specs.FinMap.{FinMap, get, contains_key}
+use Rattle.reg_blocks.specs.Block.{SizedPrefix, Clash, block_cmp, is_block, leading_24}
 use Rattle.reg_blocks.specs.Pool.{is_pool_prefix}
 use Rattle.reg_ranges.specs.Tables.{Table, treatment_of}
 use Rattle.reg_core.specs.Advice.{has_advice_form}
-use Rattle.reg_core.specs.Ask.{has_ask_form}
+use Rattle.reg_core.specs.Ask.{has_ask_form, same_size}
 use Rattle.reg_core.specs.Capability.{has_cap_form}
 use Rattle.reg_core.specs.Allowance.{open_policy}
 use Rattle.reg_core.specs.Entry.{has_registration_form}
+use Rattle.reg_core.specs.Holding.{has_holder_form}
 use Rattle.reg_core.specs.Maps.{same_text}
 use Rattle.reg_core.specs.Request.{has_state_form}
 use Rattle.reg_core.specs.Names.{is_name, is_digest}
@@ -16,12 +18,13 @@ use Rattle.reg_core.specs.World.{World, RequestName, Place, place_cmp, Seat, app
 use Rattle.reg_core.specs.declared.advice.Advice.{Advice}
 use Rattle.reg_core.specs.declared.capability.Cap.{Cap}
 use Rattle.reg_core.specs.declared.change.Change.{Change}
-use Rattle.reg_core.specs.declared.change.Change.TheVariants.{Grant, Revoke, Define, AddPool, Submit, Close, Assign, Advise, GiveValue}
+use Rattle.reg_core.specs.declared.change.Change.TheVariants.{Grant, Revoke, Define, AddPool, Submit, Close, Assign, Advise, GiveValue, GiveBlock, SetPrivate}
 use Rattle.reg_core.specs.declared.request.Case.{Case}
 use Rattle.reg_core.specs.declared.ask.Ask.{Ask}
-use Rattle.reg_core.specs.declared.ask.Ask.TheVariants.{Code}
+use Rattle.reg_core.specs.declared.ask.Ask.TheVariants.{Code, Block}
 use Rattle.reg_core.specs.declared.entry.Registration.{Registration}
-use Rattle.reg_core.specs.declared.request.Given.TheVariants.{Value}
+use Rattle.reg_core.specs.declared.holding.Holder.{Holder}
+use Rattle.reg_core.specs.declared.request.Given.TheVariants as given
 use Rattle.reg_core.specs.declared.request.State.{State}
 use Rattle.reg_core.specs.declared.request.State.TheVariants.{Pending, Approved, Declined, Withdrawn}
 
@@ -33,6 +36,9 @@ has_registry_form name table = is_name name && has_table_form table
 
 abbrev pub has_entry_form : Place → Registration → Bool
 has_entry_form place a = is_name place.0 && nat_lt place.1 (2 ^ 32) && has_registration_form a
+
+abbrev pub has_holding_form : SizedPrefix → Holder → Bool
+has_holding_form block h = is_block block && has_holder_form h
 
 abbrev pub has_request_form : RequestName → Case → Bool
 has_request_form name case =
@@ -52,18 +58,30 @@ abbrev pub is_registered_to : List ℕ → Option Registration → Bool
 is_registered_to account None = false
 is_registered_to account (Some a) = same_text a.assignee account
 
--- what an approved request of an account was given is an entry of the account's
-abbrev pub stands_in : FinMap place_cmp Registration → List ℕ → Ask → State → Bool
-stands_in entries account ask Pending = true
-stands_in entries account (Code ask) (Approved (Value v)) =
+-- the block has this account as its holder
+abbrev pub is_held_by : List ℕ → Option Holder → Bool
+is_held_by account None = false
+is_held_by account (Some h) = same_text h.account account
+
+-- what an approved request of an account was given is an entry of the account's, or a block of the
+-- size that it asked for, which the account holds
+abbrev pub stands_in : FinMap place_cmp Registration → FinMap block_cmp Holder → List ℕ → Ask
+    → State → Bool
+stands_in entries blocks account ask Pending = true
+stands_in entries blocks account (Code ask) (Approved (given.Value v)) =
     is_registered_to account (get entries (ask.registry, v))
-stands_in entries account ask (Declined reason) = true
-stands_in entries account ask Withdrawn = true
+stands_in entries blocks account (Block ask) (Approved (given.Block block)) =
+    same_size block.size ask.size && is_held_by account (get blocks block)
+stands_in entries blocks account (Code ask) (Approved (given.Block block)) = false
+stands_in entries blocks account (Block ask) (Approved (given.Value v)) = false
+stands_in entries blocks account ask (Declined reason) = true
+stands_in entries blocks account ask Withdrawn = true
 
 -- every text and number has its form, the ranges of each registry are a partition of its values,
--- each entry has a value that is assigned one by one, and each approved request its entry; only
--- requests that are there are assigned to experts, none to its applicant, and advice is by experts
--- to whom the request is assigned; every number of the pool is a prefix that may be in one
+-- each entry has a value that is assigned one by one, and each approved request its entry or block;
+-- only requests that are there are assigned to experts, none to its applicant, and advice is by
+-- experts to whom the request is assigned; every number of the pool is a prefix that may be in one,
+-- each block lies in one of them, and no two blocks share an address
 pub record WellKept (w : World) : Type 0 where
   pub caps : (digest : List ℕ) (cap : Cap) → get w.caps digest ≡ Some cap
       → has_grant_form digest cap ≡ true
@@ -76,7 +94,7 @@ pub record WellKept (w : World) : Type 0 where
   pub requests : (name : RequestName) (case : Case) → get w.requests name ≡ Some case
       → has_request_form name case ≡ true
   pub given : (name : RequestName) (case : Case) → get w.requests name ≡ Some case
-      → stands_in w.entries name.0 case.ask case.state ≡ true
+      → stands_in w.entries w.blocks name.0 case.ask case.state ≡ true
   pub queue : (seat : Seat) → contains_key w.queue seat ≡ true → has_seat_form seat ≡ true
   pub queued : (seat : Seat) → contains_key w.queue seat ≡ true → IsSome (get w.requests seat.0)
   pub advice : (seat : Seat) (advice : Advice) → get w.advice seat ≡ Some advice
@@ -84,9 +102,15 @@ pub record WellKept (w : World) : Type 0 where
   pub advised : (seat : Seat) (advice : Advice) → get w.advice seat ≡ Some advice
       → contains_key w.queue seat ≡ true
   pub pool : (prefix : ℕ) → contains_key w.pool prefix ≡ true → is_pool_prefix prefix ≡ true
+  pub blocks : (block : SizedPrefix) (h : Holder) → get w.blocks block ≡ Some h
+      → has_holding_form block h ≡ true
+  pub in_pool : (block : SizedPrefix) (h : Holder) → get w.blocks block ≡ Some h
+      → contains_key w.pool (leading_24 block) ≡ true
+  pub apart : (a b : SizedPrefix) → IsSome (get w.blocks a) → IsSome (get w.blocks b)
+      → Clash a b → a ≡ b
 
--- a capability, a registry, a prefix, a request or an assignment that the change adds is not
--- there, and a request that it closes or gives something is
+-- a capability, a registry, a prefix, a request, an assignment or a block that the change adds is
+-- not there; a request that it closes or gives something is, and a block that it marks
 abbrev pub IsNew : World → Change → Type 0
 IsNew w (Grant digest cap) = get w.caps digest ≡ None
 IsNew w (Revoke digest) = Unit {0}
@@ -98,6 +122,9 @@ IsNew w (Assign account reference expert) =
     contains_key w.queue ((account, reference), expert) ≡ false
 IsNew w (Advise account reference expert advice) = Unit {0}
 IsNew w (GiveValue account reference entry) = IsSome (get w.requests (account, reference))
+IsNew w (GiveBlock account reference holding) =
+    IsSome (get w.requests (account, reference)) × (get w.blocks holding.block ≡ None)
+IsNew w (SetPrivate block private) = IsSome (get w.blocks block)
 
 -- the change is new to the world, and leaves it well kept
 abbrev pub CanApply : World → Change → Type 0

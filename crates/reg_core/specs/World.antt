@@ -5,19 +5,22 @@ use Rattle.std.specs.declared.cmp.Ordering.{Ordering}
 use Rattle.std.specs.FinMap as map
 use Rattle.std.specs.FinMap.{FinMap, insert, remove}
 use Rattle.std.specs.FinSet.{FinSet}
+use Rattle.reg_blocks.specs.Block.{block_cmp}
 use Rattle.reg_ranges.specs.Tables.{Table}
 use Rattle.reg_core.specs.Maps.{text_cmp, pair_cmp, update}
 use Rattle.reg_core.specs.Entry.{registration_in}
+use Rattle.reg_core.specs.Holding.{holder_in, with_mark}
 use Rattle.reg_core.specs.declared.advice.Advice.{Advice}
 use Rattle.reg_core.specs.declared.ask.Ask.{Ask}
 use Rattle.reg_core.specs.declared.capability.Cap.{Cap}
 use Rattle.reg_core.specs.declared.change.Change.{Change}
-use Rattle.reg_core.specs.declared.change.Change.TheVariants.{Grant, Revoke, Define, AddPool, Submit, Close, Assign, Advise, GiveValue}
+use Rattle.reg_core.specs.declared.change.Change.TheVariants.{Grant, Revoke, Define, AddPool, Submit, Close, Assign, Advise, GiveValue, GiveBlock, SetPrivate}
 use Rattle.reg_core.specs.declared.request.Case.{Case}
 use Rattle.reg_core.specs.declared.request.State.{State}
 use Rattle.reg_core.specs.declared.request.State.TheVariants.{Pending, Approved}
-use Rattle.reg_core.specs.declared.request.Given.TheVariants.{Value}
+use Rattle.reg_core.specs.declared.request.Given.TheVariants.{Value, Block}
 use Rattle.reg_core.specs.declared.entry.Registration.{Registration}
+use Rattle.reg_core.specs.declared.holding.Holder.{Holder}
 
 -- a request's name: its applicant's account and the applicant's reference
 abbrev pub RequestName : Type 0
@@ -42,7 +45,7 @@ seat_cmp = pair_cmp name_cmp text_cmp
 
 -- capabilities by the digests of their tokens, registries by their names, entries by registry and
 -- value, requests by their names; which request is assigned to which expert, and the advice that
--- each gave; the prefixes that blocks are cut from
+-- each gave; the prefixes that blocks are cut from, and the blocks that were given
 pub record World : Type 0 where
   pub caps : FinMap text_cmp Cap
   pub registries : FinMap text_cmp Table
@@ -51,6 +54,7 @@ pub record World : Type 0 where
   pub queue : FinSet seat_cmp
   pub advice : FinMap seat_cmp Advice
   pub pool : FinSet nat_cmp
+  pub blocks : FinMap block_cmp Holder
 
 abbrev pub empty_world : World
 empty_world =
@@ -62,6 +66,7 @@ empty_world =
       queue = map.empty;
       advice = map.empty;
       pool = map.empty;
+      blocks = map.empty;
     }
 
 -- a request that waits for the office
@@ -93,6 +98,12 @@ applied w (GiveValue account reference entry) =
     record (with_state w (account, reference) (Approved (Value entry.value))) {
       entries = insert w.entries (entry.registry, entry.value) (registration_in entry);
     }
+applied w (GiveBlock account reference holding) =
+    record (with_state w (account, reference) (Approved (Block holding.block))) {
+      blocks = insert w.blocks holding.block (holder_in holding);
+    }
+applied w (SetPrivate block private) =
+    record w { blocks = update w.blocks block (with_mark private) }
 
 abbrev pub applied_if : World → Option Change → World
 applied_if w None = w

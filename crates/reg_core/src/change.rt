@@ -5,8 +5,10 @@ use crate::advice::Advice;
 use crate::ask::Ask;
 use crate::capability::Cap;
 use crate::entry::Entry;
+use crate::holding::Holding;
 use crate::request::State;
 use crate::text::{Account, Digest, Name, Ref};
+use reg_blocks::block::Block;
 use reg_ranges::table::RangeTable;
 use std::alloc::AllocError;
 
@@ -31,6 +33,10 @@ pub enum Change {
     Advise(Account, Ref, Account, Advice),
     /// Approves a request and adds the entry of the value that it is given.
     GiveValue(Account, Ref, Entry),
+    /// Approves a request and adds the block that it is given, with its holder.
+    GiveBlock(Account, Ref, Holding),
+    /// Marks the holder of a block as private, or as not private.
+    SetPrivate(Block, bool),
 }
 
 impl Change {
@@ -44,12 +50,14 @@ impl Change {
             Change::Submit(_, _, _) => Ok(Some(State::Pending)),
             Change::Close(_, _, state) => Ok(Some(state.copy()?)),
             Change::GiveValue(_, _, entry) => Ok(Some(entry.approval())),
+            Change::GiveBlock(_, _, holding) => Ok(Some(holding.approval())),
             Change::Grant(_, _)
             | Change::Revoke(_)
             | Change::Define(_, _)
             | Change::AddPool(_)
             | Change::Assign(_, _, _)
-            | Change::Advise(_, _, _, _) => Ok(None),
+            | Change::Advise(_, _, _, _)
+            | Change::SetPrivate(_, _) => Ok(None),
         }
     }
 }

@@ -6,6 +6,7 @@ use crate::advice::Advice;
 use crate::ask::Ask;
 use crate::capability::{Cap, Kind};
 use crate::text::{Account, Name, Ref, Text, Token};
+use reg_blocks::block::Block;
 use reg_ranges::table::RangeTable;
 
 /// What a caller asks the office to do, by whose command it is.
@@ -29,6 +30,8 @@ pub enum PublicCommand {
     RegistryListing(Name),
     /// Lists the prefixes that blocks are cut from.
     PoolList,
+    /// Lists the blocks that were given as a table.
+    BlockListing,
 }
 
 /// What an applicant may ask, of its own account.
@@ -42,6 +45,11 @@ pub enum ApplicantCommand {
     Submit(Ref, Ask),
     /// Takes one of its requests back.
     Withdraw(Ref),
+    /// Lists the blocks that it holds.
+    Holdings,
+    /// Says of a block that it holds whether the public is to see organization and address: they
+    /// are not where the mark is true.
+    SetListing(Block, bool),
 }
 
 /// What an expert may ask, of the requests that are queued to its account.

@@ -1,6 +1,7 @@
 //! What the caller of an accepted command is told.
 use crate::capability::Cap;
 use crate::file::File;
+use crate::holding::{Holding, Listed};
 use crate::page::Page;
 use crate::queue::QueueRow;
 use crate::request::Request;
@@ -19,12 +20,18 @@ pub enum Content {
     Listing(Page),
     /// The prefixes of the pool, ascending.
     Pool(Pool),
+    /// The blocks that were given, as the public sees them, by first address.
+    Blocks(Rows<Listed>),
     /// A request was made.
     Made(Request),
     /// A request of the caller's.
     Row(Request),
     /// The caller's requests, by reference.
     Rows(Rows<Request>),
+    /// A block that the caller holds.
+    Held(Holding),
+    /// The blocks that the caller holds, by first address.
+    Holdings(Rows<Holding>),
     /// A request that is queued to the caller.
     Item(QueueRow),
     /// The requests that are queued to the caller, by account and reference.

@@ -7,6 +7,8 @@ ghost use Rattle.reg_core.specs.Item.{item_name};
 #[derive(Clone, Copy, Debug, PartialEq, Eq)]
 pub enum Item {
     Account,
+    Address,
+    Block,
     Contact,
     Expert,
     /// A member that the body should not have.
@@ -18,11 +20,14 @@ pub enum Item {
     Minute,
     Name,
     Number,
+    Organization,
     Prefix,
+    Private,
     Reason,
     Reference,
     Registry,
     Rfc,
+    Size,
     Specification,
     Stream,
     Text,
@@ -40,6 +45,8 @@ impl Item {
     {
         match self {
             Item::Account => "account",
+            Item::Address => "address",
+            Item::Block => "block",
             Item::Contact => "contact",
             Item::Expert => "expert",
             Item::Extra => "extra",
@@ -50,11 +57,14 @@ impl Item {
             Item::Minute => "minute",
             Item::Name => "name",
             Item::Number => "number",
+            Item::Organization => "organization",
             Item::Prefix => "prefix",
+            Item::Private => "private",
             Item::Reason => "reason",
             Item::Reference => "reference",
             Item::Registry => "registry",
             Item::Rfc => "rfc",
+            Item::Size => "size",
             Item::Specification => "specification",
             Item::Stream => "stream",
             Item::Text => "text",

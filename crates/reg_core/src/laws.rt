@@ -4,6 +4,7 @@ ghost use Rattle.std.specs.Prelude.{List, ℕ};
 ghost use Rattle.reg_ranges.specs.Words.{ReadsWords};
 ghost use Rattle.reg_core.specs.Advice.{read_verdict, same_advice, verdict_word};
 ghost use Rattle.reg_core.specs.Ask.{same_ask};
+ghost use Rattle.reg_core.specs.BlocksGiven.{BlockAsksAreServedDuly, BlocksAreApart, BlocksDueAreLeast, ForeignBlocksAreHidden, PrivateHoldersAreHidden};
 ghost use Rattle.reg_core.specs.Capability.{same_cap, same_kind};
 ghost use Rattle.reg_core.specs.Laws.{AnswersAreDone, ApprovalsAreAdvised, ApprovalsGiveWhatIsAllowed, ApprovalsStand, ChangesFit, DecidesSame, FirstWorldsAreWellKept, GivenStays, GivesDigests, RefusalsChangeNothing, RepeatsActOnce, RunsKeepWell, SubmissionsStand, TwoWorlds};
 ghost use Rattle.reg_core.specs.MayBeGiven.{AsksMeetTheirPolicy, NoValueIsGivenTwice};
@@ -68,10 +69,41 @@ pub fn no_value_is_given_twice()
         → NoValueIsGivenTwice digest_of }
 {}
 
+/// No address is given twice: in every run from a well kept world each block that was given lies
+/// in a prefix of the pool, and no two of them share an address.
+pub fn blocks_are_apart()
+    ensures { (digest_of : List ℕ → List ℕ) → GivesDigests digest_of → BlocksAreApart digest_of }
+{}
+
+/// The block due is of the free blocks of its size the one with the least first address, and there
+/// is none exactly where none is free.
+pub fn blocks_due_are_least()
+    ensures { BlocksDueAreLeast }
+{}
+
+/// Asks for blocks are served duly: a request is taken in where a block of its size is free, and
+/// is given the one due; and what was approved has its block, which the applicant's account holds.
+pub fn block_asks_are_served_duly()
+    ensures { (digest_of : List ℕ → List ℕ) → BlockAsksAreServedDuly digest_of }
+{}
+
+/// Private holders are hidden: two well kept worlds that differ only in who holds a private block,
+/// or with which organization and address, answer every other caller who is no clerk alike, and
+/// show it the same, before and after.
+pub fn private_holders_are_hidden()
+    ensures { (digest_of : List ℕ → List ℕ) → PrivateHoldersAreHidden digest_of }
+{}
+
+/// Blocks of others are hidden: a caller who says how a block is listed that it does not hold is
+/// answered alike whether another holds it or nobody does, and changes nothing.
+pub fn foreign_blocks_are_hidden()
+    ensures { (digest_of : List ℕ → List ℕ) → ForeignBlocksAreHidden digest_of }
+{}
+
 /// What was given stays: in every run from a well kept world an entry keeps its label, its
-/// assignee and its first day, a registry its ranges, a request its ask and, once it is not
-/// pending, its state, its experts and all advice on it; and none of them goes away, nor does a
-/// prefix of the pool.
+/// assignee and its first day, a block its holder, organization and address, a registry its
+/// ranges, a request its ask and, once it is not pending, its state, its experts and all advice on
+/// it; and none of them goes away, nor does a prefix of the pool.
 pub fn given_stays()
     ensures { (digest_of : List ℕ → List ℕ) → GivesDigests digest_of → GivenStays digest_of }
 {}

@@ -11,6 +11,7 @@ pub mod content;
 pub mod decide;
 pub mod entry;
 pub mod file;
+pub mod holding;
 pub mod item;
 pub mod laws;
 pub mod page;

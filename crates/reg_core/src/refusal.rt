@@ -30,12 +30,14 @@ pub enum Refusal {
     Evidence(Item),
     /// The value has an entry.
     Taken,
-    /// Each value under the policy has an entry.
+    /// Each value under the policy has an entry; or no block of the size is free.
     Exhausted,
     /// An expert's favourable advice is wanting (RFC 8126 sections 4.5 and 4.6).
     Advice,
     /// A clerk names the applicant as an expert, or revokes the token in use.
     Own,
+    /// The block is none of the caller's.
+    Holding,
     /// Something else is there already.
     Exists,
     /// The prefix is no 24-bit number, or its I/G or U/L bit is set (IEEE Std 802-2014, clause 8).

@@ -4,6 +4,7 @@ ghost use Rattle.reg_core.specs.Request.{has_state_form, word_of};
 
 use crate::ask::Ask;
 use crate::text::{Account, Ref, Text};
+use reg_blocks::block::Block;
 use reg_ranges::formed::Formed;
 use std::alloc::AllocError;
 
@@ -12,6 +13,8 @@ use std::alloc::AllocError;
 pub enum Given {
     /// This value of the registry that the ask names.
     Value(u32),
+    /// This block.
+    Block(Block),
 }
 
 /// Where a request stands.
@@ -77,6 +80,9 @@ impl Formed for State {
         match self {
             State::Approved(Given::Value(value)) => {
                 let _value = *value;
+            }
+            State::Approved(Given::Block(block)) => {
+                let _prefix = block.prefix();
             }
             State::Declined(reason) => reason.formed(),
             State::Pending | State::Withdrawn => {}

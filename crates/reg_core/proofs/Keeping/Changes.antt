@@ -6,32 +6,34 @@ use Rattle.std.specs.Cmp.Derive.{both_true}
 use Rattle.std.specs.FinMap.{FinMap, get, insert, contains_key}
 use Rattle.std.specs.Ordering.{eq_by_cmp}
 use Rattle.std.proofs.lemmas.Bool.Decides.{nat_tests}
+use Rattle.reg_blocks.specs.Block.{SizedPrefix, block_cmp, leading_24}
 use Rattle.reg_blocks.specs.Pool.{is_pool_prefix}
 use Rattle.reg_ranges.specs.Tables.{Table}
 use Rattle.reg_ranges.specs.Texts.{is_text}
 use Rattle.reg_core.specs.Advice.{has_advice_form}
-use Rattle.reg_core.specs.Ask.{has_want_form, has_evidence_form, has_code_form, has_ask_form}
+use Rattle.reg_core.specs.Ask.{has_want_form, has_evidence_form, has_code_form, has_ask_form, same_size}
 use Rattle.reg_core.specs.Allowance.{entry_asked}
 use Rattle.reg_core.specs.Award.{entry_on}
 use Rattle.reg_core.specs.Entry.{registration_in, has_day_form, has_registration_form}
 use Rattle.reg_core.specs.Maps.{text_cmp, same_text}
 use Rattle.reg_core.specs.Names.{is_name}
 use Rattle.reg_core.specs.Request.{has_state_form}
-use Rattle.reg_core.specs.WellKept.{WellKept, CanApply, has_grant_form, has_registry_form, has_entry_form, has_request_form, has_seat_form, is_open_at, is_registered_to, stands_in}
+use Rattle.reg_core.specs.WellKept.{WellKept, CanApply, has_grant_form, has_registry_form, has_entry_form, has_request_form, has_seat_form, is_open_at, is_registered_to, is_held_by, stands_in}
 use Rattle.reg_core.specs.World.{World, RequestName, Place, place_cmp, in_state, pending}
 use Rattle.reg_core.specs.declared.advice.Advice.{Advice}
 use Rattle.reg_core.specs.declared.ask.Ask.{Ask}
-use Rattle.reg_core.specs.declared.ask.Ask.TheVariants.{Code}
+use Rattle.reg_core.specs.declared.ask.Ask.TheVariants.{Code, Block}
 use Rattle.reg_core.specs.declared.ask.CodeAsk.{CodeAsk}
 use Rattle.reg_core.specs.declared.capability.Cap.{Cap}
 use Rattle.reg_core.specs.declared.change.Change.TheVariants.{Grant, Revoke, Define, AddPool, Submit, Close, Assign, Advise, GiveValue}
 use Rattle.reg_core.specs.declared.entry.Registration.{Registration}
 use Rattle.reg_core.specs.declared.request.Case.{Case}
-use Rattle.reg_core.specs.declared.request.Given.TheVariants.{Value}
+use Rattle.reg_core.specs.declared.holding.Holder.{Holder}
+use Rattle.reg_core.specs.declared.request.Given.TheVariants as given
 use Rattle.reg_core.specs.declared.request.State.{State}
 use Rattle.reg_core.specs.declared.request.State.TheVariants.{Pending, Approved, Declined, Withdrawn}
 use Rattle.reg_core.proofs.Allowances.{IsFree}
-use Rattle.reg_core.proofs.KeySets.{each_key, still_in, still_at}
+use Rattle.reg_core.proofs.KeySets.{each_key, still_in, still_at, insert_passes}
 use Rattle.reg_core.proofs.MapLaws.{number_keys, text_keys, name_keys, place_keys, seat_keys, tied, get-at_insert, get-inserted, insert_keeps, remove_keeps, update_keeps}
 use Rattle.reg_core.proofs.SamenessIsDecided.{same_text-itself}
 
@@ -54,6 +56,9 @@ can_grant w digest cap kept form free = (
     advice = kept.advice;
     advised = kept.advised;
     pool = kept.pool;
+    blocks = kept.blocks;
+    in_pool = kept.in_pool;
+    apart = kept.apart;
   },
 )
 
@@ -73,6 +78,9 @@ can_revoke w digest kept = (
     advice = kept.advice;
     advised = kept.advised;
     pool = kept.pool;
+    blocks = kept.blocks;
+    in_pool = kept.in_pool;
+    apart = kept.apart;
   },
 )
 
@@ -97,6 +105,9 @@ can_define w name table kept form free = (
     advice = kept.advice;
     advised = kept.advised;
     pool = kept.pool;
+    blocks = kept.blocks;
+    in_pool = kept.in_pool;
+    apart = kept.apart;
   },
 )
   where
@@ -136,6 +147,10 @@ can_add_pool w prefix kept form free = (
     advised = kept.advised;
     pool = each_key number_keys w.pool prefix
         (λ prefix. is_pool_prefix prefix ≡ true) tt kept.pool form;
+    blocks = kept.blocks;
+    in_pool = λ block h is.
+        still_in number_keys w.pool prefix tt (leading_24 block) (kept.in_pool block h is);
+    apart = kept.apart;
   },
 )
 
@@ -155,19 +170,22 @@ can_submit w name ask kept form free = (
         (λ name case. has_request_form name case ≡ true) w.requests name
         (pending ask) kept.requests form;
     given = insert_keeps name_keys
-        (λ name case. stands_in w.entries name.0 case.ask case.state ≡ true) w.requests name
-        (pending ask) kept.given refl;
+        (λ name case. stands_in w.entries w.blocks name.0 case.ask case.state ≡ true) w.requests
+        name (pending ask) kept.given refl;
     queue = kept.queue;
     queued = λ seat there.
         still_in name_keys w.requests name (pending ask) seat.0 (kept.queued seat there);
     advice = kept.advice;
     advised = kept.advised;
     pool = kept.pool;
+    blocks = kept.blocks;
+    in_pool = kept.in_pool;
+    apart = kept.apart;
   },
 )
 
 -- a request keeps its form in a state that has its own
-new_state : (name : RequestName) (case : Case) (state : State) → has_request_form name case ≡ true
+pub new_state : (name : RequestName) (case : Case) (state : State) → has_request_form name case ≡ true
     → has_state_form state ≡ true
     → has_request_form name (in_state state case) ≡ true
 new_state name case state form state_form =
@@ -181,12 +199,13 @@ GivesNothing (Approved given) = ⊥
 GivesNothing (Declined reason) = Unit {0}
 GivesNothing Withdrawn = Unit {0}
 
-nothing_stands : (entries : FinMap place_cmp Registration) (account : List ℕ) (ask : Ask)
-    (state : State) → GivesNothing state → stands_in entries account ask state ≡ true
-nothing_stands entries account ask Pending h = absurd h
-nothing_stands entries account ask (Approved given) h = absurd h
-nothing_stands entries account ask (Declined reason) h = refl
-nothing_stands entries account ask Withdrawn h = refl
+nothing_stands : (entries : FinMap place_cmp Registration) (blocks : FinMap block_cmp Holder)
+    (account : List ℕ) (ask : Ask) (state : State)
+    → GivesNothing state → stands_in entries blocks account ask state ≡ true
+nothing_stands entries blocks account ask Pending h = absurd h
+nothing_stands entries blocks account ask (Approved given) h = absurd h
+nothing_stands entries blocks account ask (Declined reason) h = refl
+nothing_stands entries blocks account ask Withdrawn h = refl
 
 pub can_close : (w : World) (name : RequestName) (case : Case) (state : State) → WellKept w
     → get w.requests name ≡ Some case
@@ -203,15 +222,18 @@ can_close w name case state kept is_there nothing form = (
         (in_state state) kept.requests
         (λ old is. new_state name old state (kept.requests name old is) form);
     given = update_keeps name_keys
-        (λ name case. stands_in w.entries name.0 case.ask case.state ≡ true) w.requests name
-        (in_state state) kept.given
-        (λ old is. nothing_stands w.entries name.0 old.ask state nothing);
+        (λ name case. stands_in w.entries w.blocks name.0 case.ask case.state ≡ true) w.requests
+        name (in_state state) kept.given
+        (λ old is. nothing_stands w.entries w.blocks name.0 old.ask state nothing);
     queue = kept.queue;
     queued = λ seat there.
         still_at name_keys w.requests name (in_state state) seat.0 (kept.queued seat there);
     advice = kept.advice;
     advised = kept.advised;
     pool = kept.pool;
+    blocks = kept.blocks;
+    in_pool = kept.in_pool;
+    apart = kept.apart;
   },
 )
 
@@ -238,6 +260,9 @@ can_assign w name case expert kept is_there form other free = (
     advised = λ seat advice is.
         still_in seat_keys w.queue (name, expert) tt seat (kept.advised seat advice is);
     pool = kept.pool;
+    blocks = kept.blocks;
+    in_pool = kept.in_pool;
+    apart = kept.apart;
   },
 )
 
@@ -260,39 +285,47 @@ can_advise w name expert advice kept assigned form = (
     advised = insert_keeps seat_keys (λ seat advice. contains_key w.queue seat ≡ true) w.advice
         (name, expert) advice kept.advised assigned;
     pool = kept.pool;
+    blocks = kept.blocks;
+    in_pool = kept.in_pool;
+    apart = kept.apart;
   },
 )
 
--- ---- Entries
+-- ---- What was given
 
--- what stands in the registers stands after an entry more
-module _ (entries : FinMap place_cmp Registration) (place : Place) (a : Registration)
-    (free : get entries place ≡ None) where
-  assigned_still : (account : List ℕ) (there : Place)
-      → is_registered_to account (get entries there) ≡ true
-      → is_registered_to account (get (insert entries place a) there) ≡ true
-  assigned_still account there h = by (eq_by_cmp place_cmp there place) refl
-    where
-      by : (b : Bool) → eq_by_cmp place_cmp there place ≡ b
-          → is_registered_to account (get (insert entries place a) there) ≡ true
-      by true t =
-          let none : is_registered_to account (get entries there) ≡ false =
-          ap (is_registered_to account)
-          (ap (get entries) (tied place_keys there place t) ∙ free) in
-          absurd (cc)
-      by false t =
-          ap (is_registered_to account)
-          (get-at_insert place_keys entries place a there
-          ∙ ap (λ b. cond b (Some a) (get entries there)) t) ∙ h
-
-  stands_still : (account : List ℕ) (ask : Ask) (state : State)
-      → stands_in entries account ask state ≡ true
-      → stands_in (insert entries place a) account ask state ≡ true
+-- what stands in registers stands in others that have each entry and each block of an account too
+module _ (entries others : FinMap place_cmp Registration) (blocks holdings : FinMap block_cmp Holder)
+    (each_entry : (account : List ℕ) (place : Place)
+    → is_registered_to account (get entries place) ≡ true
+    → is_registered_to account (get others place) ≡ true)
+    (each_block : (account : List ℕ) (block : SizedPrefix)
+    → is_held_by account (get blocks block) ≡ true
+    → is_held_by account (get holdings block) ≡ true) where
+  pub stands_still : (account : List ℕ) (ask : Ask) (state : State)
+      → stands_in entries blocks account ask state ≡ true
+      → stands_in others holdings account ask state ≡ true
   stands_still account ask Pending h = refl
-  stands_still account (Code ask) (Approved (Value v)) h =
-      assigned_still account (ask.registry, v) h
+  stands_still account (Code ask) (Approved (given.Value v)) h =
+      each_entry account (ask.registry, v) h
+  stands_still account (Block ask) (Approved (given.Block block)) h =
+      both_true (first_so (same_size block.size ask.size) (is_held_by account (get blocks block)) h)
+      (each_block account block
+      (second_so (same_size block.size ask.size) (is_held_by account (get blocks block)) h))
+  stands_still account (Code ask) (Approved (given.Block block)) h = absurd (cc)
+  stands_still account (Block ask) (Approved (given.Value v)) h = absurd (cc)
   stands_still account ask (Declined reason) h = refl
   stands_still account ask Withdrawn h = refl
+
+-- the request is the one that is there
+pub asks_this : (w : World) (name : RequestName) (case old : Case) (ask : Ask)
+    → get w.requests name ≡ Some case → case.ask ≡ ask → get w.requests name ≡ Some old
+    → old.ask ≡ ask
+asks_this w name case old ask is_there asks is =
+    let same : Some old ≡ Some case = sym is ∙ is_there in
+    let itself : old ≡ case = cc in
+    ap (λ (f : Case). f.ask) itself ∙ asks
+
+-- ---- Entries
 
 pub can_give : (w : World) (name : RequestName) (case : Case) (ask : CodeAsk) (today v : ℕ)
     → WellKept w → get w.requests name ≡ Some case → case.ask ≡ Code ask
@@ -301,7 +334,7 @@ pub can_give : (w : World) (name : RequestName) (case : Case) (ask : CodeAsk) (t
 can_give w name case ask today v kept is_there asks free day =
     let place : Place = (ask.registry, v) in
     let a = registration_in (entry_on today (entry_asked name.0 ask v)) in
-    let state = Approved (Value v) in
+    let state = Approved (given.Value v) in
     let form = kept.requests name case is_there in
     let names = first_so (is_name name.0 && is_name name.1) (has_ask_form case.ask)
     (first_so (is_name name.0 && is_name name.1 && has_ask_form case.ask)
@@ -323,10 +356,7 @@ can_give w name case ask today v kept is_there asks free day =
     let below = free.below in
     let value_form : nat_lt v (2 ^ 32) ≡ true = grind (arith, nat_tests, below) in
     let registration_form : has_registration_form a ≡ true =
-    both_true (both_true label_form account_form) (both_true day refl) in
-    let asked : (old : Case) → get w.requests name ≡ Some old → old.ask ≡ Code ask = λ old is.
-    let same : Some old ≡ Some case = sym is ∙ is_there in let itself : old ≡ case = cc in
-    ap (λ (f : Case). f.ask) itself ∙ asks in (
+    both_true (both_true label_form account_form) (both_true day refl) in (
       ap is_some is_there,
       record {
         caps = kept.caps;
@@ -344,14 +374,17 @@ can_give w name case ask today v kept is_there asks free day =
             (λ old is. new_state name old state (kept.requests name old is) value_form);
         given = update_keeps name_keys
             (λ name case.
-            stands_in (insert w.entries place a) name.0 case.ask case.state ≡ true) w.requests name
-            (in_state state)
+            stands_in (insert w.entries place a) w.blocks name.0 case.ask case.state
+            ≡ true) w.requests name (in_state state)
             (λ other old is.
-            stands_still w.entries place a free.is_new other.0 old.ask old.state
-            (kept.given other old is))
+            stands_still w.entries (insert w.entries place a) w.blocks w.blocks
+            (λ account there h.
+            insert_passes place_keys w.entries place (is_registered_to account) refl a free.is_new
+            there h)
+            (λ account block h. h) other.0 old.ask old.state (kept.given other old is))
             (λ old is.
-            subst (λ x. stands_in (insert w.entries place a) name.0 x state ≡ true)
-            (sym (asked old is))
+            subst (λ x. stands_in (insert w.entries place a) w.blocks name.0 x state ≡ true)
+            (sym (asks_this w name case old (Code ask) is_there asks is))
             (ap (is_registered_to name.0) (get-inserted place_keys w.entries place a)
             ∙ same_text-itself name.0));
         queue = kept.queue;
@@ -360,5 +393,8 @@ can_give w name case ask today v kept is_there asks free day =
         advice = kept.advice;
         advised = kept.advised;
         pool = kept.pool;
+        blocks = kept.blocks;
+        in_pool = kept.in_pool;
+        apart = kept.apart;
       },
     )

@@ -5,6 +5,7 @@ use Rattle.std.specs.Cmp.{first_so, second_so}
 use Rattle.std.specs.Cmp.Derive.{both_true}
 use Rattle.std.specs.FinMap.{get-empty}
 use Rattle.std.specs.Ordering.{nat_cmp}
+use Rattle.reg_blocks.specs.Block.{block_cmp}
 use Rattle.reg_core.specs.Command.{has_command_form}
 use Rattle.reg_core.specs.Laws.{GivesDigests, RunsKeepWell, FirstWorldsAreWellKept, clerk_cap}
 use Rattle.reg_core.specs.Maps.{text_cmp}
@@ -54,6 +55,9 @@ empty_kept = record {
   advice = λ seat advice is_there. absent (get-empty seat_cmp seat) is_there;
   advised = λ seat advice is_there. absent (get-empty seat_cmp seat) is_there;
   pool = λ prefix there. no_key (get-empty nat_cmp prefix) there;
+  blocks = λ block h is_there. absent (get-empty block_cmp block) is_there;
+  in_pool = λ block h is_there. absent (get-empty block_cmp block) is_there;
+  apart = λ a b there. no_key (get-empty block_cmp a) there;
 }
 
 pub first_worlds_kept : FirstWorldsAreWellKept

@@ -11,12 +11,13 @@ use Rattle.reg_core.specs.Allowance.{◌>>=◌, or_refusal, allowed, ground_of}
 use Rattle.reg_core.specs.Answer.{Outcome, Answer, change_by, by_rule, case_by, own_row, made_row, item, public_answer, as_kind, own_answer, expert_answer, answer_at, answer}
 use Rattle.reg_core.specs.Capability.{same_kind}
 use Rattle.reg_core.specs.File.{file, was_advised}
+use Rattle.reg_core.specs.Holding.{holding_row, holding_rows, listed_rows, with_mark}
 use Rattle.reg_core.specs.Page.{page}
 use Rattle.reg_core.specs.Queue.{queue_rows, with_advice}
 use Rattle.reg_core.specs.Request.{request_rows, word_of}
-use Rattle.reg_core.specs.Rules.{advise_rule}
+use Rattle.reg_core.specs.Rules.{listing_rule, advise_rule}
 use Rattle.reg_core.specs.Step.{is_clerk, acts_as_clerk, desk_by, clerk_answer, answer_to}
-use Rattle.reg_core.specs.View.{as_queued, Personal, published, requests_of, queue_of, personal, cap_at, with_personal, view_of}
+use Rattle.reg_core.specs.View.{as_queued, Personal, published, requests_of, holdings_of, queue_of, personal, cap_at, with_personal, view_of}
 use Rattle.reg_core.specs.World.{World, RequestName}
 use Rattle.reg_core.specs.declared.capability.Cap.{Cap}
 use Rattle.reg_core.specs.declared.capability.Kind.{Kind}
@@ -24,22 +25,25 @@ use Rattle.reg_core.specs.declared.capability.Kind.TheVariants as kind
 use Rattle.reg_core.specs.declared.command.Command.{Command}
 use Rattle.reg_core.specs.declared.command.Command.TheVariants.{Public, Applicant, Expert, Clerk}
 use Rattle.reg_core.specs.declared.command.ApplicantCommand.{ApplicantCommand}
-use Rattle.reg_core.specs.declared.command.ApplicantCommand.TheVariants.{Own, OwnOne, Submit, Withdraw}
+use Rattle.reg_core.specs.declared.command.ApplicantCommand.TheVariants.{Own, OwnOne, Submit, Withdraw, Holdings, SetListing}
 use Rattle.reg_core.specs.declared.command.ExpertCommand.{ExpertCommand}
 use Rattle.reg_core.specs.declared.command.ExpertCommand.TheVariants.{Queue, Advise}
 use Rattle.reg_core.specs.declared.command.ClerkCommand.{ClerkCommand}
 use Rattle.reg_core.specs.declared.command.ClerkCommand.TheVariants.{AllRequests, OneRequest, AssignExpert, Approve, Decline, Define, AddPool, Grant, Revoke}
 use Rattle.reg_core.specs.declared.command.PublicCommand.{PublicCommand}
-use Rattle.reg_core.specs.declared.command.PublicCommand.TheVariants.{Registries, Registry, RegistryListing, PoolList}
+use Rattle.reg_core.specs.declared.command.PublicCommand.TheVariants.{Registries, Registry, RegistryListing, PoolList, BlockListing}
 use Rattle.reg_core.specs.declared.content.Content.{Content}
 use Rattle.reg_core.specs.declared.content.Content.TheVariants as content
 use Rattle.reg_core.specs.declared.decide.Decision.{Decision}
 use Rattle.reg_core.specs.declared.refusal.Refusal.{Refusal}
 use Rattle.reg_core.specs.declared.refusal.Refusal.TheVariants as no
+use Rattle.reg_blocks.specs.Block.{SizedPrefix}
+use Rattle.reg_core.specs.declared.holding.Holder.{Holder}
 use Rattle.reg_core.specs.declared.request.Case.{Case}
 use Rattle.reg_core.proofs.Cases.{by_test}
-use Rattle.reg_core.proofs.Outcomes.Deciding.{Rule, Decides, Defines, Pools, Grants, Revokes, Submits, Withdraws, Declines, Assigns, Advises, Approves, define_decides, pool_decides, grant_decides, revoke_decides, submit_decides, withdraw_decides, decline_decides, assign_decides, advise_decides, approve_decides}
+use Rattle.reg_core.proofs.Outcomes.Deciding.{Rule, Decides, Defines, Pools, Grants, Revokes, Submits, Withdraws, Lists, Declines, Assigns, Advises, Approves, define_decides, pool_decides, grant_decides, revoke_decides, submit_decides, withdraw_decides, listing_decides, decline_decides, assign_decides, advise_decides, approve_decides}
 use Rattle.reg_core.proofs.Queues.{queued_found}
+use Rattle.reg_core.proofs.Blocks.{holding_found}
 use Rattle.reg_core.proofs.Stepping.{own_request}
 
 -- ---- The forms of an outcome
@@ -72,6 +76,15 @@ PublicSo w today (RegistryListing name) o =
     Row (get w.registries name)
     (λ table. Tells (content.Listing (page (published w) name table today)) o)
 PublicSo w today PoolList o = Tells (content.Pool (keys w.pool)) o
+PublicSo w today BlockListing o = Tells (content.Blocks (listed_rows (published w).blocks)) o
+
+-- the block is there, and the account holds it
+pub record Holds (w : World) (block : SizedPrefix) (account : List ℕ)
+    (So : Holder → Type 0) : Type 0 where
+  pub holder : Holder
+  pub is_there : get w.blocks block ≡ Some holder
+  pub own : holder.account ≡ account
+  pub so : So holder
 
 abbrev pub OwnSo : World → List ℕ → ApplicantCommand → Outcome → Type 0
 OwnSo w account Own o = Tells (content.Rows (request_rows (requests_of account w))) o
@@ -85,6 +98,11 @@ OwnSo w account (Withdraw reference) o =
     Row (get w.requests (account, reference)) (λ case.
     Comes (Withdraws (account, reference) case.state)
     (λ decision. own_row (account, reference) (case_by decision case)) o)
+OwnSo w account Holdings o = Tells (content.Holdings (holding_rows (holdings_of account w))) o
+OwnSo w account (SetListing block private) o =
+    Holds w block account (λ h.
+    Comes (Lists block private h.private)
+    (λ decision. content.Held (holding_row block (with_mark private h))) o)
 
 -- the request is there, and assigned to the account
 pub record Assigned (w : World) (name : RequestName) (account : List ℕ)
@@ -197,6 +215,7 @@ module _ (w : World) (today : ℕ) where
   public_so (RegistryListing name) =
       row_so no.Registry (get w.registries name) _ _ (λ table is. refl)
   public_so PoolList = refl
+  public_so BlockListing = refl
 
   own_so : (account : List ℕ) (command : ApplicantCommand)
       → IfOk (own_answer (published w) account (personal account w) command)
@@ -216,6 +235,21 @@ module _ (w : World) (today : ℕ) where
       (row_so no.Request (get w.requests (account, reference)) _ _ (λ case is.
       rule_so _ (Withdraws (account, reference) case.state) _
       (withdraw_decides (account, reference) case.state)))
+  own_so account Holdings = refl
+  own_so account (SetListing block private) =
+      looked_up (OwnSo w account (SetListing block private)) no.Holding
+      (get (holdings_of account w) block) _ (λ h mine.
+      let is = holding_found account w block h mine in
+      record {
+        holder = h;
+        is_there = is.0;
+        own = is.1;
+        so = record {
+          decision = listing_rule block private h.private;
+          so = listing_decides block private h.private;
+          is = refl;
+        };
+      })
 
   expert_so : (account : List ℕ) (command : ExpertCommand)
       → IfOk (expert_answer account (personal account w) command) (ExpertSo w account command)

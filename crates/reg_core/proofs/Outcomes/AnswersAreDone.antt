@@ -1,25 +1,27 @@
 -- The world after a command has what its reply says.
-use Rattle.std.proofs.Common.{◌≡◌, ℕ, false, List, refl, sym, ap, subst, ◌∙◌}
+use Rattle.std.proofs.Common.{◌≡◌, ℕ, Bool, false, List, refl, sym, ap, subst, ◌∙◌}
 use Rattle.std.specs.Prelude.{Option, Some, None, Ok, Err, option_map}
 use Rattle.std.specs.FinMap.{get}
 use Rattle.reg_early.specs.Moment.{utc_day}
-use Rattle.reg_core.specs.Award.{Award, new_entry}
+use Rattle.reg_core.specs.Award.{Award, new_entry, new_holding}
+use Rattle.reg_core.specs.Holding.{with_mark}
 use Rattle.reg_core.specs.Maps.{update}
 use Rattle.reg_core.specs.World.{World, RequestName, in_state, applied, applied_if, pending, Seat}
 use Rattle.reg_core.specs.declared.change.Change.{Change}
 use Rattle.reg_core.specs.declared.command.Command.{Command}
 use Rattle.reg_core.specs.declared.command.Command.TheVariants.{Public, Applicant, Expert, Clerk}
-use Rattle.reg_core.specs.declared.command.ApplicantCommand.TheVariants.{Own, OwnOne, Submit, Withdraw}
+use Rattle.reg_core.specs.declared.command.ApplicantCommand.TheVariants.{Own, OwnOne, Submit, Withdraw, Holdings, SetListing}
 use Rattle.reg_core.specs.declared.command.ExpertCommand.TheVariants.{Queue, Advise}
 use Rattle.reg_core.specs.declared.command.ClerkCommand.TheVariants.{AllRequests, OneRequest, AssignExpert, Approve, Decline, Define, AddPool, Grant, Revoke}
-use Rattle.reg_core.specs.declared.command.PublicCommand.TheVariants.{Registries, Registry, RegistryListing, PoolList}
+use Rattle.reg_core.specs.declared.command.PublicCommand.TheVariants.{Registries, Registry, RegistryListing, PoolList, BlockListing}
 use Rattle.reg_core.specs.declared.decide.Decision.{Decision}
 use Rattle.reg_core.specs.declared.decide.Decision.TheVariants.{Make, Same}
+use Rattle.reg_core.specs.declared.holding.Holder.{Holder}
 use Rattle.reg_core.specs.declared.request.Case.{Case}
-use Rattle.reg_core.specs.declared.request.Given.TheVariants.{Value}
+use Rattle.reg_core.specs.declared.request.Given.TheVariants.{Value, Block}
 use Rattle.reg_core.specs.declared.request.State.{State}
 use Rattle.reg_core.specs.declared.request.State.TheVariants.{Approved, Declined, Withdrawn}
-use Rattle.reg_core.proofs.MapLaws.{number_keys, text_keys, name_keys, seat_keys, get-inserted, get-updated, get-removed}
+use Rattle.reg_core.proofs.MapLaws.{number_keys, text_keys, name_keys, seat_keys, block_keys, get-inserted, get-updated, get-removed}
 use Rattle.reg_core.proofs.KeySets.{is_inserted}
 use Rattle.reg_core.specs.Answer.{Outcome, Answer, reply_of, change_of, change_by, made_row}
 use Rattle.reg_core.specs.Rules.{change_to_give}
@@ -30,7 +32,7 @@ use Rattle.reg_core.specs.declared.content.Content.{Content}
 use Rattle.reg_core.proofs.Outcomes.Deciding.{Rule, Decides}
 use Rattle.reg_core.specs.declared.change.Change.TheVariants as change
 use Rattle.reg_core.proofs.Outcomes.Accepted.{Comes, CommandSo, accepted}
-use Rattle.reg_core.proofs.Outcomes.WholeLists.{own_list, queue_list}
+use Rattle.reg_core.proofs.Outcomes.WholeLists.{own_list, holding_list, queue_list}
 
 -- ---- The forms of an outcome
 
@@ -61,6 +63,10 @@ in_new_state w name case state is_there =
     get-updated name_keys w.requests name (in_state state)
     ∙ ap (option_map (in_state state)) is_there
 
+-- a holder who has the mark keeps it
+same_mark : (h : Holder) (private : Bool) → h.private ≡ private → h ≡ with_mark private h
+same_mark h private is i = record h { private = is i }
+
 module _ (digest_of : List ℕ → List ℕ) (w : World) (caller : Option (List ℕ)) (moment : ℕ) where
   -- after the command and its outcome all is as the caller is told
   abbrev pub Done : Command → Outcome → Type 0
@@ -82,6 +88,10 @@ module _ (digest_of : List ℕ → List ℕ) (w : World) (caller : Option (List 
     (Value e.value, refl),
     (refl, refl, in_new_state w (account, reference) case (Approved (Value e.value)) is_there),
   )
+  given_done account reference case (new_holding h) is_there = (
+    (Block h.block, refl),
+    (refl, refl, in_new_state w (account, reference) case (Approved (Block h.block)) is_there),
+  )
 
   -- a line for each command
   done : (command : Command) (o : Outcome) → CommandSo digest_of w caller moment command o
@@ -92,6 +102,7 @@ module _ (digest_of : List ℕ → List ℕ) (w : World) (caller : Option (List 
   done (Public (RegistryListing name)) o so =
       subst (Done (Public (RegistryListing name))) (sym so.so) (refl, so.is, refl)
   done (Public PoolList) o so = subst (Done (Public PoolList)) (sym so) refl
+  done (Public BlockListing) o so = subst (Done (Public BlockListing)) (sym so) refl
   done (Applicant Own) o so =
       subst (Done (Applicant Own)) (sym so.1)
       (so.0.cap, so.0.is_there, own_list w so.0.cap.account)
@@ -127,6 +138,30 @@ module _ (digest_of : List ℕ → List ℕ) (w : World) (caller : Option (List 
           so.0.cap,
           so.0.is_there,
           (refl, refl, in_new_state w name is.row Withdrawn is.is),
+        ),
+      ))
+  done (Applicant Holdings) o so =
+      subst (Done (Applicant Holdings)) (sym so.1)
+      (so.0.cap, so.0.is_there, holding_list w so.0.cap.account)
+  done (Applicant (SetListing block private)) o so =
+      let is = so.1 in
+      decided (Done (Applicant (SetListing block private))) is.so
+      (λ there. (
+        refl,
+        refl,
+        so.0.cap,
+        so.0.is_there,
+        (is.own, is.is_there ∙ ap Some (same_mark is.holder private there)),
+      ))
+      (λ other. (
+        refl,
+        refl,
+        so.0.cap,
+        so.0.is_there,
+        (
+          is.own,
+          get-updated block_keys w.blocks block (with_mark private)
+              ∙ ap (option_map (with_mark private)) is.is_there,
         ),
       ))
   done (Expert Queue) o so =

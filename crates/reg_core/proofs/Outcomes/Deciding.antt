@@ -4,6 +4,7 @@ use Rattle.std.proofs.Common.{◌≡◌, ℕ, Bool, true, false, not, ◌&&◌, 
 use Rattle.std.proofs.lemmas.Result.{IfOk-at_ok}
 use Rattle.std.proofs.lemmas.Slice.Eq.{bytes_eq-Decides}
 use Rattle.std.specs.Prelude.{Option, Some, None, Result, Ok, Err, IfOk, IsSome, is_some, if◌then◌else◌}
+use Rattle.reg_blocks.specs.Block.{SizedPrefix}
 use Rattle.reg_blocks.specs.Pool.{is_pool_prefix}
 use Rattle.reg_ranges.specs.Sameness.{same_table}
 use Rattle.reg_ranges.specs.Tables.{Table}
@@ -14,13 +15,13 @@ use Rattle.reg_core.specs.Laws.{IsApproved}
 use Rattle.reg_core.specs.Ask.{same_ask}
 use Rattle.reg_core.specs.Capability.{same_cap}
 use Rattle.reg_core.specs.Maps.{same_text}
-use Rattle.reg_core.specs.Rules.{withdraw_rule, decline_rule, assign_rule, new_advice_rule, advise_rule, change_to_give, give_rule, approve_rule, define_rule, pool_rule, grant_rule, revoke_rule, submit_rule}
+use Rattle.reg_core.specs.Rules.{withdraw_rule, listing_rule, decline_rule, assign_rule, new_advice_rule, advise_rule, change_to_give, give_rule, approve_rule, define_rule, pool_rule, grant_rule, revoke_rule, submit_rule}
 use Rattle.reg_core.specs.World.{RequestName}
 use Rattle.reg_core.specs.declared.advice.Advice.{Advice as AdviceOf}
 use Rattle.reg_core.specs.declared.ask.Ask.{Ask}
 use Rattle.reg_core.specs.declared.capability.Cap.{Cap}
 use Rattle.reg_core.specs.declared.change.Change.{Change}
-use Rattle.reg_core.specs.declared.change.Change.TheVariants.{Grant, Revoke, Define, AddPool, Submit, Close, Assign, Advise}
+use Rattle.reg_core.specs.declared.change.Change.TheVariants.{Grant, Revoke, Define, AddPool, Submit, Close, Assign, Advise, SetPrivate}
 use Rattle.reg_core.specs.declared.decide.Decision.{Decision}
 use Rattle.reg_core.specs.declared.decide.Decision.TheVariants.{Make, Same}
 use Rattle.reg_core.specs.declared.refusal.Refusal.{Refusal}
@@ -195,6 +196,23 @@ decline_decides name reason (Declined old) =
     branches (Declines name reason (Declined old)) (same_text old reason) (Ok Same) (Err Closed)
     (λ same. ap Declined ((bytes_eq-Decides old reason).0 same)) (λ other. tt)
 decline_decides name reason Withdrawn = tt
+
+-- ---- Blocks of an account
+
+-- a block has the mark already, or the other one
+abbrev pub Lists : SizedPrefix → Bool → Bool → Rule
+Lists block private old = record {
+  there = old ≡ private;
+  made = old ≡ not private;
+  change = λ other. SetPrivate block private;
+}
+
+pub listing_decides : (block : SizedPrefix) (private old : Bool)
+    → Decides (Lists block private old) (listing_rule block private old)
+listing_decides block true true = refl
+listing_decides block false false = refl
+listing_decides block true false = (refl, refl)
+listing_decides block false true = (refl, refl)
 
 -- ---- Experts
 

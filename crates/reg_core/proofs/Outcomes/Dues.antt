@@ -5,14 +5,16 @@ use Rattle.std.specs.Cmp.{first_so, second_so}
 use Rattle.std.specs.Cmp.Derive.{both_true}
 use Rattle.std.specs.Prelude.{Option, Some, None, Ok, Err, IsSome}
 use Rattle.std.specs.FinMap.{get, contains_key}
+use Rattle.reg_blocks.specs.Block.{SizedPrefix}
 use Rattle.reg_blocks.specs.Pool.{is_pool_prefix}
 use Rattle.reg_early.specs.Moment.{is_in_clock, utc_day}
 use Rattle.reg_ranges.specs.Texts.{is_text}
 use Rattle.reg_core.specs.Advice.{has_advice_form}
-use Rattle.reg_core.specs.Allowance.{◌>>=◌, allowance_on, allowed, ground_of, needs_advice, entry_asked}
-use Rattle.reg_core.specs.Award.{Award, new_entry, Allowance, given_in, entry_on}
+use Rattle.reg_core.specs.Allowance.{◌>>=◌, allowance_on, allowed, ground_of, needs_advice, entry_asked, holding_asked}
+use Rattle.reg_core.specs.Award.{Award, new_entry, new_holding, Allowance, given_in, entry_on, holding_from}
 use Rattle.reg_core.specs.Answer.{Outcome, Answer, change_of, change_by}
 use Rattle.reg_core.specs.Ask.{has_ask_form}
+use Rattle.reg_core.specs.BlocksGiven.{IsDueIn}
 use Rattle.reg_core.specs.Capability.{has_cap_form}
 use Rattle.reg_core.specs.Command.{own_name, about, has_command_form}
 use Rattle.reg_core.specs.File.{was_advised}
@@ -26,12 +28,13 @@ use Rattle.reg_core.specs.View.{published, cap_at}
 use Rattle.reg_core.specs.WellKept.{has_grant_form, has_registry_form}
 use Rattle.reg_core.specs.World.{World, RequestName}
 use Rattle.reg_core.specs.declared.ask.Ask.{Ask}
-use Rattle.reg_core.specs.declared.ask.Ask.TheVariants.{Code}
+use Rattle.reg_core.specs.declared.ask.Ask.TheVariants.{Code, Block}
+use Rattle.reg_core.specs.declared.ask.BlockAsk.{BlockAsk}
 use Rattle.reg_core.specs.declared.ask.CodeAsk.{CodeAsk}
 use Rattle.reg_core.specs.declared.capability.Cap.{Cap}
 use Rattle.reg_core.specs.declared.capability.Kind.TheVariants as kind
 use Rattle.reg_core.specs.declared.change.Change.{Change}
-use Rattle.reg_core.specs.declared.change.Change.TheVariants.{Grant, Revoke, Define, AddPool, Submit, Close, Assign, Advise, GiveValue}
+use Rattle.reg_core.specs.declared.change.Change.TheVariants.{Grant, Revoke, Define, AddPool, Submit, Close, Assign, Advise, GiveValue, GiveBlock, SetPrivate}
 use Rattle.reg_core.specs.declared.command.Command.{Command}
 use Rattle.reg_core.specs.declared.command.Command.TheVariants.{Public, Applicant, Expert, Clerk}
 use Rattle.reg_core.specs.declared.command.ApplicantCommand.TheVariants as applicant
@@ -42,6 +45,8 @@ use Rattle.reg_core.specs.declared.content.Content.{Content}
 use Rattle.reg_core.specs.declared.decide.Decision.{Decision}
 use Rattle.reg_core.specs.declared.decide.Decision.TheVariants.{Make, Same}
 use Rattle.reg_core.specs.declared.entry.Entry.{Entry}
+use Rattle.reg_core.specs.declared.holding.Holder.{Holder}
+use Rattle.reg_core.specs.declared.holding.Holding.{Holding}
 use Rattle.reg_core.specs.declared.request.Case.{Case}
 use Rattle.reg_core.specs.declared.request.Given.{Given}
 use Rattle.reg_core.specs.declared.request.Given.TheVariants.{Value}
@@ -49,7 +54,8 @@ use Rattle.reg_core.specs.declared.request.State.{State}
 use Rattle.reg_core.specs.declared.request.State.TheVariants.{Pending, Approved, Declined, Withdrawn}
 use Rattle.reg_core.specs.declared.request.StateWord.TheVariants as word
 use Rattle.reg_core.proofs.Outcomes.Deciding.{Rule, Decides}
-use Rattle.reg_core.proofs.Allowances.{allowed_entry}
+use Rattle.reg_core.proofs.Allowances.{allowed_entry, allows_block}
+use Rattle.reg_core.proofs.Blocks.{due_is_due}
 use Rattle.reg_core.proofs.Outcomes.Accepted.{Tells, Comes, Row, Serves, ClerkServes, IsAccepted, accepted}
 
 -- ---- What was so, by the change
@@ -88,6 +94,22 @@ pub record Gives (w : World) (today : ℕ) (name : RequestName) (entry : Entry) 
   pub advised : needs_advice (ground_of (published w) (Code ask)) (Code ask) ≡ true
       → was_advised w name ≡ true
 
+-- a pending request was given the block that was due
+pub record GivesBlock (w : World) (name : RequestName) (holding : Holding) : Type 0 where
+  pub pending : WasPending w name
+  pub ask : BlockAsk
+  pub asks : pending.case.ask ≡ Block ask
+  pub due : IsDueIn w ask.size holding.block
+  pub is : holding_from (holding_asked name.0 ask holding.block) ≡ holding
+
+-- the caller was the applicant who holds the block
+pub record Marks (w : World) (caller : Option (List ℕ)) (moment : ℕ)
+    (block : SizedPrefix) : Type 0 where
+  pub serves : Serves w caller moment kind.Applicant
+  pub holder : Holder
+  pub is_there : get w.blocks block ≡ Some holder
+  pub own : holder.account ≡ serves.cap.account
+
 -- a line for each change
 abbrev pub Due : World → Option (List ℕ) → ℕ → Change → Type 0
 Due w caller moment (Grant digest cap) = ClerkServes w caller moment × (get w.caps digest ≡ None)
@@ -113,6 +135,9 @@ Due w caller moment (Advise account reference expert advice) =
     × (contains_key w.queue ((account, reference), expert) ≡ true)
 Due w caller moment (GiveValue account reference entry) =
     ClerkServes w caller moment × Gives w (utc_day moment) (account, reference) entry
+Due w caller moment (GiveBlock account reference holding) =
+    ClerkServes w caller moment × GivesBlock w (account, reference) holding
+Due w caller moment (SetPrivate block private) = Marks w caller moment block
 
 -- ---- The change and the command
 
@@ -127,6 +152,8 @@ change_about (Close account reference state) = Some (account, reference)
 change_about (Assign account reference expert) = Some (account, reference)
 change_about (Advise account reference expert advice) = Some (account, reference)
 change_about (GiveValue account reference entry) = Some (account, reference)
+change_about (GiveBlock account reference holding) = Some (account, reference)
+change_about (SetPrivate block private) = None
 
 abbrev pub has_reason_form : State → Bool
 has_reason_form Pending = true
@@ -145,6 +172,8 @@ has_change_form (Close account reference state) = has_reason_form state
 has_change_form (Assign account reference expert) = is_name expert
 has_change_form (Advise account reference expert advice) = has_advice_form advice
 has_change_form (GiveValue account reference entry) = true
+has_change_form (GiveBlock account reference holding) = true
+has_change_form (SetPrivate block private) = true
 
 -- the change that a command makes was due, is about what the command is about, and has its forms
 -- from the command
@@ -239,15 +268,30 @@ module _ (digest_of : List ℕ → List ℕ) (w : World) (caller : Option (List 
               advised = advised;
             },
           )
+      at (Block ask) asks allows advised =
+          let is = allows_block (ground_of (published w) (Block ask)) name.0 ask allowance
+          allows in
+          subst (λ a. Due w caller moment (change_to_give name (utc_day moment) a)) is.awards (
+            by,
+            record {
+              pending = was;
+              ask = ask;
+              asks = asks;
+              due = due_is_due w ask.size is.block is.due;
+              is = refl;
+            },
+          )
 
   -- a line for each award
   award_about : (name : RequestName) (today : ℕ) (award : Award)
       → change_about (change_to_give name today award) ≡ Some name
   award_about name today (new_entry e) = refl
+  award_about name today (new_holding h) = refl
 
   award_form : (name : RequestName) (today : ℕ) (award : Award)
       → has_change_form (change_to_give name today award) ≡ true
   award_form name today (new_entry e) = refl
+  award_form name today (new_holding h) = refl
 
   due_so : (command : Command) (o : Outcome) (change : Change)
       → IsAccepted digest_of w caller moment command o → o.change ≡ Some change
@@ -257,6 +301,7 @@ module _ (digest_of : List ℕ → List ℕ) (w : World) (caller : Option (List 
   due_so (Public (public.RegistryListing name)) o change a made =
       absurd (nothing_made a.so.so made)
   due_so (Public public.PoolList) o change a made = absurd (nothing_made a.so made)
+  due_so (Public public.BlockListing) o change a made = absurd (nothing_made a.so made)
   due_so (Applicant applicant.Own) o change a made = absurd (nothing_made a.so.1 made)
   due_so (Applicant (applicant.OwnOne reference)) o change a made =
       absurd (nothing_made a.so.1.so made)
@@ -272,6 +317,20 @@ module _ (digest_of : List ℕ → List ℕ) (w : World) (caller : Option (List 
         is_open = a.is_open;
         due = (was_pending a.so.1 pending, record { serves = a.so.0; own = refl });
         about = own_about reference a.so.0.cap a.so.0.is_there _ refl;
+        form = λ digests form. refl;
+      })
+  due_so (Applicant applicant.Holdings) o change a made = absurd (nothing_made a.so.1 made)
+  due_so (Applicant (applicant.SetListing block private)) o change a made =
+      let is = a.so.1 in
+      due_by is.so made (λ other. record {
+        is_open = a.is_open;
+        due = record {
+          serves = a.so.0;
+          holder = is.holder;
+          is_there = is.is_there;
+          own = is.own;
+        };
+        about = refl;
         form = λ digests form. refl;
       })
   due_so (Expert expert.Queue) o change a made = absurd (nothing_made a.so.1 made)

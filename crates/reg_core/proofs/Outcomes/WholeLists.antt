@@ -1,16 +1,21 @@
--- An account's own list and an expert's queue are whole.
+-- An account's own list, its holdings and an expert's queue are whole.
 use Rattle.std.proofs.Common.{ℕ, List, refl, sym, ap, ◌∙◌}
 use Rattle.std.specs.FinMap.{FinMap, get, entries}
 use Rattle.std.proofs.lemmas.List.Elements.{All-map}
-use Rattle.reg_core.specs.Laws.{HasRowOf, IsItem, OwnList, QueueList}
+use Rattle.reg_core.specs.Laws.{HasRowOf, HasHoldingOf, HoldingList, IsItem, OwnList, QueueList}
+use Rattle.reg_core.specs.Holding.{holding_row, holding_rows}
+use Rattle.reg_blocks.specs.Block.{SizedPrefix, block_cmp}
+use Rattle.reg_core.specs.declared.holding.Holder.{Holder}
+use Rattle.reg_core.specs.declared.holding.Holding.{Holding}
 use Rattle.reg_core.specs.Queue.{queue_row, queue_rows}
 use Rattle.reg_core.specs.Request.{request_row, request_rows}
-use Rattle.reg_core.specs.View.{Queued, as_queued, requests_of, queue_of}
+use Rattle.reg_core.specs.View.{Queued, as_queued, requests_of, holdings_of, queue_of}
 use Rattle.reg_core.specs.World.{World, RequestName, name_cmp}
 use Rattle.reg_core.specs.declared.queue.QueueRow.{QueueRow}
 use Rattle.reg_core.specs.declared.request.Case.{Case}
 use Rattle.reg_core.specs.declared.request.Request.{Request}
-use Rattle.reg_core.proofs.MapLaws.{name_keys, All-entries, Contains-map, Contains-entries, ascending-entries}
+use Rattle.reg_core.proofs.MapLaws.{name_keys, block_keys, All-entries, Contains-map, Contains-entries, ascending-entries}
+use Rattle.reg_core.proofs.Blocks.{holding_found, own_holding}
 use Rattle.reg_core.proofs.Queues.{IsQueued, queued_found, found_queued}
 use Rattle.reg_core.proofs.Stepping.{own_request, own_row_found, own_row_is_own}
 
@@ -39,6 +44,27 @@ module _ (w : World) (account : List ℕ) where
     );
     ascending = ascending-entries name_cmp own_row (λ row. (row.account, row.reference))
         (λ e. refl) own;
+  }
+
+  -- ---- Its blocks
+
+  abbrev held : FinMap block_cmp Holder
+  held = holdings_of account w
+
+  abbrev held_row : SizedPrefix × Holder → Holding
+  held_row e = holding_row e.0 e.1
+
+  pub holding_list : HoldingList w account (holding_rows held)
+  holding_list = record {
+    viewed = refl;
+    own = All-map (HasHoldingOf w account) held_row (entries held)
+        (All-entries block_keys.total (λ e. HasHoldingOf w account (held_row e)) held
+        (λ block h is_there.
+        let is = holding_found account w block h is_there in (is.1, is.0)));
+    every = λ block h is mine.
+        Contains-map held_row (entries held) (block, h)
+        (Contains-entries block_keys held block h (own_holding account w block h is mine));
+    ascending = ascending-entries block_cmp held_row (λ row. row.block) (λ e. refl) held;
   }
 
   -- ---- Its queue

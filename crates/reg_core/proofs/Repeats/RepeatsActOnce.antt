@@ -6,6 +6,7 @@ use Rattle.std.specs.FinMap.{get, contains_key, keys}
 use Rattle.std.proofs.lemmas.Bool.Decides.{nat_tests}
 use Rattle.std.proofs.lemmas.Slice.Eq.{bytes_eq-Decides}
 use Rattle.reg_early.specs.Moment.{is_in_clock, utc_day}
+use Rattle.reg_core.specs.Holding.{holder_in, holding_row, holding_rows, listed_rows, with_mark}
 use Rattle.reg_core.specs.Page.{page}
 use Rattle.reg_core.specs.Ask.{same_ask}
 use Rattle.reg_core.specs.Answer.{Answer, Outcome, reply_of, change_of, unchanged, own_row, desk_row, item}
@@ -15,9 +16,11 @@ use Rattle.reg_core.specs.File.{file}
 use Rattle.reg_core.specs.Queue.{queue_rows}
 use Rattle.reg_core.specs.Laws.{is_refused, IsStillValid, MayRepeat, IsDone, IsRow, IsOwnRow, RepeatsActOnce}
 use Rattle.reg_core.specs.Maps.{same_text}
+use Rattle.reg_blocks.specs.Block.{SizedPrefix}
 use Rattle.reg_core.specs.Request.{case_of, request_rows}
+use Rattle.reg_core.specs.Rules.{listing_rule}
 use Rattle.reg_core.specs.Step.{answer_to, step}
-use Rattle.reg_core.specs.View.{Queued, as_queued, published, requests_of, queue_of, cap_at}
+use Rattle.reg_core.specs.View.{Queued, as_queued, published, requests_of, holdings_of, queue_of, cap_at}
 use Rattle.reg_core.specs.World.{World, RequestName, in_state, applied_if}
 use Rattle.reg_core.specs.declared.ask.Ask.{Ask}
 use Rattle.reg_core.specs.declared.capability.Cap.{Cap}
@@ -26,15 +29,16 @@ use Rattle.reg_core.specs.declared.capability.Kind.TheVariants as kind
 use Rattle.reg_core.specs.declared.command.Command.{Command}
 use Rattle.reg_core.specs.declared.command.Command.TheVariants.{Public, Applicant, Expert, Clerk}
 use Rattle.reg_core.specs.declared.command.ApplicantCommand.{ApplicantCommand}
-use Rattle.reg_core.specs.declared.command.ApplicantCommand.TheVariants.{Own, OwnOne, Submit, Withdraw}
+use Rattle.reg_core.specs.declared.command.ApplicantCommand.TheVariants.{Own, OwnOne, Submit, Withdraw, Holdings, SetListing}
 use Rattle.reg_core.specs.declared.command.ExpertCommand.{ExpertCommand}
 use Rattle.reg_core.specs.declared.command.ExpertCommand.TheVariants.{Queue, Advise}
 use Rattle.reg_core.specs.declared.command.ClerkCommand.{ClerkCommand}
 use Rattle.reg_core.specs.declared.command.ClerkCommand.TheVariants.{AllRequests, OneRequest, AssignExpert, Approve, Decline, Define, AddPool, Grant, Revoke}
 use Rattle.reg_core.specs.declared.command.PublicCommand.{PublicCommand}
-use Rattle.reg_core.specs.declared.command.PublicCommand.TheVariants.{Registries, Registry, RegistryListing, PoolList}
+use Rattle.reg_core.specs.declared.command.PublicCommand.TheVariants.{Registries, Registry, RegistryListing, PoolList, BlockListing}
 use Rattle.reg_core.specs.declared.content.Content.{Content}
 use Rattle.reg_core.specs.declared.content.Content.TheVariants as content
+use Rattle.reg_core.specs.declared.decide.Decision.TheVariants.{Same}
 use Rattle.reg_core.specs.declared.request.Case.{Case}
 use Rattle.reg_core.specs.declared.request.Given.{Given}
 use Rattle.reg_core.specs.declared.request.Request.{Request}
@@ -42,6 +46,7 @@ use Rattle.reg_core.specs.declared.request.State.TheVariants.{Approved}
 use Rattle.reg_core.proofs.SamenessIsDecided.{same_text-itself, same_advice-itself, same_cap-itself, same_ask-itself, same_table-itself}
 use Rattle.reg_core.proofs.Outcomes.Accepted.{Serves, ClerkServes, CommandSo}
 use Rattle.reg_core.proofs.Outcomes.AnswersAreDone.{Done, accepted_done}
+use Rattle.reg_core.proofs.Blocks.{own_holding}
 use Rattle.reg_core.proofs.Queues.{found_queued}
 use Rattle.reg_core.proofs.Stepping.{own_request}
 
@@ -84,6 +89,14 @@ clerk_acts w v caller first second by may =
     subst (λ c. Acts v c second (cap_at w caller) kind.Clerk) by.is
     (acts w v caller first second kind.Clerk by.serves may)
 
+-- a block with the mark that is asked for is left as it is
+marked_already : (block : SizedPrefix) (private old : Bool) → old ≡ private
+    → listing_rule block private old ≡ Same
+marked_already block true true is = refl
+marked_already block false false is = refl
+marked_already block true false is = absurd (cc)
+marked_already block false true is = absurd (cc)
+
 -- ---- What is so again, a line for each command
 
 -- the answer tells something, and changes nothing
@@ -110,6 +123,8 @@ module _ (digest_of : List ℕ → List ℕ) (v : World) (moment : ℕ) (now : i
       rw (now, so.1) refl,
     )
     public_again PoolList (content.Pool prefixes) so = rw now (content.Pool (keys v.pool), refl)
+    public_again BlockListing (content.Blocks rows) so =
+        rw now (content.Blocks (listed_rows (published v).blocks), refl)
     public_again command content so = absurd so
 
     module _ (may : Acts v caller moment by kind.Applicant) where
@@ -175,6 +190,25 @@ module _ (digest_of : List ℕ → List ℕ) (v : World) (moment : ℕ) (now : i
           so.0,
         ) refl,
       )
+      own_again Holdings (content.Holdings rows) so = (
+        content.Holdings (holding_rows (holdings_of may.cap.account v)),
+        rw (now, may.is_there, may.late, may.of_kind) refl,
+      )
+      own_again (SetListing block private) (content.Held row) so =
+          let h = holder_in row in
+          let at = subst (λ b. get v.blocks b ≡ Some h) so.0 so.4.1 in
+          let mine = so.4.0 ∙ may.account so.2 so.3 in
+          let there = own_holding may.cap.account v block h at mine in (
+            content.Held (holding_row block (with_mark private h)),
+            rw (
+              now,
+              may.is_there,
+              may.late,
+              may.of_kind,
+              there,
+              marked_already block private row.private so.1,
+            ) refl,
+          )
       own_again command content so = absurd so
 
     module _ (may : Acts v caller moment by kind.Expert) where

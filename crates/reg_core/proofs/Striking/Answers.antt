@@ -23,7 +23,7 @@ use Rattle.reg_core.specs.declared.capability.Kind.TheVariants as kind
 use Rattle.reg_core.specs.declared.command.Command.{Command}
 use Rattle.reg_core.specs.declared.command.Command.TheVariants as command
 use Rattle.reg_core.specs.declared.command.ApplicantCommand.{ApplicantCommand}
-use Rattle.reg_core.specs.declared.command.ApplicantCommand.TheVariants.{Own, OwnOne, Submit, Withdraw}
+use Rattle.reg_core.specs.declared.command.ApplicantCommand.TheVariants.{Own, OwnOne, Submit, Withdraw, Holdings, SetListing}
 use Rattle.reg_core.specs.declared.command.ExpertCommand.{ExpertCommand}
 use Rattle.reg_core.specs.declared.command.ExpertCommand.TheVariants.{Queue, Advise}
 use Rattle.reg_core.specs.declared.command.ClerkCommand.{ClerkCommand}
@@ -149,6 +149,11 @@ module _
       same_whole (rw (own cap.account (cap.account, reference) h) refl)
   own_same cap other (Withdraw reference) h =
       same_whole (rw (own cap.account (cap.account, reference) h) refl)
+  own_same cap other Holdings h =
+      same_itself (own_answer (published v) cap.account (personal cap.account v) Holdings)
+  own_same cap other (SetListing block private) h =
+      same_itself
+      (own_answer (published v) cap.account (personal cap.account v) (SetListing block private))
 
   expert_same : (cap : Cap) → IsOther cap → (given : ExpertCommand)
       → IsOpen (about (Some cap) (command.Expert given))

@@ -16,13 +16,13 @@ use Rattle.reg_core.specs.declared.ask.Ask.{Ask}
 use Rattle.reg_core.specs.declared.command.Command.{Command}
 use Rattle.reg_core.specs.declared.command.Command.TheVariants.{Public, Applicant, Expert, Clerk}
 use Rattle.reg_core.specs.declared.command.ApplicantCommand.{ApplicantCommand}
-use Rattle.reg_core.specs.declared.command.ApplicantCommand.TheVariants.{Own, OwnOne, Submit, Withdraw}
+use Rattle.reg_core.specs.declared.command.ApplicantCommand.TheVariants.{Own, OwnOne, Submit, Withdraw, Holdings, SetListing}
 use Rattle.reg_core.specs.declared.command.ExpertCommand.{ExpertCommand}
 use Rattle.reg_core.specs.declared.command.ExpertCommand.TheVariants.{Queue, Advise}
 use Rattle.reg_core.specs.declared.command.ClerkCommand.{ClerkCommand}
 use Rattle.reg_core.specs.declared.command.ClerkCommand.TheVariants.{AllRequests, OneRequest, AssignExpert, Approve, Decline}
 use Rattle.reg_core.specs.declared.command.PublicCommand.{PublicCommand}
-use Rattle.reg_core.specs.declared.command.PublicCommand.TheVariants.{Registries, Registry, RegistryListing, PoolList}
+use Rattle.reg_core.specs.declared.command.PublicCommand.TheVariants.{Registries, Registry, RegistryListing, PoolList, BlockListing}
 use Rattle.reg_core.specs.declared.content.Content.TheVariants as content
 use Rattle.reg_core.specs.declared.queue.QueueRow.{QueueRow}
 use Rattle.reg_core.specs.declared.reply.Reply.TheVariants.{Accepted}
@@ -109,6 +109,7 @@ module _ (hidden : RequestName → Bool) (v : World) (none : HasNone hidden v) w
   public_plain today (Registry name) o so = plain so.so refl
   public_plain today (RegistryListing name) o so = plain so.so refl
   public_plain today PoolList o so = plain so refl
+  public_plain today BlockListing o so = plain so refl
 
   made_plain : (name : RequestName) (ask : Ask) (existing : Option Case)
       → content_without hidden (made_row name ask existing) ≡ made_row name ask existing
@@ -123,6 +124,8 @@ module _ (hidden : RequestName → Bool) (v : World) (none : HasNone hidden v) w
   own_plain of (Submit reference ask) o so =
       plain so.is (made_plain (of, reference) ask (get v.requests (of, reference)))
   own_plain of (Withdraw reference) o so = plain so.so.is refl
+  own_plain of Holdings o so = plain so refl
+  own_plain of (SetListing block private) o so = plain so.so.is refl
 
   expert_plain : (of : List ℕ) (given : ExpertCommand) (o : Outcome)
       → ExpertSo v of given o → IsPlain o

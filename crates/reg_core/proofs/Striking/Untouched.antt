@@ -14,10 +14,10 @@ use Rattle.reg_core.specs.World.{World, RequestName, name_cmp, in_state, pending
 use Rattle.reg_core.specs.declared.capability.Kind.{Kind}
 use Rattle.reg_core.specs.declared.capability.Kind.TheVariants as kind
 use Rattle.reg_core.specs.declared.change.Change.{Change}
-use Rattle.reg_core.specs.declared.change.Change.TheVariants.{Submit, Close, Assign, Advise, GiveValue}
+use Rattle.reg_core.specs.declared.change.Change.TheVariants.{Submit, Close, Assign, Advise, GiveValue, GiveBlock}
 use Rattle.reg_core.specs.declared.request.Case.{Case}
 use Rattle.reg_core.specs.declared.request.State.TheVariants.{Pending, Approved, Declined, Withdrawn}
-use Rattle.reg_core.specs.declared.request.Given.TheVariants.{Value}
+use Rattle.reg_core.specs.declared.request.Given.TheVariants.{Value, Block}
 use Rattle.reg_core.proofs.MapLaws.{name_keys}
 use Rattle.reg_core.proofs.Outcomes.Accepted.{Serves, ClerkServes}
 use Rattle.reg_core.proofs.Outcomes.Dues.{Due, IsApplicant, IsExpert, change_about, changes_due}
@@ -68,6 +68,7 @@ module _
   no_hidden (Advise applicant reference of advice) due h =
       no_expert (applicant, reference) of h due.0 due.2
   no_hidden (GiveValue applicant reference entry) due h = no_clerk due.0
+  no_hidden (GiveBlock applicant reference holding) due h = no_clerk due.0
   no_hidden change due h = absurd (cc)
 
 -- ---- What stays
@@ -113,6 +114,8 @@ module _ (hidden : RequestName → Bool) (v : World) where
       left_update (account, reference) (in_state state) h
   left_after (GiveValue account reference entry) h =
       left_update (account, reference) (in_state (Approved (Value entry.value))) h
+  left_after (GiveBlock account reference holding) h =
+      left_update (account, reference) (in_state (Approved (Block holding.block))) h
   left_after change h = λ name k. refl
 
   pub left_if : (made : Option Change) → IsOfHidden false hidden made

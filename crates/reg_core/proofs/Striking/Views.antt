@@ -7,7 +7,7 @@ use Rattle.std.proofs.lemmas.Slice.Eq.{bytes_eq-Decides}
 use Rattle.reg_core.specs.File.{same_name, seats_of}
 use Rattle.reg_core.specs.Maps.{same_text, only_if}
 use Rattle.reg_core.specs.Striking.{has_account, ShowSame}
-use Rattle.reg_core.specs.View.{published, personal, requests_of, queue_of, queued_to, as_queued, cap_at, with_personal}
+use Rattle.reg_core.specs.View.{published, personal, requests_of, holdings_of, queue_of, queued_to, as_queued, cap_at, with_personal}
 use Rattle.reg_core.specs.World.{World, RequestName, Seat, seat_cmp}
 use Rattle.reg_core.specs.declared.capability.Cap.{Cap}
 use Rattle.reg_core.specs.declared.request.Case.{Case}
@@ -81,7 +81,11 @@ module _
   personal_same of h =
       let mine = (bytes_eq-Decides of account).0 h in
       ap (λ of. personal of w) mine
-      ∙ (λ i. record { requests = requests_same i; queue = queue_same i })
+      ∙ (λ i. record {
+        requests = requests_same i;
+        holdings = holdings_of account (un.agree.rest i);
+        queue = queue_same i;
+      })
       ∙ sym (ap (λ of. personal of v) mine)
 
   me_same : (existing : Option Cap) → has_account account existing ≡ true

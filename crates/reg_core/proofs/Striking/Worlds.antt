@@ -10,15 +10,16 @@ use Rattle.std.specs.FinSet.{FinSet}
 use Rattle.std.proofs.lemmas.Bool.{both_ways}
 use Rattle.reg_core.specs.Entry.{registration_in}
 use Rattle.reg_core.specs.File.{same_name}
+use Rattle.reg_core.specs.Holding.{holder_in}
 use Rattle.reg_core.specs.Maps.{same_text}
 use Rattle.reg_core.specs.Unseen.{reveals_if, is_hidden}
 use Rattle.reg_core.specs.World.{World, RequestName, name_cmp, Place, Seat, seat_cmp, in_state, pending, applied, applied_if}
 use Rattle.reg_core.specs.declared.advice.Advice.{Advice}
 use Rattle.reg_core.specs.declared.change.Change.{Change}
-use Rattle.reg_core.specs.declared.change.Change.TheVariants.{Submit, Close, Assign, Advise, GiveValue}
+use Rattle.reg_core.specs.declared.change.Change.TheVariants.{Submit, Close, Assign, Advise, GiveValue, GiveBlock}
 use Rattle.reg_core.specs.declared.request.Case.{Case}
 use Rattle.reg_core.specs.declared.request.State.TheVariants.{Approved}
-use Rattle.reg_core.specs.declared.request.Given.TheVariants.{Value}
+use Rattle.reg_core.specs.declared.request.Given.TheVariants.{Value, Block}
 use Rattle.reg_core.proofs.Files.{same_name-itself}
 use Rattle.reg_core.proofs.MapLaws.{name_keys, seat_keys, tied, get-at_insert}
 use Rattle.reg_core.proofs.Outcomes.Dues.{change_about}
@@ -102,6 +103,12 @@ module _ (hidden : RequestName → Bool) (w v : World) (a : Agree hidden w v) wh
       let given = in_state (Approved (Value entry.value)) in
       let requests = both_update name_keys hidden _ _ a.requests (account, reference) given in
       record { rest = ap new a.rest; requests = requests; queue = a.queue; advice = a.advice }
+  agree_both (GiveBlock account reference holding) =
+      let there = holder_in holding in
+      let new = λ (x : World). record x { blocks = insert x.blocks holding.block there } in
+      let given = in_state (Approved (Block holding.block)) in
+      let requests = both_update name_keys hidden _ _ a.requests (account, reference) given in
+      record { rest = ap new a.rest; requests = requests; queue = a.queue; advice = a.advice }
   agree_both change =
       let rest = ap (λ x. applied x change) a.rest in
       record { rest = rest; requests = a.requests; queue = a.queue; advice = a.advice }
@@ -127,6 +134,9 @@ module _ (hidden : RequestName → Bool) (w v : World) (a : Agree hidden w v) wh
       advice_set _ _
       (one_insert seat_keys (at_seat hidden) _ _ a.advice ((account, reference), expert) advice h)
   agree_hidden of (GiveValue account reference entry) h quiet =
+      let name : RequestName = (account, reference) in
+      absurd (both_ways (same_name name name) (quiet name h) (same_name-itself name))
+  agree_hidden of (GiveBlock account reference holding) h quiet =
       let name : RequestName = (account, reference) in
       absurd (both_ways (same_name name name) (quiet name h) (same_name-itself name))
   agree_hidden of change h quiet = absurd (cc)

@@ -1,19 +1,21 @@
 //! Whether an ask meets the published registers.
 ghost use Rattle.std.specs.Prelude.{◌≡◌};
 ghost use Rattle.std.specs.List.{list_any};
+ghost use Rattle.std.specs.Option.{option_copied};
 ghost use Rattle.std.specs.Result.{result_map_both};
 ghost use Rattle.reg_ranges.specs.Requirements.{first_item, is_closed_policy, unmet};
 ghost use Rattle.reg_ranges.specs.Sameness.{same_treatment};
-ghost use Rattle.reg_core.specs.Allowance.{allowance_on, allowed_on, is_met, open_policy, policy_for, policy_in, value_for as value_wanted};
+ghost use Rattle.reg_core.specs.Allowance.{allowance_on, allowed_on, block_allowance, code_allowance, is_met, open_policy, policy_for, policy_in, value_for as value_wanted};
 ghost use Rattle.reg_core.specs.Award.{allowance_view};
 ghost use Rattle.reg_core.specs.Ground.{seen};
 
-use crate::ask::{Ask, Want};
-use crate::decide::award::{Award, NewEntry};
+use crate::ask::{Ask, BlockAsk, CodeAsk, Want};
+use crate::decide::award::{Award, NewEntry, NewHolding};
 use crate::entry::Entry;
 use crate::refusal::Refusal;
 use crate::request::Given;
 use crate::text::Account;
+use reg_blocks::block::Block;
 use reg_ranges::evidence::Evidence;
 use reg_ranges::policy::{Policy, Treatment};
 use reg_ranges::range::Range;
@@ -30,9 +32,12 @@ pub struct Ground<'a> {
     /// The least value without an entry under the policy of which the ask wants it, if it does and
     /// there is one.
     pub least: Option<u32>,
+    /// The block due of the size that the ask wants, if it wants a block and one is free.
+    pub due: Option<&'a Block>,
 }
 
-/// What an ask is allowed. It borrows from the ask and the account.
+/// What an ask is allowed. It borrows from the ask, the account and, where it gives a block, the
+/// ground.
 #[derive(Clone, Copy)]
 pub struct Allowance<'a> {
     /// What the ask is given.
@@ -42,9 +47,9 @@ pub struct Allowance<'a> {
 }
 
 /// What an ask of an account would be given now, or the first refusal that it meets: `Registry`,
-/// `Range`, `Policy`, `Evidence` with its item, then `Taken` or `Exhausted`. Other requests are
-/// not looked at, and no memory is taken.
-pub fn check_ask(account: &Account, ask: &Ask, rows: Ground<'_>) -> Result<Given, Refusal>
+/// `Range`, `Policy`, `Evidence` with its item, then `Taken` or `Exhausted`; for a block only
+/// `Exhausted`. Other requests are not looked at, and no memory is taken.
+pub fn check_ask<'a>(account: &'a Account, ask: &'a Ask, rows: Ground<'a>) -> Result<Given, Refusal>
     ensures { result ≡ allowed_on (seen rows.entry) account.now ask.now }
 {
     let allowance = allowance_for(account, ask, rows)?;
@@ -55,29 +60,61 @@ pub fn check_ask(account: &Account, ask: &Ask, rows: Ground<'_>) -> Result<Given
 pub fn allowance_for<'a>(
     account: &'a Account,
     ask: &'a Ask,
-    rows: Ground<'_>,
+    rows: Ground<'a>,
 ) -> Result<Allowance<'a>, Refusal>
     ensures { result_map_both allowance_view (λ refusal. refusal) result
         ≡ allowance_on (seen rows.entry) account.now ask.now }
 {
     match ask {
-        Ask::Code(code) => {
-            let table = rows.table.ok_or(Refusal::Registry)?;
-            let policy = policy_for(table, code.want)?;
-            check_evidence(policy, &code.evidence)?;
-            let value = value_for(rows, table, code.want)?;
-            let entry = NewEntry {
-                registry: &code.registry,
-                value,
-                label: &code.label,
-                assignee: account,
-            };
-            Ok(Allowance {
-                award: Award::Entry(entry),
-                needs_advice: needs_expert(policy),
-            })
-        }
+        Ask::Code(code) => code_allowance(account, code, rows),
+        Ask::Block(block) => block_allowance(account, block, rows.due),
     }
+}
+
+fn code_allowance<'a>(
+    account: &'a Account,
+    code: &'a CodeAsk,
+    rows: Ground<'_>,
+) -> Result<Allowance<'a>, Refusal>
+    ensures { result_map_both allowance_view (λ refusal. refusal) result
+        ≡ code_allowance (seen rows.entry) account.now code.now }
+{
+    let table = rows.table.ok_or(Refusal::Registry)?;
+    let policy = policy_for(table, code.want)?;
+    check_evidence(policy, &code.evidence)?;
+    let value = value_for(rows, table, code.want)?;
+    let entry = NewEntry {
+        registry: &code.registry,
+        value,
+        label: &code.label,
+        assignee: account,
+    };
+    Ok(Allowance {
+        award: Award::Entry(entry),
+        needs_advice: needs_expert(policy),
+    })
+}
+
+// No expert looks at an ask for a block.
+fn block_allowance<'a>(
+    account: &'a Account,
+    ask: &'a BlockAsk,
+    due: Option<&'a Block>,
+) -> Result<Allowance<'a>, Refusal>
+    ensures { result_map_both allowance_view (λ refusal. refusal) result
+        ≡ block_allowance (option_copied due.entry) account.now ask.now }
+{
+    let block = due.ok_or(Refusal::Exhausted)?;
+    let holding = NewHolding {
+        block,
+        holder: account,
+        organization: &ask.organization,
+        address: &ask.address,
+    };
+    Ok(Allowance {
+        award: Award::Block(holding),
+        needs_advice: false,
+    })
 }
 
 // The value that is wanted, where it has no entry.

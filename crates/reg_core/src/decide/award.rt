@@ -1,12 +1,14 @@
 //! What an ask is given, part by part.
 ghost use Rattle.std.specs.Prelude.{◌≡◌, IfOk};
-ghost use Rattle.reg_core.specs.Award.{award_view, entry_on, entry_view, given_in};
+ghost use Rattle.reg_core.specs.Award.{award_view, entry_on, entry_view, given_in, holding_from, holding_view};
 ghost use Rattle.reg_core.specs.Rules.{change_to_give};
 
 use crate::change::Change;
 use crate::entry::Entry;
+use crate::holding::Holding;
 use crate::request::Given;
 use crate::text::{Account, Name, Ref, Text};
+use reg_blocks::block::Block;
 use reg_early::day::Day;
 use reg_early::term::Term;
 use std::alloc::AllocError;
@@ -16,6 +18,8 @@ use std::alloc::AllocError;
 pub enum Award<'a> {
     /// A new entry.
     Entry(NewEntry<'a>),
+    /// A block, with its holder.
+    Block(NewHolding<'a>),
 }
 
 /// An entry, but for its term.
@@ -27,6 +31,15 @@ pub struct NewEntry<'a> {
     pub assignee: &'a Account,
 }
 
+/// A block with its holder, who is not private.
+#[derive(Clone, Copy)]
+pub struct NewHolding<'a> {
+    pub block: &'a Block,
+    pub holder: &'a Account,
+    pub organization: &'a Text,
+    pub address: &'a Text,
+}
+
 impl Award<'_> {
     /// What a request that has this award was given.
     pub fn given(&self) -> Given
@@ -34,6 +47,7 @@ impl Award<'_> {
     {
         match self {
             Award::Entry(entry) => Given::Value(entry.value),
+            Award::Block(holding) => Given::Block(*holding.block),
         }
     }
 
@@ -52,6 +66,10 @@ impl Award<'_> {
                 let entry = entry.from_day(today)?;
                 Ok(Change::GiveValue(*account, *reference, entry))
             }
+            Award::Block(holding) => {
+                let holding = holding.listed()?;
+                Ok(Change::GiveBlock(*account, *reference, holding))
+            }
         }
     }
 }
@@ -67,6 +85,21 @@ impl NewEntry<'_> {
             label: self.label.copy()?,
             assignee: *self.assignee,
             term: Term::permanent(today),
+        })
+    }
+}
+
+impl NewHolding<'_> {
+    // The holding, listed with organization and address.
+    fn listed(&self) -> Result<Holding, AllocError>
+        ensures { IfOk result (λ h. h ≡ holding_from (holding_view self.now)) }
+    {
+        Ok(Holding {
+            block: *self.block,
+            holder: *self.holder,
+            organization: self.organization.copy()?,
+            address: self.address.copy()?,
+            private: false,
         })
     }
 }
