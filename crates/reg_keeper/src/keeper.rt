@@ -1,22 +1,27 @@
 //! What keeps the content of an office.
 ghost use Rattle.std.specs.Prelude.{◌≡◌, Bool, option_map};
-ghost use Rattle.std.specs.FinMap.{get, keys};
+ghost use Rattle.std.specs.FinMap.{contains_key, get, keys};
+ghost use Rattle.reg_core.specs.BlockDue.{due_in};
 ghost use Rattle.reg_core.specs.Entry.{entry_row};
 ghost use Rattle.reg_core.specs.File.{file as file_of};
+ghost use Rattle.reg_core.specs.Holding.{holding_row, holding_rows, listed_rows, masked_blocks};
 ghost use Rattle.reg_core.specs.LeastFree.{least_free_in};
 ghost use Rattle.reg_core.specs.Page.{entry_rows};
 ghost use Rattle.reg_core.specs.Queue.{queue_row, queue_rows};
 ghost use Rattle.reg_core.specs.Request.{request_row, request_rows};
-ghost use Rattle.reg_core.specs.View.{entries_of, queue_of, requests_of};
+ghost use Rattle.reg_core.specs.View.{entries_of, holdings_of, queue_of, requests_of};
 ghost use Rattle.reg_core.specs.WellKept.{WellKept, CanApply};
 ghost use Rattle.reg_core.specs.World.{World, applied};
 ghost use Rattle.reg_keeper.specs.Keeper.{Selects, Makes};
 
+use reg_blocks::block::Block;
 use reg_blocks::pool::Pool;
+use reg_blocks::size::Size;
 use reg_core::capability::Cap;
 use reg_core::change::Change;
 use reg_core::entry::Entry;
 use reg_core::file::File;
+use reg_core::holding::{Holding, Listed};
 use reg_core::queue::QueueRow;
 use reg_core::request::Request;
 use reg_core::rows::Rows;
@@ -101,6 +106,33 @@ pub trait Keeper {
     fn pool(&mut self) -> Result<Pool, Fault>
         ensures { Selects world Holds Sound FAILS self.old self.new result
             (λ w pool. pool ≡ keys w.pool) };
+
+    /// Whether a prefix is in the pool.
+    fn is_pooled(&mut self, prefix: u32) -> Result<bool, Fault>
+        ensures { Selects world Holds Sound FAILS self.old self.new result
+            (λ w pooled. pooled ≡ contains_key w.pool prefix) };
+
+    /// All blocks that were given, in order, as the public sees them.
+    fn blocks(&mut self) -> Result<Rows<Listed>, Fault>
+        ensures { Selects world Holds Sound FAILS self.old self.new result
+            (λ w rows. rows ≡ listed_rows (masked_blocks w.blocks)) };
+
+    /// All blocks of an account, in order.
+    fn holdings(&mut self, account: &Account) -> Result<Rows<Holding>, Fault>
+        ensures { Selects world Holds Sound FAILS self.old self.new result
+            (λ w rows. rows ≡ holding_rows (holdings_of account.now w)) };
+
+    /// A block, if it is one of an account's.
+    fn holding(&mut self, account: &Account, block: &Block) -> Result<Option<Holding>, Fault>
+        ensures { Selects world Holds Sound FAILS self.old self.new result
+            (λ w row. row ≡ option_map (holding_row block.now)
+            (get (holdings_of account.now w) block.now)) };
+
+    /// The block due: of the free blocks of a size the one with the least first address, if one
+    /// is free.
+    fn due(&mut self, size: Size) -> Result<Option<Block>, Fault>
+        ensures { Selects world Holds Sound FAILS self.old self.new result
+            (λ w block. block ≡ due_in w.pool w.blocks size) };
 
     /// All requests of an account, by reference.
     fn own(&mut self, account: &Account) -> Result<Rows<Request>, Fault>

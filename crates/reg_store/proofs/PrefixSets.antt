@@ -1,18 +1,23 @@
 -- The prefixes of a pool as a finite set.
-use Rattle.std.proofs.Common.{◌≡◌, ℕ, ◌||◌, List, [], ◌∷◌, map, ◌⊎◌, inl, inr, Bool, true, false}
+use Rattle.std.proofs.Common.{◌≡◌, ℕ, ◌||◌, List, [], ◌∷◌, ◌++◌, map, ◌⊎◌, inl, inr, Bool, true, false}
 use Rattle.std.proofs.Common.{cond, refl, sym, ap, subst, ◌∙◌}
-use Rattle.std.specs.Prelude.{Contains, IsTrue, Option, Some, None, is_some}
+use Rattle.std.specs.Prelude.{All, Contains, IsTrue, Option, Some, None, is_some}
 use Rattle.std.specs.Bool.{Decides}
+use Rattle.std.specs.BTreeSet.{BTreeSet, contains}
 use Rattle.std.specs.Cmp.{nat_cmp_total, eq_by_cmp_equiv}
 use Rattle.std.specs.FinMap.{keys, contains_key, get, get-from_entries, insert}
 use Rattle.std.specs.FinMap.Entries.{is_some-find}
-use Rattle.std.specs.List.{list_any}
+use Rattle.std.specs.List.{list_any, slice_get}
+use Rattle.std.proofs.lemmas.List.Elements.{All-contains, All-nil, All-push, Contains-append_cases, Contains-append_left, Contains-push}
 use Rattle.std.specs.List.Sorted.{IsStrictlyIncreasing}
 use Rattle.std.specs.Map.{keys_of}
 use Rattle.std.specs.Ordering.{nat_cmp, eq_by_cmp}
+use Rattle.std.proofs.lemmas.Option.{get_or_from_slice_get, slice_get_within}
 use Rattle.std.proofs.lemmas.Bool.Decides.{Decides-at, Decides-or, Decides-like, same_from_decides}
 use Rattle.std.proofs.lemmas.Map.Keys.{sorted_from_strictly_increasing}
+use Rattle.std.proofs.lemmas.Map.Lookups.{exact_unsigned}
 use Rattle.std.proofs.lemmas.Map.Made.{is_member-Decides}
+use Rattle.std.proofs.lemmas.Map.Views.{btree_set_contains_iff}
 use Rattle.reg_blocks.specs.Pool.{is_pool_prefix, AddsPrefix}
 use Rattle.reg_core.specs.WellKept.{CanApply}
 use Rattle.reg_core.specs.World.{World}
@@ -61,6 +66,15 @@ Decides-prefix_set ks q =
     ∙ ap (list_any (eq_by_cmp nat_cmp q)) (keys-rows_of ks) in
     Decides-at _ _ in_keys (is_member-Decides Decides-tie ks q)
 
+-- so it has one where a set with these keys has it
+pub found_in_set : (s : BTreeSet ℕ) (ks : List ℕ) → s.keys ≡ ks → (q : ℕ)
+    → contains nat_cmp s q ≡ contains_key (prefix_set ks) q
+found_in_set s ks same q =
+    same_from_decides (contains nat_cmp s q) (contains_key (prefix_set ks) q)
+    (subst (λ (xs : List ℕ). Decides (contains nat_cmp s q) (Contains xs q)) same
+    (btree_set_contains_iff nat_cmp_total exact_unsigned s q))
+    (Decides-prefix_set ks q)
+
 -- rows without content are equal where both are there or none is
 same_row : (a b : Option (Unit {0})) → is_some a ≡ is_some b → a ≡ b
 same_row None None e = refl
@@ -96,6 +110,34 @@ prefix_set-there old new prefix there same = prefix_set-add old new prefix (λ o
     already : (other : ℕ) → (other ≡ prefix) ⊎ Contains old other → Contains old other
     already other (inl e) = subst (λ (n : ℕ). Contains old n) (sym e) there
     already other (inr h) = h
+
+-- as is one that is pushed behind the others
+pub prefix_set-push : (ks : List ℕ) (prefix : ℕ)
+    → prefix_set (ks ++ prefix ∷ []) ≡ insert (prefix_set ks) prefix tt
+prefix_set-push ks prefix = prefix_set-add ks (ks ++ prefix ∷ []) prefix (λ other. (
+  (λ h. last other (Contains-append_cases ks (prefix ∷ []) other h)),
+  (λ either. there other either),
+))
+  where
+    last : (other : ℕ) → Contains ks other ⊎ Contains (prefix ∷ []) other
+        → (other ≡ prefix) ⊎ Contains ks other
+    last other (inl h) = inr h
+    last other (inr h) =
+        inl (All-contains (λ k. k ≡ prefix) (prefix ∷ []) other
+        (All-push (λ k. k ≡ prefix) [] prefix (All-nil (λ k. k ≡ prefix)) refl) h)
+
+    there : (other : ℕ) → (other ≡ prefix) ⊎ Contains ks other
+        → Contains (ks ++ prefix ∷ []) other
+    there other (inl e) =
+        subst (λ (n : ℕ). Contains (ks ++ prefix ∷ []) n) (sym e) (Contains-push ks prefix)
+    there other (inr h) = Contains-append_left ks (prefix ∷ []) other h
+
+-- each prefix of a pool may be in one
+pub each_clear : (ks : List ℕ) (i prefix : ℕ) → All (λ k. IsTrue (is_pool_prefix k)) ks
+    → slice_get ks i ≡ Some prefix → IsTrue (is_pool_prefix prefix)
+each_clear ks i prefix clear at =
+    subst (λ k. IsTrue (is_pool_prefix k)) (get_or_from_slice_get ks i prefix 0 at)
+    (clear i 0 (slice_get_within ks i prefix at))
 
 -- a prefix that can be added may be in a pool
 pub may_be_added : (w : World) (prefix : ℕ) → CanApply w (AddPool prefix)

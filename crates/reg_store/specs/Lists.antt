@@ -1,5 +1,6 @@
 -- The content of a keeper in memory.
 use Rattle.reg_core.specs.World.{World}
+use Rattle.reg_store.specs.Lists.Blocks.{pool_held, blocks_given}
 use Rattle.reg_store.specs.Lists.Content.{content}
 use Rattle.reg_store.specs.Lists.Registrations.{entries_held}
 use Rattle.reg_store.specs.Lists.Reviews.{world_of}
@@ -14,7 +15,12 @@ pub mod Queues
 pub mod Reviews
 pub mod Taken
 pub mod Registrations
+pub mod Held
+pub mod Holdings
+pub mod Blocks
 pub mod Content
 
 abbrev pub world_in : ListKeeper → World
-world_in k = content k.caps k.registries (entries_held k.registrations) (world_of k.reviews) k.pool
+world_in k =
+    content k.caps k.registries (entries_held k.registrations) (world_of k.reviews)
+    (pool_held k.blocks) (blocks_given k.blocks)

@@ -2,13 +2,16 @@
 ghost use Rattle.std.specs.Prelude.{◌≡◌};
 ghost use Rattle.reg_core.specs.WellKept.{WellKept};
 ghost use Rattle.reg_core.specs.World.{empty_world};
+ghost use Rattle.reg_store.specs.Lists.Blocks.{pool_held, blocks_given};
 ghost use Rattle.reg_store.specs.Lists.Content.{content};
 ghost use Rattle.reg_store.specs.Lists.Registrations.{entries_held};
 ghost use Rattle.reg_store.specs.Lists.Reviews.{world_of};
 
+mod blocks;
 mod caps;
 mod entries;
 mod file;
+mod holdings;
 mod opinions;
 mod panels;
 mod pool;
@@ -20,14 +23,17 @@ mod reviews;
 mod taken;
 
 use crate::maps::{row_at, set_row, unset_row};
+use blocks::Blocks;
 use caps::{Caps, cap_in};
 use entries::{entries_in, entry_in};
-use pool::{pool_in, put_prefix};
+use reg_blocks::block::Block;
 use reg_blocks::pool::Pool;
+use reg_blocks::size::Size;
 use reg_core::capability::Cap;
 use reg_core::change::Change;
 use reg_core::entry::Entry;
 use reg_core::file::File;
+use reg_core::holding::{Holding, Listed};
 use reg_core::queue::QueueRow;
 use reg_core::request::Request;
 use reg_core::rows::Rows;
@@ -45,13 +51,15 @@ use std::collections::BTreeMap;
 /// The content of an office in memory: capabilities by digest, registries by name, entries by
 /// registry and value, with the values that have entries as runs once more, requests by account and
 /// reference, their experts and the advice on them by request, and, once more, by expert, what is
-/// assigned to each as the expert sees it; and the prefixes of the pool.
+/// assigned to each as the expert sees it; and the pool with the free places in it, the blocks that
+/// were given in order, and, once more, by account, those that each holds.
 ///
 /// A row by its key and a change take O(log n), whatever else there is, but a change of a
 /// request's state O((1 + experts) log n), for the experts of that request; the least value without
-/// an entry O(log n) for each range of its policy; a registry's ranges, its entries, an account's
-/// own requests, a request's file and an expert's queue O(log n + rows); the names of all
-/// registries, the pool, a prefix more in it, and all requests O(rows).
+/// an entry O(log n) for each range of its policy; the block due and whether a prefix is in the pool
+/// O(log n); a registry's ranges, its entries, an account's own requests and blocks, a request's
+/// file and an expert's queue O(log n + rows); the names of all registries, all blocks and all
+/// requests O(rows), and the pool O(rows log rows).
 #[derive(Drop)]
 pub struct ListKeeper {
     alloc: Global,
@@ -59,9 +67,9 @@ pub struct ListKeeper {
     registries: Registries,
     registrations: Registrations,
     reviews: Reviews,
-    pool: Pool,
+    blocks: Blocks,
     ghost well: { WellKept (content caps registries (entries_held registrations)
-        (world_of reviews) pool) },
+        (world_of reviews) (pool_held blocks) (blocks_given blocks)) },
 }
 
 impl ListKeeper {
@@ -77,7 +85,7 @@ impl ListKeeper {
             registries: BTreeMap::new(alloc),
             registrations: Registrations::new(alloc),
             reviews: Reviews::new(alloc),
-            pool: Pool::new(alloc),
+            blocks: Blocks::new(alloc),
         }
     }
 }
@@ -129,7 +137,27 @@ impl Keeper for ListKeeper {
     }
 
     fn pool(&mut self) -> Result<Pool, Fault> {
-        Ok(pool_in(&self.pool)?)
+        Ok(self.blocks.pool(self.alloc)?)
+    }
+
+    fn blocks(&mut self) -> Result<Rows<Listed>, Fault> {
+        Ok(self.blocks.holdings().listing(self.alloc)?)
+    }
+
+    fn holdings(&mut self, account: &Account) -> Result<Rows<Holding>, Fault> {
+        Ok(self.blocks.holdings().of_account(self.alloc, account)?)
+    }
+
+    fn holding(&mut self, account: &Account, block: &Block) -> Result<Option<Holding>, Fault> {
+        Ok(self.blocks.holdings().one(account, block)?)
+    }
+
+    fn due(&mut self, size: Size) -> Result<Option<Block>, Fault> {
+        Ok(self.blocks.due(size))
+    }
+
+    fn is_pooled(&mut self, prefix: u32) -> Result<bool, Fault> {
+        Ok(self.blocks.has_prefix(prefix))
     }
 
     fn own(&mut self, account: &Account) -> Result<Rows<Request>, Fault> {
@@ -166,7 +194,7 @@ impl Keeper for ListKeeper {
             Change::Grant(digest, cap) => set_row(&mut self.caps, digest, cap)?,
             Change::Revoke(digest) => unset_row(&mut self.caps, &digest),
             Change::Define(name, table) => set_row(&mut self.registries, name, table)?,
-            Change::AddPool(prefix) => put_prefix(&mut self.pool, prefix)?,
+            Change::AddPool(prefix) => self.blocks.add_prefix(prefix)?,
             Change::Submit(account, reference, ask) => {
                 self.reviews.submit(self.alloc, account, reference, ask)?;
             }
@@ -186,6 +214,12 @@ impl Keeper for ListKeeper {
                 self.registrations.put(self.alloc, entry)?;
                 self.reviews.set_state(account, reference, approval);
             }
+            Change::GiveBlock(account, reference, holding) => {
+                let approval = holding.approval();
+                self.blocks.give(self.alloc, holding)?;
+                self.reviews.set_state(account, reference, approval);
+            }
+            Change::SetPrivate(block, private) => self.blocks.mark(&block, private),
         }
         Ok(())
     }

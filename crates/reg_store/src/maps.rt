@@ -1,10 +1,13 @@
 //! Rows in ordered maps.
 ghost use Rattle.std.specs.Prelude.{◌≡◌, ◌++◌, map as each, OnOk, OnErr};
+ghost use Rattle.std.specs.Fn.{FnOnceReturnsAtMut};
 ghost use Rattle.std.specs.Option.{option_copied};
 ghost use Rattle.std.specs.FinMap as fin;
-ghost use Rattle.reg_core.proofs.MapLaws.{IsKeyOrder, number_keys, text_keys, pair_keys};
+ghost use Rattle.reg_core.proofs.MapLaws.{IsKeyOrder, number_keys, text_keys, pair_keys, block_keys};
+ghost use Rattle.reg_core.specs.Maps.{update};
 ghost use Rattle.reg_store.specs.Maps.{finite_map, Computes};
 
+use reg_blocks::block::Block;
 use reg_core::text::{Form, Word};
 use std::alloc::AllocError;
 use std::collections::BTreeMap;
@@ -21,6 +24,10 @@ impl Key for u32 {
 
 impl<F: Form> Key for Word<F> {
     ghost order = { text_keys };
+}
+
+impl Key for Block {
+    ghost order = { block_keys };
 }
 
 impl<A: Key, B: Key> Key for (A, B) {
@@ -46,6 +53,18 @@ pub fn set_row<K: Key + Drop, V: Drop>(
 {
     map.insert(key, row)?;
     Ok(())
+}
+
+/// Changes the row at a key, if there is one.
+pub fn change_at<K: Key, V, F: FnOnce(&mut V) + Drop>(map: &mut BTreeMap<K, V>, key: &K, change: F)
+    requires { F.IsAlwaysCallable change }
+    ensures { (f : V → V)
+        → ((row left : V) → FnOnceReturnsAtMut F.FnOnce change row tt left → left ≡ f row)
+        → finite_map K.cmp map.new ≡ update (finite_map K.cmp map.old) key.now f }
+{
+    if let Some(row) = map.get_mut(key) {
+        change(row);
+    }
 }
 
 /// Takes the row at a key away, if there is one.

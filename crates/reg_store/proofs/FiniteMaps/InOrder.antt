@@ -39,12 +39,18 @@ entries_are {R = R} o m es h is =
     same_entries R o.total o.exact (entries m) es (entries_sorted m) h
     (λ q. sym (get-entries m q) ∙ is q)
 
+-- an ordered map has the entries of the finite map that it is seen as, in the same order
+pub entries-finite_map : {K X : Type 0} {R : K → K → Ordering} → IsKeyOrder R
+    → (m : BTreeMap K X) → IsOrdered R m → entries (finite_map R m) ≡ m.entries
+entries-finite_map {R = R} o m h =
+    entries_are o (finite_map R m) m.entries (sorted R m.entries h)
+    (get-from_entries o.total m.entries)
+
 -- an ordered map has the keys of the finite map that it is seen as, in the same order
 pub keys-finite_map : {K X : Type 0} {R : K → K → Ordering} → IsKeyOrder R → (m : BTreeMap K X)
     → IsOrdered R m → keys (finite_map R m) ≡ keys_of m.entries
-keys-finite_map {R = R} o m h =
-    ap keys_of (entries_are o (finite_map R m) m.entries (sorted R m.entries h)
-    (get-from_entries o.total m.entries))
+keys-finite_map o m h =
+    ap keys_of (entries-finite_map o m h)
 
 module _ {A B V : Type 0} {P : A → A → Ordering} (Q : B → B → Ordering) (o : IsTotalOrder P) where
   -- a row comes before the rest of its group

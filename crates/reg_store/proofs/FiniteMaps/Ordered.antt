@@ -1,7 +1,7 @@
 -- Ordered maps as finite maps.
 use Rattle.std.proofs.Common.{◌≡◌, Bool, true, false, cond, ◌&&◌, T, List, [], ◌∷◌, refl, sym, ap}
 use Rattle.std.proofs.Common.{◌∙◌}
-use Rattle.std.specs.Prelude.{Some, None}
+use Rattle.std.specs.Prelude.{Some, None, option_map}
 use Rattle.std.specs.declared.cmp.Ordering.{Ordering}
 use Rattle.std.specs.declared.cmp.Ordering.TheVariants.{Less}
 use Rattle.std.specs.Ordering.{eq_by_cmp, is_lt}
@@ -13,6 +13,7 @@ use Rattle.std.specs.BTreeMap as tree
 use Rattle.std.specs.BTreeMap.{BTreeMap, is_at}
 use Rattle.std.specs.FinMap.{get, insert, remove, find, is_sorted, get-from_entries, get-remove}
 use Rattle.std.specs.FinMap.Entries.{below_all}
+use Rattle.reg_core.specs.Maps.{replaced, update}
 use Rattle.reg_core.proofs.MapLaws.{IsKeyOrder, same_at, get-at_insert}
 use Rattle.reg_store.specs.Maps.{finite_map}
 
@@ -78,3 +79,19 @@ module _ {K X : Type 0} {R : K → K → Ordering} (o : IsKeyOrder R) where
       ∙ ap (λ b. cond b None (tree.get R m q)) ((eq_by_cmp_equiv o.total).symm k q)
       ∙ sym (get-remove o.total (finite_map R m) k q
       ∙ ap (cond (eq_by_cmp R q k) None) (get-finite_map m q)))
+
+  -- with one row replaced
+  pub finite_map-update : (m n : BTreeMap K X) (k : K) (f : X → X) (x : X)
+      → tree.get R m k ≡ Some x
+      → ((q : K) → tree.get R n q ≡ cond (is_at (R k) q) (Some (f x)) (tree.get R m q))
+      → finite_map R n ≡ update (finite_map R m) k f
+  finite_map-update m n k f x there h =
+      finite_map-insert m n k (f x) h
+      ∙ sym (ap (λ r. replaced (finite_map R m) k (option_map f r))
+      (get-finite_map m k ∙ there))
+
+  -- where there is none, a replacement changes nothing
+  pub finite_map-absent : (m : BTreeMap K X) (k : K) (f : X → X) → tree.get R m k ≡ None
+      → update (finite_map R m) k f ≡ finite_map R m
+  finite_map-absent m k f absent =
+      ap (λ r. replaced (finite_map R m) k (option_map f r)) (get-finite_map m k ∙ absent)

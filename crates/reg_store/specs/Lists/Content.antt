@@ -2,23 +2,26 @@
 use Rattle.std.specs.Prelude.{List, ℕ}
 use Rattle.std.specs.BTreeMap.{BTreeMap}
 use Rattle.std.specs.FinMap.{FinMap}
+use Rattle.std.specs.FinSet.{FinSet}
+use Rattle.std.specs.Ordering.{nat_cmp}
+use Rattle.reg_blocks.specs.Block.{block_cmp}
 use Rattle.reg_ranges.specs.Tables.{Table}
 use Rattle.reg_core.specs.Maps.{text_cmp}
 use Rattle.reg_core.specs.World.{World, place_cmp}
 use Rattle.reg_core.specs.declared.capability.Cap.{Cap}
 use Rattle.reg_core.specs.declared.entry.Registration.{Registration}
+use Rattle.reg_core.specs.declared.holding.Holder.{Holder}
 use Rattle.reg_store.specs.Maps.{finite_map}
-use Rattle.reg_store.specs.Lists.Pool.{prefix_set}
 
 -- capabilities by digest, registries by name, entries, the world of requests with their experts
--- and advice, and the
--- pool
+-- and advice, the pool, and the blocks that were given
 abbrev pub content : BTreeMap (List ℕ) Cap → BTreeMap (List ℕ) Table
-    → FinMap place_cmp Registration → World → List ℕ
+    → FinMap place_cmp Registration → World → FinSet nat_cmp → FinMap block_cmp Holder
     → World
-content caps registries entries reviews pool = record reviews {
+content caps registries entries reviews pool blocks = record reviews {
   caps = finite_map text_cmp caps;
   registries = finite_map text_cmp registries;
   entries = entries;
-  pool = prefix_set pool;
+  pool = pool;
+  blocks = blocks;
 }

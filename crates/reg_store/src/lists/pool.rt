@@ -1,18 +1,11 @@
 //! The pool of prefixes.
-ghost use Rattle.std.specs.Prelude.{◌≡◌, Contains, IsTrue, Ok, IfOk, OnOk, OnErr};
+ghost use Rattle.std.specs.Prelude.{◌≡◌, Contains, IsTrue, Ok, OnOk, OnErr};
 ghost use Rattle.std.specs.FinMap as fin;
 ghost use Rattle.reg_blocks.specs.Pool.{is_pool_prefix};
 ghost use Rattle.reg_store.specs.Lists.Pool.{prefix_set};
 
 use reg_blocks::pool::{Add, Pool};
 use std::alloc::AllocError;
-
-/// All prefixes, ascending.
-pub fn pool_in(pool: &Pool) -> Result<Pool, AllocError>
-    ensures { IfOk result (λ copy. copy ≡ fin.keys (prefix_set pool.now)) }
-{
-    pool.copy()
-}
 
 /// Adds a prefix that may be in a pool; one that is there changes nothing, and needs no memory.
 pub fn put_prefix(pool: &mut Pool, prefix: u32) -> Result<(), AllocError>

@@ -1,0 +1,18 @@
+use Rattle.std.proofs.Common.{◌≡◌, sym, ap, subst, ◌∙◌}
+use Rattle.reg_core.specs.Holding.{with_mark}
+use Rattle.reg_core.specs.Maps.{update}
+use Rattle.reg_store.specs.Lists.Held.{AreHeld, all_held, account_of}
+use Rattle.reg_store.specs.Maps.{finite_map}
+use Rattle.reg_blocks.specs.Block.{block_cmp}
+use Rattle.reg_store.proofs.HeldLaws.{held-mark}
+use Rattle.reg_store.proofs.lists.holdings.mark_both.Goals as goal
+
+pub returns-in-Some-clause-in_step : goal.returns-in-Some-clause-in_step
+returns-in-Some-clause-in_step c =
+    let blocks = finite_map block_cmp c.args.holders.now in
+    let held = all_held c.args.held.now in
+    let marked = held-mark blocks held c.requires c.args.block.now c.args.private
+    c.in-Some.account c.in-Some.ensures in
+    subst (λ x. AreHeld x (all_held c.set_mark_held.new.held)) (sym c.set_mark.ensures)
+    (subst (AreHeld (update blocks c.args.block.now (with_mark c.args.private)))
+    (sym c.set_mark_held.ensures) marked)
