@@ -14,7 +14,7 @@ use Rattle.reg_core.specs.declared.capability.Cap.{Cap}
 use Rattle.reg_core.specs.declared.capability.Kind.{Kind}
 use Rattle.reg_core.specs.declared.capability.Kind.TheVariants as kind
 use Rattle.reg_core.specs.declared.command.ApplicantCommand.{ApplicantCommand}
-use Rattle.reg_core.specs.declared.command.ApplicantCommand.TheVariants.{Own, OwnOne, Submit, Withdraw}
+use Rattle.reg_core.specs.declared.command.ApplicantCommand.TheVariants.{Own, OwnOne, Submit, Withdraw, Holdings, SetListing}
 use Rattle.reg_core.specs.declared.command.ClerkCommand.{ClerkCommand}
 use Rattle.reg_core.specs.declared.command.Command.{Command}
 use Rattle.reg_core.specs.declared.command.Command.TheVariants.{Public, Applicant, Expert, Clerk}
@@ -93,6 +93,8 @@ own_rows w account Own = refl
 own_rows w account (OwnOne reference) = rw (own_request account reference w) refl
 own_rows w account (Submit reference ask) = rw (own_request account reference w) refl
 own_rows w account (Withdraw reference) = rw (own_request account reference w) refl
+own_rows w account Holdings = refl
+own_rows w account (SetListing block private) = refl
 
 pub applicant_answered : (w : World) (caller : Option (List ℕ)) (moment : ℕ)
     (command : ApplicantCommand) → is_in_clock moment ≡ true

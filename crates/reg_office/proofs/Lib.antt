@@ -4,6 +4,5 @@ pub mod Decided
 pub mod Digests
 pub mod Pages
 pub mod Performing
-pub mod Prefixes
 pub mod Rows
 pub mod Submissions

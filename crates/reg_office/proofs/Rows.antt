@@ -2,14 +2,18 @@
 use Rattle.std.proofs.Common.{◌≡◌, Bool, Result, Ok, sym, ap, subst, ◌∙◌}
 use Rattle.std.specs.Prelude.{Option, Some, None, option_map}
 use Rattle.std.specs.FinMap.{get}
+use Rattle.reg_blocks.specs.Block.{SizedPrefix}
 use Rattle.reg_core.specs.Allowance.{◌>>=◌, or_refusal}
 use Rattle.reg_core.specs.Answer.{Answer}
 use Rattle.reg_core.specs.File.{file, experts_of, opinions_of}
+use Rattle.reg_core.specs.Holding.{holder_in, holding_row}
 use Rattle.reg_core.specs.Queue.{queue_row}
 use Rattle.reg_core.specs.Request.{case_of, request_row}
 use Rattle.reg_core.specs.View.{Queued}
 use Rattle.reg_core.specs.World.{World, RequestName}
 use Rattle.reg_core.specs.declared.file.File.{File}
+use Rattle.reg_core.specs.declared.holding.Holder.{Holder}
+use Rattle.reg_core.specs.declared.holding.Holding.{Holding}
 use Rattle.reg_core.specs.declared.queue.QueueRow.{QueueRow}
 use Rattle.reg_core.specs.declared.refusal.Refusal.TheVariants as no
 use Rattle.reg_core.specs.declared.request.Case.{Case}
@@ -109,4 +113,17 @@ queued_is name (Some queued) row is =
     let same : row ≡ queue_row name queued = cc in (
       ap (λ (r : QueueRow). Some (queued_in r)) (sym same),
       ap (λ (r : QueueRow). (r.account, r.reference)) (sym same),
+    )
+
+-- ---- Holdings
+
+-- a block that was looked up is this block, with its holder
+pub holding_is : (block : SizedPrefix) (existing : Option Holder) (row : Holding)
+    → Some row ≡ option_map (holding_row block) existing
+    → (existing ≡ Some (holder_in row)) × (block ≡ row.block)
+holding_is block None row is = absurd (cc)
+holding_is block (Some h) row is =
+    let same : row ≡ holding_row block h = cc in (
+      ap (λ (r : Holding). Some (holder_in r)) (sym same),
+      ap (λ (r : Holding). r.block) (sym same),
     )

@@ -7,7 +7,7 @@ use Rattle.reg_core.specs.View.{Personal, published, personal}
 use Rattle.reg_core.specs.World.{World, RequestName, pending}
 use Rattle.reg_core.specs.declared.ask.Ask.{Ask}
 use Rattle.reg_core.specs.declared.command.ApplicantCommand.{ApplicantCommand}
-use Rattle.reg_core.specs.declared.command.ApplicantCommand.TheVariants.{Own, OwnOne, Submit, Withdraw}
+use Rattle.reg_core.specs.declared.command.ApplicantCommand.TheVariants.{Own, OwnOne, Submit, Withdraw, Holdings, SetListing}
 use Rattle.reg_core.specs.declared.command.ClerkCommand.{ClerkCommand}
 use Rattle.reg_core.specs.declared.command.ExpertCommand.{ExpertCommand}
 use Rattle.reg_core.specs.declared.content.Content.{Content}
@@ -29,6 +29,10 @@ answer_to_account account (Submit reference ask) w =
     own_answer (published w) account (by_name account w) (Submit reference ask)
 answer_to_account account (Withdraw reference) w =
     own_answer (published w) account (by_name account w) (Withdraw reference)
+answer_to_account account Holdings w =
+    own_answer (published w) account (personal account w) Holdings
+answer_to_account account (SetListing block private) w =
+    own_answer (published w) account (personal account w) (SetListing block private)
 
 -- what is told of a request that is made, or that is there already
 abbrev pub content_made : RequestName → Ask → Option Request → Content

@@ -1,8 +1,13 @@
 -- Rows after what is told of them.
-use Rattle.std.specs.Prelude.{Some}
+use Rattle.std.specs.Prelude.{Bool, Some}
 use Rattle.reg_core.specs.declared.advice.Advice.{Advice}
+use Rattle.reg_core.specs.declared.holding.Holding.{Holding}
 use Rattle.reg_core.specs.declared.queue.QueueRow.{QueueRow}
 
 -- a queued request after its expert gave this advice
 abbrev pub advised_row : Advice → QueueRow → QueueRow
 advised_row advice row = record row { advice = Some advice }
+
+-- a block with its holder after this mark was set
+abbrev pub marked_row : Bool → Holding → Holding
+marked_row private row = record row { private = private }

@@ -13,6 +13,7 @@ ghost use Rattle.reg_office.specs.Performs.{Finds, Performs};
 
 use crate::carrying::{conclude, row_after};
 use crate::ground::ground_if;
+use crate::holdings::{list_holdings, set_listing};
 use crate::stop::Stop;
 use reg_core::ask::Ask;
 use reg_core::command::ApplicantCommand;
@@ -39,6 +40,10 @@ pub fn perform<K: Keeper>(
         ApplicantCommand::OwnOne(reference) => show_own(keeper, account, reference),
         ApplicantCommand::Submit(reference, ask) => { submit(keeper, account, reference, ask) }
         ApplicantCommand::Withdraw(reference) => withdraw(keeper, account, reference),
+        ApplicantCommand::Holdings => list_holdings(keeper, account),
+        ApplicantCommand::SetListing(block, private) => {
+            set_listing(keeper, account, block, *private)
+        }
     }
 }
 

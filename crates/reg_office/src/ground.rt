@@ -3,9 +3,11 @@ ghost use Rattle.std.specs.Prelude.{◌≡◌, None, true};
 ghost use Rattle.reg_core.specs.Allowance.{ground_of};
 ghost use Rattle.reg_core.specs.Ground.{seen};
 ghost use Rattle.reg_core.specs.View.{published};
+ghost use Rattle.reg_core.specs.declared.ask.Ask.TheVariants as asks;
 ghost use Rattle.reg_keeper.specs.Keeper.{Selects};
 
-use reg_core::ask::{Ask, Want};
+use reg_blocks::block::Block;
+use reg_core::ask::{Ask, BlockAsk, CodeAsk, Want};
 use reg_core::decide::Ground;
 use reg_core::entry::Entry;
 use reg_keeper::keeper::{Fault, Keeper};
@@ -13,12 +15,14 @@ use reg_ranges::table::RangeTable;
 use std::marker::Model;
 
 /// What an ask needs of the published rows: the ranges of its registry, the entry at the value that
-/// it names, and the least value without an entry where it wants that.
+/// it names, and the least value without an entry where it wants that; the block due where it wants
+/// a block.
 #[derive(Drop)]
 pub struct GroundRows {
     table: Option<RangeTable>,
     entry: Option<Entry>,
     least: Option<u32>,
+    due: Option<Block>,
 }
 
 impl Model for GroundRows {
@@ -32,18 +36,20 @@ impl Model for GroundRows {
       table = rows.table;
       entry = option_map registration_in rows.entry;
       least = rows.least;
+      due = rows.due;
     } };
 }
 
 impl GroundRows {
     /// No rows.
     pub fn none() -> Self
-        ensures { result ≡ record { table = None; entry = None; least = None } }
+        ensures { result ≡ record { table = None; entry = None; least = None; due = None } }
     {
         GroundRows {
             table: None,
             entry: None,
             least: None,
+            due: None,
         }
     }
 
@@ -55,6 +61,7 @@ impl GroundRows {
             table: self.table.as_ref(),
             entry: self.entry.as_ref(),
             least: self.least,
+            due: self.due.as_ref(),
         }
     }
 }
@@ -72,31 +79,55 @@ pub fn ground_if<K: Keeper>(keeper: &mut K, is_needed: bool, ask: &Ask) -> Resul
     }
 }
 
-// The published rows that an ask needs. No entry is looked at where the least value is wanted.
+// The published rows that an ask needs.
 fn ground_for<K: Keeper>(keeper: &mut K, ask: &Ask) -> Result<GroundRows, Fault>
     ensures { Selects K.world K.Holds K.Sound K.FAILS keeper.old keeper.new result
         (λ w rows. rows ≡ ground_of (published w) ask.now) }
 {
-    let Ask::Code(code) = ask;
+    match ask {
+        Ask::Code(code) => code_ground(keeper, code),
+        Ask::Block(block) => block_ground(keeper, block),
+    }
+}
+
+// Those that an ask for a value needs. No entry is looked at where the least value is wanted.
+fn code_ground<K: Keeper>(keeper: &mut K, code: &CodeAsk) -> Result<GroundRows, Fault>
+    ensures { Selects K.world K.Holds K.Sound K.FAILS keeper.old keeper.new result
+        (λ w rows. rows ≡ ground_of (published w) (asks.Code code.now)) }
+{
     let table = keeper.ranges(&code.registry)?;
     match code.want {
         Want::Value(value) => {
             let entry = keeper.entry(&code.registry, value)?;
-            let least = None;
             Ok(GroundRows {
                 table,
                 entry,
-                least,
+                least: None,
+                due: None,
             })
         }
         Want::Least(policy) => {
-            let entry = None;
             let least = keeper.least(&code.registry, policy)?;
             Ok(GroundRows {
                 table,
-                entry,
+                entry: None,
                 least,
+                due: None,
             })
         }
     }
+}
+
+// Those that an ask for a block needs.
+fn block_ground<K: Keeper>(keeper: &mut K, block: &BlockAsk) -> Result<GroundRows, Fault>
+    ensures { Selects K.world K.Holds K.Sound K.FAILS keeper.old keeper.new result
+        (λ w rows. rows ≡ ground_of (published w) (asks.Block block.now)) }
+{
+    let due = keeper.due(block.size)?;
+    Ok(GroundRows {
+        table: None,
+        entry: None,
+        least: None,
+        due,
+    })
 }

@@ -1,5 +1,6 @@
 //! Laws of the office at the digest that it uses, the SHA-256 of a token: the contracts of
 //! functions that change nothing and take no memory.
+ghost use Rattle.reg_core.specs.BlocksGiven.{BlockAsksAreServedDuly, BlocksAreApart, BlocksDueAreLeast, ForeignBlocksAreHidden, PrivateHoldersAreHidden};
 ghost use Rattle.reg_core.specs.Laws.{AnswersAreDone, ApprovalsAreAdvised, ApprovalsGiveWhatIsAllowed, ApprovalsStand, ChangesFit, FirstWorldsAreWellKept, GivenStays, RefusalsChangeNothing, RepeatsActOnce, RunsKeepWell, SubmissionsStand, TwoWorlds};
 ghost use Rattle.reg_core.specs.MayBeGiven.{AsksMeetTheirPolicy, NoValueIsGivenTwice};
 ghost use Rattle.reg_core.specs.Striking.{StagesAreOfRun, UnseenLeaveNoTrace};
@@ -79,10 +80,51 @@ pub fn no_value_is_given_twice()
     reg_core::laws::no_value_is_given_twice();
 }
 
+/// No address is given twice: in every run from a well kept office each block that was given lies
+/// in a prefix of the pool, and no two of them share an address.
+pub fn blocks_are_apart()
+    ensures { BlocksAreApart token_digest }
+{
+    reg_core::laws::blocks_are_apart();
+}
+
+/// The block due is of the free blocks of its size the one with the least first address, and there
+/// is none exactly where none is free.
+pub fn blocks_due_are_least()
+    ensures { BlocksDueAreLeast }
+{
+    reg_core::laws::blocks_due_are_least();
+}
+
+/// Asks for blocks are served duly: a request is taken in where a block of its size is free, and
+/// is given the one due; and what was approved has its block, which the applicant's account holds.
+pub fn block_asks_are_served_duly()
+    ensures { BlockAsksAreServedDuly token_digest }
+{
+    reg_core::laws::block_asks_are_served_duly();
+}
+
+/// Private holders are hidden: two well kept offices that differ only in who holds a private block,
+/// or with which organization and address, answer every other caller who is no clerk alike, and
+/// show it the same, before and after.
+pub fn private_holders_are_hidden()
+    ensures { PrivateHoldersAreHidden token_digest }
+{
+    reg_core::laws::private_holders_are_hidden();
+}
+
+/// Blocks of others are hidden: a caller who says how a block is listed that it does not hold is
+/// answered alike whether another holds it or nobody does, and changes nothing.
+pub fn foreign_blocks_are_hidden()
+    ensures { ForeignBlocksAreHidden token_digest }
+{
+    reg_core::laws::foreign_blocks_are_hidden();
+}
+
 /// What was given stays: in every run from a well kept office an entry keeps its label, its
-/// assignee and its first day, a registry its ranges, a request its ask and, once it is not
-/// pending, its state, its experts and all advice on it; and none of them goes away, nor does a
-/// prefix of the pool.
+/// assignee and its first day, a block its holder, organization and address, a registry its
+/// ranges, a request its ask and, once it is not pending, its state, its experts and all advice on
+/// it; and none of them goes away, nor does a prefix of the pool.
 pub fn given_stays()
     ensures { GivenStays token_digest }
 {

@@ -10,6 +10,7 @@ mod digest;
 mod expert;
 mod found;
 mod ground;
+mod holdings;
 pub mod laws;
 mod office;
 mod public;

@@ -3,7 +3,7 @@ ghost use Rattle.std.specs.Prelude.{◌≡◌, map, IfOk};
 ghost use Rattle.reg_core.specs.Answer.{public_answer};
 ghost use Rattle.reg_core.specs.Page.{page_entries};
 ghost use Rattle.reg_core.specs.View.{published};
-ghost use Rattle.reg_core.specs.declared.command.PublicCommand.TheVariants.{Registries, Registry, RegistryListing, PoolList};
+ghost use Rattle.reg_core.specs.declared.command.PublicCommand.TheVariants.{Registries, Registry, RegistryListing, PoolList, BlockListing};
 ghost use Rattle.reg_keeper.specs.Keeper.{Selects};
 ghost use Rattle.reg_office.specs.Pages.{page_on, shown_on};
 ghost use Rattle.reg_office.specs.Performs.{Finds, Performs};
@@ -35,6 +35,7 @@ pub fn perform<K: Keeper>(
         PublicCommand::Registry(name) => show_registry(alloc, keeper, today, name),
         PublicCommand::RegistryListing(name) => show_listing(alloc, keeper, today, name),
         PublicCommand::PoolList => list_pool(keeper),
+        PublicCommand::BlockListing => list_blocks(keeper),
     }
 }
 
@@ -78,6 +79,14 @@ fn list_pool<K: Keeper>(keeper: &mut K) -> Result<Content, Stop>
         (λ w. public_answer (published w) 0 PoolList) }
 {
     Ok(Content::Pool(keeper.pool()?))
+}
+
+// The blocks that were given, as the public sees them.
+fn list_blocks<K: Keeper>(keeper: &mut K) -> Result<Content, Stop>
+    ensures { Performs K.world K.Holds K.Sound K.FAILS keeper.old keeper.new result
+        (λ w. public_answer (published w) 0 BlockListing) }
+{
+    Ok(Content::Blocks(keeper.blocks()?))
 }
 
 // The registry of this name as it is on a day.

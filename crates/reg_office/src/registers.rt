@@ -30,7 +30,7 @@ pub fn add_pool<K: Keeper>(keeper: &mut K, prefix: u32) -> Result<Content, Stop>
     ensures { Performs K.world K.Holds K.Sound K.FAILS keeper.old keeper.new result
         (answer_at_desk (AddPool prefix)) }
 {
-    let pool = keeper.pool()?;
-    let decision = decide_pool(pool.prefixes().contains(&prefix), prefix)?;
+    let there = keeper.is_pooled(prefix)?;
+    let decision = decide_pool(there, prefix)?;
     Ok(conclude(keeper, Ok(Content::Pooled(prefix)), decision)?)
 }

@@ -8,7 +8,6 @@ use Rattle.reg_core.specs.declared.content.Content.TheVariants.{Pooled}
 use Rattle.reg_core.proofs.Fitting.{pool_fits}
 use Rattle.reg_office.specs.Answers.{answer_at_desk}
 use Rattle.reg_office.proofs.Decided.{Decides, follows, makes_fitting, performs_decided, the_value}
-use Rattle.reg_office.proofs.Prefixes.{found_in}
 use Rattle.reg_office.proofs.Rows.{selected_after}
 use Rattle.reg_office.proofs.registers.add_pool.Given.{Over}
 use Rattle.reg_office.proofs.registers.add_pool.Goals.{After-decide_pool}
@@ -16,18 +15,16 @@ use Rattle.reg_office.proofs.registers.add_pool.Goals as goal
 
 module _ (g : Over) (c : After-decide_pool g) where
   abbrev w : World
-  w = g.K.Keeper.world c.pool.new.self
+  w = g.K.Keeper.world c.is_pooled.new.self
 
   -- what was looked up is whether the pool has the prefix
-  found : g.K.Keeper.Holds c.pool.new.self
-      → contains_key w.pool c.args.prefix ≡ c.contains.result
-  found h =
-      sym (found_in w.pool c.args.prefix c.prefixes.result.now c.contains.result
-      (c.prefixes.ensures.value ∙ selected_after c.in_ok-pool.ensures h) c.contains.ensures.value)
+  found : g.K.Keeper.Holds c.is_pooled.new.self
+      → contains_key w.pool c.args.prefix ≡ c.in_ok-there.there
+  found h = sym (selected_after c.in_ok-there.ensures h)
 
   decides : Decides g.K.Keeper.world g.K.Keeper.Holds g.K.Keeper.Sound
-      c.args.keeper.now c.pool.new.self
-      (answer_at_desk (AddPool c.args.prefix)) (pool_rule c.contains.result c.args.prefix)
+      c.args.keeper.now c.is_pooled.new.self
+      (answer_at_desk (AddPool c.args.prefix)) (pool_rule c.in_ok-there.there c.args.prefix)
       (λ decision. Pooled c.args.prefix)
   decides = record {
     answered = λ h.
@@ -35,8 +32,8 @@ module _ (g : Over) (c : After-decide_pool g) where
     fits = λ h kept change made.
         pool_fits w c.args.prefix change kept
         (ap (λ b. pool_rule b c.args.prefix) (found h) ∙ made);
-    same = c.in_ok-pool.ensures.same;
-    premise = c.in_ok-pool.ensures.premise;
+    same = c.in_ok-there.ensures.same;
+    premise = c.in_ok-there.ensures.premise;
   }
 
 pub conclude-requires : goal.conclude-requires
