@@ -9,9 +9,11 @@ use Rattle.reg_ranges.specs.declared.evidence.Evidence.{Evidence}
 use Rattle.reg_ranges.specs.declared.evidence.Stream.{Stream}
 use Rattle.reg_ranges.specs.declared.evidence.Track.{Track}
 use Rattle.reg_core.specs.Names.{is_name}
-use Rattle.reg_core.specs.Ask.{has_note_form, has_rfc_form, has_evidence_form, has_want_form, has_ask_form, has_code_form}
+use Rattle.reg_core.specs.Ask.{has_note_form, has_rfc_form, has_evidence_form, has_want_form, has_ask_form, has_block_form, has_code_form}
+use Rattle.reg_blocks.specs.declared.size.Size.{Size}
+use Rattle.reg_core.specs.declared.ask.BlockAsk.{BlockAsk}
 use Rattle.reg_core.specs.declared.ask.CodeAsk.{CodeAsk}
-use Rattle.reg_core.specs.declared.ask.Ask.TheVariants.{Code}
+use Rattle.reg_core.specs.declared.ask.Ask.TheVariants.{Code, Block}
 use Rattle.reg_core.specs.declared.ask.Want.{Want}
 use Rattle.reg_core.specs.declared.ask.Want.TheVariants as want
 use Rattle.reg_core.specs.declared.item.Item.TheVariants as item
@@ -22,7 +24,7 @@ use Rattle.reg_core.specs.Item.{item_name}
 use Rattle.reg_parse.specs.Bodies.Members.{Reading, ◌>>=◌, needed, member_in, optional, only, is_among, text_form, number_form}
 use Rattle.reg_parse.specs.Bodies.Rfc.{rfc_form, rfc_items, rfc_with, stream_form, track_form}
 use Rattle.reg_parse.specs.Bodies.Evidence.{evidence_of}
-use Rattle.reg_parse.specs.Bodies.Ask.{ask_of, code_of, code_items, ask_of_kind, ask_kind_form, want_by, want_of, policy_form}
+use Rattle.reg_parse.specs.Bodies.Ask.{ask_of, block_of, block_items, code_of, code_items, size_form, ask_of_kind, ask_kind_form, want_by, want_of, policy_form}
 use Rattle.reg_parse.proofs.Formed.{Passes, Gives, ok-passes, err-passes, guard, after, mapped, or_refusal-passes, needed-passes, optional-passes, note-passes, text_form-gives, number_form-gives}
 
 -- ---- evidence
@@ -117,9 +119,39 @@ code_ask : (code : Reading CodeAsk) → Passes has_code_form code
 code_ask (Ok code) h = ok-passes has_ask_form (Code code) (h.passed code refl)
 code_ask (Err e) h = err-passes _ e
 
+block_parts : (s : Reading Size) (g : Reading (List ℕ)) (a : Reading (List ℕ)) (o : Reading ⊤)
+    → Passes is_text g → Passes is_text a
+    → Passes has_block_form
+    (s >>= (λ size. g
+    >>= (λ organization. a
+    >>= (λ address. o
+    >>= (λ others. Ok
+    (record { size = size; organization = organization; address = address }))))))
+block_parts (Ok s) (Ok g) (Ok a) (Ok o) hg ha =
+    ok-passes has_block_form _ (rw (hg.passed g refl, ha.passed a refl) refl)
+block_parts (Ok s) (Ok g) (Ok a) (Err e) hg ha = err-passes _ e
+block_parts (Ok s) (Ok g) (Err e) o hg ha = err-passes _ e
+block_parts (Ok s) (Err e) a o hg ha = err-passes _ e
+block_parts (Err e) g a o hg ha = err-passes _ e
+
+block_of-passes : (json : Data) → Passes has_block_form (block_of json)
+unfolding block_of
+block_of-passes json =
+    block_parts (needed item.Size size_form json)
+    (needed item.Organization (text_form is_text) json)
+    (needed item.Address (text_form is_text) json) (only block_items json)
+    (needed-passes is_text item.Organization _ json (text_form-gives is_text))
+    (needed-passes is_text item.Address _ json (text_form-gives is_text))
+
+block_ask : (block : Reading BlockAsk) → Passes has_block_form block
+    → Passes has_ask_form (block >>= (λ b. Ok (Block b)))
+block_ask (Ok block) h = ok-passes has_ask_form (Block block) (h.passed block refl)
+block_ask (Err e) h = err-passes _ e
+
 ask_of-passes_at : (k : Reading AskKind) (json : Data)
     → Passes has_ask_form (k >>= (λ asked. ask_of_kind asked json))
 ask_of-passes_at (Ok kind.Code) json = code_ask (code_of json) (code_of-passes json)
+ask_of-passes_at (Ok kind.Block) json = block_ask (block_of json) (block_of-passes json)
 ask_of-passes_at (Err e) json = err-passes _ e
 
 pub ask_of-passes : (json : Data) → Passes has_ask_form (ask_of json)

@@ -1,12 +1,15 @@
 -- A command that is read has its form.
-use Rattle.std.proofs.Common.{◌≡◌, ℕ, List, [], ◌∷◌, Bool, true, ◌&&◌, Option, Some, None, Result, Ok, Err, refl}
+use Rattle.std.proofs.Common.{◌≡◌, ℕ, List, [], ◌∷◌, length, Bool, true, ◌&&◌, Option, Some, None, Result, Ok, Err, refl}
 use Rattle.std.specs.Prelude.{⊤, IfOk}
 use Rattle.std.specs.Cmp.Derive.{both_true}
 use Rattle.serde_json.specs.Data.{Data}
 use Rattle.reg_ranges.specs.Numbers.{read_number}
 use Rattle.reg_ranges.specs.Tables.{Table}
 use Rattle.reg_ranges.specs.Texts.{is_text, read_text}
-use Rattle.reg_blocks.specs.Digits.{read_prefix}
+use Rattle.reg_blocks.specs.Block.{SizedPrefix, is_block, make_block}
+use Rattle.reg_blocks.specs.Digits.{hex_value_of, read_block, read_prefix}
+use Rattle.reg_blocks.specs.Size.{size_of_digits}
+use Rattle.reg_blocks.specs.declared.size.Size.{Size}
 use Rattle.reg_core.specs.Names.{is_name, is_token}
 use Rattle.reg_core.specs.Advice.{has_advice_form}
 use Rattle.reg_core.specs.Capability.{has_cap_form}
@@ -31,11 +34,11 @@ use Rattle.reg_core.specs.declared.wire_refusal.ReadFault.{ReadFault}
 use Rattle.reg_parse.specs.declared.route.Methods.{Methods}
 use Rattle.reg_parse.specs.declared.route.Operation.{Operation}
 use Rattle.reg_parse.specs.declared.route.Operation.TheVariants as operation
-use Rattle.reg_parse.specs.Route.{operation_for, registry_path, listing_path, request_path, review_path, case_path, expert_path, approval_path, decline_path, definition_path, prefix_path}
-use Rattle.reg_parse.specs.Bodies.Members.{Reading, ◌>>=◌, GivesSeen, or_refusal, object_of, needed, only, kind_form, text_form, until_form, verdict_form}
+use Rattle.reg_parse.specs.Route.{operation_for, registry_path, listing_path, request_path, holding_path, review_path, case_path, expert_path, approval_path, decline_path, definition_path, prefix_path}
+use Rattle.reg_parse.specs.Bodies.Members.{Reading, ◌>>=◌, GivesSeen, or_refusal, object_of, needed, only, kind_form, text_form, truth_form, until_form, verdict_form}
 use Rattle.reg_parse.specs.Bodies.Ask.{ask_of}
 use Rattle.reg_parse.specs.RangeFile.{table_of}
-use Rattle.reg_parse.specs.Command.{add_pool_of, advise_of, approve_of, asked, assign_expert_of, command_of, decline_of, define_of, empty, grant_of, name_at, one_request_of, own_one_of, registry_csv_of, registry_of, revoke_of, routed, segment, submit_of, withdraw_of}
+use Rattle.reg_parse.specs.Command.{add_pool_of, advise_of, approve_of, asked, assign_expert_of, command_of, decline_of, define_of, empty, grant_of, name_at, one_request_of, own_one_of, registry_csv_of, registry_of, revoke_of, routed, segment, set_listing_of, submit_of, withdraw_of}
 use Rattle.reg_parse.specs.Bodies.Advice.{advice_of}
 use Rattle.reg_parse.specs.Bodies.Capability.{cap_of}
 use Rattle.reg_parse.proofs.Formed.{Passes, Gives, ok-passes, err-passes, guard, after, or_refusal-passes, needed-passes, text_form-gives, until_form-gives, read_number-gives, is_below, is_until}
@@ -121,6 +124,35 @@ assign_parts (Ok n) (Err e) r x ha hr hx = err-passes _ e
 assign_parts (Err e) a r x ha hr hx = err-passes _ e
 
 -- ---- with a body
+
+made-gives : (size : Size) → Gives is_block (make_block size)
+made-gives size prefix b e = guard is_block (record { size = size; prefix = prefix }) b e
+
+read_block-gives : Gives is_block read_block
+read_block-gives digits b e =
+    after is_block _
+    (λ size. after is_block (make_block size) (made-gives size) (hex_value_of digits))
+    (size_of_digits (length digits)) b e
+
+listing_last : (block : SizedPrefix) (p : Reading Bool) (o : Reading ⊤) → is_block block ≡ true
+    → Passes has_command_form
+    (p >>= (λ private. o
+    >>= (λ others. Ok (command.Applicant (applicant.SetListing block private)))))
+listing_last block (Ok p) (Ok o) h = ok-passes has_command_form _ h
+listing_last block (Ok p) (Err e) h = err-passes _ e
+listing_last block (Err e) o h = err-passes _ e
+
+listing_parts : (j : Reading Data) (b : Reading SizedPrefix) → Passes is_block b
+    → Passes has_command_form
+    (j >>= (λ json. b
+    >>= (λ block. needed item.Private truth_form json
+    >>= (λ private. only (item.Private ∷ []) json
+    >>= (λ others. Ok (command.Applicant (applicant.SetListing block private)))))))
+listing_parts (Ok json) (Ok b) h =
+    listing_last b (needed item.Private truth_form json) (only (item.Private ∷ []) json)
+    (h.passed b refl)
+listing_parts (Ok json) (Err e) h = err-passes _ e
+listing_parts (Err e) b h = err-passes _ e
 
 advice_parts : (v : Reading Verdict) (t : Reading (List ℕ)) → Passes is_text t
     → Passes has_advice_form
@@ -265,7 +297,7 @@ revoke_of-passes_at (Err e) = err-passes _ e
 
 command_of-passes : (o : Operation) (path body : List ℕ)
     → Passes has_command_form (command_of o path body)
-unfolding registry_of registry_csv_of own_one_of submit_of withdraw_of advise_of one_request_of
+unfolding registry_of registry_csv_of own_one_of submit_of withdraw_of set_listing_of advise_of one_request_of
     assign_expert_of approve_of decline_of define_of add_pool_of grant_of revoke_of
 command_of-passes operation.Registries path body = plain_parts (empty body) _ refl
 command_of-passes operation.Registry path body =
@@ -274,6 +306,7 @@ command_of-passes operation.Registry path body =
 command_of-passes operation.RegistryListing path body =
     named_parts (λ s. command.Public (public.RegistryListing s)) (λ s h. h) (empty body)
     (name_at item.Name listing_path path) (name_at-passes item.Name listing_path path)
+command_of-passes operation.BlockListing path body = plain_parts (empty body) _ refl
 command_of-passes operation.PoolList path body = plain_parts (empty body) _ refl
 command_of-passes operation.Own path body = plain_parts (empty body) _ refl
 command_of-passes operation.OwnOne path body =
@@ -285,6 +318,10 @@ command_of-passes operation.Submit path body =
 command_of-passes operation.Withdraw path body =
     named_parts (λ s. command.Applicant (applicant.Withdraw s)) (λ s h. h) (empty body)
     (name_at item.Reference request_path path) (name_at-passes item.Reference request_path path)
+command_of-passes operation.Holdings path body = plain_parts (empty body) _ refl
+command_of-passes operation.SetListing path body =
+    listing_parts (object_of body) (segment item.Block read_block holding_path path)
+    (segment-passes is_block item.Block read_block holding_path path read_block-gives)
 command_of-passes operation.Queue path body = plain_parts (empty body) _ refl
 command_of-passes operation.Advise path body =
     advise_parts (object_of body) (name_at item.Account review_path path)

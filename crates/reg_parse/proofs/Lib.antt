@@ -7,3 +7,4 @@ pub mod FormedCommands
 pub mod Objects
 pub mod Routed
 pub mod Routing
+pub mod SizeWords

@@ -3,7 +3,7 @@ use Rattle.std.specs.Prelude.{ℕ, ◌==◌, ◌&&◌, List, [], ◌∷◌, leng
 use Rattle.std.specs.Str.{is_utf8}
 use Rattle.reg_ranges.specs.Numbers.{read_number}
 use Rattle.reg_ranges.specs.Texts.{is_text, read_text}
-use Rattle.reg_blocks.specs.Digits.{read_prefix}
+use Rattle.reg_blocks.specs.Digits.{read_block, read_prefix}
 use Rattle.reg_core.specs.Names.{is_name, is_token}
 use Rattle.reg_core.specs.declared.command.Command.{Command}
 use Rattle.reg_core.specs.declared.command.Command.TheVariants as command
@@ -17,12 +17,12 @@ use Rattle.reg_core.specs.declared.wire_refusal.WireRefusal.TheVariants.{Route, 
 use Rattle.reg_parse.specs.declared.route.Operation.{Operation}
 use Rattle.reg_parse.specs.declared.route.Operation.TheVariants as operation
 use Rattle.reg_parse.specs.declared.route.Methods.{Methods}
-use Rattle.reg_parse.specs.Bodies.Members.{Reading, ◌>>=◌, or_refusal, object_of, needed, only, text_form}
+use Rattle.reg_parse.specs.Bodies.Members.{Reading, ◌>>=◌, or_refusal, object_of, needed, only, text_form, truth_form}
 use Rattle.reg_parse.specs.Bodies.Advice.{advice_of}
 use Rattle.reg_parse.specs.Bodies.Ask.{ask_of}
 use Rattle.reg_parse.specs.Bodies.Capability.{cap_of}
 use Rattle.reg_parse.specs.RangeFile.{table_of}
-use Rattle.reg_parse.specs.Route.{methods_at, operation_for, registry_path, listing_path, request_path, review_path, case_path, expert_path, approval_path, decline_path, definition_path, prefix_path}
+use Rattle.reg_parse.specs.Route.{methods_at, operation_for, registry_path, listing_path, request_path, holding_path, review_path, case_path, expert_path, approval_path, decline_path, definition_path, prefix_path}
 use Rattle.reg_parse.specs.Path.{segment_named, has_empty_segment}
 
 abbrev pub empty : List ℕ → Reading ⊤
@@ -72,6 +72,14 @@ submit_of path body = do
   reference ← name_at item.Reference request_path path
   asked ← ask_of json
   Ok (command.Applicant (applicant.Submit reference asked))
+
+unfoldable pub set_listing_of : List ℕ → List ℕ → Reading Command
+set_listing_of path body = do
+  json ← object_of body
+  block ← segment item.Block read_block holding_path path
+  private ← needed item.Private truth_form json
+  others ← only (item.Private ∷ []) json
+  Ok (command.Applicant (applicant.SetListing block private))
 
 unfoldable pub advise_of : List ℕ → List ℕ → Reading Command
 advise_of path body = do
@@ -145,11 +153,15 @@ abbrev pub command_of : Operation → List ℕ → List ℕ → Reading Command
 command_of operation.Registries path body = without_body (command.Public public.Registries) body
 command_of operation.Registry path body = registry_of path body
 command_of operation.RegistryListing path body = registry_csv_of path body
+command_of operation.BlockListing path body =
+    without_body (command.Public public.BlockListing) body
 command_of operation.PoolList path body = without_body (command.Public public.PoolList) body
 command_of operation.Own path body = without_body (command.Applicant applicant.Own) body
 command_of operation.OwnOne path body = own_one_of path body
 command_of operation.Submit path body = submit_of path body
 command_of operation.Withdraw path body = withdraw_of path body
+command_of operation.Holdings path body = without_body (command.Applicant applicant.Holdings) body
+command_of operation.SetListing path body = set_listing_of path body
 command_of operation.Queue path body = without_body (command.Expert expert.Queue) body
 command_of operation.Advise path body = advise_of path body
 command_of operation.AllRequests path body = without_body (command.Clerk clerk.AllRequests) body

@@ -8,7 +8,7 @@ use Rattle.matchit.specs.Router.{RouteOf, route_from, nearest}
 use Rattle.matchit.specs.Seek.{first}
 use Rattle.matchit.specs.declared.error.InsertError.{InsertError}
 use Rattle.reg_parse.specs.declared.route.Operation.{Operation}
-use Rattle.reg_parse.specs.declared.route.Operation.TheVariants.{Registries, Registry, RegistryListing, PoolList, Own, OwnOne, Submit, Withdraw, Queue, Advise, AllRequests, OneRequest, AssignExpert, Approve, Decline, Define, AddPool, Grant, Revoke}
+use Rattle.reg_parse.specs.declared.route.Operation.TheVariants.{Registries, Registry, RegistryListing, BlockListing, PoolList, Own, OwnOne, Submit, Withdraw, Holdings, SetListing, Queue, Advise, AllRequests, OneRequest, AssignExpert, Approve, Decline, Define, AddPool, Grant, Revoke}
 use Rattle.reg_parse.specs.declared.route.Methods.{Methods}
 
 abbrev pub operation_for : List ℕ → Methods → Option Operation
@@ -27,6 +27,9 @@ listing_path = codes "/listings/registries/{name}"
 
 abbrev pub request_path : List ℕ
 request_path = codes "/requests/{reference}"
+
+abbrev pub holding_path : List ℕ
+holding_path = codes "/holdings/{block}"
 
 abbrev pub review_path : List ℕ
 review_path = codes "/queue/{account}/{reference}"
@@ -63,9 +66,12 @@ rows =
     row (codes "/registries") (Some Registries) None None
     ∷ row registry_path (Some Registry) None None
     ∷ row listing_path (Some RegistryListing) None None
+    ∷ row (codes "/listings/blocks") (Some BlockListing) None None
     ∷ row (codes "/pool") (Some PoolList) None None
     ∷ row (codes "/requests") (Some Own) None None
     ∷ row request_path (Some OwnOne) (Some Submit) (Some Withdraw)
+    ∷ row (codes "/holdings") (Some Holdings) None None
+    ∷ row holding_path None (Some SetListing) None
     ∷ row (codes "/queue") (Some Queue) None None
     ∷ row review_path None (Some Advise) None
     ∷ row (codes "/desk/requests") (Some AllRequests) None None

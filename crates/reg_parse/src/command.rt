@@ -1,20 +1,22 @@
 //! Reads the command that a method, a path and a body spell.
 ghost use Rattle.std.specs.Prelude.{◌≡◌, true, IfOk, IfSome, option_map};
-ghost use Rattle.reg_blocks.specs.Digits.{read_prefix};
+ghost use Rattle.reg_blocks.specs.Digits.{read_block, read_prefix};
 ghost use Rattle.reg_core.specs.Command.{has_command_form};
 ghost use Rattle.reg_parse.specs.Route.{operation_for};
 ghost use Rattle.reg_parse.specs.Bodies.Members.{Gives};
 ghost use Rattle.reg_ranges.specs.Numbers.{read_number};
 ghost use Rattle.reg_ranges.specs.Texts.{read_text};
-ghost use Rattle.reg_parse.specs.Command.{add_pool_of, advise_of, approve_of, asked, assign_expert_of, command_of, decline_of, define_of, empty, grant_of, one_request_of, own_one_of, registry_csv_of, registry_of, revoke_of, routed, segment, submit_of, withdraw_of, without_body};
+ghost use Rattle.reg_parse.specs.Command.{add_pool_of, advise_of, approve_of, asked, assign_expert_of, command_of, decline_of, define_of, empty, grant_of, one_request_of, own_one_of, registry_csv_of, registry_of, revoke_of, routed, segment, set_listing_of, submit_of, withdraw_of, without_body};
 
 use crate::bodies::{advice, ask, capability, members};
 use crate::path;
 use crate::range_file::read_table;
 use crate::route::{
-    APPROVAL_PATH, CASE_PATH, DECLINE_PATH, DEFINITION_PATH, EXPERT_PATH, LISTING_PATH, Methods,
-    Operation, PREFIX_PATH, REGISTRY_PATH, REQUEST_PATH, REVIEW_PATH, Routes,
+    APPROVAL_PATH, CASE_PATH, DECLINE_PATH, DEFINITION_PATH, EXPERT_PATH, HOLDING_PATH,
+    LISTING_PATH, Methods, Operation, PREFIX_PATH, REGISTRY_PATH, REQUEST_PATH, REVIEW_PATH,
+    Routes,
 };
+use reg_blocks::block::Block;
 use reg_blocks::prefix;
 use reg_core::command::{ApplicantCommand, ClerkCommand, Command, ExpertCommand, PublicCommand};
 use reg_core::item::Item;
@@ -79,11 +81,14 @@ fn command_of(
         Operation::Registries => without_body(Command::Public(PublicCommand::Registries), body),
         Operation::Registry => read_registry(path, body),
         Operation::RegistryListing => read_registry_csv(path, body),
+        Operation::BlockListing => without_body(Command::Public(PublicCommand::BlockListing), body),
         Operation::PoolList => without_body(Command::Public(PublicCommand::PoolList), body),
         Operation::Own => without_body(Command::Applicant(ApplicantCommand::Own), body),
         Operation::OwnOne => read_own_one(path, body),
         Operation::Submit => read_submit(alloc, path, body),
         Operation::Withdraw => read_withdraw(path, body),
+        Operation::Holdings => without_body(Command::Applicant(ApplicantCommand::Holdings), body),
+        Operation::SetListing => read_set_listing(alloc, path, body),
         Operation::Queue => without_body(Command::Expert(ExpertCommand::Queue), body),
         Operation::Advise => read_advise(alloc, path, body),
         Operation::AllRequests => without_body(Command::Clerk(ClerkCommand::AllRequests), body),
@@ -142,6 +147,17 @@ fn read_submit(alloc: Global, path: &str, body: &[u8]) -> Result<Command, ReadFa
     let reference = word_at(REQUEST_PATH, path, Item::Reference)?;
     let ask = ask::read_ask(alloc, &json)?;
     Ok(Command::Applicant(ApplicantCommand::Submit(reference, ask)))
+}
+
+#[tactic(auto, unfolding(crate::specs::Command::set_listing_of))]
+fn read_set_listing(alloc: Global, path: &str, body: &[u8]) -> Result<Command, ReadFault>
+    ensures { Gives result (set_listing_of path.now body.now) }
+{
+    let json = members::object_of(alloc, body)?;
+    let block = block_at(HOLDING_PATH, path, Item::Block)?;
+    let private = members::truth(&json, Item::Private)?;
+    members::only(&[Item::Private], &json)?;
+    Ok(Command::Applicant(ApplicantCommand::SetListing(block, private)))
 }
 
 #[tactic(auto, unfolding(crate::specs::Command::advise_of))]
@@ -279,6 +295,15 @@ fn number_at(pattern: &str, path: &str, part: Item) -> Result<u32, ReadFault>
 {
     path::segment(pattern, path, part)
         .and_then(|text| read_number(text.as_bytes()))
+        .ok_or(ReadFault::field(part))
+}
+
+// The block where the pattern names this part, in 6, 7 or 9 hexadecimal digits.
+fn block_at(pattern: &str, path: &str, part: Item) -> Result<Block, ReadFault>
+    ensures { Gives result (segment part read_block pattern.now path.now) }
+{
+    path::segment(pattern, path, part)
+        .and_then(|text| Block::read(text.as_bytes()))
         .ok_or(ReadFault::field(part))
 }
 

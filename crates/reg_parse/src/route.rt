@@ -12,11 +12,14 @@ pub enum Operation {
     Registries,
     Registry,
     RegistryListing,
+    BlockListing,
     PoolList,
     Own,
     OwnOne,
     Submit,
     Withdraw,
+    Holdings,
+    SetListing,
     Queue,
     Advise,
     AllRequests,
@@ -85,6 +88,8 @@ pub(crate) const LISTING_PATH: &str = "/listings/registries/{name}";
 
 pub(crate) const REQUEST_PATH: &str = "/requests/{reference}";
 
+pub(crate) const HOLDING_PATH: &str = "/holdings/{block}";
+
 pub(crate) const REVIEW_PATH: &str = "/queue/{account}/{reference}";
 
 pub(crate) const CASE_PATH: &str = "/desk/requests/{account}/{reference}";
@@ -100,7 +105,7 @@ pub(crate) const DEFINITION_PATH: &str = "/desk/registries/{name}/{max}";
 pub(crate) const PREFIX_PATH: &str = "/desk/pool/{prefix}";
 
 // Each path, and what the methods do there.
-const ROWS: [(&str, Methods); 17] = [
+const ROWS: [(&str, Methods); 20] = [
     (
         "/registries",
         Methods {
@@ -119,6 +124,13 @@ const ROWS: [(&str, Methods); 17] = [
         LISTING_PATH,
         Methods {
             get: Some(Operation::RegistryListing),
+            ..NONE
+        },
+    ),
+    (
+        "/listings/blocks",
+        Methods {
+            get: Some(Operation::BlockListing),
             ..NONE
         },
     ),
@@ -142,6 +154,20 @@ const ROWS: [(&str, Methods); 17] = [
             get: Some(Operation::OwnOne),
             put: Some(Operation::Submit),
             delete: Some(Operation::Withdraw),
+        },
+    ),
+    (
+        "/holdings",
+        Methods {
+            get: Some(Operation::Holdings),
+            ..NONE
+        },
+    ),
+    (
+        HOLDING_PATH,
+        Methods {
+            put: Some(Operation::SetListing),
+            ..NONE
         },
     ),
     (

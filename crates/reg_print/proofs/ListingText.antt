@@ -1,4 +1,4 @@
--- A listing that is printed reads back as its records.
+-- Listings that are printed read back as their records.
 use Rattle.std.proofs.Common.{◌≡◌, ℕ, zero, suc, ◌+◌, ◌≤◌, List, [], ◌∷◌, map, length, length-append, None, refl, ap, arith}
 use Rattle.csv.specs.Machine.{next_record}
 use Rattle.csv.specs.Reading.{default_config, records_from, strip_bom}
@@ -6,7 +6,9 @@ use Rattle.csv.specs.Writing.{default_writer, escaped, fields_text, is_blank, ro
 use Rattle.csv.specs.declared.parser.State.TheVariants as st
 use Rattle.csv.proofs.RoundTrip.{read-write}
 use Rattle.reg_ranges.specs.RowReading.{text_rows}
+use Rattle.reg_core.specs.declared.holding.Listed.{Listed}
 use Rattle.reg_core.specs.declared.page.Page.{Page}
+use Rattle.reg_print.specs.BlockListing.{block_fields, block_header, block_listing_text, block_records}
 use Rattle.reg_print.specs.Listing.{ListedRow, csv_text, header, page_rows, row_fields, listing_records, listing_text}
 
 -- each record has a field
@@ -47,17 +49,39 @@ rows_have_fields : (rows : List ListedRow) → HaveFields (map row_fields rows)
 rows_have_fields [] = tt
 rows_have_fields (row ∷ rows) = rows_have_fields rows
 
+blocks_have_fields : (rows : List Listed) → HaveFields (map block_fields rows)
+blocks_have_fields [] = tt
+blocks_have_fields (row ∷ rows) = blocks_have_fields rows
+
 -- a listing has no byte order mark
 strip_bom-listing : (rows : List (List (List ℕ)))
     → strip_bom (csv_text (header ∷ rows)) ≡ csv_text (header ∷ rows)
 unfolding strip_bom fields_text is_blank escaped
 strip_bom-listing rows = refl
 
--- the records that are read of a listing are its own
+strip_bom-blocks : (rows : List (List (List ℕ)))
+    → strip_bom (csv_text (block_header ∷ rows)) ≡ csv_text (block_header ∷ rows)
+unfolding strip_bom fields_text is_blank escaped
+strip_bom-blocks rows = refl
+
+-- the records that are read of CSV without a byte order mark are its own
+text_rows-csv_text : (records : List (List (List ℕ)))
+    → strip_bom (csv_text records) ≡ csv_text records → HaveFields records
+    → text_rows (csv_text records) ≡ records
+text_rows-csv_text records bare fields =
+    rw bare
+    (read-csv_text (length (csv_text records) + 1) records
+    (let long = csv_text-long records in omega arith) fields)
+
 pub text_rows-listing_text : (page : Page) → text_rows (listing_text page) ≡ listing_records page
 unfolding listing_text
 text_rows-listing_text page =
-    let records = listing_records page in
-    rw (strip_bom-listing (map row_fields (page_rows page)))
-    (read-csv_text (length (csv_text records) + 1) records
-    (let long = csv_text-long records in omega arith) (rows_have_fields (page_rows page)))
+    text_rows-csv_text (listing_records page) (strip_bom-listing (map row_fields (page_rows page)))
+    (rows_have_fields (page_rows page))
+
+pub text_rows-block_listing_text : (rows : List Listed)
+    → text_rows (block_listing_text rows) ≡ block_records rows
+unfolding block_listing_text
+text_rows-block_listing_text rows =
+    text_rows-csv_text (block_records rows) (strip_bom-blocks (map block_fields rows))
+    (blocks_have_fields rows)

@@ -154,6 +154,12 @@ prints_object {a} {b} {c} {d} {n} ms h begun members ended = record {
   exact = object-exact n ms h members.exact;
 }
 
+-- what was printed nests no deeper than any greater number of levels
+pub printed_within : {a b : Written} {n m : ℕ} {d : Data} → n ≤ m → Printed a b n d
+    → Printed a b m d
+printed_within {a} {b} {n} {m} {d} h p =
+    record { added = p.added; exact = no_deeper n m d h p.exact }
+
 -- ---- arrays
 
 array_tokens : {X : Type 0} (f : X → Data) (xs : List X)

@@ -51,6 +51,14 @@ map-more f [] x = refl
 map-more f (y ∷ xs) x = ap (λ ys. f y ∷ ys) (map-more f xs x)
 
 -- the records of the first rows, and of one more
+pub records_more : {X Y : Type 0} (f : X → Y) (first : Y) (xs : List X) (i : ℕ) (x : X)
+    → i < length xs → x ≡ get_or xs i x
+    → (first ∷ map f (take i xs)) ++ f x ∷ [] ≡ first ∷ map f (take (i + 1) xs)
+records_more f first xs i x h is =
+    ap (λ ys. first ∷ ys)
+    (map-more f (take i xs) x ∙ ap (map f) (sym (one_more xs i x h is)))
+
+-- the same, of rows as they are seen
 pub rows_more : {X Y Z : Type 0} (f : Y → Z) (g : X → Y) (first : Z) (xs : List X) (i : ℕ) (x : X)
     → i < length xs → x ≡ get_or xs i x
     → (first ∷ map f (map g (take i xs))) ++ f (g x) ∷ []

@@ -1,15 +1,16 @@
 -- The status and the body of an answer.
 use Rattle.std.specs.Prelude.{ℕ, List}
 use Rattle.reg_core.specs.declared.content.Content.{Content}
-use Rattle.reg_core.specs.declared.content.Content.TheVariants.{Names, Page, Listing, Pool, Made, Row, Rows, Item, Items, Desk, Desks, Filed, Defined, Pooled, Granted, Revoked}
+use Rattle.reg_core.specs.declared.content.Content.TheVariants.{Names, Page, Listing, Pool, Blocks, Made, Row, Rows, Held, Holdings, Item, Items, Desk, Desks, Filed, Defined, Pooled, Granted, Revoked}
 use Rattle.reg_core.specs.declared.reply.Reply.{Reply}
 use Rattle.reg_core.specs.declared.reply.Reply.TheVariants as reply
 use Rattle.reg_print.specs.declared.answer.Answer.{Answer}
 use Rattle.reg_print.specs.declared.answer.Answer.TheVariants as answer
 use Rattle.reg_core.specs.declared.wire_refusal.ReadFault.{ReadFault}
 use Rattle.reg_core.specs.declared.wire_refusal.ReadFault.TheVariants.{Refused, Memory}
-use Rattle.reg_print.specs.Body.{Body, json, listing, text_of}
+use Rattle.reg_print.specs.Body.{Body, json, listing, block_listing, text_of}
 use Rattle.reg_print.specs.Trees.File.{file_tree}
+use Rattle.reg_print.specs.Trees.Holding.{holding_tree, holdings_tree}
 use Rattle.reg_print.specs.Trees.Members.{names_tree}
 use Rattle.reg_print.specs.Trees.Page.{page_tree, defined_tree}
 use Rattle.reg_print.specs.Trees.Pool.{pool_tree, pooled_tree}
@@ -31,9 +32,12 @@ content_status (Names names) = 200
 content_status (Page page) = 200
 content_status (Listing page) = 200
 content_status (Pool prefixes) = 200
+content_status (Blocks rows) = 200
 content_status (Made request) = 201
 content_status (Row request) = 200
 content_status (Rows requests) = 200
+content_status (Held holding) = 200
+content_status (Holdings holdings) = 200
 content_status (Item row) = 200
 content_status (Items rows) = 200
 content_status (Desk request) = 200
@@ -60,9 +64,12 @@ content_body (Names names) = json (names_tree names)
 content_body (Page page) = json (page_tree page)
 content_body (Listing page) = listing page
 content_body (Pool prefixes) = json (pool_tree prefixes)
+content_body (Blocks rows) = block_listing rows
 content_body (Made request) = json (request_tree request)
 content_body (Row request) = json (request_tree request)
 content_body (Rows requests) = json (requests_tree requests)
+content_body (Held holding) = json (holding_tree holding)
+content_body (Holdings holdings) = json (holdings_tree holdings)
 content_body (Item row) = json (queue_tree row)
 content_body (Items rows) = json (queues_tree rows)
 content_body (Desk request) = json (desk_tree request)

@@ -3,6 +3,7 @@ pub mod Refusal
 pub mod Trees
 pub mod Printed
 pub mod Listing
+pub mod BlockListing
 pub mod Records
 pub mod Body
 pub mod Answer

@@ -7,5 +7,6 @@ pub mod Queue
 pub mod File
 pub mod Page
 pub mod Pool
+pub mod Holding
 pub mod Capability
 pub mod Refusal

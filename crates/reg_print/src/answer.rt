@@ -9,6 +9,7 @@ use crate::bodies::capability::Revoked;
 use crate::bodies::page::Defined;
 use crate::bodies::pool::Pooled;
 use crate::bodies::request::Desk;
+use crate::listing::blocks::block_listing;
 use crate::listing::records::listing;
 use crate::printing::{Itself, printed};
 use crate::refusal::{RefusalRow, office_row, storage_row, wire_row};
@@ -43,7 +44,7 @@ impl Answer {
         ensures { result ≡ format_of (answer_body self.now) }
     {
         match self {
-            Answer::Reply(Reply::Accepted(Content::Listing(_))) => Format::Csv,
+            Answer::Reply(Reply::Accepted(Content::Listing(_) | Content::Blocks(_))) => Format::Csv,
             Answer::Reply(_) | Answer::Wire(_) | Answer::Storage => Format::Json,
         }
     }
@@ -101,8 +102,11 @@ fn content_status(content: &Content) -> u16
         | Content::Page(_)
         | Content::Listing(_)
         | Content::Pool(_)
+        | Content::Blocks(_)
         | Content::Row(_)
         | Content::Rows(_)
+        | Content::Held(_)
+        | Content::Holdings(_)
         | Content::Item(_)
         | Content::Items(_)
         | Content::Desk(_)
@@ -153,8 +157,11 @@ fn content_bytes(alloc: Global, content: &Content) -> Result<Vec<u8>, AllocError
         Content::Page(page) => printed(alloc, page),
         Content::Listing(page) => listing(alloc, page),
         Content::Pool(pool) => printed(alloc, pool),
+        Content::Blocks(rows) => block_listing(alloc, rows.as_slice()),
         Content::Made(request) | Content::Row(request) => printed::<Itself, _>(alloc, request),
         Content::Rows(requests) => printed::<Itself, _>(alloc, requests),
+        Content::Held(holding) => printed(alloc, holding),
+        Content::Holdings(holdings) => printed::<Itself, _>(alloc, holdings),
         Content::Item(row) => printed(alloc, row),
         Content::Items(rows) => printed::<Itself, _>(alloc, rows),
         Content::Desk(request) => printed::<Desk, _>(alloc, request),

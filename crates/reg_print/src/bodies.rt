@@ -4,6 +4,7 @@ pub mod advice;
 pub mod ask;
 pub mod capability;
 pub mod file;
+pub mod holding;
 pub mod page;
 pub mod pool;
 pub mod queue;

@@ -1,4 +1,6 @@
-//! Registries as listings: their rows, and the records that are printed of them.
+//! Registries and blocks as listings: their rows, and the records that are printed of them.
 
+pub mod blocks;
 pub mod records;
 pub mod rows;
+pub mod writing;

@@ -3,12 +3,16 @@ use Rattle.std.specs.Prelude.{ℕ, List, [], ◌∷◌, Option, Some, None, Ok, 
 use Rattle.std.specs.Str.{bytes_eq}
 use Rattle.serde_json.specs.Data.{Data}
 use Rattle.serde_json.specs.Find.{get, as_str}
+use Rattle.reg_blocks.specs.Size.{word_of}
+use Rattle.reg_blocks.specs.declared.size.Size.{Size}
+use Rattle.reg_blocks.specs.declared.size.Size.TheVariants.{MaL, MaM, MaS}
 use Rattle.reg_ranges.specs.Texts.{is_text}
 use Rattle.reg_ranges.specs.Words.{read_policy}
 use Rattle.reg_ranges.specs.declared.policy.Policy.{Policy}
 use Rattle.reg_core.specs.Names.{is_name}
 use Rattle.reg_core.specs.declared.ask.Ask.{Ask}
 use Rattle.reg_core.specs.declared.ask.Ask.TheVariants as ask
+use Rattle.reg_core.specs.declared.ask.BlockAsk.{BlockAsk}
 use Rattle.reg_core.specs.declared.ask.CodeAsk.{CodeAsk}
 use Rattle.reg_core.specs.declared.ask.Want.{Want}
 use Rattle.reg_core.specs.declared.ask.Want.TheVariants as want
@@ -23,13 +27,25 @@ use Rattle.reg_parse.specs.Bodies.Evidence.{evidence_of}
 
 -- which kind of ask its word names
 abbrev pub ask_kind_named : List ℕ → Option AskKind
-ask_kind_named word = if bytes_eq word (codes "code") then Some kind.Code else None
+ask_kind_named word =
+    if bytes_eq word (codes "code") then Some kind.Code
+    else (if bytes_eq word (codes "block") then Some kind.Block else None)
 
 abbrev pub ask_kind_form : Data → Option AskKind
 ask_kind_form json = option_and_then ask_kind_named (as_str json)
 
 abbrev pub policy_form : Data → Option Policy
 policy_form json = option_and_then read_policy (as_str json)
+
+-- which size its word names
+abbrev pub size_named : List ℕ → Option Size
+size_named word =
+    if bytes_eq word (word_of MaL) then Some MaL
+    else (if bytes_eq word (word_of MaM) then Some MaM
+    else (if bytes_eq word (word_of MaS) then Some MaS else None))
+
+abbrev pub size_form : Data → Option Size
+size_form json = option_and_then size_named (as_str json)
 
 -- what is wanted, by the members `value` and `least`: exactly one of them is there, and has its
 -- form
@@ -58,10 +74,24 @@ code_of json = do
   others ← only code_items json
   Ok (record { registry = registry; want = wanted; label = label; evidence = evidence })
 
+abbrev pub block_items : List Item
+block_items = item.Kind ∷ item.Size ∷ item.Organization ∷ item.Address ∷ []
+
+unfoldable pub block_of : Data → Reading BlockAsk
+block_of json = do
+  size ← needed item.Size size_form json
+  organization ← needed item.Organization (text_form is_text) json
+  address ← needed item.Address (text_form is_text) json
+  others ← only block_items json
+  Ok (record { size = size; organization = organization; address = address })
+
 abbrev pub ask_of_kind : AskKind → Data → Reading Ask
 ask_of_kind kind.Code json = do
   code ← code_of json
   Ok (ask.Code code)
+ask_of_kind kind.Block json = do
+  block ← block_of json
+  Ok (ask.Block block)
 
 unfoldable pub ask_of : Data → Reading Ask
 ask_of json = do

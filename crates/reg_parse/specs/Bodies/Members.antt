@@ -4,7 +4,7 @@ use Rattle.std.specs.Str.{is_utf8, bytes_eq}
 use Rattle.std.specs.List.{list_any}
 use Rattle.serde_json.specs.Data.{Data, Members, member, no_members}
 use Rattle.serde_json.specs.Read.{read}
-use Rattle.serde_json.specs.Find.{get, as_object, as_str, as_number, as_u64}
+use Rattle.serde_json.specs.Find.{get, as_object, as_bool, as_str, as_number, as_u64}
 use Rattle.reg_ranges.specs.Texts.{read_text}
 use Rattle.reg_core.specs.Advice.{read_verdict}
 use Rattle.reg_core.specs.Capability.{read_until}
@@ -97,6 +97,9 @@ number_form json = option_and_then (below (2 ^ 32)) (whole json)
 
 abbrev pub until_form : Data → Option ℕ
 until_form json = option_and_then read_until (whole json)
+
+abbrev pub truth_form : Data → Option Bool
+truth_form json = as_bool json
 
 abbrev pub kind_named : List ℕ → Option Kind
 kind_named word =

@@ -2,11 +2,12 @@
 ghost use Rattle.std.specs.Prelude.{◌≡◌};
 ghost use Rattle.serde_json.specs.View.{view};
 ghost use Rattle.reg_parse.specs.Bodies.Members.{Gives, needed};
-ghost use Rattle.reg_parse.specs.Bodies.Ask.{ask_kind_named, ask_kind_form, policy_form, want_of, code_of, ask_of};
+ghost use Rattle.reg_parse.specs.Bodies.Ask.{ask_kind_named, ask_kind_form, policy_form, size_form, size_named, want_of, code_of, block_of, ask_of};
 
 use crate::bodies::evidence::read_evidence;
 use crate::bodies::members;
-use reg_core::ask::{Ask, CodeAsk, Want};
+use reg_blocks::size::Size;
+use reg_core::ask::{Ask, BlockAsk, CodeAsk, Want};
 use reg_core::item::Item;
 use reg_core::wire_refusal::ReadFault;
 use reg_ranges::policy::Policy;
@@ -17,6 +18,7 @@ use std::alloc::Global;
 #[derive(Clone, Copy, Debug, PartialEq, Eq)]
 pub enum AskKind {
     Code,
+    Block,
 }
 
 /// The ask that this object is, or the first of its members at fault. `kind` is read first.
@@ -26,6 +28,7 @@ pub fn read_ask(alloc: Global, json: &Value) -> Result<Ask, ReadFault>
 {
     match ask_kind(json)? {
         AskKind::Code => Ok(Ask::Code(read_code(alloc, json)?)),
+        AskKind::Block => Ok(Ask::Block(read_block(alloc, json)?)),
     }
 }
 
@@ -46,6 +49,7 @@ fn ask_kind_named(word: &str) -> Option<AskKind>
 {
     match word {
         "code" => Some(AskKind::Code),
+        "block" => Some(AskKind::Block),
         _ => None,
     }
 }
@@ -78,6 +82,42 @@ fn read_code(alloc: Global, json: &Value) -> Result<CodeAsk, ReadFault>
         label,
         evidence,
     })
+}
+
+#[tactic(auto, unfolding(crate::specs::Bodies::Ask::block_of))]
+fn read_block(alloc: Global, json: &Value) -> Result<BlockAsk, ReadFault>
+    ensures { Gives result (block_of (view json.now)) }
+{
+    let size = size_in(json)?;
+    let organization = members::text(alloc, json, Item::Organization)?;
+    let address = members::text(alloc, json, Item::Address)?;
+    members::only(
+        &[Item::Kind, Item::Size, Item::Organization, Item::Address],
+        json,
+    )?;
+    Ok(BlockAsk {
+        size,
+        organization,
+        address,
+    })
+}
+
+fn size_in(json: &Value) -> Result<Size, ReadFault>
+    ensures { Gives result (needed Item.Size size_form (view json.now)) }
+{
+    match json.get(Item::Size.name()).and_then(Value::as_str) {
+        Some(word) => match size_named(word) {
+            Some(size) => Ok(size),
+            None => Err(ReadFault::field(Item::Size)),
+        },
+        None => Err(ReadFault::field(Item::Size)),
+    }
+}
+
+fn size_named(word: &str) -> Option<Size>
+    ensures { result ≡ size_named word.now }
+{
+    Size::read(word.as_bytes())
 }
 
 // `Value` where both or neither of the two members are there.

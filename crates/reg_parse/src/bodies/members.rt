@@ -7,7 +7,7 @@ ghost use Rattle.std.specs.String.{string_bytes};
 ghost use Rattle.serde_json.specs.View.{view};
 ghost use Rattle.serde_json.specs.Find.{as_object};
 ghost use Rattle.reg_ranges.specs.Texts.{is_text};
-ghost use Rattle.reg_parse.specs.Bodies.Members.{Gives, GivesSeen, object_of, needed, optional, only, is_among, names_any, text_form, number_form, until_form, kind_form, kind_named, verdict_form};
+ghost use Rattle.reg_parse.specs.Bodies.Members.{Gives, GivesSeen, object_of, needed, optional, only, is_among, names_any, text_form, number_form, until_form, truth_form, kind_form, kind_named, verdict_form};
 
 use reg_core::advice::Verdict;
 use reg_core::capability::{Kind, Until};
@@ -94,6 +94,17 @@ pub fn until(object: &Value, item: Item) -> Result<Until, ReadFault>
             Some(until) => Ok(until),
             None => Err(ReadFault::field(item)),
         },
+        None => Err(ReadFault::field(item)),
+    }
+}
+
+/// Whether this member is true. `Field` with the item where it is missing or neither true nor
+/// false. It takes no memory.
+pub fn truth(object: &Value, item: Item) -> Result<bool, ReadFault>
+    ensures { Gives result (needed item truth_form (view object.now)) }
+{
+    match object.get(item.name()).and_then(Value::as_bool) {
+        Some(truth) => Ok(truth),
         None => Err(ReadFault::field(item)),
     }
 }

@@ -1,10 +1,12 @@
 -- The JSON of an ask.
 use Rattle.std.specs.Prelude.{[], ◌∷◌, Option, None, option_map, codes}
 use Rattle.serde_json.specs.Data.{Data}
+use Rattle.reg_blocks.specs.Size.{word_of}
 use Rattle.reg_ranges.specs.Rfcs.{PublishedRfc}
 use Rattle.reg_ranges.specs.Words.{policy_word, stream_word, track_word}
 use Rattle.reg_core.specs.declared.ask.Ask.{Ask}
-use Rattle.reg_core.specs.declared.ask.Ask.TheVariants.{Code}
+use Rattle.reg_core.specs.declared.ask.Ask.TheVariants.{Code, Block}
+use Rattle.reg_core.specs.declared.ask.BlockAsk.{BlockAsk}
 use Rattle.reg_core.specs.declared.ask.CodeAsk.{CodeAsk}
 use Rattle.reg_core.specs.declared.ask.Want.{Want}
 use Rattle.reg_core.specs.declared.ask.Want.TheVariants.{Value, Least}
@@ -49,5 +51,17 @@ code_members ask =
 abbrev pub code_tree : CodeAsk → Data
 code_tree ask = object_with (code_members ask)
 
+abbrev pub block_members : BlockAsk → Listed
+block_members ask =
+    (codes "address", text ask.address)
+    ∷ (codes "kind", text (codes "block"))
+    ∷ (codes "organization", text ask.organization)
+    ∷ (codes "size", text (word_of ask.size))
+    ∷ []
+
+abbrev pub block_tree : BlockAsk → Data
+block_tree ask = object_with (block_members ask)
+
 abbrev pub ask_tree : Ask → Data
 ask_tree (Code ask) = code_tree ask
+ask_tree (Block ask) = block_tree ask

@@ -3,8 +3,9 @@ use Rattle.std.specs.Prelude.{ℕ, List, [], ◌∷◌, map, Option, Some, None,
 use Rattle.std.specs.Fmt.{decimal}
 use Rattle.serde_json.specs.Data.{Data, array}
 use Rattle.serde_json.specs.View.{items_of}
+use Rattle.reg_blocks.specs.Digits.{block_text}
 use Rattle.reg_core.specs.declared.request.Given.{Given}
-use Rattle.reg_core.specs.declared.request.Given.TheVariants.{Value}
+use Rattle.reg_core.specs.declared.request.Given.TheVariants.{Value, Block}
 use Rattle.reg_core.specs.declared.request.Request.{Request}
 use Rattle.reg_core.specs.declared.request.State.{State}
 use Rattle.reg_core.specs.declared.request.State.TheVariants.{Pending, Approved, Declined, Withdrawn}
@@ -20,9 +21,10 @@ state_word word.Approved = codes "approved"
 state_word word.Declined = codes "declined"
 state_word word.Withdrawn = codes "withdrawn"
 
--- what was given, as a text: a value in decimal
+-- what was given, as a text: a value in decimal, a block as the digits of its prefix
 abbrev pub given_text : Given → List ℕ
 given_text (Value v) = decimal v
+given_text (Block b) = block_text b
 
 -- what an approved request was given
 abbrev pub given_if : State → Option Data

@@ -1,10 +1,10 @@
 //! Prints asks. Members that are absent are not printed.
 ghost use Rattle.std.specs.Prelude.{[], ◌∷◌, codes, OnOk};
 ghost use Rattle.reg_print.specs.Printed.{PrintedMembers};
-ghost use Rattle.reg_print.specs.Trees.Ask.{ask_tree, code_tree, least_if, rfc_tree, value_if};
+ghost use Rattle.reg_print.specs.Trees.Ask.{ask_tree, block_tree, code_tree, least_if, rfc_tree, value_if};
 
 use crate::printing::{Itself, Print, Printer};
-use reg_core::ask::{Ask, CodeAsk, Want};
+use reg_core::ask::{Ask, BlockAsk, CodeAsk, Want};
 use reg_ranges::evidence::Rfc;
 use std::alloc::AllocError;
 
@@ -17,6 +17,7 @@ impl Print<Itself> for Ask {
     fn print(&self, out: &mut Printer) -> Result<(), AllocError> {
         match self {
             Ask::Code(ask) => ask.print(out),
+            Ask::Block(ask) => ask.print(out),
         }
     }
 }
@@ -37,6 +38,22 @@ impl Print<Itself> for CodeAsk {
         out.put_if("rfc", &self.evidence.rfc)?;
         out.put_if("specification", &self.evidence.spec)?;
         put_value_if(out, self.want)?;
+        out.close_object()?;
+        Ok(())
+    }
+}
+
+impl Print<Itself> for BlockAsk {
+    ghost tree = { block_tree };
+
+    ghost levels = { 2 };
+
+    fn print(&self, out: &mut Printer) -> Result<(), AllocError> {
+        out.open_object()?;
+        out.put("address", &self.address)?;
+        out.put_text("kind", "block")?;
+        out.put("organization", &self.organization)?;
+        out.put_text("size", self.size.word())?;
         out.close_object()?;
         Ok(())
     }

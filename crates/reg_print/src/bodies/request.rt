@@ -98,11 +98,12 @@ fn put_given_if(out: &mut Printer, state: &State) -> Result<(), AllocError>
     }
 }
 
-// A value that was given, in decimal.
+// What was given: a value in decimal, and a block as the digits of its prefix.
 fn given_text(alloc: Global, given: Given) -> Result<String, AllocError>
     ensures { IfOk result (λ t. string_bytes t ≡ given_text given) }
 {
     match given {
         Given::Value(value) => format!(in alloc; "{value}"),
+        Given::Block(block) => block.text(alloc),
     }
 }

@@ -1,11 +1,12 @@
 //! Writes registries as CSV (RFC 4180 section 2), each record ended by a line feed.
-ghost use Rattle.std.specs.Prelude.{◌≡◌, ℕ, List, ◌∷◌, [], map, IfOk, OnOk};
+ghost use Rattle.std.specs.Prelude.{◌≡◌, ◌∷◌, [], IfOk, OnOk};
 ghost use Rattle.std.specs.String.{string_bytes};
-ghost use Rattle.reg_print.specs.Listing.{assignee_text, csv_text, expiry_text, first_text, header, policy_text, row_fields, row_view, listing_text};
-ghost use Rattle.reg_print.specs.Records.{Adds, HasWritten};
+ghost use Rattle.reg_print.specs.Listing.{assignee_text, expiry_text, first_text, header, policy_text, row_fields, row_view, listing_text};
+ghost use Rattle.reg_print.specs.Records.{Adds};
 
 use crate::listing::rows::{ListingRow, rows};
-use csv::{Writer, WriterBuilder};
+use crate::listing::writing::{empty, text_of, write_record};
+use csv::Writer;
 use reg_core::page::Page;
 use reg_early::day::day_text;
 use reg_ranges::policy::Policy;
@@ -134,34 +135,5 @@ fn policy_word(policy: Option<Policy>) -> &'static str
     match policy {
         Some(policy) => policy.word(),
         None => "",
-    }
-}
-
-// One record of these fields. Only memory can be wanting.
-fn write_record<W: Write + Drop>(writer: &mut Writer<W>, fields: &[&[u8]]) -> Result<(), AllocError>
-    ensures { OnOk result (Adds W.contents writer.old writer.new (map (λ f. f.now) fields.now)) }
-{
-    match writer.write_fields(fields) {
-        Ok(()) => Ok(()),
-        Err(_) => Err(AllocError),
-    }
-}
-
-// A writer that has written nothing.
-fn empty(alloc: Global) -> Writer<Vec<u8>>
-    ensures { HasWritten ⟦<Vec<u8> as Write>⟧.contents result [] }
-{
-    WriterBuilder::new().from_writer(Vec::new(alloc))
-}
-
-// The text of the records that were written.
-fn text_of(writer: Writer<Vec<u8>>) -> Result<Vec<u8>, AllocError>
-    ensures { (records : List (List (List ℕ)))
-        → HasWritten ⟦<Vec<u8> as Write>⟧.contents writer records
-        → IfOk result (λ v. v.items ≡ csv_text records) }
-{
-    match writer.into_inner() {
-        Ok(text) => Ok(text),
-        Err(_) => Err(AllocError),
     }
 }

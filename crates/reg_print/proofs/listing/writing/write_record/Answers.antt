@@ -1,7 +1,7 @@
 use Rattle.std.proofs.Common.{map}
 use Rattle.reg_print.proofs.WrittenRecords.{adds}
-use Rattle.reg_print.proofs.listing.records.write_record.Goals.{in-Ok, in-Err}
-use Rattle.reg_print.proofs.listing.records.write_record.Goals as goal
+use Rattle.reg_print.proofs.listing.writing.write_record.Goals.{in-Ok, in-Err}
+use Rattle.reg_print.proofs.listing.writing.write_record.Goals as goal
 
 pub returns : goal.returns
 returns g c =
