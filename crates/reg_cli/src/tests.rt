@@ -4,6 +4,7 @@ use crate::performing::perform;
 use std::test::Fail;
 
 mod approvals;
+mod blocks;
 mod bodies;
 mod command_lines;
 mod day;

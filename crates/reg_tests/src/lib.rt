@@ -1,7 +1,7 @@
-//! Tests of what the program does not reach yet, or cannot: blocks, the days of early allocation,
-//! sets of numbers, and range files that no text can hold. They stand in a crate of their own because the gate
-//! proves a crate that has tests a second time, whole, together with them. What the program answers
-//! is tested in `reg_cli`.
+//! Tests of what the program does not reach yet, or cannot: blocks and the free places for them, the
+//! days of early allocation, sets of numbers, and range files that no text can hold. They stand in a
+//! crate of their own because the gate proves a crate that has tests a second time, whole, together
+//! with them. What the program answers is tested in `reg_cli`.
 #![tactic(auto)]
 
 #[cfg(test)]
@@ -12,5 +12,7 @@ mod early;
 mod entries;
 #[cfg(test)]
 mod free_values;
+#[cfg(test)]
+mod places;
 #[cfg(test)]
 mod range_files;

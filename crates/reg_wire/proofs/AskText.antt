@@ -5,7 +5,11 @@ use Rattle.std.specs.Str.{IsUtf8}
 use Rattle.std.proofs.lemmas.Bool.Decides.{nat_tests}
 use Rattle.std.proofs.lemmas.Str.{IsUtf8-from_ascii}
 use Rattle.json.proofs.Printed.Utf8.{are_ascii, IsUtf8-are_ascii}
+use Rattle.serde_json.specs.Data.{string}
 use Rattle.serde_json.specs.Written.{compact_text}
+use Rattle.reg_blocks.specs.Size.{word_of}
+use Rattle.reg_blocks.specs.declared.size.Size.{Size}
+use Rattle.reg_blocks.specs.declared.size.Size.TheVariants as size
 use Rattle.reg_ranges.specs.Rfcs.{PublishedRfc}
 use Rattle.reg_ranges.specs.Texts.{is_text, is_within, ascii_text}
 use Rattle.reg_ranges.specs.Words.{policy_word, stream_word, track_word}
@@ -16,15 +20,16 @@ use Rattle.reg_ranges.specs.declared.evidence.Track.TheVariants as track
 use Rattle.reg_ranges.specs.declared.policy.Policy.{Policy}
 use Rattle.reg_ranges.specs.declared.policy.Policy.TheVariants as policy
 use Rattle.reg_core.specs.Names.{is_name, ascii_name}
-use Rattle.reg_core.specs.Ask.{has_note_form, has_rfc_form, has_evidence_form, has_want_form, has_code_form, has_ask_form}
+use Rattle.reg_core.specs.Ask.{has_note_form, has_rfc_form, has_evidence_form, has_want_form, has_block_form, has_code_form, has_ask_form}
 use Rattle.reg_core.specs.declared.ask.Ask.{Ask}
-use Rattle.reg_core.specs.declared.ask.Ask.TheVariants.{Code}
+use Rattle.reg_core.specs.declared.ask.Ask.TheVariants.{Code, Block}
+use Rattle.reg_core.specs.declared.ask.BlockAsk.{BlockAsk}
 use Rattle.reg_core.specs.declared.ask.CodeAsk.{CodeAsk}
 use Rattle.reg_core.specs.declared.ask.Want.{Want}
 use Rattle.reg_core.specs.declared.ask.Want.TheVariants.{Value, Least}
 use Rattle.reg_print.specs.Trees.Members.{text_if}
 use Rattle.reg_parse.specs.Bodies.Members.{object_of}
-use Rattle.reg_print.specs.Trees.Ask.{ask_tree, code_members, least_if, rfc_if, rfc_members, rfc_tree, value_if}
+use Rattle.reg_print.specs.Trees.Ask.{ask_tree, block_members, code_members, least_if, rfc_if, rfc_members, rfc_tree, value_if}
 use Rattle.reg_wire.proofs.TreeText.{AllReadable, IfReadable, Readable, number-readable, object_of-compact_text, object_with-readable, string-readable}
 
 -- ---- words
@@ -57,6 +62,11 @@ track_ascii track.Bcp = refl
 track_ascii track.Informational = refl
 track_ascii track.Experimental = refl
 track_ascii track.Historic = refl
+
+size_ascii : (s : Size) → are_ascii (word_of s) ≡ true
+size_ascii size.MaL = refl
+size_ascii size.MaM = refl
+size_ascii size.MaS = refl
 
 -- ---- members
 
@@ -181,9 +191,35 @@ code_readable ask h = (
   ),
 )
 
+text_readable : (s : List ℕ) → is_text s ≡ true → Readable 1 (string s)
+text_readable s h = string-readable 1 s (IsUtf8-from_ascii s (ascii_text s h))
+
+block_readable : (ask : BlockAsk) → has_block_form ask ≡ true → AllReadable 1 (block_members ask)
+block_readable ask h = (
+  ascii_word (codes "address") refl,
+  text_readable ask.address (second_so (is_text ask.organization) (is_text ask.address) h),
+  (
+    ascii_word (codes "kind") refl,
+    string-readable 1 (codes "block") (ascii_word (codes "block") refl),
+    (
+      ascii_word (codes "organization") refl,
+      text_readable ask.organization (first_so (is_text ask.organization) (is_text ask.address) h),
+      (
+        ascii_word (codes "size") refl,
+        string-readable 1 (word_of ask.size)
+            (ascii_word (word_of ask.size) (size_ascii ask.size)),
+        tt,
+      ),
+    ),
+  ),
+)
+
 -- the bytes that are printed of an ask are one JSON object, the ask's
 pub object_of-ask_text : (ask : Ask) → has_ask_form ask ≡ true
     → object_of (compact_text (ask_tree ask)) ≡ Ok (ask_tree ask)
 object_of-ask_text (Code ask) h =
     object_of-compact_text 2 (code_members ask) (lit≤ tt)
     (object_with-readable 1 (code_members ask) refl (code_readable ask (formed ask h)))
+object_of-ask_text (Block ask) h =
+    object_of-compact_text 2 (block_members ask) (lit≤ tt)
+    (object_with-readable 1 (block_members ask) refl (block_readable ask h))

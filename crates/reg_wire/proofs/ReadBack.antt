@@ -4,6 +4,9 @@ use Rattle.std.specs.Prelude.{⊤}
 use Rattle.std.specs.Cmp.{first_so, second_so}
 use Rattle.std.proofs.lemmas.Bool.Decides.{nat_tests}
 use Rattle.serde_json.specs.Data.{Data, string}
+use Rattle.reg_blocks.specs.Size.{word_of}
+use Rattle.reg_blocks.specs.declared.size.Size.{Size}
+use Rattle.reg_blocks.specs.declared.size.Size.TheVariants as size
 use Rattle.reg_ranges.specs.Rfcs.{PublishedRfc}
 use Rattle.reg_ranges.specs.Texts.{is_text, is_within}
 use Rattle.reg_ranges.specs.Words.{policy_word, read_policy, read_stream, read_track, stream_word, track_word}
@@ -15,9 +18,10 @@ use Rattle.reg_ranges.specs.declared.evidence.Track.TheVariants as track
 use Rattle.reg_ranges.specs.declared.policy.Policy.{Policy}
 use Rattle.reg_ranges.specs.declared.policy.Policy.TheVariants as policy
 use Rattle.reg_core.specs.Names.{is_name}
-use Rattle.reg_core.specs.Ask.{has_note_form, has_rfc_form, has_evidence_form, has_want_form, has_code_form, has_ask_form}
+use Rattle.reg_core.specs.Ask.{has_note_form, has_rfc_form, has_evidence_form, has_want_form, has_block_form, has_code_form, has_ask_form}
 use Rattle.reg_core.specs.declared.ask.Ask.{Ask}
-use Rattle.reg_core.specs.declared.ask.Ask.TheVariants.{Code}
+use Rattle.reg_core.specs.declared.ask.Ask.TheVariants.{Code, Block}
+use Rattle.reg_core.specs.declared.ask.BlockAsk.{BlockAsk}
 use Rattle.reg_core.specs.declared.ask.CodeAsk.{CodeAsk}
 use Rattle.reg_core.specs.declared.ask.Want.{Want}
 use Rattle.reg_core.specs.declared.ask.Want.TheVariants.{Value, Least}
@@ -30,8 +34,8 @@ use Rattle.reg_print.specs.Trees.Members.{text_if}
 use Rattle.reg_parse.specs.Bodies.Members.{Reading, ◌>>=◌, needed, formed, optional, only, text_form}
 use Rattle.reg_parse.specs.Bodies.Rfc.{rfc_form}
 use Rattle.reg_parse.specs.Bodies.Evidence.{evidence_of}
-use Rattle.reg_parse.specs.Bodies.Ask.{ask_of, ask_of_kind, ask_kind_form, code_of, code_items, want_by, want_of}
-use Rattle.reg_print.specs.Trees.Ask.{ask_tree, code_members, code_tree, least_if, rfc_if, rfc_tree, value_if}
+use Rattle.reg_parse.specs.Bodies.Ask.{ask_of, ask_of_kind, ask_kind_form, block_items, block_of, size_form, size_named, code_of, code_items, want_by, want_of}
+use Rattle.reg_print.specs.Trees.Ask.{ask_tree, block_members, block_tree, code_members, code_tree, least_if, rfc_if, rfc_tree, value_if}
 use Rattle.reg_wire.proofs.ListedMembers.{get-object_with, needed-object_with, optional-object_with, only-object_with}
 
 -- ---- words
@@ -61,6 +65,11 @@ track_back track.Bcp = refl
 track_back track.Informational = refl
 track_back track.Experimental = refl
 track_back track.Historic = refl
+
+size_back : (s : Size) → size_named (word_of s) ≡ Some s
+size_back size.MaL = refl
+size_back size.MaM = refl
+size_back size.MaS = refl
 
 -- ---- evidence
 
@@ -181,9 +190,42 @@ kind_joined : (ask : CodeAsk) (json : Data) (k : Reading AskKind) → k ≡ Ok k
     → code_of json ≡ Ok ask → (k >>= (λ asked. ask_of_kind asked json)) ≡ Ok (Code ask)
 kind_joined ask json k hk hc = rw (hk, hc) refl
 
+block_joined : (ask : BlockAsk) (s : Reading Size) (g a : Reading (List ℕ)) (o : Reading ⊤)
+    → s ≡ Ok ask.size → g ≡ Ok ask.organization → a ≡ Ok ask.address → o ≡ Ok tt
+    → (s >>= (λ size. g
+    >>= (λ organization. a
+    >>= (λ address. o
+    >>= (λ others. Ok
+    (record { size = size; organization = organization; address = address }))))))
+    ≡ Ok ask
+block_joined ask s g a o hs hg ha ho = rw (hs, hg, ha, ho) refl
+
+block_back : (ask : BlockAsk) → has_block_form ask ≡ true → block_of (block_tree ask) ≡ Ok ask
+unfolding block_of
+block_back ask h =
+    block_joined ask (needed item.Size size_form (block_tree ask))
+    (needed item.Organization (text_form is_text) (block_tree ask))
+    (needed item.Address (text_form is_text) (block_tree ask)) (only block_items (block_tree ask))
+    (needed-object_with item.Size size_form ask.size (block_members ask) refl (size_back ask.size))
+    (needed-object_with item.Organization (text_form is_text) ask.organization (block_members ask)
+    refl
+    (named_back is_text ask.organization
+    (first_so (is_text ask.organization) (is_text ask.address) h)))
+    (needed-object_with item.Address (text_form is_text) ask.address (block_members ask) refl
+    (named_back is_text ask.address (second_so (is_text ask.organization) (is_text ask.address) h)))
+    (only-object_with block_items (block_members ask) refl refl)
+
+block_kind : (ask : BlockAsk) (json : Data) (k : Reading AskKind) → k ≡ Ok kind.Block
+    → block_of json ≡ Ok ask → (k >>= (λ asked. ask_of_kind asked json)) ≡ Ok (Block ask)
+block_kind ask json k hk hb = rw (hk, hb) refl
+
 pub ask_of-ask_tree : (ask : Ask) → has_ask_form ask ≡ true → ask_of (ask_tree ask) ≡ Ok ask
 unfolding ask_of
 ask_of-ask_tree (Code ask) h =
     kind_joined ask (code_tree ask) (needed item.Kind ask_kind_form (code_tree ask))
     (needed-object_with item.Kind ask_kind_form kind.Code (code_members ask) refl refl)
     (code_back ask h)
+ask_of-ask_tree (Block ask) h =
+    block_kind ask (block_tree ask) (needed item.Kind ask_kind_form (block_tree ask))
+    (needed-object_with item.Kind ask_kind_form kind.Block (block_members ask) refl refl)
+    (block_back ask h)

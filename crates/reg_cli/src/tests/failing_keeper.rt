@@ -1,11 +1,14 @@
 //! A keeper whose store fails.
 ghost use Rattle.std.specs.Prelude.{true};
 
+use reg_blocks::block::Block;
 use reg_blocks::pool::Pool;
+use reg_blocks::size::Size;
 use reg_core::capability::Cap;
 use reg_core::change::Change;
 use reg_core::entry::Entry;
 use reg_core::file::File;
+use reg_core::holding::{Holding, Listed};
 use reg_core::queue::QueueRow;
 use reg_core::request::Request;
 use reg_core::rows::Rows;
@@ -73,7 +76,27 @@ impl<K: Keeper> Keeper for FailingKeeper<K> {
         }
     }
 
+    fn blocks(&mut self) -> Result<Rows<Listed>, Fault> {
+        Err(Fault::Store)
+    }
+
+    fn holdings(&mut self, _account: &Account) -> Result<Rows<Holding>, Fault> {
+        Err(Fault::Store)
+    }
+
+    fn holding(&mut self, _account: &Account, _block: &Block) -> Result<Option<Holding>, Fault> {
+        Err(Fault::Store)
+    }
+
+    fn due(&mut self, _size: Size) -> Result<Option<Block>, Fault> {
+        Err(Fault::Store)
+    }
+
     fn pool(&mut self) -> Result<Pool, Fault> {
+        Err(Fault::Store)
+    }
+
+    fn is_pooled(&mut self, _prefix: u32) -> Result<bool, Fault> {
         Err(Fault::Store)
     }
 

@@ -64,11 +64,11 @@ fn answer_buffered<A: Responder, W: Write>(
         × CutShort fault sent answer (W.contents writer.old) (W.contents writer.new)) }
 {
     let Some(line) = buffer.line() else {
-        return send_answer(writer, b"400 {\"error\":\"line\"}", sent);
+        return send_answer(writer, b"400 {\"error\":\"line\"}\n", sent);
     };
     match responder.respond(alloc, routes, &line) {
         Ok(answer) => send_answer(writer, answer.as_slice(), sent),
-        Err(Unanswered::Storage) => send_answer(writer, b"503 {\"error\":\"storage\"}", sent),
+        Err(Unanswered::Storage) => send_answer(writer, b"503 {\"error\":\"storage\"}\n", sent),
         Err(Unanswered::Memory) => Err(WireFault::Memory),
     }
 }

@@ -1,9 +1,11 @@
 //! The office as the responder of a script.
-ghost use Rattle.std.specs.Prelude.{◌≡◌, map, IfOk};
+ghost use Rattle.std.specs.Prelude.{◌≡◌, ◌++◌, ◌∷◌, map, IfOk};
+ghost use Rattle.std.specs.Fmt.{decimal};
 ghost use Rattle.reg_keeper.specs.Keeper.{Makes};
 ghost use Rattle.reg_wire.specs.Exchange.{answer_to, world_then, IsAnswered};
 ghost use Rattle.reg_wire.specs.Script.Answers.{ServesOver, answer_line, tab_of as tab};
 ghost use Rattle.reg_wire.specs.Script.Line.{call_of, line_feed_of as line_feed};
+ghost use Rattle.reg_wire.specs.Script.Lines.{ended};
 
 use crate::exchange::{Call, answer_to};
 use crate::script::line::Line;
@@ -72,28 +74,34 @@ fn line_feed_of(b: u8) -> u8
     if b == b'\t' { b'\n' } else { b }
 }
 
+// An answer as a line, with its line feed.
 fn into_line(alloc: Global, answer: Answer) -> Result<Vec<u8>, AllocError>
-    ensures { IfOk result (λ v. v.items ≡ answer_line answer) }
+    ensures { IfOk result (λ v. v.items ≡ ended (answer_line answer)) }
 {
-    let line = answer_line(alloc, &answer);
+    let printed = body_of(alloc, &answer);
     drop(answer);
-    line
+    let (status, body) = printed?;
+    line_of(alloc, status, body)
 }
 
-// An answer as a line: its status, and its body with a TAB for each line feed.
-fn answer_line(alloc: Global, answer: &Answer) -> Result<Vec<u8>, AllocError>
-    ensures { IfOk result (λ v. v.items ≡ answer_line answer.now) }
+// The line of a status and a body, with a TAB for each line feed of the body.
+fn line_of(alloc: Global, status: u16, mut body: Vec<u8>) -> Result<Vec<u8>, AllocError>
+    ensures { IfOk result (λ v. v.items ≡ ended (decimal status ++ 32 ∷ map tab body.items)) }
 {
-    let (status, body) = body_of(alloc, answer)?;
+    put_tabs(body.as_mut_slice());
+    body.push(b'\n')?;
     let mut line = format!(in alloc; "{status} ")?.into_bytes();
-    line.extend_from_slice(with_tabs(alloc, body.as_slice())?.as_slice())?;
+    line.extend_from_slice(body.as_slice())?;
     Ok(line)
 }
 
-fn with_tabs(alloc: Global, body: &[u8]) -> Result<Vec<u8>, AllocError>
-    ensures { IfOk result (λ v. v.items ≡ map tab body.now) }
+// A TAB in the place of each line feed.
+fn put_tabs(body: &mut [u8])
+    ensures { body.new ≡ map tab body.old }
 {
-    body.iter().map(|b| tab_of(*b)).collect(alloc)
+    for byte in body.iter_mut() {
+        *byte = tab_of(*byte);
+    }
 }
 
 fn tab_of(b: u8) -> u8

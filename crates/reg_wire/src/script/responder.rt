@@ -2,6 +2,7 @@
 ghost use Rattle.std.specs.Prelude.{◌≡◌, List, ℕ, IfOk, IfErr};
 ghost use Rattle.reg_wire.specs.Exchange.{Call};
 ghost use Rattle.reg_wire.specs.Script.Line.{call_of};
+ghost use Rattle.reg_wire.specs.Script.Lines.{ended};
 ghost use Rattle.reg_wire.specs.Script.LineBuffer.{Unserved};
 
 use crate::script::line::Line;
@@ -24,7 +25,7 @@ pub(crate) trait Responder {
     /// What may be answered to a line, and what is there then.
     ghost Serves: { Self → Call → List ℕ → Self → Type 0 };
 
-    /// The answer to a line.
+    /// The answer to a line, with its line feed.
     fn respond(
         &mut self,
         alloc: Global,
@@ -32,7 +33,8 @@ pub(crate) trait Responder {
         line: &Line<'_>,
     ) -> Result<Vec<u8>, Unanswered>
         ensures ok { IfOk result
-            (λ answer. Serves self.old (call_of line.now) answer.items self.new) }
+            (λ text. (answer : List ℕ) × (text.items ≡ ended answer)
+            × Serves self.old (call_of line.now) answer self.new) }
         ensures err { IfErr result
             (λ why. Unserved Serves self.old (call_of line.now) why self.new) };
 }

@@ -1,5 +1,5 @@
 //! Writes bytes, and counts those that went out before a fault.
-ghost use Rattle.std.specs.Prelude.{◌≡◌, ◌≤◌, ◌<◌, ◌+◌, ◌^◌, ◌++◌, ◌∷◌, [], OnOk, IfOk, IfErr, take, length};
+ghost use Rattle.std.specs.Prelude.{◌≡◌, ◌<◌, ◌+◌, List, ℕ, OnOk, IfOk, IfErr, take, length};
 ghost use Rattle.std.specs.Io.KnownBytes.{Appends};
 ghost use Rattle.reg_wire.specs.Script.Lines.{ended};
 ghost use Rattle.reg_wire.specs.Script.LineBuffer.{CutShort};
@@ -24,39 +24,24 @@ fn send<W: Write>(writer: &mut W, bytes: &[u8]) -> Result<(), usize>
     Ok(())
 }
 
-/// Writes a line and its line feed; a fault says how many bytes went out.
-fn send_line<W: Write>(writer: &mut W, line: &[u8]) -> Result<(), usize>
-    requires { length line.now + 1 < 2 ^ 64 }
-    ensures ok { OnOk result (Appends (W.contents writer.old) (W.contents writer.new) (ended line.now)) }
-    ensures err { IfErr result
-        (λ n. (n ≤ length line.now)
-        × Appends (W.contents writer.old) (W.contents writer.new) (take n (ended line.now))) }
-{
-    send(writer, line)?;
-    match send(writer, b"\n") {
-        Ok(()) => Ok(()),
-        Err(n) => Err(line.len() + n),
-    }
-}
-
-/// Writes an answer as a line, after `sent` bytes of others; gives how many bytes went out by now.
+/// Writes the line of an answer, after `sent` bytes of others; gives how many bytes went out by now.
 pub(crate) fn send_answer<W: Write>(
     writer: &mut W,
-    answer: &[u8],
+    line: &[u8],
     sent: usize,
 ) -> Result<usize, WireFault>
     ensures ok { IfOk result
-        (λ n. (n ≡ sent + length (ended answer.now))
-        × Appends (W.contents writer.old) (W.contents writer.new) (ended answer.now)) }
+        (λ n. (n ≡ sent + length line.now)
+        × Appends (W.contents writer.old) (W.contents writer.new) line.now) }
     ensures err { IfErr result
-        (λ fault. CutShort fault sent answer.now (W.contents writer.old)
-        (W.contents writer.new)) }
+        (λ fault. (answer : List ℕ) → line.now ≡ ended answer
+        → CutShort fault sent answer (W.contents writer.old) (W.contents writer.new)) }
 {
-    if answer.len() >= usize::MAX - sent {
+    if line.len() > usize::MAX - sent {
         return Err(WireFault::Write(sent));
     }
-    match send_line(writer, answer) {
-        Ok(()) => Ok(sent + answer.len() + 1),
+    match send(writer, line) {
+        Ok(()) => Ok(sent + line.len()),
         Err(n) => Err(WireFault::Write(sent + n)),
     }
 }

@@ -15,6 +15,17 @@ goes_on_unless same goes = record {
   after = λ s other h. absurd (other same);
 }
 
+pub returns-in-Ok-into_line-clause-ok : goal.returns-in-Ok-into_line-clause-ok
+returns-in-Ok-into_line-clause-ok g c =
+    let told = c.in-Ok.ensures in (
+      answer_line c.in-Ok.answer,
+      c.in-Ok-into_line.ensures,
+      record {
+        serves = λ h. inl (ap answer_line (told.answer h), told.world.made h);
+        premise = goes_on_anyway told.world.premise;
+      },
+    )
+
 pub returns-in-Err-into_line-clause-err : goal.returns-in-Err-into_line-clause-err
 returns-in-Err-into_line-clause-err g c =
     let told = c.in-Ok.ensures in (

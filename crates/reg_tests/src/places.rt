@@ -1,0 +1,195 @@
+//! The block due by free places: worked by hand, and against the sweep over all given blocks.
+use reg_blocks::block::Block;
+use reg_blocks::due::{ascends, least_free};
+use reg_blocks::pool::{Add, Pool, is_pool_prefix};
+use reg_blocks::size::Size;
+use reg_places::places::Places;
+use std::alloc::{AllocError, Global};
+use std::process::Abort;
+use std::test::Fail;
+
+const SIZES: [Size; 3] = [Size::MaL, Size::MaM, Size::MaS];
+
+fn block(rt: &impl Abort, digits: &str) -> Block {
+    Block::read(digits.as_bytes()).expect(rt, "digits of a block")
+}
+
+// Places with these prefixes, of which nothing is given.
+fn places_of(alloc: Global, prefixes: &[u32]) -> Result<Places, AllocError> {
+    let mut places = Places::new(alloc);
+    for prefix in prefixes {
+        if is_pool_prefix(*prefix) {
+            places.add_prefix(*prefix)?;
+        }
+    }
+    Ok(places)
+}
+
+fn expect_due(rt: &impl Abort, places: &Places, want: [Option<&str>; 3]) {
+    for (size, digits) in SIZES.into_iter().zip(want) {
+        assert_eq!(rt; places.due(size), digits.map(|digits| block(rt, digits)));
+    }
+}
+
+#[test]
+fn due_of_two_prefixes(rt: HostRuntime) -> Result<(), Fail> {
+    expect_due(&rt, &Places::new(rt.alloc()), [None; 3]);
+    let mut places = places_of(rt.alloc(), &[0x00_1A2C, 0x00_1A2B])?;
+    expect_due(
+        &rt,
+        &places,
+        [Some("001A2B"), Some("001A2B0"), Some("001A2B000")],
+    );
+    places.give(block(&rt, "001A2B100"))?;
+    places.give(block(&rt, "001A2B0"))?;
+    expect_due(
+        &rt,
+        &places,
+        [Some("001A2C"), Some("001A2B2"), Some("001A2B101")],
+    );
+    places.add_prefix(0x00_1A2B)?;
+    expect_due(
+        &rt,
+        &places,
+        [Some("001A2C"), Some("001A2B2"), Some("001A2B101")],
+    );
+    Ok(())
+}
+
+#[test]
+fn due_of_full_prefixes(rt: HostRuntime) -> Result<(), Fail> {
+    let mut places = places_of(rt.alloc(), &[0x00_1A2B, 0x00_1A2C])?;
+    for prefix in 0x001_A2B0..=0x001_A2BF {
+        if prefix != 0x001_A2B7 {
+            places.give(Block::make(Size::MaM, prefix).expect(&rt, "28 bits"))?;
+        }
+    }
+    places.give(block(&rt, "001A2C"))?;
+    expect_due(&rt, &places, [None, Some("001A2B7"), Some("001A2B700")]);
+    places.give(block(&rt, "001A2B7"))?;
+    expect_due(&rt, &places, [None; 3]);
+    Ok(())
+}
+
+#[test]
+fn due_past_a_hundred_full_prefixes(rt: HostRuntime) -> Result<(), Fail> {
+    let mut places = Places::new(rt.alloc());
+    for prefix in 0x00_2000..=0x00_2064 {
+        assert!(rt; is_pool_prefix(prefix));
+        places.add_prefix(prefix)?;
+    }
+    for prefix in 0x0_0200_0000..0x0_0206_4000 {
+        places.give(Block::make(Size::MaS, prefix).expect(&rt, "36 bits"))?;
+    }
+    expect_due(
+        &rt,
+        &places,
+        [Some("002064"), Some("0020640"), Some("002064000")],
+    );
+    Ok(())
+}
+
+// The next number of a sequence that looks like chance (SplitMix64).
+fn next(state: &mut u64) -> u64 {
+    *state = state.wrapping_add(0x9E37_79B9_7F4A_7C15);
+    let mut n = *state;
+    n = (n ^ (n >> 30)).wrapping_mul(0xBF58_476D_1CE4_E5B9);
+    n = (n ^ (n >> 27)).wrapping_mul(0x94D0_49BB_1331_11EB);
+    n ^ (n >> 31)
+}
+
+// A block in one of the prefixes from 001A2B on: most often of the middle size, so that prefixes
+// fill up; and small ones lie close together.
+fn some_block(state: &mut u64) -> Option<Block> {
+    let prefix = 0x00_1A2B + next(state) % 3;
+    match next(state) % 16 {
+        0 => Block::make(Size::MaL, prefix),
+        1..=9 => Block::make(Size::MaM, prefix * 16 + next(state) % 16),
+        _ => Block::make(
+            Size::MaS,
+            prefix * 4096 + next(state) % 4 * 256 + next(state) % 8,
+        ),
+    }
+}
+
+// The same block is due by the free places and by the sweep over all given blocks.
+fn compare(rt: &impl Abort, places: &Places, pool: &Pool, given: &[Block]) {
+    for size in SIZES {
+        assert!(rt; ascends(given));
+        assert_eq!(rt; places.due(size), least_free(pool, given, size));
+    }
+}
+
+// Whether an office may give the block: it is free.
+fn may_give(rt: &impl Abort, pool: &Pool, given: &[Block], block: &Block) -> bool {
+    let prefix = u32::try_from(block.first() >> 24).expect(rt, "24 bits");
+    pool.prefixes().contains(&prefix) && !given.iter().any(|other| block.overlaps(other))
+}
+
+// An office whose pool grows, and which gives blocks in any order. Whether nothing is due at last.
+fn office(rt: &impl Abort, alloc: Global, seed: u64) -> Result<bool, AllocError> {
+    let mut state = seed;
+    let mut places = Places::new(alloc);
+    let mut pool = Pool::new(alloc);
+    let mut given = Vec::new(alloc);
+    for turn in 0..48 {
+        if turn % 16 == 0 {
+            let prefix = (0x00_1A2B + next(&mut state) % 3) as u32;
+            assert!(rt; is_pool_prefix(prefix));
+            places.add_prefix(prefix)?;
+            assert!(rt; pool.add(prefix) != Add::Memory);
+        }
+        let block = some_block(&mut state).expect(rt, "a block");
+        if may_give(rt, &pool, &given, &block) {
+            places.give(block)?;
+            given.push(block)?;
+            given.sort_unstable();
+        }
+        compare(rt, &places, &pool, &given);
+    }
+    Ok(places.due(Size::MaS).is_none())
+}
+
+#[test]
+fn due_in_a_thousand_offices(rt: HostRuntime) -> Result<(), Fail> {
+    let mut is_one_full = false;
+    for seed in 0..1000 {
+        is_one_full |= office(&rt, rt.alloc(), seed)?;
+    }
+    assert!(rt; is_one_full);
+    Ok(())
+}
+
+// Gives the block. Where there is no memory for it, nothing else is due than before, and the next
+// try finds memory.
+fn give_or_again(rt: &impl Abort, places: &mut Places, block: Block) -> Result<(), AllocError> {
+    let before = SIZES.map(|size| places.due(size));
+    if places.give(block).is_err() {
+        assert_eq!(rt; SIZES.map(|size| places.due(size)), before);
+        places.give(block)?;
+    }
+    Ok(())
+}
+
+#[test]
+fn due_where_memory_is_refused_once(rt: HostRuntime) -> Result<(), Fail> {
+    let mut places = Places::new(rt.alloc());
+    for prefix in 0x00_1A2B..0x00_1A3B {
+        assert!(rt; is_pool_prefix(prefix));
+        let before = SIZES.map(|size| places.due(size));
+        if places.add_prefix(prefix).is_err() {
+            assert_eq!(rt; SIZES.map(|size| places.due(size)), before);
+            places.add_prefix(prefix)?;
+        }
+    }
+    for k in 0..64 {
+        let small = Block::make(Size::MaS, 0x0_01A2_B000 + 2 * k);
+        give_or_again(&rt, &mut places, small.expect(&rt, "36 bits"))?;
+    }
+    expect_due(
+        &rt,
+        &places,
+        [Some("001A2C"), Some("001A2B1"), Some("001A2B001")],
+    );
+    Ok(())
+}
