@@ -1,0 +1,6 @@
+mod Limit
+mod Named
+mod OneDigit
+mod OneAsk
+mod Asked
+mod AllBytes

@@ -1,0 +1,26 @@
+-- What was read beyond the bytes that were there, for private clauses.
+use Rattle.std.specs.Prelude.{◌≡◌, ◌<◌, ℕ, List, ◌++◌, length, Option}
+use Rattle.std.specs.Io.KnownBytes.{Consumes, IsAtEnd}
+use Rattle.reg_head.specs.declared.malformed.Malformed.TheVariants as malformed
+use Rattle.reg_head.specs.declared.unread.Unread.{Unread}
+use Rattle.reg_head.specs.declared.unread.Unread.TheVariants as unread
+
+-- the bytes that were read follow those that were there
+abbrev pub Grows : Option (List ℕ) → Option (List ℕ) → List ℕ → List ℕ → Type 0
+Grows before left had has = (more : List ℕ) × Consumes before left more × (has ≡ had ++ more)
+
+-- some bytes were read, and there are still fewer than `end`
+abbrev pub GrowsShort : Option (List ℕ) → Option (List ℕ) → List ℕ → ℕ → Type 0
+GrowsShort before left had end =
+    (more : List ℕ) × Consumes before left more × (length (had ++ more) < end)
+
+-- why there are fewer than `end` bytes: no more came, or a read failed
+abbrev pub Lacks : Option (List ℕ) → Option (List ℕ) → List ℕ → ℕ → Unread → Type 0
+Lacks before left had end (unread.Refused malformed.Short) =
+    GrowsShort before left had end × IsAtEnd left
+Lacks before left had end (unread.Refused malformed.Head) = ⊥
+Lacks before left had end (unread.Refused malformed.Encoding) = ⊥
+Lacks before left had end (unread.Refused malformed.Length) = ⊥
+Lacks before left had end (unread.Refused malformed.Large) = ⊥
+Lacks before left had end unread.Read = GrowsShort before left had end
+Lacks before left had end unread.Memory = Unit {0}

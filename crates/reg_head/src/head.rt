@@ -1,0 +1,80 @@
+//! Reads the head of a request.
+ghost use Rattle.std.specs.Prelude.{◌≡◌, ◌≤◌, IfOk, IfErr, length, vec_len};
+ghost use Rattle.httparse.specs.Grammar.{RequestHead};
+ghost use Rattle.std.specs.Io.KnownBytes.{Consumes};
+ghost use Rattle.reg_head.specs.Looks.{IsHeadAt, IsWhole, IsRefused, IsPartial, IsHeadless};
+
+use crate::malformed::Malformed;
+use crate::unread::Unread;
+use httparse::Status;
+use httparse::spans::{HeaderSpan, RequestSpans, parse_request};
+use std::io::Read;
+
+/// The most bytes of a head, from the first byte read to its empty line.
+pub(crate) const MOST_BYTES: usize = 8_192;
+
+/// The most fields of a head.
+pub(crate) const MOST_FIELDS: usize = 32;
+
+/// What stands at the front of the bytes that have come.
+#[derive(Clone, Copy)]
+enum Look {
+    /// A head, at these places.
+    Whole(RequestSpans),
+    /// No head, whatever comes.
+    Refused,
+    /// No head yet.
+    Partial,
+}
+
+fn look_at(buf: &[u8], headers: &mut [HeaderSpan]) -> Look
+    requires room { length headers.old ≡ 32 }
+    requires short { length buf.now ≤ 8192 }
+    ensures whole { IsWhole buf.now headers.new result }
+    ensures refused { IsRefused buf.now result }
+    ensures partial { IsPartial buf.now result }
+{
+    match parse_request(buf, headers) {
+        Ok(Status::Complete(spans)) => Look::Whole(spans),
+        Ok(Status::Partial) => if buf.len() == MOST_BYTES {
+            Look::Refused
+        } else {
+            Look::Partial
+        },
+        Err(_) => Look::Refused,
+    }
+}
+
+/// Reads until the head of a request has come, or cannot come any more.
+pub(crate) fn read_head<R: Read>(
+    reader: &mut R,
+    bytes: &mut Vec<u8>,
+    headers: &mut [HeaderSpan],
+) -> Result<RequestSpans, Unread>
+    requires room { length headers.old ≡ 32 }
+    requires empty { vec_len bytes.old ≡ 0 }
+    ensures read { IfOk result
+        (λ _. Consumes (R.remaining reader.old) (R.remaining reader.new) bytes.new.items) }
+    ensures found { IfOk result
+        (λ spans. (head : RequestHead) × IsHeadAt bytes.new.items headers.new spans head) }
+    ensures short { IfOk result (λ _. vec_len bytes.new ≤ 8192) }
+    ensures err { IfErr result
+        (λ why. IsHeadless (R.remaining reader.old) (R.remaining reader.new) why) }
+{
+    let mut piece = [0u8; MOST_BYTES];
+    loop {
+        match look_at(bytes.as_slice(), headers) {
+            Look::Whole(spans) => return Ok(spans),
+            Look::Refused => return Err(Unread::Refused(Malformed::Head)),
+            Look::Partial => {}
+        }
+        let room = MOST_BYTES - bytes.len();
+        let Ok(count) = reader.read(&mut piece[..room]) else {
+            return Err(Unread::Read);
+        };
+        if count == 0 {
+            return Err(Unread::Refused(Malformed::Head));
+        }
+        bytes.extend_from_slice(&piece[..count])?;
+    }
+}
