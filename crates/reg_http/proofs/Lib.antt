@@ -1,0 +1,5 @@
+mod Sent
+mod StorageText
+mod AlikeRequests
+mod Exchanges
+mod Turns

@@ -1,0 +1,8 @@
+use Rattle.reg_http.specs.Serving.{AnswersOver}
+use Rattle.reg_http.proofs.Turns.{turn}
+use Rattle.reg_http.proofs.listener.serve_next.Goals as goal
+
+pub returns : goal.returns
+returns g c =
+    turn (AnswersOver g.K.Keeper.world g.K.Keeper.Holds g.K.Keeper.Sound) _ c.serve_one.result _ _ _
+    _ _ _ c.serve_one.ensures.ok c.serve_one.ensures.err

@@ -1,0 +1,11 @@
+use Rattle.std.proofs.Common.{Ok}
+use Rattle.reg_http.proofs.serving.respond.Goals as goal
+
+pub returns-in-Ok-clause-ok : goal.returns-in-Ok-clause-ok
+returns-in-Ok-clause-ok g c =
+    let read = c.in-Ok.ensures.ok in
+    record {
+      asked = Ok read.0;
+      is_asked = read.2;
+      responds = c.respond_to-response.ensures read.0 read.1;
+    }

@@ -1,0 +1,10 @@
+pub mod Laws
+pub mod Listening
+pub mod Response
+pub mod Responding
+pub mod Sending
+pub mod Serving
+pub use Rattle.reg_head.specs.Fields
+pub use Rattle.reg_head.specs.Head
+pub use Rattle.reg_head.specs.Reading
+pub use Rattle.reg_head.specs.Request

@@ -1,0 +1,35 @@
+//! Laws of requests and answers in bytes, over their definitions: by those of calls.
+ghost use Rattle.reg_http.specs.Laws.{RequestsAreAnsweredAlike, RequestsRunAsTheModel, UnseenRequestsLeaveNoTrace};
+
+pub use reg_head::laws::{bytes_ask_one_thing, readers_ask_by_all_their_bytes};
+use reg_wire::laws::{
+    calls_are_answered_alike, calls_run_as_the_model, unseen_calls_leave_no_trace,
+};
+
+/// Isolation, to the byte: two well kept offices that show whoever the bytes of a request come
+/// from, who is no clerk, the same view answer them at the same moment by the same bytes, and then
+/// show it the same view again. Answers 503 `storage` are left out.
+pub fn requests_are_answered_alike()
+    ensures { RequestsAreAnsweredAlike }
+{
+    bytes_ask_one_thing();
+    calls_are_answered_alike();
+}
+
+/// Without those that were answered 503 `storage`, requests in turn are answered as the model's run
+/// of their events, with what is wrong with other bytes between, and so is the last world.
+pub fn requests_run_as_the_model()
+    ensures { RequestsRunAsTheModel }
+{
+    calls_run_as_the_model();
+}
+
+/// Striking, to the byte: take the requests whose events are about requests that an account does
+/// not see out of a list. The others are answered by the same bytes, but where an answer lists
+/// requests of others; and there by the same bytes but for the rows of these requests. At the end
+/// both show the account the same. Answers 503 `storage` are left out.
+pub fn unseen_requests_leave_no_trace()
+    ensures { UnseenRequestsLeaveNoTrace }
+{
+    unseen_calls_leave_no_trace();
+}

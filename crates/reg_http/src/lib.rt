@@ -1,0 +1,11 @@
+//! Requests and answers over HTTP/1.1 (RFC 9112): one request is read, one answer is written.
+#![tactic(auto)]
+
+pub mod laws;
+pub mod listener;
+pub mod response;
+mod sending;
+pub mod serving;
+
+pub use reg_head::{malformed, message, reading, unread};
+pub use reg_wire::wire_fault;

@@ -1,0 +1,136 @@
+//! Serves the connections of a listener, one after the other.
+ghost use Rattle.std.specs.Prelude.{◌≡◌, ◌+◌};
+ghost use Rattle.reg_http.specs.Listening.{ChangesByTurns};
+ghost use Rattle.reg_http.specs.Serving.{AnswersOver};
+
+use crate::serving::serve_one;
+use reg_keeper::keeper::Keeper;
+use reg_office::Office;
+use reg_parse::route::Routes;
+use std::alloc::Global;
+use std::io;
+use std::io::{ErrorKind, Read, Write};
+use std::net::{TcpListener, TcpStream};
+use std::time::{Clock, Duration};
+
+/// How many seconds a peer has to send its request, and again to take the answer.
+pub const PATIENCE_SECONDS: u64 = 10;
+
+/// What became of connections.
+#[derive(Clone, Copy, Debug, PartialEq, Eq)]
+pub struct Connections {
+    /// An answer was written whole.
+    pub answered: u32,
+    /// There was no connection, or it failed, or there was no memory.
+    pub dropped: u32,
+}
+
+/// Serves so many connections of a listener, one after the other, one request each, at the moment
+/// of the clock when it comes; a clock that fails or stands before 1970 gives moment 0. What has
+/// not been read whole within the patience is a failed read, and what has not been written within
+/// as much again a failed write. A connection that cannot be accepted, or fails, is dropped, and
+/// the next is served. The office is changed by at most one request of each connection, and by
+/// nothing else.
+pub fn serve_listener<C: Clock, K: Keeper>(
+    alloc: Global,
+    clock: &C,
+    office: &mut Office<K>,
+    routes: &Routes,
+    listener: &TcpListener,
+    count: u32,
+    patience: Duration,
+) -> Connections
+    ensures counted { result.answered + result.dropped ≡ count }
+    ensures turns { ChangesByTurns (AnswersOver K.world K.Holds K.Sound) count office.old
+        office.new }
+{
+    let mut answered = 0;
+    for _ in 0..count {
+        if serve_next(alloc, clock, office, routes, listener, patience).is_some() {
+            answered += 1;
+        }
+    }
+    Connections {
+        answered,
+        dropped: count - answered,
+    }
+}
+
+// Serves the next connection; gives the status of the answer that was written whole.
+fn serve_next<C: Clock, K: Keeper>(
+    alloc: Global,
+    clock: &C,
+    office: &mut Office<K>,
+    routes: &Routes,
+    listener: &TcpListener,
+    patience: Duration,
+) -> Option<u16>
+    ensures { ChangesByTurns (AnswersOver K.world K.Holds K.Sound) 1 office.old office.new }
+{
+    let (stream, _) = listener.accept().ok()?;
+    let read_by = clock.monotonic().ok()?.checked_add(patience)?;
+    let write_by = read_by.checked_add(patience)?;
+    let mut reader = Timed {
+        stream: &stream,
+        clock,
+        end: read_by,
+    };
+    let mut writer = Timed {
+        stream: &stream,
+        clock,
+        end: write_by,
+    };
+    serve_one(
+        alloc,
+        office,
+        routes,
+        moment(clock),
+        &mut reader,
+        &mut writer,
+    )
+    .ok()
+}
+
+// Seconds since 1970-01-01T00:00:00Z.
+fn moment<C: Clock>(clock: &C) -> u64 {
+    match clock.since_1970() {
+        Ok(time) => time.as_secs(),
+        Err(_) => 0,
+    }
+}
+
+/// A connection that fails from an end on, by the monotonic clock.
+#[derive(Drop)]
+struct Timed<'a, C: Clock> {
+    stream: &'a TcpStream,
+    clock: &'a C,
+    end: Duration,
+}
+
+impl<C: Clock> Timed<'_, C> {
+    // How long there is until the end.
+    fn left(&self) -> io::Result<Duration> {
+        match self.end.checked_sub(self.clock.monotonic()?) {
+            Some(left) if !left.is_zero() => Ok(left),
+            _ => Err(ErrorKind::TimedOut.into()),
+        }
+    }
+}
+
+impl<C: Clock> Read for Timed<'_, C> {
+    fn read(&mut self, buf: &mut [u8]) -> io::Result<usize> {
+        self.stream.set_read_timeout(Some(self.left()?))?;
+        self.stream.read(buf)
+    }
+}
+
+impl<C: Clock> Write for Timed<'_, C> {
+    fn write(&mut self, buf: &[u8]) -> io::Result<usize> {
+        self.stream.set_write_timeout(Some(self.left()?))?;
+        self.stream.write(buf)
+    }
+
+    fn flush(&mut self) -> io::Result<()> {
+        Ok(())
+    }
+}

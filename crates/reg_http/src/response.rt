@@ -1,0 +1,184 @@
+//! Answers as HTTP/1.1 writes them.
+ghost use Rattle.std.specs.Prelude.{◌≡◌, ◌++◌, ◌<◌, ◌^◌, IfOk, OnOk, length, string_bytes};
+ghost use Rattle.std.specs.Fmt.{decimal};
+ghost use Rattle.reg_http.specs.Response.{malformed_status, malformed_body, status, media_type, reason, status_line, field_line, head_text, response_text, reply_text};
+
+use reg_head::malformed::Malformed;
+use reg_print::answer::{Answer, Format, body_of};
+use std::alloc::{AllocError, Global};
+
+/// What is answered to the bytes of a request.
+#[derive(Drop)]
+pub enum Response {
+    /// The answer to the call that they are.
+    Answer(Answer),
+    /// They are no request.
+    Malformed(Malformed),
+}
+
+/// Room for the head of an answer.
+const HEAD_BYTES: usize = 160;
+
+/// The bytes of an answer (RFC 9112 sections 4 and 6): its status line, `Content-Type`,
+/// `Content-Length`, `Connection: close`, an empty line, and the body that `body_of` prints.
+pub fn reply_bytes(alloc: Global, answer: &Answer) -> Result<Vec<u8>, AllocError>
+    ensures { IfOk result (λ v. v.items ≡ reply_text answer.now) }
+{
+    let (_, bytes) = answer_bytes(alloc, answer)?;
+    Ok(bytes)
+}
+
+/// The status and the bytes of what is answered to the bytes of a request.
+pub(crate) fn response_bytes(
+    alloc: Global,
+    response: &Response,
+) -> Result<(u16, Vec<u8>), AllocError>
+    ensures status { IfOk result (λ r. r.0 ≡ status response.now) }
+    ensures bytes { IfOk result (λ r. r.1.items ≡ response_text response.now) }
+{
+    match response {
+        Response::Answer(answer) => answer_bytes(alloc, answer),
+        Response::Malformed(why) => malformed_bytes(alloc, *why),
+    }
+}
+
+#[tactic(auto, unfolding(crate::specs::Response::response_text))]
+fn answer_bytes(alloc: Global, answer: &Answer) -> Result<(u16, Vec<u8>), AllocError>
+    ensures status { IfOk result (λ r. r.0 ≡ status (Response.Answer answer.now)) }
+    ensures bytes { IfOk result (λ r. r.1.items ≡ reply_text answer.now) }
+{
+    let (status, body) = body_of(alloc, answer)?;
+    let bytes = message(alloc, status, media_type(answer.format()), body.as_slice())?;
+    Ok((status, bytes))
+}
+
+#[tactic(auto, unfolding(crate::specs::Response::response_text))]
+fn malformed_bytes(alloc: Global, why: Malformed) -> Result<(u16, Vec<u8>), AllocError>
+    ensures status { IfOk result (λ r. r.0 ≡ status (Response.Malformed why)) }
+    ensures bytes { IfOk result
+        (λ r. r.1.items ≡ response_text (Response.Malformed why)) }
+{
+    let status = malformed_status(why);
+    let bytes = message(alloc, status, media_type(Format::Json), malformed_body(why))?;
+    Ok((status, bytes))
+}
+
+fn malformed_status(why: Malformed) -> u16
+    ensures { result ≡ malformed_status why }
+{
+    match why {
+        Malformed::Head | Malformed::Length | Malformed::Short => 400,
+        Malformed::Large => 413,
+        Malformed::Encoding => 501,
+    }
+}
+
+fn malformed_body(why: Malformed) -> &'static [u8]
+    ensures { result.now ≡ malformed_body why }
+{
+    match why {
+        Malformed::Head => b"{\"error\":\"head\"}",
+        Malformed::Encoding => b"{\"error\":\"encoding\"}",
+        Malformed::Length => b"{\"error\":\"length\"}",
+        Malformed::Large => b"{\"error\":\"large\"}",
+        Malformed::Short => b"{\"error\":\"short\"}",
+    }
+}
+
+fn media_type(format: Format) -> &'static str
+    ensures { result.now ≡ media_type format }
+{
+    match format {
+        Format::Json => "application/json",
+        Format::Csv => "text/csv",
+    }
+}
+
+// A head, and the body after it, in one piece of memory.
+fn message(alloc: Global, status: u16, media: &str, body: &[u8]) -> Result<Vec<u8>, AllocError>
+    ensures { IfOk result
+        (λ v. v.items ≡ head_text status media.now (length body.now) ++ body.now) }
+{
+    let mut bytes = head(alloc, status, media, body.len())?.into_bytes();
+    bytes.extend_from_slice(body)?;
+    Ok(bytes)
+}
+
+#[tactic(auto, unfolding(crate::specs::Response::head_text))]
+fn head(alloc: Global, status: u16, media: &str, count: usize) -> Result<String, AllocError>
+    requires { count < 2 ^ 63 }
+    ensures { IfOk result (λ s. string_bytes s ≡ head_text status media.now count) }
+{
+    let mut text = String::with_capacity(alloc, HEAD_BYTES + count)?;
+    push_status(alloc, &mut text, status)?;
+    push_field(&mut text, "Content-Type", media)?;
+    push_number(alloc, &mut text, "Content-Length", count)?;
+    push_field(&mut text, "Connection", "close")?;
+    text.push_str("\r\n")?;
+    Ok(text)
+}
+
+fn push_status(alloc: Global, text: &mut String, status: u16) -> Result<(), AllocError>
+    ensures { OnOk result
+        (string_bytes text.new ≡ string_bytes text.old ++ status_line status) }
+{
+    let digits = status.to_string(alloc)?;
+    text.push_str("HTTP/1.1 ")?;
+    text.push_str(digits.as_str())?;
+    text.push_str(" ")?;
+    text.push_str(reason(status))?;
+    text.push_str("\r\n")?;
+    Ok(())
+}
+
+fn push_field(text: &mut String, name: &str, value: &str) -> Result<(), AllocError>
+    ensures { OnOk result
+        (string_bytes text.new ≡ string_bytes text.old ++ field_line name.now value.now) }
+{
+    text.push_str(name)?;
+    text.push_str(": ")?;
+    text.push_str(value)?;
+    text.push_str("\r\n")?;
+    Ok(())
+}
+
+fn push_number(alloc: Global, text: &mut String, name: &str, n: usize) -> Result<(), AllocError>
+    ensures { OnOk result
+        (string_bytes text.new ≡ string_bytes text.old ++ field_line name.now (decimal n)) }
+{
+    let digits = n.to_string(alloc)?;
+    push_field(text, name, digits.as_str())
+}
+
+// The phrase of a status (RFC 9110 section 15).
+fn reason(status: u16) -> &'static str
+    ensures { result.now ≡ reason status }
+{
+    if status == 200 {
+        "OK"
+    } else if status == 201 {
+        "Created"
+    } else if status == 400 {
+        "Bad Request"
+    } else if status == 401 {
+        "Unauthorized"
+    } else if status == 403 {
+        "Forbidden"
+    } else if status == 404 {
+        "Not Found"
+    } else if status == 405 {
+        "Method Not Allowed"
+    } else if status == 409 {
+        "Conflict"
+    } else if status == 413 {
+        "Payload Too Large"
+    } else if status == 422 {
+        "Unprocessable Entity"
+    } else if status == 501 {
+        "Not Implemented"
+    } else if status == 503 {
+        "Service Unavailable"
+    } else {
+        ""
+    }
+}

@@ -1,0 +1,70 @@
+//! Writes an answer.
+ghost use Rattle.std.specs.Prelude.{◌≡◌, ◌<◌, [], OnOk, IfOk, IfErr, take, length};
+ghost use Rattle.std.specs.Io.KnownBytes.{Appends};
+ghost use Rattle.reg_http.specs.Response.{status, response_text};
+ghost use Rattle.reg_http.specs.Sending.{IsUnsent};
+ghost use Rattle.reg_http.specs.Serving.{storage};
+
+use crate::response::{Response, response_bytes};
+use reg_print::answer::Answer;
+use reg_wire::wire_fault::WireFault;
+use std::alloc::Global;
+use std::io::Write;
+
+/// The answer where the store or memory failed, which takes no memory.
+const STORAGE: &[u8] =
+    b"HTTP/1.1 503 Service Unavailable\r\nContent-Type: application/json\r\nContent-Length: 19\r\nConnection: close\r\n\r\n{\"error\":\"storage\"}";
+
+/// Writes an answer, by one write where it is taken whole; gives its status. `Write(n)` where
+/// exactly its first n bytes went out, and `Memory` where there was none to make it; there always
+/// is for `Answer::Storage`.
+pub(crate) fn send_response<W: Write>(
+    alloc: Global,
+    writer: &mut W,
+    response: Response,
+) -> Result<u16, WireFault>
+    ensures ok { IfOk result (λ n. (n ≡ status response)
+        × Appends (W.contents writer.old) (W.contents writer.new) (response_text response)) }
+    ensures err { IfErr result (λ fault. IsUnsent fault response (W.contents writer.old)
+        (W.contents writer.new)) }
+{
+    if let Response::Answer(Answer::Storage) = &response {
+        return send_storage(writer);
+    }
+    let made = response_bytes(alloc, &response);
+    drop(response);
+    let (status, bytes) = made?;
+    match send(writer, bytes.as_slice()) {
+        Ok(()) => Ok(status),
+        Err(n) => Err(WireFault::Write(n)),
+    }
+}
+
+fn send_storage<W: Write>(writer: &mut W) -> Result<u16, WireFault>
+    ensures ok { IfOk result (λ n. (n ≡ status storage)
+        × Appends (W.contents writer.old) (W.contents writer.new) (response_text storage)) }
+    ensures err { IfErr result (λ fault. IsUnsent fault storage (W.contents writer.old)
+        (W.contents writer.new)) }
+{
+    match send(writer, STORAGE) {
+        Ok(()) => Ok(503),
+        Err(n) => Err(WireFault::Write(n)),
+    }
+}
+
+/// Writes all the bytes; a fault says how many went out.
+fn send<W: Write>(writer: &mut W, bytes: &[u8]) -> Result<(), usize>
+    ensures ok { OnOk result (Appends (W.contents writer.old) (W.contents writer.new) bytes.now) }
+    ensures err { IfErr result
+        (λ n. (n < length bytes.now)
+        × Appends (W.contents writer.old) (W.contents writer.new) (take n bytes.now)) }
+{
+    let mut at = 0;
+    while at < bytes.len() {
+        match writer.write(&bytes[at..]) {
+            Ok(0) | Err(_) => return Err(at),
+            Ok(n) => at += n,
+        }
+    }
+    Ok(())
+}

@@ -1,0 +1,104 @@
+//! Serves one request.
+ghost use Rattle.std.specs.Prelude.{◌≡◌, IfOk, IfErr};
+ghost use Rattle.reg_http.specs.Serving.{AnswersOver, IsAnswered, IsServed, FailsBy, call_at};
+ghost use Rattle.reg_http.specs.Responding.{IsUnanswered};
+ghost use Rattle.reg_head.specs.Reading.{IsMessage, IsPlaced};
+ghost use Rattle.reg_head.specs.Request.{Request};
+
+use crate::response::Response;
+use crate::sending::send_response;
+use reg_head::message::Message;
+use reg_head::reading::read_request;
+use reg_head::unread::Unread;
+use reg_keeper::keeper::Keeper;
+use reg_office::Office;
+use reg_parse::route::Routes;
+use reg_print::answer::Answer;
+use reg_wire::exchange::{Call, answer_to};
+use reg_wire::wire_fault::WireFault;
+use std::alloc::Global;
+use std::io::{Read, Write};
+
+/// Reads one request (RFC 9112), answers it, and gives the status of the answer. The moment is in
+/// seconds since 1970-01-01T00:00:00Z.
+///
+/// A request is answered as its call is; one at which the store or memory failed by
+/// `503 {"error":"storage"}`, with the content of the office unchanged. Bytes that are no request
+/// are answered by what is wrong with them first, and the office is not looked at. No byte is
+/// asked for beyond the request: at most 8,192 of its head and 65,536 of its body, so at most
+/// 73,729 reads are made.
+///
+/// `Read` where a read failed before the request was whole: nothing was written, and nothing has
+/// changed. `Write(n)` where a write failed or took nothing: exactly the first n bytes of the
+/// answer went out, and the request was carried out. `Memory` where there was none to hold the
+/// request, or its answer: nothing was written, and the request was carried out or nothing has
+/// changed.
+pub fn serve_one<K: Keeper, R: Read, W: Write>(
+    alloc: Global,
+    office: &mut Office<K>,
+    routes: &Routes,
+    moment: u64,
+    reader: &mut R,
+    writer: &mut W,
+) -> Result<u16, WireFault>
+    ensures ok { IfOk result (λ status. IsServed (AnswersOver K.world K.Holds K.Sound) moment
+        office.old office.new (R.remaining reader.old) (R.remaining reader.new)
+        (W.contents writer.old) (W.contents writer.new) status) }
+    ensures err { IfErr result (λ fault. FailsBy (AnswersOver K.world K.Holds K.Sound) moment
+        fault office.old office.new (R.remaining reader.old) (R.remaining reader.new)
+        (W.contents writer.old) (W.contents writer.new)) }
+{
+    let response = respond(alloc, office, routes, moment, reader)?;
+    send_response(alloc, writer, response)
+}
+
+// Reads a request and answers it, without writing.
+fn respond<K: Keeper, R: Read>(
+    alloc: Global,
+    office: &mut Office<K>,
+    routes: &Routes,
+    moment: u64,
+    reader: &mut R,
+) -> Result<Response, WireFault>
+    ensures ok { IfOk result (λ told. IsAnswered (AnswersOver K.world K.Holds K.Sound) moment
+        office.old office.new (R.remaining reader.old) (R.remaining reader.new) told) }
+    ensures err { IfErr result (λ fault. IsUnanswered fault office.old office.new
+        (R.remaining reader.old) (R.remaining reader.new)) }
+{
+    match read_request(alloc, reader) {
+        Ok(message) => {
+            let response = respond_to(alloc, office, routes, moment, &message);
+            drop(message);
+            Ok(response)
+        }
+        Err(Unread::Refused(why)) => Ok(Response::Malformed(why)),
+        Err(Unread::Read) => Err(WireFault::Read),
+        Err(Unread::Memory) => Err(WireFault::Memory),
+    }
+}
+
+// What is answered to a request.
+fn respond_to<K: Keeper>(
+    alloc: Global,
+    office: &mut Office<K>,
+    routes: &Routes,
+    moment: u64,
+    message: &Message,
+) -> Response
+    requires { IsPlaced message.now }
+    ensures { (request : Request) → IsMessage message.now request
+        → AnswersOver K.world K.Holds K.Sound office.old (call_at moment request) result office.new }
+{
+    let parts = message.parts();
+    let call = Call {
+        moment,
+        token: parts.token,
+        method: parts.method,
+        path: parts.path,
+        body: parts.body,
+    };
+    match answer_to(alloc, office, routes, &call) {
+        Ok(answer) => Response::Answer(answer),
+        Err(_) => Response::Answer(Answer::Storage),
+    }
+}
