@@ -5,4 +5,5 @@ pub mod EarlyRequirements
 pub mod Forms
 pub mod Laws
 pub mod Moment
+pub mod Sameness
 pub mod Terms

@@ -49,9 +49,20 @@ renewal term approval =
     then (if term.renewed then Err renew_fault.Renewed else Ok (renewed_term term approval))
     else Err renew_fault.Permanent
 
+-- why a term is not renewed, if it is not
+abbrev pub renewable : Term → Result (Unit {0}) RenewFault
+renewable term =
+    if is_some term.expires
+    then (if term.renewed then Err renew_fault.Renewed else Ok tt)
+    else Err renew_fault.Permanent
+
 -- without its expiry
 abbrev pub settled_term : Term → Term
 settled_term term = record { first = term.first; expires = None; renewed = term.renewed }
+
+-- why a term is not settled, if it is not
+abbrev pub settleable : Term → Result (Unit {0}) SettleFault
+settleable term = if is_some term.expires then Ok tt else Err settle_fault.Permanent
 
 -- a term is settled if it has an expiry
 abbrev pub settlement : Term → Result Term SettleFault

@@ -44,7 +44,7 @@ pub enum SettleFault {
 
 impl Term {
     ghost use Rattle.std.specs.Prelude.{◌≡◌};
-    ghost use Rattle.reg_early.specs.Terms.{permanent_term, early_term, status_on, renewal, settlement};
+    ghost use Rattle.reg_early.specs.Terms.{permanent_term, early_term, status_on, renewable, renewal, renewed_term, settleable, settled_term, settlement};
 
     /// The term of an entry that is assigned on a day for good.
     pub fn permanent(first: Day) -> Term
@@ -79,36 +79,64 @@ impl Term {
         }
     }
 
-    /// The term after a renewal that is approved on a day: a year from the later of that day and
-    /// the old expiry day. A term without expiry is `Permanent`, and one that was renewed before is
-    /// `Renewed`.
+    /// Whether it can be renewed: a term without expiry is `Permanent`, and one that was renewed
+    /// before is `Renewed`.
+    pub fn renewable(&self) -> Result<(), RenewFault>
+        ensures { result ≡ renewable self.now }
+    {
+        match self.expires {
+            None => Err(RenewFault::Permanent),
+            Some(_) if self.renewed => Err(RenewFault::Renewed),
+            Some(_) => Ok(()),
+        }
+    }
+
+    /// The term with the mark of a renewal that is approved on a day: what expires does so a year
+    /// from the later of that day and the old expiry day.
+    pub fn renewed_on(&self, approval: Day) -> Term
+        ensures { result ≡ renewed_term self.now approval }
+    {
+        Term {
+            first: self.first,
+            expires: self.expires.map(|expiry| year_after(expiry.max(approval))),
+            renewed: true,
+        }
+    }
+
+    /// The term after a renewal that is approved on a day, where it can be renewed.
     pub fn renew(&self, approval: Day) -> Result<Term, RenewFault>
         ensures { result ≡ renewal self.now approval }
     {
-        let Some(expiry) = self.expires else {
-            return Err(RenewFault::Permanent);
-        };
-        if self.renewed {
-            return Err(RenewFault::Renewed);
-        }
-        Ok(Term {
-            first: self.first,
-            expires: Some(year_after(expiry.max(approval))),
-            renewed: true,
-        })
+        self.renewable()?;
+        Ok(self.renewed_on(approval))
     }
 
-    /// The term without its expiry; `Permanent` where it has none.
+    /// Whether it can be made permanent: `Permanent` where it has no expiry.
+    pub fn settleable(&self) -> Result<(), SettleFault>
+        ensures { result ≡ settleable self.now }
+    {
+        match self.expires {
+            None => Err(SettleFault::Permanent),
+            Some(_) => Ok(()),
+        }
+    }
+
+    /// The term without its expiry.
+    pub fn settled(&self) -> Term
+        ensures { result ≡ settled_term self.now }
+    {
+        Term {
+            expires: None,
+            ..*self
+        }
+    }
+
+    /// The term without its expiry, where it can be made permanent.
     pub fn settle(&self) -> Result<Term, SettleFault>
         ensures { result ≡ settlement self.now }
     {
-        if self.expires.is_none() {
-            return Err(SettleFault::Permanent);
-        }
-        Ok(Term {
-            expires: None,
-            ..*self
-        })
+        self.settleable()?;
+        Ok(self.settled())
     }
 }
 
