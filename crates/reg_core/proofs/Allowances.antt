@@ -1,261 +1,90 @@
--- What is allowed is a free value that is assigned one by one.
-use Rattle.std.proofs.Common.{◌≡◌, ℕ, ◌<◌, ◌^◌, Bool, true, false, ◌&&◌, List, [], ◌∷◌, refl, sym, ap, subst, ◌∙◌, arith}
-use Rattle.std.specs.Prelude.{Option, Some, None, Result, Ok, Err, is_some, is_none, is_ok, nat_lt, option_and_then}
-use Rattle.std.specs.List.{list_all, list_any}
+-- What is allowed: a value without an entry that is assigned one by one, an own early allocation
+-- for longer, or the block that is due.
+use Rattle.std.proofs.Common.{◌≡◌, ℕ, Bool, true, false, List, [], refl, sym, ap, subst, ◌∙◌}
+use Rattle.std.specs.Prelude.{Some, None, Result, Ok, Err, is_some, option_and_then}
 use Rattle.std.specs.FinMap.{get}
-use Rattle.std.specs.Cmp.{first_so, second_so}
-use Rattle.std.proofs.lemmas.Bool.Decides.{nat_tests}
+use Rattle.std.specs.Cmp.{second_so}
 use Rattle.reg_ranges.specs.FreeValues.{IsLeastFree, least_value}
-use Rattle.reg_ranges.specs.Requirements.{first_item, is_closed_policy, is_expert_policy, unmet}
-use Rattle.reg_ranges.specs.Sameness.{same_treatment}
-use Rattle.reg_ranges.specs.Tables.{Table, IsPartition, treatment_of}
-use Rattle.reg_ranges.specs.Faults.{first_fault}
+use Rattle.reg_ranges.specs.Requirements.{first_item, is_expert_policy, unmet}
+use Rattle.reg_ranges.specs.Tables.{Table, treatment_of}
 use Rattle.reg_ranges.proofs.LeastFree.{least_value_is_least}
-use Rattle.reg_ranges.proofs.Partitions.{partition_from_none}
-use Rattle.reg_ranges.proofs.Treatments.{treatment_above}
 use Rattle.reg_ranges.specs.declared.policy.Policy.{Policy}
-use Rattle.reg_ranges.specs.declared.policy.Treatment.{Treatment}
-use Rattle.reg_ranges.specs.declared.policy.Treatment.TheVariants.{Under, Reserved}
-use Rattle.reg_ranges.specs.declared.evidence.Item.{Item}
-use Rattle.reg_core.specs.Allowance.{Ground, ◌>>=◌, or_refusal, open_policy, policy_for, is_met, value_for, allowance_on, allowed_on, allowed, ground_of, entry_wanted, least_wanted, is_reviewed, policy_wanted, needs_advice, entry_asked, holding_asked}
-use Rattle.reg_core.specs.Award.{Allowance, new_entry, new_holding, given_in}
-use Rattle.reg_core.specs.Ask.{has_note_form}
+use Rattle.reg_ranges.specs.declared.policy.Treatment.TheVariants.{Under}
+use Rattle.reg_early.specs.EarlyRequirements.{early_unmet}
+use Rattle.reg_early.specs.Terms.{renewable, renewed_term, settleable, settled_term}
+use Rattle.reg_early.specs.declared.term.Term.{Term}
+use Rattle.reg_core.specs.Allowance.{Ground, or_refusal, policy_for, is_met, is_met_early, value_for, own_entry, may_renew, may_settle, allowance_on, allowed_on, allowed, value_ground, ground_of, least_wanted, is_reviewed, policy_wanted, needs_advice, entry_asked, entry_asked_early, entry_kept, holding_asked}
+use Rattle.reg_core.specs.Award.{Allowance, AwardedEntry, renewed, settled, awarded_entry, new_holding, given_in, entry_on}
 use Rattle.reg_core.specs.LeastFree.{values_in}
-use Rattle.reg_core.specs.MayBeGiven.{IsWanted, MayBeGiven}
+use Rattle.reg_core.specs.Laws.{IsOfAsk}
+use Rattle.reg_core.specs.MayBeGiven.{IsWanted, IsUnder, MayBeGiven, MayBeGivenEarly, MayBeRenewed, MayBeSettled, IsAskedDuly, IsDuly}
 use Rattle.reg_core.specs.Names.{is_name}
-use Rattle.reg_core.specs.Registry.{has_table_form, is_partition}
+use Rattle.reg_core.specs.Registry.{has_table_form}
 use Rattle.reg_core.specs.View.{published}
-use Rattle.reg_core.specs.WellKept.{WellKept, is_open_at}
+use Rattle.reg_core.specs.WellKept.{WellKept}
 use Rattle.reg_core.specs.World.{World}
 use Rattle.reg_core.specs.declared.ask.Ask.{Ask}
-use Rattle.reg_core.specs.declared.ask.Ask.TheVariants.{Code, Block}
+use Rattle.reg_core.specs.declared.ask.Ask.TheVariants.{Code, Early, Renew, Permanent, Block}
 use Rattle.reg_core.specs.declared.ask.BlockAsk.{BlockAsk}
 use Rattle.reg_blocks.specs.Block.{SizedPrefix}
 use Rattle.reg_core.specs.declared.ask.CodeAsk.{CodeAsk}
+use Rattle.reg_core.specs.declared.ask.EarlyAsk.{EarlyAsk}
+use Rattle.reg_core.specs.declared.ask.RenewalAsk.{RenewalAsk}
+use Rattle.reg_core.specs.declared.ask.PermanenceAsk.{PermanenceAsk}
+use Rattle.reg_core.specs.declared.entry.Registration.{Registration}
 use Rattle.reg_core.specs.declared.ask.Want.{Want}
 use Rattle.reg_core.specs.declared.ask.Want.TheVariants.{Value, Least}
 use Rattle.reg_core.specs.declared.refusal.Refusal.{Refusal}
 use Rattle.reg_core.specs.declared.refusal.Refusal.TheVariants as no
 use Rattle.reg_core.specs.declared.request.Given.{Given}
-use Rattle.reg_core.specs.declared.request.Given.TheVariants as given
+use Rattle.reg_core.proofs.Blocks.{due_is_due}
 use Rattle.reg_core.proofs.Cases.{by_test}
+use Rattle.reg_core.proofs.Terms.{renews, settles}
 use Rattle.reg_core.proofs.ValuesIn.{no_entry}
-
--- ---- Checks in turn
-
-went_on : {A B : Type 0} (x : Result A Refusal) (f : A → Result B Refusal) (y : B) → x >>= f ≡ Ok y
-    → (a : A) × (x ≡ Ok a) × (f a ≡ Ok y)
-went_on (Err e) f y h = absurd (cc)
-went_on (Ok a) f y h = (a, refl, h)
-
-was_some : {A : Type 0} (o : Option A) (refusal : Refusal) (x : A) → or_refusal refusal o ≡ Ok x
-    → o ≡ Some x
-was_some None refusal x h = absurd (cc)
-was_some (Some y) refusal x h = let same : y ≡ x = cc in ap Some same
-
-not_some : {A : Type 0} (o : Option A) → is_some o ≡ false → o ≡ None
-not_some None h = refl
-not_some (Some x) h = absurd (cc)
-
--- ---- Values that are assigned one by one
-
-value_open : (table : Table) (v : ℕ) (policy : Policy) → policy_for table (Value v) ≡ Ok policy
-    → is_ok (open_policy (treatment_of table v)) ≡ true
-value_open table v policy =
-    by_test (λ r. r ≡ Ok policy → is_ok (open_policy (treatment_of table v)) ≡ true)
-    (nat_lt table.max v) (Err no.Range) (open_policy (treatment_of table v))
-    (λ above h. absurd (cc)) (λ inside h. ap is_ok h)
-
-under_open : (table : Table) (policy p : Policy) → policy_for table (Least policy) ≡ Ok p
-    → is_ok (open_policy (Some (Under policy))) ≡ true
-under_open table policy p =
-    by_test (λ o. open_policy o ≡ Ok p → is_ok (open_policy (Some (Under policy))) ≡ true)
-    (list_any (λ range. same_treatment range.treatment (Under policy)) table.ranges)
-    (Some (Under policy)) None
-    (λ there h. ap is_ok h) (λ gone h. absurd (cc))
-
--- a policy by which values are assigned one by one
-opened : (o : Option Treatment) (policy : Policy) → open_policy o ≡ Ok policy
-    → (o ≡ Some (Under policy)) × (is_closed_policy policy ≡ false)
-opened None policy h = absurd (cc)
-opened (Some Reserved) policy h = absurd (cc)
-opened (Some (Under p)) policy h =
-    by_test
-    (λ r. r ≡ Ok policy
-    → (Some (Under p) ≡ Some (Under policy)) × (is_closed_policy policy ≡ false))
-    (is_closed_policy p) (Err no.Policy) (Ok p)
-    (λ closed h. absurd (cc))
-    (λ is_open h. let same : p ≡ policy = cc in
-    (ap (λ q. Some (Under q)) same, subst (λ q. is_closed_policy q ≡ false) same is_open))
-    h
-
-value_policy : (table : Table) (v : ℕ) (policy : Policy) → policy_for table (Value v) ≡ Ok policy
-    → open_policy (treatment_of table v) ≡ Ok policy
-value_policy table v policy =
-    by_test (λ r. r ≡ Ok policy → open_policy (treatment_of table v) ≡ Ok policy)
-    (nat_lt table.max v) (Err no.Range) (open_policy (treatment_of table v))
-    (λ above h. absurd (cc)) (λ inside h. h)
-
-least_policy : (table : Table) (least policy : Policy) → policy_for table (Least least) ≡ Ok policy
-    → (least ≡ policy) × (is_closed_policy policy ≡ false)
-least_policy table least policy =
-    by_test
-    (λ o. open_policy o ≡ Ok policy → (least ≡ policy) × (is_closed_policy policy ≡ false))
-    (list_any (λ range. same_treatment range.treatment (Under least)) table.ranges)
-    (Some (Under least)) None
-    (λ there h.
-    let is = opened (Some (Under least)) policy h in
-    let under = is.0 in
-    let same : least ≡ policy = cc in
-    (same, is.1))
-    (λ gone h. absurd (cc))
-
--- where no item is the first that is missing, none is
-all_met : (items : List Item) (met : Unit {0}) → is_met (first_item items) ≡ Ok met → items ≡ []
-all_met [] met h = refl
-all_met (i ∷ rest) met h = absurd (cc)
-
--- a table has no fault, and is a partition
-pub table_partition : (table : Table) → has_table_form table ≡ true → IsPartition table
-table_partition table form =
-    let no_fault =
-    second_so (nat_lt table.max (2 ^ 32)) (is_partition table)
-    (first_so (nat_lt table.max (2 ^ 32) && is_partition table)
-    (list_all (λ range. has_note_form range.note) table.ranges) form) in
-    partition_from_none table.max table.ranges
-    (none_of (first_fault table.max table.ranges) no_fault)
-  where
-    none_of : {A : Type 0} (o : Option A) → is_none o ≡ true → o ≡ None
-    none_of None h = refl
-    none_of (Some x) h = absurd (cc)
-
-no_treatment : (o : Option Treatment) → is_some o ≡ false → is_ok (open_policy o) ≡ true → ⊥
-no_treatment None none is_open = absurd (cc)
-no_treatment (Some t) none is_open = absurd (cc)
-
--- a value that is assigned one by one is at most the largest
-pub open_below : (table : Table) (v : ℕ) → has_table_form table ≡ true
-    → is_ok (open_policy (treatment_of table v)) ≡ true → v < 2 ^ 32
-open_below table v form is_open =
-    let bounded =
-    first_so (nat_lt table.max (2 ^ 32)) (is_partition table)
-    (first_so (nat_lt table.max (2 ^ 32) && is_partition table)
-    (list_all (λ range. has_note_form range.note) table.ranges) form) in
-    below (nat_lt table.max v) refl bounded
-  where
-    above : nat_lt table.max v ≡ true → ⊥
-    above h =
-        let larger : table.max < v = grind (arith, nat_tests, h) in
-        let none = (treatment_above table (table_partition table form) v).1 larger in
-        no_treatment (treatment_of table v) none is_open
-
-    below : (b : Bool) → nat_lt table.max v ≡ b → nat_lt table.max (2 ^ 32) ≡ true → v < 2 ^ 32
-    below true h bounded = absurd (above h)
-    below false h bounded = grind (arith, nat_tests, h, bounded)
-
--- ---- Free values
-
--- the value is assigned one by one, and has no entry
-pub record IsFree (w : World) (registry : List ℕ) (v : ℕ) : Type 0 where
-  pub is_open : is_open_at (get w.registries registry) v ≡ true
-  pub is_new : get w.entries (registry, v) ≡ None
-  pub below : v < 2 ^ 32
-
-module _ (w : World) (kept : WellKept w) (registry : List ℕ) (table : Table)
-    (is_there : get w.registries registry ≡ Some table) where
-  form : has_table_form table ≡ true
-  form = second_so (is_name registry) (has_table_form table)
-      (kept.registries registry table is_there)
-
-  is_free : (v : ℕ) → is_ok (open_policy (treatment_of table v)) ≡ true
-      → get w.entries (registry, v) ≡ None → IsFree w registry v
-  is_free v is_open is_new = record {
-    is_open = ap (λ o. is_open_at o v) is_there ∙ is_open;
-    is_new = is_new;
-    below = open_below table v form is_open;
-  }
-
-  -- the least value that is wanted is the least under its policy without an entry
-  wanted_least : (least : Policy) (v : ℕ)
-      → or_refusal no.Exhausted (least_wanted (published w) registry (Least least)) ≡ Ok v
-      → IsLeastFree table least (values_in registry w.entries) (Some v)
-  wanted_least least v h =
-      let taken = values_in registry w.entries in
-      let is : least_value table least taken ≡ Some v =
-      sym (ap (option_and_then (λ table. least_value table least taken)) is_there)
-      ∙ was_some (least_wanted (published w) registry (Least least)) no.Exhausted v h in
-      subst (IsLeastFree table least taken) is
-      (least_value_is_least table (table_partition table form) least taken)
-
-  wanted_free : (want : Want) (policy : Policy) (v : ℕ) → policy_for table want ≡ Ok policy
-      → value_for (record {
-        table = get w.registries registry;
-        entry = entry_wanted (published w) registry want;
-        least = least_wanted (published w) registry want;
-        due = None;
-      }) table want ≡ Ok v
-      → IsFree w registry v
-  wanted_free (Value u) policy v by h =
-      by_test (λ r. r ≡ Ok v → IsFree w registry v) (is_some (get w.entries (registry, u)))
-      (Err no.Taken) (Ok u)
-      (λ there h. absurd (cc))
-      (λ gone h. let same : u ≡ v = cc in
-      subst (IsFree w registry) same
-      (is_free u (value_open table u policy by) (not_some (get w.entries (registry, u)) gone)))
-      h
-  wanted_free (Least least) policy v by h =
-      let facts = wanted_least least v h in
-      is_free v (ap (λ t. is_ok (open_policy t)) facts.0 ∙ under_open table least policy by)
-      (no_entry registry w.entries v facts.1)
-
-  -- the policy is that of the value's range
-  wanted_under : (want : Want) (policy : Policy) (v : ℕ) → policy_for table want ≡ Ok policy
-      → value_for (record {
-        table = get w.registries registry;
-        entry = entry_wanted (published w) registry want;
-        least = least_wanted (published w) registry want;
-        due = None;
-      }) table want ≡ Ok v
-      → IsWanted want policy v × (treatment_of table v ≡ Some (Under policy))
-      × (is_closed_policy policy ≡ false)
-  wanted_under (Value u) policy v by h =
-      by_test
-      (λ r. r ≡ Ok v
-      → (u ≡ v) × (treatment_of table v ≡ Some (Under policy))
-      × (is_closed_policy policy ≡ false))
-      (is_some (get w.entries (registry, u))) (Err no.Taken) (Ok u)
-      (λ there h. absurd (cc))
-      (λ gone h. let same : u ≡ v = cc in
-      let is = opened (treatment_of table u) policy (value_policy table u policy by) in
-      (same, subst (λ x. treatment_of table x ≡ Some (Under policy)) same is.0, is.1))
-      h
-  wanted_under (Least least) policy v by h =
-      let facts = wanted_least least v h in
-      let asked = least_policy table least policy by in
-      (asked.0, facts.0 ∙ ap (λ p. Some (Under p)) asked.0, asked.1)
+use Rattle.reg_core.proofs.Checks.{went_on, was_some, not_some, own_is, opened, value_policy, least_policy, all_met, all_met_early, table_partition}
 
 -- ---- What is allowed
 
--- the checks of an allowance for a value, each of which was met
-record Allows (rows : Ground) (account : List ℕ) (ask : CodeAsk)
+-- the checks of an allowance of a new entry, each of which was met
+record Chooses (rows : Ground) (want : Want) (Met : Policy → Type 0) (entry : ℕ → AwardedEntry)
     (allowance : Allowance) : Type 0 where
   table : Table
   is_there : rows.table ≡ Some table
   policy : Policy
-  decides : policy_for table ask.want ≡ Ok policy
-  met : unmet policy ask.evidence ≡ []
+  decides : policy_for table want ≡ Ok policy
+  met : Met policy
   value : ℕ
-  chosen : value_for rows table ask.want ≡ Ok value
-  awards : new_entry (entry_asked account ask value) ≡ allowance.award
+  chosen : value_for rows table want ≡ Ok value
+  awards : awarded_entry (entry value) ≡ allowance.award
   needs : is_expert_policy policy ≡ allowance.needs_advice
+
+-- the checks of an allowance of the account's own entry at a value
+record Keeps (rows : Ground) (account : List ℕ) (v : ℕ) (Met : Policy → Type 0)
+    (May : Term → Type 0) (entry : Registration → AwardedEntry) (needed : Policy → Bool)
+    (allowance : Allowance) : Type 0 where
+  table : Table
+  is_there : rows.table ≡ Some table
+  policy : Policy
+  decides : policy_for table (Value v) ≡ Ok policy
+  met : Met policy
+  own : Registration
+  stands : rows.entry ≡ Some own
+  owns : own.assignee ≡ account
+  may : May own.term
+  awards : awarded_entry (entry own) ≡ allowance.award
+  needs : needed policy ≡ allowance.needs_advice
 
 abbrev unwrap_ok : Result Allowance Refusal → Allowance → Allowance
 unwrap_ok (Ok a) other = a
 unwrap_ok (Err refusal) other = other
 
-allows : (rows : Ground) (account : List ℕ) (ask : CodeAsk) (allowance : Allowance)
-    → allowance_on rows account (Code ask) ≡ Ok allowance → Allows rows account ask allowance
-allows rows account ask allowance h =
+abbrev CodeAllows : Ground → List ℕ → CodeAsk → Allowance → Type 0
+CodeAllows rows account ask =
+    Chooses rows ask.want (λ policy. unmet policy ask.evidence ≡ []) (entry_asked account ask)
+
+code_allows : (rows : Ground) (account : List ℕ) (ask : CodeAsk) (allowance : Allowance)
+    → allowance_on rows account (Code ask) ≡ Ok allowance → CodeAllows rows account ask allowance
+code_allows rows account ask allowance h =
     let there = went_on (or_refusal no.Registry rows.table) _ allowance h in
     let policy = went_on (policy_for there.0 ask.want) _ allowance there.2 in
     let met = went_on (is_met (first_item (unmet policy.0 ask.evidence))) _ allowance policy.2 in
@@ -272,12 +101,92 @@ allows rows account ask allowance h =
       needs = ap (λ r. (unwrap_ok r allowance).needs_advice) last.2;
     }
 
--- what is allowed to an ask for a value is an entry for it
-pub allowed_entry : (rows : Ground) (account : List ℕ) (ask : CodeAsk) (allowance : Allowance)
-    → allowance_on rows account (Code ask) ≡ Ok allowance
-    → (v : ℕ) × (allowance.award ≡ new_entry (entry_asked account ask v))
-allowed_entry rows account ask allowance h =
-    let is = allows rows account ask allowance h in (is.value, sym is.awards)
+abbrev EarlyAllows : Ground → List ℕ → EarlyAsk → Allowance → Type 0
+EarlyAllows rows account ask =
+    Chooses rows ask.want (λ policy. early_unmet policy ask.evidence ≡ [])
+    (entry_asked_early account ask)
+
+early_allows : (rows : Ground) (account : List ℕ) (ask : EarlyAsk) (allowance : Allowance)
+    → allowance_on rows account (Early ask) ≡ Ok allowance
+    → EarlyAllows rows account ask allowance
+early_allows rows account ask allowance h =
+    let there = went_on (or_refusal no.Registry rows.table) _ allowance h in
+    let policy = went_on (policy_for there.0 ask.want) _ allowance there.2 in
+    let met = went_on (is_met_early (first_item (early_unmet policy.0 ask.evidence))) _ allowance
+    policy.2 in
+    let last = went_on (value_for rows there.0 ask.want) _ allowance met.2 in
+    record {
+      table = there.0;
+      is_there = was_some rows.table no.Registry there.0 there.1;
+      policy = policy.0;
+      decides = policy.1;
+      met = all_met_early (early_unmet policy.0 ask.evidence) met.0 met.1;
+      value = last.0;
+      chosen = last.1;
+      awards = ap (λ r. (unwrap_ok r allowance).award) last.2;
+      needs = ap (λ r. (unwrap_ok r allowance).needs_advice) last.2;
+    }
+
+abbrev RenewalAllows : Ground → List ℕ → RenewalAsk → Allowance → Type 0
+RenewalAllows rows account ask =
+    Keeps rows account ask.value (λ policy. early_unmet policy ask.evidence ≡ [])
+    (λ term. (u : Unit {0}) × (may_renew (renewable term) ≡ Ok u))
+    (λ own. entry_kept ask.registry ask.value own (renewed own.term)) (λ policy. false)
+
+renewal_allows : (rows : Ground) (account : List ℕ) (ask : RenewalAsk) (allowance : Allowance)
+    → allowance_on rows account (Renew ask) ≡ Ok allowance
+    → RenewalAllows rows account ask allowance
+renewal_allows rows account ask allowance h =
+    let there = went_on (or_refusal no.Registry rows.table) _ allowance h in
+    let policy = went_on (policy_for there.0 (Value ask.value)) _ allowance there.2 in
+    let met = went_on (is_met_early (first_item (early_unmet policy.0 ask.evidence))) _ allowance
+    policy.2 in
+    let own = went_on (own_entry account rows.entry) _ allowance met.2 in
+    let last = went_on (may_renew (renewable own.0.term)) _ allowance own.2 in
+    let is = own_is account rows.entry own.0 own.1 in
+    record {
+      table = there.0;
+      is_there = was_some rows.table no.Registry there.0 there.1;
+      policy = policy.0;
+      decides = policy.1;
+      met = all_met_early (early_unmet policy.0 ask.evidence) met.0 met.1;
+      own = own.0;
+      stands = is.0;
+      owns = is.1;
+      may = (last.0, last.1);
+      awards = ap (λ r. (unwrap_ok r allowance).award) last.2;
+      needs = ap (λ r. (unwrap_ok r allowance).needs_advice) last.2;
+    }
+
+abbrev PermanenceAllows : Ground → List ℕ → PermanenceAsk → Allowance → Type 0
+PermanenceAllows rows account ask =
+    Keeps rows account ask.value (λ policy. unmet policy ask.evidence ≡ [])
+    (λ term. (u : Unit {0}) × (may_settle (settleable term) ≡ Ok u))
+    (λ own. entry_kept ask.registry ask.value own (settled own.term)) is_expert_policy
+
+permanence_allows : (rows : Ground) (account : List ℕ) (ask : PermanenceAsk)
+    (allowance : Allowance) → allowance_on rows account (Permanent ask) ≡ Ok allowance
+    → PermanenceAllows rows account ask allowance
+permanence_allows rows account ask allowance h =
+    let there = went_on (or_refusal no.Registry rows.table) _ allowance h in
+    let policy = went_on (policy_for there.0 (Value ask.value)) _ allowance there.2 in
+    let met = went_on (is_met (first_item (unmet policy.0 ask.evidence))) _ allowance policy.2 in
+    let own = went_on (own_entry account rows.entry) _ allowance met.2 in
+    let last = went_on (may_settle (settleable own.0.term)) _ allowance own.2 in
+    let is = own_is account rows.entry own.0 own.1 in
+    record {
+      table = there.0;
+      is_there = was_some rows.table no.Registry there.0 there.1;
+      policy = policy.0;
+      decides = policy.1;
+      met = all_met (unmet policy.0 ask.evidence) met.0 met.1;
+      own = own.0;
+      stands = is.0;
+      owns = is.1;
+      may = (last.0, last.1);
+      awards = ap (λ r. (unwrap_ok r allowance).award) last.2;
+      needs = ap (λ r. (unwrap_ok r allowance).needs_advice) last.2;
+    }
 
 -- the checks of an allowance for a block: one was due
 pub record AllowsBlock (rows : Ground) (account : List ℕ) (ask : BlockAsk)
@@ -310,49 +219,231 @@ allowance_of rows account ask given h =
     let ok = whole.2 in
     (whole.0, whole.1, cc)
 
--- what is allowed to an ask for a value is a free value of its registry
-pub allowed_free : (w : World) → WellKept w → (account : List ℕ) (ask : CodeAsk) (v : ℕ)
-    → allowed (published w) account (Code ask) ≡ Ok (given.Value v)
-    → IsFree w ask.registry v
-allowed_free w kept account ask v h =
-    let whole = went_on (allowance_on (ground_of (published w) (Code ask)) account (Code ask)) _
-    (given.Value v) h in
-    let is = allows (ground_of (published w) (Code ask)) account ask whole.0 whole.1 in
-    let of = ap given_in is.awards in
-    let same : is.value ≡ v = cc in
-    subst (IsFree w ask.registry) same
-    (wanted_free w kept ask.registry is.table is.is_there ask.want is.policy is.value is.decides
-    is.chosen)
-
--- and one that may be given, in the words of its policy
-pub allowed_may_be_given : (w : World) → WellKept w → (account : List ℕ) (ask : CodeAsk) (v : ℕ)
-    → allowed (published w) account (Code ask) ≡ Ok (given.Value v)
-    → MayBeGiven w ask v
-allowed_may_be_given w kept account ask v h =
-    let whole = went_on (allowance_on (ground_of (published w) (Code ask)) account (Code ask)) _
-    (given.Value v) h in
-    let is = allows (ground_of (published w) (Code ask)) account ask whole.0 whole.1 in
-    let of = ap given_in is.awards in
-    let same : is.value ≡ v = cc in
-    let under = wanted_under w kept ask.registry is.table is.is_there ask.want is.policy is.value
-    is.decides is.chosen in
-    record {
-      table = is.table;
-      registry = is.is_there;
-      policy = is.policy;
-      wanted = subst (IsWanted ask.want is.policy) same under.0;
-      range = subst (λ x. treatment_of is.table x ≡ Some (Under is.policy)) same under.1;
-      one_by_one = under.2;
-      evidence = is.met;
-      free = (allowed_free w kept account ask v h).is_new;
-    }
+-- what is allowed to an ask is of what the ask names
+pub allowed_of_ask : (w : World) (account : List ℕ) (ask : Ask) (allowance : Allowance)
+    → allowance_on (ground_of (published w) ask) account ask ≡ Ok allowance
+    → IsOfAsk account ask allowance.award
+allowed_of_ask w account (Code ask) allowance h =
+    let is = code_allows (ground_of (published w) (Code ask)) account ask allowance h in
+    subst (IsOfAsk account (Code ask)) is.awards (refl, refl, refl, refl)
+allowed_of_ask w account (Early ask) allowance h =
+    let is = early_allows (ground_of (published w) (Early ask)) account ask allowance h in
+    subst (IsOfAsk account (Early ask)) is.awards (refl, refl, refl, refl)
+allowed_of_ask w account (Renew ask) allowance h =
+    let is = renewal_allows (ground_of (published w) (Renew ask)) account ask allowance h in
+    subst (IsOfAsk account (Renew ask)) is.awards (refl, refl, is.owns, is.own.term, refl)
+allowed_of_ask w account (Permanent ask) allowance h =
+    let is = permanence_allows (ground_of (published w) (Permanent ask)) account ask allowance h in
+    subst (IsOfAsk account (Permanent ask)) is.awards (refl, refl, is.owns, is.own.term, refl)
+allowed_of_ask w account (Block ask) allowance h =
+    let is = allows_block (ground_of (published w) (Block ask)) account ask allowance h in
+    subst (IsOfAsk account (Block ask)) is.awards
+    ((due_is_due w ask.size is.block is.due).of_size, refl, refl, refl)
 
 -- an allowance says whether an expert has to approve
 pub allowance_needs : (rows : Ground) (account : List ℕ) (ask : Ask) (allowance : Allowance)
     → allowance_on rows account ask ≡ Ok allowance
     → needs_advice rows ask ≡ allowance.needs_advice
 allowance_needs rows account (Code ask) allowance h =
-    let is = allows rows account ask allowance h in
+    let is = code_allows rows account ask allowance h in
     ap is_reviewed (ap (λ o. policy_wanted o ask.want) is.is_there ∙ is.decides) ∙ is.needs
+allowance_needs rows account (Early ask) allowance h =
+    let is = early_allows rows account ask allowance h in
+    ap is_reviewed (ap (λ o. policy_wanted o ask.want) is.is_there ∙ is.decides) ∙ is.needs
+allowance_needs rows account (Renew ask) allowance h =
+    (renewal_allows rows account ask allowance h).needs
+allowance_needs rows account (Permanent ask) allowance h =
+    let is = permanence_allows rows account ask allowance h in
+    ap is_reviewed (ap (λ o. policy_wanted o (Value ask.value)) is.is_there ∙ is.decides)
+    ∙ is.needs
 allowance_needs rows account (Block ask) allowance h =
     (allows_block rows account ask allowance h).needs
+
+-- ---- What is so of it
+
+module _ (w : World) (kept : WellKept w) (registry : List ℕ) (table : Table)
+    (is_there : get w.registries registry ≡ Some table) where
+  form : has_table_form table ≡ true
+  form = second_so (is_name registry) (has_table_form table)
+      (kept.registries registry table is_there)
+
+  -- the least value that is wanted is the least under its policy without an entry
+  wanted_least : (least : Policy) (v : ℕ)
+      → or_refusal no.Exhausted (least_wanted (published w) registry (Least least)) ≡ Ok v
+      → IsLeastFree table least (values_in registry w.entries) (Some v)
+  wanted_least least v h =
+      let taken = values_in registry w.entries in
+      let is : least_value table least taken ≡ Some v =
+      sym (ap (option_and_then (λ table. least_value table least taken)) is_there)
+      ∙ was_some (least_wanted (published w) registry (Least least)) no.Exhausted v h in
+      subst (IsLeastFree table least taken) is
+      (least_value_is_least table (table_partition table form) least taken)
+
+  -- a value that is named lies under its policy
+  named_under : (v : ℕ) (policy : Policy) → policy_for table (Value v) ≡ Ok policy
+      → IsUnder w registry v policy
+  named_under v policy by =
+      let is = opened (treatment_of table v) policy (value_policy table v policy by) in
+      record { table = table; is_there = is_there; range = is.0; one_by_one = is.1 }
+
+  -- a value that is chosen lies under the policy, is wanted, and has no entry
+  chosen_under : (want : Want) (policy : Policy) (v : ℕ) → policy_for table want ≡ Ok policy
+      → value_for (value_ground (published w) registry want) table want ≡ Ok v
+      → IsUnder w registry v policy × IsWanted want policy v
+      × (get w.entries (registry, v) ≡ None)
+  chosen_under (Value u) policy v by h =
+      by_test
+      (λ r. r ≡ Ok v
+      → IsUnder w registry v policy × (u ≡ v) × (get w.entries (registry, v) ≡ None))
+      (is_some (get w.entries (registry, u))) (Err no.Taken) (Ok u)
+      (λ there h. absurd (cc))
+      (λ gone h. let same : u ≡ v = cc in (
+        subst (λ x. IsUnder w registry x policy) same (named_under u policy by),
+        same,
+        subst (λ x. get w.entries (registry, x) ≡ None) same
+            (not_some (get w.entries (registry, u)) gone),
+      ))
+      h
+  chosen_under (Least least) policy v by h =
+      let facts = wanted_least least v h in
+      let asked = least_policy table least policy by in (
+        record {
+          table = table;
+          is_there = is_there;
+          range = facts.0 ∙ ap (λ p. Some (Under p)) asked.0;
+          one_by_one = asked.1;
+        },
+        asked.0,
+        no_entry registry w.entries v facts.1,
+      )
+
+module _ (w : World) (kept : WellKept w) (account : List ℕ) (allowance : Allowance) where
+  code_may : (ask : CodeAsk)
+      (is : CodeAllows (ground_of (published w) (Code ask)) account ask allowance)
+      → MayBeGiven w ask is.value
+  code_may ask is =
+      let chosen = chosen_under w kept ask.registry is.table is.is_there ask.want is.policy is.value
+      is.decides is.chosen in
+      record {
+        policy = is.policy;
+        under = chosen.0;
+        wanted = chosen.1;
+        evidence = is.met;
+        free = chosen.2;
+      }
+
+  early_may : (ask : EarlyAsk)
+      (is : EarlyAllows (ground_of (published w) (Early ask)) account ask allowance)
+      → MayBeGivenEarly w ask is.value
+  early_may ask is =
+      let chosen = chosen_under w kept ask.registry is.table is.is_there ask.want is.policy is.value
+      is.decides is.chosen in
+      record {
+        policy = is.policy;
+        under = chosen.0;
+        wanted = chosen.1;
+        evidence = is.met;
+        free = chosen.2;
+      }
+
+  renewal_may : (ask : RenewalAsk)
+      (is : RenewalAllows (ground_of (published w) (Renew ask)) account ask allowance)
+      → MayBeRenewed w account ask is.own
+  renewal_may ask is = record {
+    policy = is.policy;
+    under = named_under w kept ask.registry is.table is.is_there ask.value is.policy is.decides;
+    evidence = is.met;
+    entry = record { stands = is.stands; own = is.owns };
+  }
+
+  permanence_may : (ask : PermanenceAsk)
+      (is : PermanenceAllows (ground_of (published w) (Permanent ask)) account ask allowance)
+      → MayBeSettled w account ask is.own
+  permanence_may ask is = record {
+    policy = is.policy;
+    under = named_under w kept ask.registry is.table is.is_there ask.value is.policy is.decides;
+    evidence = is.met;
+    entry = record { stands = is.stands; own = is.owns };
+  }
+
+-- what an ask is allowed it is given duly, on whatever day that is
+pub allowed_duly : (w : World) → WellKept w → (account : List ℕ) (ask : Ask) (today : ℕ)
+    (allowance : Allowance) (e : AwardedEntry)
+    → allowance_on (ground_of (published w) ask) account ask ≡ Ok allowance
+    → allowance.award ≡ awarded_entry e → IsDuly w today account ask (entry_on today e)
+allowed_duly w kept account (Code ask) today allowance e h award =
+    let is = code_allows (ground_of (published w) (Code ask)) account ask allowance h in
+    let both = is.awards ∙ award in
+    let same : entry_asked account ask is.value ≡ e = cc in
+    subst (λ x. IsDuly w today account (Code ask) (entry_on today x)) same (
+      record { registry_is = refl; label_is = refl; assignee_is = refl; term_is = refl },
+      code_may w kept account allowance ask is,
+    )
+allowed_duly w kept account (Early ask) today allowance e h award =
+    let is = early_allows (ground_of (published w) (Early ask)) account ask allowance h in
+    let both = is.awards ∙ award in
+    let same : entry_asked_early account ask is.value ≡ e = cc in
+    subst (λ x. IsDuly w today account (Early ask) (entry_on today x)) same (
+      record { registry_is = refl; label_is = refl; assignee_is = refl; term_is = refl },
+      early_may w kept account allowance ask is,
+    )
+allowed_duly w kept account (Renew ask) today allowance e h award =
+    let is = renewal_allows (ground_of (published w) (Renew ask)) account ask allowance h in
+    let both = is.awards ∙ award in
+    let same : entry_kept ask.registry ask.value is.own (renewed is.own.term) ≡ e = cc in
+    subst (λ x. IsDuly w today account (Renew ask) (entry_on today x)) same (
+      refl,
+      is.own,
+      renewed_term is.own.term today,
+      record { registry_is = refl; label_is = refl; assignee_is = is.owns; term_is = refl },
+      renewal_may w kept account allowance ask is,
+      renews is.own.term is.may.0 is.may.1 today,
+    )
+allowed_duly w kept account (Permanent ask) today allowance e h award =
+    let is = permanence_allows (ground_of (published w) (Permanent ask)) account ask allowance h in
+    let both = is.awards ∙ award in
+    let same : entry_kept ask.registry ask.value is.own (settled is.own.term) ≡ e = cc in
+    subst (λ x. IsDuly w today account (Permanent ask) (entry_on today x)) same (
+      refl,
+      is.own,
+      settled_term is.own.term,
+      record { registry_is = refl; label_is = refl; assignee_is = is.owns; term_is = refl },
+      permanence_may w kept account allowance ask is,
+      settles is.own.term is.may.0 is.may.1,
+    )
+allowed_duly w kept account (Block ask) today allowance e h award =
+    let both = (allows_block (ground_of (published w) (Block ask)) account ask allowance h).awards
+    ∙ award in
+    absurd (cc)
+
+-- and an ask that is allowed something is taken in duly
+pub allowed_asked : (w : World) → WellKept w → (account : List ℕ) (ask : Ask) (given : Given)
+    → allowed (published w) account ask ≡ Ok given → IsAskedDuly w account ask
+allowed_asked w kept account (Code ask) given h =
+    let rows = ground_of (published w) (Code ask) in
+    let whole = allowance_of rows account (Code ask) given h in
+    let is = code_allows rows account ask whole.0 whole.1 in
+    (is.value, code_may w kept account whole.0 ask is)
+allowed_asked w kept account (Early ask) given h =
+    let rows = ground_of (published w) (Early ask) in
+    let whole = allowance_of rows account (Early ask) given h in
+    let is = early_allows rows account ask whole.0 whole.1 in
+    (is.value, early_may w kept account whole.0 ask is)
+allowed_asked w kept account (Renew ask) given h =
+    let rows = ground_of (published w) (Renew ask) in
+    let whole = allowance_of rows account (Renew ask) given h in
+    let is = renewal_allows rows account ask whole.0 whole.1 in (
+      is.own,
+      renewal_may w kept account whole.0 ask is,
+      λ day. (renewed_term is.own.term day, renews is.own.term is.may.0 is.may.1 day),
+    )
+allowed_asked w kept account (Permanent ask) given h =
+    let rows = ground_of (published w) (Permanent ask) in
+    let whole = allowance_of rows account (Permanent ask) given h in
+    let is = permanence_allows rows account ask whole.0 whole.1 in (
+      is.own,
+      permanence_may w kept account whole.0 ask is,
+      settled_term is.own.term,
+      settles is.own.term is.may.0 is.may.1,
+    )
+allowed_asked w kept account (Block ask) given h = tt

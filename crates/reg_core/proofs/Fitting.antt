@@ -1,6 +1,6 @@
 -- What each rule decides to change fits the world over whose rows it was decided, and so does what
 -- each step changes.
-use Rattle.std.proofs.Common.{◌≡◌, ℕ, Bool, true, List, refl, sym, ap, subst, ◌∙◌, arith}
+use Rattle.std.proofs.Common.{◌≡◌, ℕ, Bool, true, List, refl, ap, subst, arith}
 use Rattle.std.proofs.lemmas.Bool.Decides.{nat_tests}
 use Rattle.std.specs.Cmp.{first_so, second_so}
 use Rattle.std.specs.Cmp.Derive.{both_true}
@@ -11,12 +11,12 @@ use Rattle.reg_early.proofs.MomentsHaveDays.{IsDay-utc_day}
 use Rattle.reg_ranges.specs.Tables.{Table}
 use Rattle.reg_ranges.specs.Texts.{is_text}
 use Rattle.reg_core.specs.Advice.{has_advice_form}
-use Rattle.reg_core.specs.Allowance.{◌>>=◌, allowance_on, allowed, ground_of}
-use Rattle.reg_core.specs.Award.{Allowance, given_in}
+use Rattle.reg_core.specs.Allowance.{allowance_on, ground_of, holding_asked}
+use Rattle.reg_core.specs.Award.{Award, awarded_entry, new_holding, entry_on, holding_from}
 use Rattle.reg_core.specs.Ask.{has_ask_form}
 use Rattle.reg_core.specs.Capability.{last_until, has_cap_form}
 use Rattle.reg_core.specs.Entry.{has_day_form}
-use Rattle.reg_core.specs.Laws.{GivesDigests, ChangesFit}
+use Rattle.reg_core.specs.Laws.{GivesDigests, ChangesFit, IsOfAsk}
 use Rattle.reg_core.specs.Names.{is_name, is_digest}
 use Rattle.reg_core.specs.Rules.{withdraw_rule, listing_rule, decline_rule, assign_rule, advise_rule, change_to_give, approve_rule, define_rule, pool_rule, grant_rule, revoke_rule, submit_rule}
 use Rattle.reg_core.specs.View.{Queued, published, cap_at}
@@ -24,7 +24,7 @@ use Rattle.reg_core.specs.WellKept.{WellKept, CanApply, has_grant_form, has_regi
 use Rattle.reg_core.specs.World.{World, RequestName, pending}
 use Rattle.reg_core.specs.declared.advice.Advice.{Advice}
 use Rattle.reg_core.specs.declared.ask.Ask.{Ask}
-use Rattle.reg_core.specs.declared.ask.Ask.TheVariants.{Code, Block}
+use Rattle.reg_core.specs.declared.ask.Ask.TheVariants.{Block}
 use Rattle.reg_blocks.specs.Block.{SizedPrefix}
 use Rattle.reg_core.specs.declared.capability.Cap.{Cap}
 use Rattle.reg_core.specs.declared.holding.Holder.{Holder}
@@ -34,9 +34,8 @@ use Rattle.reg_core.specs.declared.decide.Decision.TheVariants.{Make}
 use Rattle.reg_core.specs.declared.refusal.Refusal.{Refusal}
 use Rattle.reg_core.specs.declared.request.Case.{Case}
 use Rattle.reg_core.specs.declared.request.Given.{Given}
-use Rattle.reg_core.specs.declared.request.Given.TheVariants.{Value}
 use Rattle.reg_core.specs.declared.request.State.TheVariants.{Pending, Approved, Declined, Withdrawn}
-use Rattle.reg_core.proofs.Allowances.{allowed_entry, allowed_free, allows_block}
+use Rattle.reg_core.proofs.Allowances.{allowed_duly, allowed_of_ask, allows_block}
 use Rattle.reg_core.proofs.Blocks.{due_is_due}
 use Rattle.reg_core.proofs.Keeping.Changes.{can_grant, can_revoke, can_define, can_add_pool, can_submit, can_close, can_assign, can_advise, can_give}
 use Rattle.reg_core.proofs.Keeping.Blocks.{can_give_block, can_mark}
@@ -139,24 +138,32 @@ advise_fits w name expert advice queued change kept is form made =
     (λ pending. can_advise w name expert advice kept is.assigned form)
 
 -- what is given to a request fits the world over whose published rows it is allowed
-given_fits : (w : World) (name : RequestName) (case : Case) (ask : Ask) (today : ℕ)
-    (allowance : Allowance) → WellKept w → get w.requests name ≡ Some case
-    → case.ask ≡ ask → has_day_form today ≡ true
-    → allowance_on (ground_of (published w) ask) name.0 ask ≡ Ok allowance
-    → CanApply w (change_to_give name today allowance.award)
-given_fits w name case (Code ask) today allowance kept is_there asks day is =
-    let entry = allowed_entry (ground_of (published w) (Code ask)) name.0 ask allowance is in
-    let allows : allowed (published w) name.0 (Code ask) ≡ Ok (Value entry.0) =
-    ap (λ r. r >>= (λ (a : Allowance). Ok (given_in a.award))) is
-    ∙ ap (λ a. Ok (given_in a)) entry.1 in
-    subst (λ a. CanApply w (change_to_give name today a)) (sym entry.1)
-    (can_give w name case ask today entry.0 kept is_there asks
-    (allowed_free w kept name.0 ask entry.0 allows) day)
-given_fits w name case (Block ask) today allowance kept is_there asks day is =
-    let its = allows_block (ground_of (published w) (Block ask)) name.0 ask allowance is in
-    subst (λ a. CanApply w (change_to_give name today a)) its.awards
-    (can_give_block w name case ask its.block kept is_there asks
-    (due_is_due w ask.size its.block its.due))
+given_fits : (w : World) (name : RequestName) (case : Case) (today : ℕ) (award : Award)
+    (needs : Bool) → WellKept w → get w.requests name ≡ Some case → has_day_form today ≡ true
+    → allowance_on (ground_of (published w) case.ask) name.0 case.ask
+    ≡ Ok (record { award = award; needs_advice = needs })
+    → CanApply w (change_to_give name today award)
+given_fits w name case today (awarded_entry e) needs kept is_there day allows =
+    can_give w name case case.ask today (entry_on today e) kept is_there refl
+    (allowed_duly w kept name.0 case.ask today _ e allows refl) day
+given_fits w name case today (new_holding h) needs kept is_there day allows =
+    at case.ask refl allows
+    (allowed_of_ask w name.0 case.ask (record { award = new_holding h; needs_advice = needs })
+    allows)
+  where
+    at : (ask : Ask) → case.ask ≡ ask
+        → allowance_on (ground_of (published w) ask) name.0 ask
+        ≡ Ok (record { award = new_holding h; needs_advice = needs })
+        → IsOfAsk name.0 ask (new_holding h)
+        → CanApply w (GiveBlock name.0 name.1 (holding_from h))
+    at (Block ask) asks allows of =
+        let is = allows_block (ground_of (published w) (Block ask)) name.0 ask _ allows in
+        let awards = is.awards in
+        let same : holding_asked name.0 ask is.block ≡ h = cc in
+        subst (λ x. CanApply w (GiveBlock name.0 name.1 (holding_from x))) same
+        (can_give_block w name case ask is.block kept is_there asks
+        (due_is_due w ask.size is.block is.due))
+    at ask asks allows of = absurd of
 
 -- an approval that is to be made on a day fits the world over whose published rows it was decided
 pub approve_fits : (w : World) (advised : Bool) (name : RequestName) (case : Case) (today : ℕ)
@@ -170,7 +177,8 @@ approve_fits w advised name case today change kept is_there day made =
     (approve_decides
     (ground_of (published w) case.ask) advised name case.ask today case.state) made
     (CanApply w)
-    (λ facts. given_fits w name case case.ask today facts.2 kept is_there refl day facts.3)
+    (λ facts.
+    given_fits w name case today facts.2.award facts.2.needs_advice kept is_there day facts.3)
 
 -- ---- Each change of a step
 
@@ -216,10 +224,11 @@ module _ (w : World) (kept : WellKept w) (caller : Option (List ℕ)) (moment : 
       can_advise w (account, reference) expert advice kept due.2 form
   due_fits (GiveValue account reference entry) due form =
       let is = due.1 in
-      let free = allowed_free w kept account is.ask entry.value is.allows in
       subst (λ e. CanApply w (GiveValue account reference e)) is.is
-      (can_give w (account, reference) is.pending.case is.ask
-      (utc_day moment) entry.value kept is.pending.is_there is.asks free (open_day moment now))
+      (can_give w (account, reference) is.pending.case is.ask (utc_day moment)
+      (entry_on (utc_day moment) is.award) kept is.pending.is_there is.asks
+      (allowed_duly w kept account is.ask (utc_day moment) _ is.award is.allows refl)
+      (open_day moment now))
   due_fits (GiveBlock account reference holding) due form =
       let is = due.1 in
       subst (λ h. CanApply w (GiveBlock account reference h)) is.is

@@ -1,5 +1,5 @@
 -- What a well kept world has stays in every run.
-use Rattle.std.proofs.Common.{◌≡◌, ℕ, Bool, true, false, cond, List, [], ◌∷◌, refl, sym, ap, subst, ◌∙◌}
+use Rattle.std.proofs.Common.{◌≡◌, ℕ, Bool, true, false, cond, List, [], ◌∷◌, refl, sym, ap, subst, ◌∙◌, inl}
 use Rattle.std.specs.Prelude.{Option, Some, None, is_some, option_map}
 use Rattle.std.specs.Cmp.{first_so, second_so}
 use Rattle.std.specs.declared.cmp.Ordering.{Ordering}
@@ -9,17 +9,16 @@ use Rattle.std.specs.FinSet.{FinSet}
 use Rattle.reg_early.specs.Moment.{utc_day}
 use Rattle.reg_ranges.specs.Tables.{Table}
 use Rattle.reg_core.specs.Command.{has_command_form}
-use Rattle.reg_core.specs.Allowance.{entry_asked}
-use Rattle.reg_core.specs.Award.{entry_on}
 use Rattle.reg_core.specs.Entry.{registration_in}
 use Rattle.reg_core.specs.Holding.{holder_in, with_mark}
 use Rattle.reg_blocks.specs.Block.{SizedPrefix, block_cmp}
 use Rattle.reg_core.specs.Laws.{GivesDigests, GivenStays, SameReview, Stays, StillGiven, StillHeld, StillStands, StillAsks}
 use Rattle.reg_core.specs.Maps.{text_cmp, update}
+use Rattle.reg_core.specs.MayBeGiven.{IsDuly, place_of}
 use Rattle.reg_core.specs.Request.{is_pending}
 use Rattle.reg_core.specs.Run.{Event, have_forms, step_of, world_after}
 use Rattle.reg_core.specs.WellKept.{WellKept}
-use Rattle.reg_core.specs.World.{World, RequestName, Seat, name_cmp, seat_cmp, in_state, pending, applied, applied_if}
+use Rattle.reg_core.specs.World.{World, RequestName, Place, Seat, name_cmp, place_cmp, seat_cmp, in_state, pending, applied, applied_if}
 use Rattle.reg_core.specs.declared.advice.Advice.{Advice}
 use Rattle.reg_core.specs.declared.ask.Ask.{Ask}
 use Rattle.reg_core.specs.declared.change.Change.{Change}
@@ -36,9 +35,9 @@ use Rattle.reg_core.proofs.Keeping.RunsKeepWell.{step_keeps_well}
 use Rattle.reg_core.proofs.KeySets.{still_in}
 use Rattle.reg_core.proofs.MapLaws.{IsKeyOrder, number_keys, text_keys, name_keys, place_keys, seat_keys, block_keys, tied, get-at_insert, get-update}
 use Rattle.reg_core.specs.declared.change.Change.TheVariants.{Grant, Revoke, Define, AddPool, Submit, Close, Assign, Advise, GiveValue, GiveBlock, SetPrivate}
-use Rattle.reg_core.proofs.Allowances.{allowed_free}
 use Rattle.reg_core.proofs.Blocks.{due_is_new}
 use Rattle.reg_core.proofs.Outcomes.Dues.{WasPending, Due, each_step}
+use Rattle.reg_core.proofs.TermsStand.{term_stands_on, given_duly, still_given}
 
 -- ---- Nothing goes away
 
@@ -50,7 +49,7 @@ stands_itself Withdrawn = refl
 
 given_itself : (a : Registration) (existing : Option Registration) → existing ≡ Some a
     → StillGiven a existing
-given_itself a existing is = subst (StillGiven a) (sym is) (refl, refl, refl)
+given_itself a existing is = subst (StillGiven a) (sym is) (refl, refl, inl refl)
 
 held_itself : (h : Holder) (existing : Option Holder) → existing ≡ Some h → StillHeld h existing
 held_itself h existing is = subst (StillHeld h) (sym is) (refl, refl, refl)
@@ -100,7 +99,7 @@ given_on a (Some b) later h k = on later (k b refl)
   where
     on : (later : Option Registration) → StillGiven b later → StillGiven a later
     on None k = k
-    on (Some c) k = (k.0 ∙ h.0, k.1 ∙ h.1, k.2 ∙ h.2)
+    on (Some c) k = (k.0 ∙ h.0, k.1 ∙ h.1, term_stands_on a.term b.term c.term h.2 k.2)
 
 held_on : (h : Holder) (now later : Option Holder) → StillHeld h now
     → ((k : Holder) → now ≡ Some k → StillHeld k later) → StillHeld h later
@@ -276,20 +275,29 @@ close_stays w name state was = record {
   blocks = λ block h is. held_itself h (get w.blocks block) is;
 }
 
-give_stays : (w : World) (name : RequestName) (entry : Entry) → WasPending w name
-    → get w.entries (entry.registry, entry.value) ≡ None
+-- an entry is given at a place that has none, or in place of the same entry in another term
+give_stays : (w : World) (name : RequestName) (today : ℕ) (ask : Ask) (entry : Entry)
+    → WasPending w name → IsDuly w today name.0 ask entry
     → Stays w (applied w (GiveValue name.0 name.1 entry))
-give_stays w name entry was free = record {
+give_stays w name today ask entry was duly = record {
   registries = λ name table is. is;
   entries = λ place a is.
-      given_itself a _
-      (stays_there place_keys w.entries (entry.registry, entry.value)
-      (registration_in entry) free place a is);
+      subst (StillGiven a)
+      (sym (get-at_insert place_keys w.entries (place_of entry) (registration_in entry) place))
+      (by place a is (eq_by_cmp place_cmp place (place_of entry)) refl);
   requests = state_stays w name (Approved (Value entry.value)) was;
   reviews = λ name case is decided expert. (refl, refl);
   pool = λ prefix there. there;
   blocks = λ block h is. held_itself h (get w.blocks block) is;
 }
+  where
+    by : (place : Place) (a : Registration) → get w.entries place ≡ Some a → (b : Bool)
+        → eq_by_cmp place_cmp place (place_of entry) ≡ b
+        → StillGiven a (cond b (Some (registration_in entry)) (get w.entries place))
+    by place a is true t =
+        still_given w today name.0 entry ask duly a
+        (ap (get w.entries) (sym (tied place_keys place (place_of entry) t)) ∙ is)
+    by place a is false t = given_itself a (get w.entries place) is
 
 give_block_stays : (w : World) (name : RequestName) (holding : Holding) → WasPending w name
     → get w.blocks holding.block ≡ None
@@ -350,11 +358,8 @@ module _ (w : World) (kept : WellKept w) (caller : Option (List ℕ)) (moment : 
       registers_stay w w.caps w.queue (insert w.advice ((account, reference), expert) advice)
       (advised_review w (account, reference) due.1 expert advice)
   due_stays (GiveValue account reference entry) due =
-      let is = due.1 in
-      subst (λ e. Stays w (applied w (GiveValue account reference e))) is.is
-      (give_stays w (account, reference)
-      (entry_on (utc_day moment) (entry_asked account is.ask entry.value)) is.pending
-      (allowed_free w kept account is.ask entry.value is.allows).is_new)
+      let is = given_duly w kept (utc_day moment) account reference entry due.1 in
+      give_stays w (account, reference) (utc_day moment) is.ask entry due.1.pending is.duly
   due_stays (GiveBlock account reference holding) due =
       let is = due.1 in
       give_block_stays w (account, reference) holding is.pending

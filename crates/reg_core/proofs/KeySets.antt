@@ -30,17 +30,17 @@ module _ {K X : Type 0} {R : K → K → Ordering} (o : IsKeyOrder R) (m : FinMa
       by true t there = subst P (sym (tied o q k t)) new
       by false t there = each q there
 
-  -- a test that no missing row passes is passed by a row after an insertion, and so is it after a
-  -- replacement that keeps what it passes
-  pub insert_passes : (test : Option X → Bool) → test None ≡ false → (v : X) → get m k ≡ None
+  -- a test that the new row passes if the one in its place does is passed by each row after an
+  -- insertion that did before; and so it is after a replacement that keeps what passes it
+  pub insert_passes : (test : Option X → Bool) (v : X)
+      → (test (get m k) ≡ true → test (Some v) ≡ true)
       → (q : K) → test (get m q) ≡ true → test (get (insert m k v) q) ≡ true
-  insert_passes test bare v free q h = by (eq_by_cmp R q k) refl
+  insert_passes test v new q h = by (eq_by_cmp R q k) refl
     where
       by : (b : Bool) → eq_by_cmp R q k ≡ b → test (get (insert m k v) q) ≡ true
       by true t =
-          let none : test (get m q) ≡ false =
-          ap test (ap (get m) (tied o q k t) ∙ free) ∙ bare in
-          absurd (cc)
+          ap test (get-at_insert o m k v q ∙ ap (λ b. cond b (Some v) (get m q)) t)
+          ∙ new (subst (λ q. test (get m q) ≡ true) (tied o q k t) h)
       by false t =
           ap test (get-at_insert o m k v q ∙ ap (λ b. cond b (Some v) (get m q)) t) ∙ h
 

@@ -1,4 +1,5 @@
 pub mod Places
+pub mod EntriesInRange
 pub mod Cases
 pub mod MapLaws
 pub mod KeySets
@@ -9,14 +10,19 @@ pub mod Blocks
 pub mod Queues
 pub mod Files
 pub mod ValuesIn
+pub mod Terms
+pub mod Checks
 pub mod Allowances
 pub mod Outcomes
 pub mod Fitting
 pub mod Keeping
+pub mod TermsStand
 pub mod GivenStays
 pub mod BlocksAreGivenDuly
 pub mod TwoWorlds
 pub mod ValuesAreGivenOnce
+pub mod TermsMoveDuly
+pub mod AsksInVain
 pub mod Repeats
 pub mod Striking
 mod Worked

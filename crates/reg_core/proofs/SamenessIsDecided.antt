@@ -1,12 +1,14 @@
 -- The tests of sameness decide equality.
-use Rattle.std.proofs.Common.{◌≡◌, ℕ, Bool, true, ◌&&◌, List, refl, subst, ap, rules}
+use Rattle.std.proofs.Common.{◌≡◌, ℕ, Bool, true, ◌&&◌, ◌==◌, List, refl, subst, ap, rules}
 use Rattle.std.proofs.lemmas.Bool.{eqb-true, eq-eqb}
-use Rattle.std.specs.Bool.{Decides}
+use Rattle.std.specs.Bool.{Decides, beq}
+use Rattle.std.specs.Cmp.{booleans_Decides, unsigned_Decides}
+use Rattle.std.specs.Option.{option_eq}
 use Rattle.std.specs.Str.{bytes_eq}
 use Rattle.std.proofs.lemmas.Slice.Eq.{bytes_eq-Decides}
 use Rattle.std.specs.Prelude.{Option, Some, None}
 use Rattle.reg_core.specs.Advice.{same_advice, is_given}
-use Rattle.reg_core.specs.Ask.{same_want, same_code, same_size, same_block, same_ask}
+use Rattle.reg_core.specs.Ask.{same_want, same_code, same_early, same_renewal, same_permanence, same_size, same_block, same_ask}
 use Rattle.reg_core.specs.declared.ask.Want.{Want}
 use Rattle.reg_core.specs.declared.ask.Want.TheVariants.{Value, Least}
 use Rattle.reg_core.specs.Capability.{same_cap, same_kind}
@@ -14,13 +16,18 @@ use Rattle.reg_core.specs.Laws.{DecidesSame}
 use Rattle.reg_core.specs.Maps.{same_text}
 use Rattle.reg_ranges.specs.Sameness.{same_evidence, same_table}
 use Rattle.reg_ranges.specs.Tables.{Table}
-use Rattle.reg_ranges.proofs.SamenessDecides.{policy_decided, both_decided, evidence_decided, table_decided}
+use Rattle.reg_ranges.proofs.SamenessDecides.{policy_decided, option_decided, both_decided, evidence_decided, table_decided}
 use Rattle.reg_core.specs.declared.advice.Advice.{Advice}
 use Rattle.reg_core.specs.declared.ask.Ask.{Ask}
-use Rattle.reg_core.specs.declared.ask.Ask.TheVariants.{Code, Block}
+use Rattle.reg_core.specs.declared.ask.Ask.TheVariants.{Code, Early, Renew, Permanent, Block}
 use Rattle.reg_core.specs.declared.ask.BlockAsk.{BlockAsk}
 use Rattle.reg_blocks.specs.declared.size.Size.{Size}
 use Rattle.reg_core.specs.declared.ask.CodeAsk.{CodeAsk}
+use Rattle.reg_core.specs.declared.ask.EarlyAsk.{EarlyAsk}
+use Rattle.reg_core.specs.declared.ask.RenewalAsk.{RenewalAsk}
+use Rattle.reg_core.specs.declared.ask.PermanenceAsk.{PermanenceAsk}
+use Rattle.reg_early.specs.Sameness.{same_early_evidence}
+use Rattle.reg_early.specs.declared.evidence.EarlyEvidence.{EarlyEvidence}
 use Rattle.reg_core.specs.declared.capability.Cap.{Cap}
 use Rattle.reg_core.specs.declared.capability.Kind.{Kind}
 
@@ -110,6 +117,110 @@ code_decided a b =
       ),
     )
 
+text_decided : (o p : Option (List ℕ)) → Decides (option_eq bytes_eq o p) (o ≡ p)
+text_decided = option_decided bytes_eq bytes_eq-Decides
+
+early_evidence_decided : (a b : EarlyEvidence) → Decides (same_early_evidence a b) (a ≡ b)
+early_evidence_decided a b =
+    let director = option_eq bytes_eq a.director b.director in
+    let will_be = beq a.will_be_rfc b.will_be_rfc in
+    let chair = option_eq bytes_eq a.chair b.chair in
+    let interest = beq a.interest b.interest in
+    let stable = beq a.stable b.stable in
+    let parts =
+    both_decided (option_eq bytes_eq a.draft b.draft)
+    (stable && (interest && (chair && (director && will_be))))
+    (text_decided a.draft b.draft)
+    (both_decided stable (interest && (chair && (director && will_be)))
+    (booleans_Decides a.stable b.stable)
+    (both_decided interest (chair && (director && will_be))
+    (booleans_Decides a.interest b.interest)
+    (both_decided chair (director && will_be) (text_decided a.chair b.chair)
+    (both_decided director will_be (text_decided a.director b.director)
+    (booleans_Decides a.will_be_rfc b.will_be_rfc))))) in (
+      λ h. let e = parts.0 h in
+          λ i. record {
+            draft = e.0 i;
+            stable = e.1.0 i;
+            interest = e.1.1.0 i;
+            chair = e.1.1.1.0 i;
+            director = e.1.1.1.1.0 i;
+            will_be_rfc = e.1.1.1.1.1 i;
+          },
+      λ e. parts.1 (
+        ap (λ (x : EarlyEvidence). x.draft) e,
+        (
+          ap (λ (x : EarlyEvidence). x.stable) e,
+          (
+            ap (λ (x : EarlyEvidence). x.interest) e,
+            (
+              ap (λ (x : EarlyEvidence). x.chair) e,
+              (
+                ap (λ (x : EarlyEvidence). x.director) e,
+                ap (λ (x : EarlyEvidence). x.will_be_rfc) e,
+              ),
+            ),
+          ),
+        ),
+      ),
+    )
+
+early_decided : (a b : EarlyAsk) → Decides (same_early a b) (a ≡ b)
+early_decided a b =
+    let label = bytes_eq a.label b.label in
+    let evidence = same_early_evidence a.evidence b.evidence in
+    let parts = both_decided (bytes_eq a.registry b.registry)
+    (same_want a.want b.want && (label && evidence)) (bytes_eq-Decides a.registry b.registry)
+    (both_decided (same_want a.want b.want) (label && evidence) (want_decided a.want b.want)
+    (both_decided label evidence (bytes_eq-Decides a.label b.label)
+    (early_evidence_decided a.evidence b.evidence))) in (
+      λ h. let e = parts.0 h in
+          λ i. record {
+            registry = e.0 i;
+            want = e.1.0 i;
+            label = e.1.1.0 i;
+            evidence =
+                e.1.1.1 i;
+          },
+      λ e. parts.1 (
+        ap (λ (x : EarlyAsk). x.registry) e,
+        (
+          ap (λ (x : EarlyAsk). x.want) e,
+          (ap (λ (x : EarlyAsk). x.label) e, ap (λ (x : EarlyAsk). x.evidence) e),
+        ),
+      ),
+    )
+
+renewal_decided : (a b : RenewalAsk) → Decides (same_renewal a b) (a ≡ b)
+renewal_decided a b =
+    let evidence = same_early_evidence a.evidence b.evidence in
+    let parts = both_decided (bytes_eq a.registry b.registry) ((a.value == b.value) && evidence)
+    (bytes_eq-Decides a.registry b.registry)
+    (both_decided (a.value == b.value) evidence (unsigned_Decides a.value b.value)
+    (early_evidence_decided a.evidence b.evidence)) in (
+      λ h. let e = parts.0 h in
+          λ i. record { registry = e.0 i; value = e.1.0 i; evidence = e.1.1 i },
+      λ e. parts.1 (
+        ap (λ (x : RenewalAsk). x.registry) e,
+        (ap (λ (x : RenewalAsk). x.value) e, ap (λ (x : RenewalAsk). x.evidence) e),
+      ),
+    )
+
+permanence_decided : (a b : PermanenceAsk) → Decides (same_permanence a b) (a ≡ b)
+permanence_decided a b =
+    let evidence = same_evidence a.evidence b.evidence in
+    let parts = both_decided (bytes_eq a.registry b.registry) ((a.value == b.value) && evidence)
+    (bytes_eq-Decides a.registry b.registry)
+    (both_decided (a.value == b.value) evidence (unsigned_Decides a.value b.value)
+    (evidence_decided a.evidence b.evidence)) in (
+      λ h. let e = parts.0 h in
+          λ i. record { registry = e.0 i; value = e.1.0 i; evidence = e.1.1 i },
+      λ e. parts.1 (
+        ap (λ (x : PermanenceAsk). x.registry) e,
+        (ap (λ (x : PermanenceAsk). x.value) e, ap (λ (x : PermanenceAsk). x.evidence) e),
+      ),
+    )
+
 pub same_size-is : (a b : Size) → same_size a b ≡ true → a ≡ b
 same_size-is a b = search rules
 
@@ -125,19 +236,20 @@ same_block-itself ask = search rules
 block_decided : (a b : BlockAsk) → Decides (same_block a b) (a ≡ b)
 block_decided = from_both same_block same_block-is same_block-itself
 
-ask_decided : (a b : Ask) → Decides (same_ask a b) (a ≡ b)
-ask_decided (Code a) (Code b) =
-    (λ h. ap Code ((code_decided a b).0 h), λ e. (code_decided a b).1 (cc))
-ask_decided (Block a) (Block b) =
-    (λ h. ap Block ((block_decided a b).0 h), λ e. (block_decided a b).1 (cc))
-ask_decided (Code a) (Block b) = (λ h. absurd (cc), λ e. absurd (cc))
-ask_decided (Block a) (Code b) = (λ h. absurd (cc), λ e. absurd (cc))
-
 pub same_ask-is : (a b : Ask) → same_ask a b ≡ true → a ≡ b
-same_ask-is a b h = (ask_decided a b).0 h
+same_ask-is (Code a) (Code b) h = ap Code ((code_decided a b).0 h)
+same_ask-is (Early a) (Early b) h = ap Early ((early_decided a b).0 h)
+same_ask-is (Renew a) (Renew b) h = ap Renew ((renewal_decided a b).0 h)
+same_ask-is (Permanent a) (Permanent b) h = ap Permanent ((permanence_decided a b).0 h)
+same_ask-is (Block a) (Block b) h = ap Block ((block_decided a b).0 h)
+same_ask-is a b h = absurd (cc)
 
 pub same_ask-itself : (ask : Ask) → same_ask ask ask ≡ true
-same_ask-itself ask = (ask_decided ask ask).1 refl
+same_ask-itself (Code ask) = (code_decided ask ask).1 refl
+same_ask-itself (Early ask) = (early_decided ask ask).1 refl
+same_ask-itself (Renew ask) = (renewal_decided ask ask).1 refl
+same_ask-itself (Permanent ask) = (permanence_decided ask ask).1 refl
+same_ask-itself (Block ask) = (block_decided ask ask).1 refl
 
 pub same_ask-decides : DecidesSame same_ask
 same_ask-decides = from_both same_ask same_ask-is same_ask-itself

@@ -1,21 +1,41 @@
--- The values of a registry are those at which it has an entry.
-use Rattle.std.proofs.Common.{◌≡◌, ℕ, Bool, true, false, List, [], ◌∷◌, refl, sym, ap, ◌∙◌, inl, inr, arith}
+-- The values of a registry are those at which it has an entry, and they ascend.
+use Rattle.std.proofs.Common.{◌≡◌, ℕ, Bool, true, false, List, [], ◌∷◌, refl, sym, ap, subst, ◌∙◌, inl, inr, arith}
 use Rattle.std.specs.Prelude.{Option, Some, None, Contains, IsTrue, ◌↔◌, is_some, map, option_and_then}
-use Rattle.std.specs.FinMap.{FinMap, get, contains_key, entries}
+use Rattle.std.specs.declared.cmp.Ordering.TheVariants.{Less, Equal}
+use Rattle.std.specs.FinMap.{FinMap, get, contains_key, entries, keys}
 use Rattle.std.specs.List.{AllByRecursion}
-use Rattle.std.proofs.lemmas.List.Elements.{recursion_from_All}
+use Rattle.std.specs.List.Sorted.{IsStrictlyIncreasing, IsStrictlySortedBy}
+use Rattle.std.specs.Ordering.{nat_cmp, ordering_then}
+use Rattle.std.proofs.lemmas.Cmp.{tied_itself}
+use Rattle.std.proofs.lemmas.List.Elements.{All-map, recursion_from_All}
+use Rattle.std.proofs.lemmas.Map.Keys.{IsStrictlyIncreasing-from_sorted}
+use Rattle.std.proofs.lemmas.Simd.{map-map}
 use Rattle.std.proofs.lemmas.Slice.Eq.{bytes_eq-Decides}
 use Rattle.reg_ranges.proofs.LeastGap.{has_cases}
+use Rattle.reg_core.specs.Entry.{entry_row}
 use Rattle.reg_core.specs.LeastFree.{values_in}
-use Rattle.reg_core.specs.Maps.{same_text, only_if}
+use Rattle.reg_core.specs.Maps.{same_text, only_if, text_cmp}
+use Rattle.reg_core.specs.Page.{entry_rows}
 use Rattle.reg_core.specs.View.{entries_of}
 use Rattle.reg_core.specs.World.{Place, place_cmp}
 use Rattle.reg_core.specs.declared.entry.Registration.{Registration}
-use Rattle.reg_core.proofs.MapLaws.{place_keys, get-select, All-entries, Contains-map, Contains-entries}
+use Rattle.reg_core.proofs.MapLaws.{place_keys, text_keys, get-select, All-entries, ascending-keys, Contains-map, Contains-entries}
 use Rattle.reg_core.proofs.SamenessIsDecided.{same_text-itself}
 
 module _ (registry : List ℕ) (m : FinMap place_cmp Registration) where
-  -- an entry of the registry stands at its value
+  -- an entry of the registry has a place of its own
+  is_own : (place : Place) (a : Registration) (at : Option Registration)
+      → option_and_then (λ a. only_if (same_text place.0 registry) a) at ≡ Some a
+      → place.0 ≡ registry
+  is_own place a None e = absurd (cc)
+  is_own place a (Some old) e = chosen (same_text place.0 registry) refl e
+    where
+      chosen : (b : Bool) → same_text place.0 registry ≡ b → only_if b old ≡ Some a
+          → place.0 ≡ registry
+      chosen true t e = (bytes_eq-Decides place.0 registry).0 t
+      chosen false t e = absurd (cc)
+
+  -- and stands at its value
   at_value : (place : Place) (a : Registration) → get (entries_of registry m) place ≡ Some a
       → contains_key m (registry, place.1) ≡ true
   at_value place a found =
@@ -25,15 +45,9 @@ module _ (registry : List ℕ) (m : FinMap place_cmp Registration) where
           → option_and_then (λ a. only_if (same_text place.0 registry) a) at ≡ Some a
           → contains_key m (registry, place.1) ≡ true
       from None is e = absurd (cc)
-      from (Some old) is e = chosen (same_text place.0 registry) refl e
-        where
-          chosen : (b : Bool) → same_text place.0 registry ≡ b → only_if b old ≡ Some a
-              → contains_key m (registry, place.1) ≡ true
-          chosen true t e =
-              ap (λ name. is_some (get m (name, place.1)))
-              (sym ((bytes_eq-Decides place.0 registry).0 t))
-              ∙ ap is_some is
-          chosen false t e = absurd (cc)
+      from (Some old) is e =
+          ap (λ name. is_some (get m (name, place.1))) (sym (is_own place a (Some old) e))
+          ∙ ap is_some is
 
   at_values : (es : List (Place × Registration)) (v : ℕ)
       → AllByRecursion (λ e. contains_key m (registry, e.0.1) ≡ true) es
@@ -68,6 +82,53 @@ module _ (registry : List ℕ) (m : FinMap place_cmp Registration) where
         (All-entries place_keys.total (λ e. contains_key m (registry, e.0.1) ≡ true)
         (entries_of registry m) at_value)) has),
   )
+
+  -- the places of all entries of the registry are its own
+  places_are_own : AllByRecursion (λ place. place.0 ≡ registry) (keys (entries_of registry m))
+  places_are_own =
+      recursion_from_All (λ place. place.0 ≡ registry) (keys (entries_of registry m))
+      (All-map (λ place. place.0 ≡ registry) (λ e. e.0) (entries (entries_of registry m))
+      (All-entries place_keys.total (λ e. e.0.0 ≡ registry) (entries_of registry m)
+      (λ place a found.
+      is_own place a (get m place) (sym (get-select place_keys _ m place) ∙ found))))
+
+  -- of two of its places in order the values are in order
+  value_below : (k l : Place) → k.0 ≡ registry → l.0 ≡ registry → place_cmp k l ≡ Less
+      → nat_cmp k.1 l.1 ≡ Less
+  value_below k l p q less =
+      let tie : text_cmp k.0 l.0 ≡ Equal = rw (p, q) (tied_itself text_keys.total registry) in
+      sym (ap (λ o. ordering_then o (nat_cmp k.1 l.1)) tie) ∙ less
+
+  values_below : (k : Place) (ks : List Place) → k.0 ≡ registry
+      → AllByRecursion (λ l. place_cmp k l ≡ Less) ks
+      → AllByRecursion (λ l. l.0 ≡ registry) ks
+      → AllByRecursion (λ v. nat_cmp k.1 v ≡ Less) (map (λ l. l.1) ks)
+  values_below k [] p below own = tt
+  values_below k (l ∷ ls) p below own =
+      (value_below k l p own.0 below.0, values_below k ls p below.1 own.1)
+
+  rising : (ks : List Place) → IsStrictlySortedBy place_cmp ks
+      → AllByRecursion (λ k. k.0 ≡ registry) ks → IsStrictlySortedBy nat_cmp (map (λ k. k.1) ks)
+  unfolding IsStrictlySortedBy
+  rising [] sorted own = tt
+  rising (k ∷ ks) sorted own =
+      (values_below k ks own.0 sorted.0 own.1, rising ks sorted.1 own.1)
+
+  -- the values of the registry ascend
+  values_ascend : IsStrictlyIncreasing (values_in registry m)
+  values_ascend =
+      let own = entries_of registry m in
+      subst IsStrictlyIncreasing (map-map (λ k. k.1) (λ e. e.0) (entries own))
+      (IsStrictlyIncreasing-from_sorted (map (λ k. k.1) (keys own))
+      (rising (keys own) (ascending-keys own) places_are_own))
+
+  -- so do those of its entries as rows
+  pub rows_ascend : IsStrictlyIncreasing (map (λ e. e.value) (entry_rows (entries_of registry m)))
+  rows_ascend =
+      let own = entries_of registry m in
+      subst IsStrictlyIncreasing
+      (sym (map-map (λ e. e.value) (λ e. entry_row e.0.0 e.0.1 e.1) (entries own)))
+      values_ascend
 
   -- a value that is not among them has no entry
   pub no_entry : (v : ℕ) → ¬ (Contains (values_in registry m) v) → get m (registry, v) ≡ None

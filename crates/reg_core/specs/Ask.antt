@@ -1,6 +1,8 @@
 -- What an ask is.
-use Rattle.std.specs.Prelude.{ℕ, Bool, true, false, ◌&&◌, ◌==◌, ◌^◌, nat_lt, bytes_eq, List, Option}
+use Rattle.std.specs.Prelude.{ℕ, Bool, true, false, ◌&&◌, ◌==◌, ◌^◌, nat_lt, bytes_eq, List, Option, Some, None}
 pub use Rattle.reg_ranges.specs.Forms.{has_evidence_form}
+use Rattle.reg_early.specs.Forms.{has_early_form}
+use Rattle.reg_early.specs.Sameness.{same_early_evidence}
 use Rattle.reg_ranges.specs.Forms.{is_none_or, is_rfc}
 use Rattle.reg_ranges.specs.Rfcs.{PublishedRfc}
 use Rattle.reg_ranges.specs.Sameness.{same_policy, same_evidence}
@@ -10,8 +12,11 @@ use Rattle.reg_blocks.specs.declared.size.Size.{Size}
 use Rattle.reg_blocks.specs.declared.size.Size.TheVariants.{MaL, MaM, MaS}
 use Rattle.reg_core.specs.declared.ask.BlockAsk.{BlockAsk}
 use Rattle.reg_core.specs.declared.ask.CodeAsk.{CodeAsk}
+use Rattle.reg_core.specs.declared.ask.EarlyAsk.{EarlyAsk}
+use Rattle.reg_core.specs.declared.ask.PermanenceAsk.{PermanenceAsk}
+use Rattle.reg_core.specs.declared.ask.RenewalAsk.{RenewalAsk}
 use Rattle.reg_core.specs.declared.ask.Ask.{Ask}
-use Rattle.reg_core.specs.declared.ask.Ask.TheVariants.{Code, Block}
+use Rattle.reg_core.specs.declared.ask.Ask.TheVariants.{Code, Early, Renew, Permanent, Block}
 use Rattle.reg_core.specs.declared.ask.Want.{Want}
 use Rattle.reg_core.specs.declared.ask.Want.TheVariants.{Value, Least}
 
@@ -34,12 +39,38 @@ has_code_form ask =
     is_name ask.registry && has_want_form ask.want && is_text ask.label
     && has_evidence_form ask.evidence
 
+abbrev pub has_early_ask_form : EarlyAsk → Bool
+has_early_ask_form ask =
+    is_name ask.registry && has_want_form ask.want && is_text ask.label
+    && has_early_form ask.evidence
+
+abbrev pub has_renewal_form : RenewalAsk → Bool
+has_renewal_form ask =
+    is_name ask.registry && nat_lt ask.value (2 ^ 32) && has_early_form ask.evidence
+
+abbrev pub has_permanence_form : PermanenceAsk → Bool
+has_permanence_form ask =
+    is_name ask.registry && nat_lt ask.value (2 ^ 32) && has_evidence_form ask.evidence
+
 abbrev pub has_block_form : BlockAsk → Bool
 has_block_form ask = is_text ask.organization && is_text ask.address
 
 abbrev pub has_ask_form : Ask → Bool
 has_ask_form (Code ask) = has_code_form ask
+has_ask_form (Early ask) = has_early_ask_form ask
+has_ask_form (Renew ask) = has_renewal_form ask
+has_ask_form (Permanent ask) = has_permanence_form ask
 has_ask_form (Block ask) = has_block_form ask
+
+-- ---- Registries
+
+-- the registry that an ask names; one for a block names none
+abbrev pub registry_of : Ask → Option (List ℕ)
+registry_of (Code ask) = Some ask.registry
+registry_of (Early ask) = Some ask.registry
+registry_of (Renew ask) = Some ask.registry
+registry_of (Permanent ask) = Some ask.registry
+registry_of (Block ask) = None
 
 -- ---- Sameness
 
@@ -55,6 +86,22 @@ same_code a b =
     && (same_want a.want b.want
     && (bytes_eq a.label b.label && same_evidence a.evidence b.evidence))
 
+abbrev pub same_early : EarlyAsk → EarlyAsk → Bool
+same_early a b =
+    bytes_eq a.registry b.registry
+    && (same_want a.want b.want
+    && (bytes_eq a.label b.label && same_early_evidence a.evidence b.evidence))
+
+abbrev pub same_renewal : RenewalAsk → RenewalAsk → Bool
+same_renewal a b =
+    bytes_eq a.registry b.registry
+    && (a.value == b.value && same_early_evidence a.evidence b.evidence)
+
+abbrev pub same_permanence : PermanenceAsk → PermanenceAsk → Bool
+same_permanence a b =
+    bytes_eq a.registry b.registry
+    && (a.value == b.value && same_evidence a.evidence b.evidence)
+
 abbrev pub same_size : Size → Size → Bool
 same_size MaL MaL = true
 same_size MaM MaM = true
@@ -68,6 +115,8 @@ same_block a b =
 
 abbrev pub same_ask : Ask → Ask → Bool
 same_ask (Code a) (Code b) = same_code a b
+same_ask (Early a) (Early b) = same_early a b
+same_ask (Renew a) (Renew b) = same_renewal a b
+same_ask (Permanent a) (Permanent b) = same_permanence a b
 same_ask (Block a) (Block b) = same_block a b
-same_ask (Code a) (Block b) = false
-same_ask (Block a) (Code b) = false
+same_ask a b = false

@@ -1,10 +1,13 @@
 -- What an ask is given, part by part.
 use Rattle.std.specs.Prelude.{ℕ, Bool, false, List}
 use Rattle.reg_blocks.specs.Block.{SizedPrefix}
-use Rattle.reg_early.specs.Terms.{permanent_term}
+use Rattle.reg_early.specs.Terms.{permanent_term, early_term, renewed_term, settled_term}
+use Rattle.reg_early.specs.declared.term.Term.{Term}
 use Rattle.reg_core.specs.declared.decide.award.Award.{Award as AwardRow}
 use Rattle.reg_core.specs.declared.decide.award.Award.TheVariants.{Entry as EntryRow, Block as BlockRow}
-use Rattle.reg_core.specs.declared.decide.award.NewEntry.{NewEntry as NewEntryRow}
+use Rattle.reg_core.specs.declared.decide.award.AwardedEntry.{AwardedEntry as AwardedEntryRow}
+use Rattle.reg_core.specs.declared.decide.award.Tenure.{Tenure as TenureRow}
+use Rattle.reg_core.specs.declared.decide.award.Tenure.TheVariants as row
 use Rattle.reg_core.specs.declared.decide.award.NewHolding.{NewHolding as NewHoldingRow}
 use Rattle.reg_core.specs.declared.decide.allowance.Allowance.{Allowance as AllowanceRow}
 use Rattle.reg_core.specs.declared.entry.Entry.{Entry}
@@ -12,12 +15,24 @@ use Rattle.reg_core.specs.declared.holding.Holding.{Holding}
 use Rattle.reg_core.specs.declared.request.Given.{Given}
 use Rattle.reg_core.specs.declared.request.Given.TheVariants.{Value, Block}
 
--- an entry, but for its term
-pub record NewEntry : Type 0 where
+-- how long an entry is given for
+pub data Tenure : Type 0 where
+  -- a new one, for good
+  for_good : Tenure
+  -- a new one, allocated early
+  early : Tenure
+  -- the one that stands in this term, renewed
+  renewed : Term → Tenure
+  -- the one that stands in this term, for good
+  settled : Term → Tenure
+
+-- an entry, but for its term, which is known on the day of the approval
+pub record AwardedEntry : Type 0 where
   pub registry : List ℕ
   pub value : ℕ
   pub label : List ℕ
   pub assignee : List ℕ
+  pub tenure : Tenure
 
 -- a block with its holder, who is not private
 pub record NewHolding : Type 0 where
@@ -28,7 +43,7 @@ pub record NewHolding : Type 0 where
 
 -- what an ask is given: with the name of the request and the day, all that the change is made of
 pub data Award : Type 0 where
-  new_entry : NewEntry → Award
+  awarded_entry : AwardedEntry → Award
   new_holding : NewHolding → Award
 
 -- what an ask is allowed: what it is given, and whether a designated expert has to approve (RFC
@@ -39,11 +54,18 @@ pub record Allowance : Type 0 where
 
 -- what a request that has this award was given
 abbrev pub given_in : Award → Given
-given_in (new_entry e) = Value e.value
+given_in (awarded_entry e) = Value e.value
 given_in (new_holding h) = Block h.block
 
--- the entry, from a day on and for good
-abbrev pub entry_on : ℕ → NewEntry → Entry
+-- the term of an entry that is given on a day
+abbrev pub term_on : ℕ → Tenure → Term
+term_on today for_good = permanent_term today
+term_on today early = early_term today
+term_on today (renewed term) = renewed_term term today
+term_on today (settled term) = settled_term term
+
+-- the entry, as it is given on a day
+abbrev pub entry_on : ℕ → AwardedEntry → Entry
 entry_on today e =
     record {
       registry = e.registry;
@@ -51,7 +73,7 @@ entry_on today e =
       label = e.label;
       assignee = e.assignee;
       term =
-          permanent_term today;
+          term_on today e.tenure;
     }
 
 -- the holding, listed with organization and address
@@ -66,13 +88,20 @@ holding_from h = record {
 
 -- ---- As the code has it
 
-abbrev pub entry_view : NewEntryRow → NewEntry
+abbrev pub tenure_view : TenureRow → Tenure
+tenure_view row.ForGood = for_good
+tenure_view row.Early = early
+tenure_view (row.Renewed term) = renewed term.now
+tenure_view (row.Settled term) = settled term.now
+
+abbrev pub entry_view : AwardedEntryRow → AwardedEntry
 entry_view e =
     record {
       registry = e.registry.now;
       value = e.value;
       label = e.label.now;
       assignee = e.assignee.now;
+      tenure = tenure_view e.tenure;
     }
 
 abbrev pub holding_view : NewHoldingRow → NewHolding
@@ -84,7 +113,7 @@ holding_view h = record {
 }
 
 abbrev pub award_view : AwardRow → Award
-award_view (EntryRow e) = new_entry (entry_view e)
+award_view (EntryRow e) = awarded_entry (entry_view e)
 award_view (BlockRow h) = new_holding (holding_view h)
 
 abbrev pub allowance_view : AllowanceRow → Allowance

@@ -1,15 +1,19 @@
 -- What the parts of a request are called.
 use Rattle.std.specs.Prelude.{ℕ, List, codes}
 use Rattle.reg_core.specs.declared.item.Item.{Item}
-use Rattle.reg_core.specs.declared.item.Item.TheVariants.{Account, Address, Block, Contact, Expert, Extra, Kind, Label, Least, Max, Minute, Name, Number, Organization, Prefix, Private, Reason, Reference, Registry, Rfc, Size, Specification, Stream, Text, Token, Track, Until, Value, Verdict}
+use Rattle.reg_core.specs.declared.item.Item.TheVariants.{Account, Address, Block, Chair, Contact, Director, Draft, Expert, Extra, Interest, Kind, Label, Least, Max, Minute, Name, Number, Organization, Prefix, Private, Reason, Reference, Registry, Rfc, Size, Specification, Stable, Stream, Text, Token, Track, Until, Value, Verdict, WillBeRfc}
 
 abbrev pub item_name : Item → List ℕ
 item_name Account = codes "account"
 item_name Address = codes "address"
 item_name Block = codes "block"
+item_name Chair = codes "chair"
 item_name Contact = codes "contact"
+item_name Director = codes "director"
+item_name Draft = codes "draft"
 item_name Expert = codes "expert"
 item_name Extra = codes "extra"
+item_name Interest = codes "interest"
 item_name Kind = codes "kind"
 item_name Label = codes "label"
 item_name Least = codes "least"
@@ -26,6 +30,7 @@ item_name Registry = codes "registry"
 item_name Rfc = codes "rfc"
 item_name Size = codes "size"
 item_name Specification = codes "specification"
+item_name Stable = codes "stable"
 item_name Stream = codes "stream"
 item_name Text = codes "text"
 item_name Token = codes "token"
@@ -33,3 +38,4 @@ item_name Track = codes "track"
 item_name Until = codes "until"
 item_name Value = codes "value"
 item_name Verdict = codes "verdict"
+item_name WillBeRfc = codes "will_be_rfc"

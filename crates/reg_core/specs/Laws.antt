@@ -1,13 +1,15 @@
 -- The laws of the office.
-use Rattle.std.specs.Prelude.{◌≡◌, ◌<◌, ◌↔◌, ℕ, Bool, true, false, List, map, Option, Some, None, Ok, IsTrue, All, Contains, codes}
+use Rattle.std.specs.Prelude.{◌≡◌, ◌<◌, ◌↔◌, ◌⊎◌, ℕ, Bool, true, false, List, map, Option, Some, None, Ok, IsTrue, All, Contains, codes}
 use Rattle.std.specs.FinMap.{get, contains_key, keys}
 use Rattle.std.specs.List.Sorted.{IsStrictlySortedBy}
 use Rattle.reg_blocks.specs.Block.{SizedPrefix, block_cmp}
 use Rattle.reg_blocks.specs.Pool.{is_pool_prefix}
+use Rattle.reg_early.specs.Terms.{renewal, settlement}
+use Rattle.reg_early.specs.declared.term.Term.{Term}
 use Rattle.reg_early.specs.Moment.{is_in_clock, utc_day}
 use Rattle.reg_core.specs.Allowance.{allowance_on, allowed, ground_of, needs_advice}
 use Rattle.reg_core.specs.Answer.{change_of}
-use Rattle.reg_core.specs.Award.{Award, new_entry, new_holding, Allowance, given_in}
+use Rattle.reg_core.specs.Award.{Award, for_good, early, renewed, settled, awarded_entry, new_holding, Allowance, given_in}
 use Rattle.reg_ranges.specs.Tables.{Table}
 use Rattle.reg_core.specs.Capability.{last_until}
 use Rattle.reg_core.specs.Command.{kind_of, has_command_form}
@@ -26,7 +28,7 @@ use Rattle.reg_core.specs.World.{World, Place, RequestName, name_cmp, empty_worl
 use Rattle.reg_core.specs.declared.advice.Advice.{Advice}
 use Rattle.reg_core.specs.declared.advice.Verdict.TheVariants.{For}
 use Rattle.reg_core.specs.declared.ask.Ask.{Ask}
-use Rattle.reg_core.specs.declared.ask.Ask.TheVariants.{Code, Block}
+use Rattle.reg_core.specs.declared.ask.Ask.TheVariants.{Code, Early, Renew, Permanent, Block}
 use Rattle.reg_core.specs.declared.capability.Cap.{Cap}
 use Rattle.reg_core.specs.declared.capability.Kind.{Kind}
 use Rattle.reg_core.specs.declared.capability.Kind.TheVariants as kind
@@ -245,15 +247,24 @@ AnswersAreDone digest_of =
     → let after = step digest_of w caller moment command in
     WasDone digest_of after.world (cap_at w caller) (utc_day moment) command after.reply
 
--- what is given is of what the ask names, in the account's name
+-- what is given is of what the ask names, in the account's name, and for as long as it asks
 abbrev pub IsOfAsk : List ℕ → Ask → Award → Type 0
-IsOfAsk account (Code ask) (new_entry e) =
+IsOfAsk account (Code ask) (awarded_entry e) =
     (e.registry ≡ ask.registry) × (e.label ≡ ask.label) × (e.assignee ≡ account)
+    × (e.tenure ≡ for_good)
+IsOfAsk account (Early ask) (awarded_entry e) =
+    (e.registry ≡ ask.registry) × (e.label ≡ ask.label) × (e.assignee ≡ account)
+    × (e.tenure ≡ early)
+IsOfAsk account (Renew ask) (awarded_entry e) =
+    (e.registry ≡ ask.registry) × (e.value ≡ ask.value) × (e.assignee ≡ account)
+    × (term : Term) × (e.tenure ≡ renewed term)
+IsOfAsk account (Permanent ask) (awarded_entry e) =
+    (e.registry ≡ ask.registry) × (e.value ≡ ask.value) × (e.assignee ≡ account)
+    × (term : Term) × (e.tenure ≡ settled term)
 IsOfAsk account (Block ask) (new_holding h) =
     (h.block.size ≡ ask.size) × (h.holder ≡ account) × (h.organization ≡ ask.organization)
     × (h.address ≡ ask.address)
-IsOfAsk account (Code ask) (new_holding h) = ⊥
-IsOfAsk account (Block ask) (new_entry e) = ⊥
+IsOfAsk account ask award = ⊥
 
 -- the change gives a request what its ask is allowed, on a day
 pub record GivesWhatIsAllowed (w : World) (today : ℕ) (name : RequestName) (change : Change) :
@@ -336,11 +347,22 @@ RepeatsActOnce digest_of =
 
 -- ---- What was given stays
 
--- an entry keeps its label, its assignee and its first day
+-- the term is renewed on a day
+abbrev pub IsRenewal : Term → Term → Type 0
+IsRenewal before now = (day : ℕ) × (renewal before day ≡ Ok now)
+
+-- what a term has come to: it is the same, or was renewed, once; or it was made permanent, before
+-- or after that
+abbrev pub TermStands : Term → Term → Type 0
+TermStands before now =
+    (now ≡ before) ⊎ (IsRenewal before now ⊎ ((settlement before ≡ Ok now)
+    ⊎ ((between : Term) × IsRenewal before between × (settlement between ≡ Ok now))))
+
+-- an entry keeps its label and its assignee, and its term is what it may have come to
 abbrev pub StillGiven : Registration → Option Registration → Type 0
 StillGiven a None = ⊥
 StillGiven a (Some now) =
-    (now.label ≡ a.label) × (now.assignee ≡ a.assignee) × (now.term.first ≡ a.term.first)
+    (now.label ≡ a.label) × (now.assignee ≡ a.assignee) × TermStands a.term now.term
 
 -- a block keeps its holder, its organization and its address
 abbrev pub StillHeld : Holder → Option Holder → Type 0

@@ -28,5 +28,6 @@ pub mod Striking
 pub mod Laws
 pub mod MayBeGiven
 pub mod BlocksGiven
+pub mod EarlyAllocations
 pub mod Item
 pub mod WireRefusal

@@ -8,7 +8,7 @@ use Rattle.reg_core.specs.Advice.{is_given}
 use Rattle.reg_core.specs.Maps.{same_text}
 use Rattle.reg_core.specs.Allowance.{Ground, allowance_on}
 use Rattle.reg_core.specs.Ask.{same_ask}
-use Rattle.reg_core.specs.Award.{Award, new_entry, new_holding, Allowance, entry_on, holding_from}
+use Rattle.reg_core.specs.Award.{Award, awarded_entry, new_holding, Allowance, entry_on, holding_from}
 use Rattle.reg_core.specs.Capability.{same_cap}
 use Rattle.reg_core.specs.World.{RequestName}
 use Rattle.reg_core.specs.declared.advice.Advice.{Advice as AdviceOf}
@@ -82,7 +82,7 @@ advise_rule name expert advice old word =
 
 -- the change by which a request is given this on a day
 abbrev pub change_to_give : RequestName → ℕ → Award → Change
-change_to_give name today (new_entry e) = GiveValue name.0 name.1 (entry_on today e)
+change_to_give name today (awarded_entry e) = GiveValue name.0 name.1 (entry_on today e)
 change_to_give name today (new_holding h) = GiveBlock name.0 name.1 (holding_from h)
 
 -- what is allowed is given, unless an expert's advice is wanting

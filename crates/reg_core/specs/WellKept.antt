@@ -3,9 +3,10 @@ use Rattle.std.specs.Prelude.{◌≡◌, ◌^◌, Bool, true, false, ◌&&◌, n
 use Rattle.std.specs.FinMap.{FinMap, get, contains_key}
 use Rattle.reg_blocks.specs.Block.{SizedPrefix, Clash, block_cmp, is_block, leading_24}
 use Rattle.reg_blocks.specs.Pool.{is_pool_prefix}
+use Rattle.reg_blocks.specs.declared.size.Size.{Size}
 use Rattle.reg_ranges.specs.Tables.{Table, treatment_of}
 use Rattle.reg_core.specs.Advice.{has_advice_form}
-use Rattle.reg_core.specs.Ask.{has_ask_form, same_size}
+use Rattle.reg_core.specs.Ask.{has_ask_form, registry_of, same_size}
 use Rattle.reg_core.specs.Capability.{has_cap_form}
 use Rattle.reg_core.specs.Allowance.{open_policy}
 use Rattle.reg_core.specs.Entry.{has_registration_form}
@@ -21,7 +22,7 @@ use Rattle.reg_core.specs.declared.change.Change.{Change}
 use Rattle.reg_core.specs.declared.change.Change.TheVariants.{Grant, Revoke, Define, AddPool, Submit, Close, Assign, Advise, GiveValue, GiveBlock, SetPrivate}
 use Rattle.reg_core.specs.declared.request.Case.{Case}
 use Rattle.reg_core.specs.declared.ask.Ask.{Ask}
-use Rattle.reg_core.specs.declared.ask.Ask.TheVariants.{Code, Block}
+use Rattle.reg_core.specs.declared.ask.Ask.TheVariants.{Block}
 use Rattle.reg_core.specs.declared.entry.Registration.{Registration}
 use Rattle.reg_core.specs.declared.holding.Holder.{Holder}
 use Rattle.reg_core.specs.declared.request.Given.TheVariants as given
@@ -63,17 +64,26 @@ abbrev pub is_held_by : List ℕ → Option Holder → Bool
 is_held_by account None = false
 is_held_by account (Some h) = same_text h.account account
 
+-- an entry of the account's stands at a value of the registry that an ask names
+abbrev pub is_registered_at : FinMap place_cmp Registration → List ℕ → Option (List ℕ) → ℕ → Bool
+is_registered_at entries account None v = false
+is_registered_at entries account (Some registry) v =
+    is_registered_to account (get entries (registry, v))
+
+-- the size is the one that is asked for
+abbrev pub is_size_asked : Ask → Size → Bool
+is_size_asked (Block ask) size = same_size size ask.size
+is_size_asked ask size = false
+
 -- what an approved request of an account was given is an entry of the account's, or a block of the
 -- size that it asked for, which the account holds
 abbrev pub stands_in : FinMap place_cmp Registration → FinMap block_cmp Holder → List ℕ → Ask
     → State → Bool
 stands_in entries blocks account ask Pending = true
-stands_in entries blocks account (Code ask) (Approved (given.Value v)) =
-    is_registered_to account (get entries (ask.registry, v))
-stands_in entries blocks account (Block ask) (Approved (given.Block block)) =
-    same_size block.size ask.size && is_held_by account (get blocks block)
-stands_in entries blocks account (Code ask) (Approved (given.Block block)) = false
-stands_in entries blocks account (Block ask) (Approved (given.Value v)) = false
+stands_in entries blocks account ask (Approved (given.Value v)) =
+    is_registered_at entries account (registry_of ask) v
+stands_in entries blocks account ask (Approved (given.Block block)) =
+    is_size_asked ask block.size && is_held_by account (get blocks block)
 stands_in entries blocks account ask (Declined reason) = true
 stands_in entries blocks account ask Withdrawn = true
 

@@ -1,10 +1,12 @@
 //! What an applicant asks for.
 ghost use Rattle.std.specs.Prelude.{◌≡◌, true, IfOk};
 ghost use Rattle.reg_ranges.specs.Sameness.{same_evidence};
-ghost use Rattle.reg_core.specs.Ask.{has_ask_form, has_block_form, has_code_form, same_ask, same_block, same_code, same_size, same_want};
+ghost use Rattle.reg_early.specs.Sameness.{same_early_evidence};
+ghost use Rattle.reg_core.specs.Ask.{has_ask_form, same_ask, same_block, same_code, same_early, same_permanence, same_renewal, same_size, same_want};
 
 use crate::text::{Name, Text};
 use reg_blocks::size::Size;
+use reg_early::evidence::EarlyEvidence;
 use reg_ranges::evidence::Evidence;
 use reg_ranges::formed::Formed;
 use reg_ranges::policy::Policy;
@@ -32,6 +34,41 @@ pub struct CodeAsk {
     pub evidence: Evidence,
 }
 
+/// An ask for an early allocation of a value (RFC 7120 section 2).
+#[derive(Clone, Drop, PartialEq, Eq)]
+pub struct EarlyAsk {
+    /// The registry whose value is wanted.
+    pub registry: Name,
+    /// Which of its values is wanted.
+    pub want: Want,
+    /// What the value is to be called in the registry.
+    pub label: Text,
+    /// What the applicant shows for it.
+    pub evidence: EarlyEvidence,
+}
+
+/// An ask for another year of an early allocation (RFC 7120 section 3.3).
+#[derive(Clone, Drop, PartialEq, Eq)]
+pub struct RenewalAsk {
+    /// The registry of the value.
+    pub registry: Name,
+    /// The value that was allocated early.
+    pub value: u32,
+    /// What the applicant shows for it, as for the allocation itself.
+    pub evidence: EarlyEvidence,
+}
+
+/// An ask that a value that was allocated early be assigned for good.
+#[derive(Clone, Drop, PartialEq, Eq)]
+pub struct PermanenceAsk {
+    /// The registry of the value.
+    pub registry: Name,
+    /// The value that was allocated early.
+    pub value: u32,
+    /// What the applicant shows for it, as for a value that is assigned at once.
+    pub evidence: Evidence,
+}
+
 /// An ask for a block of EUI-48 addresses.
 #[derive(Clone, Drop, PartialEq, Eq)]
 pub struct BlockAsk {
@@ -47,6 +84,9 @@ pub struct BlockAsk {
 #[derive(Clone, Drop, PartialEq, Eq)]
 pub enum Ask {
     Code(CodeAsk),
+    Early(EarlyAsk),
+    Renew(RenewalAsk),
+    Permanent(PermanenceAsk),
     Block(BlockAsk),
 }
 
@@ -76,6 +116,45 @@ impl Formed for CodeAsk {
     }
 }
 
+impl Formed for EarlyAsk {
+    ghost use Rattle.reg_core.specs.Ask.{has_early_ask_form};
+
+    ghost has_form = { has_early_ask_form };
+
+    fn formed(&self) {
+        self.registry.formed();
+        self.want.formed();
+        self.label.formed();
+        self.evidence.formed();
+    }
+}
+
+impl Formed for RenewalAsk {
+    ghost use Rattle.reg_core.specs.Ask.{has_renewal_form};
+
+    ghost has_form = { has_renewal_form };
+
+    #[tactic(auto, using(std::proofs::lemmas::Bool::Decides::nat_tests))]
+    fn formed(&self) {
+        self.registry.formed();
+        let _value = self.value;
+        self.evidence.formed();
+    }
+}
+
+impl Formed for PermanenceAsk {
+    ghost use Rattle.reg_core.specs.Ask.{has_permanence_form};
+
+    ghost has_form = { has_permanence_form };
+
+    #[tactic(auto, using(std::proofs::lemmas::Bool::Decides::nat_tests))]
+    fn formed(&self) {
+        self.registry.formed();
+        let _value = self.value;
+        self.evidence.formed();
+    }
+}
+
 impl Formed for BlockAsk {
     ghost use Rattle.reg_core.specs.Ask.{has_block_form};
 
@@ -96,30 +175,11 @@ impl Formed for Ask {
     fn formed(&self) {
         match self {
             Ask::Code(code) => code.formed(),
+            Ask::Early(early) => early.formed(),
+            Ask::Renew(renewal) => renewal.formed(),
+            Ask::Permanent(permanence) => permanence.formed(),
             Ask::Block(block) => block.formed(),
         }
-    }
-}
-
-impl CodeAsk {
-    /// An equal ask.
-    pub fn copy(&self) -> Result<Self, AllocError>
-        ensures equal { IfOk result (λ a. a ≡ self.now) }
-        ensures form { IfOk result (λ _. has_code_form self.now ≡ true) }
-    {
-        self.formed();
-        self.clone()
-    }
-}
-
-impl BlockAsk {
-    /// An equal ask.
-    pub fn copy(&self) -> Result<Self, AllocError>
-        ensures equal { IfOk result (λ a. a ≡ self.now) }
-        ensures form { IfOk result (λ _. has_block_form self.now ≡ true) }
-    {
-        self.formed();
-        self.clone()
     }
 }
 
@@ -130,8 +190,11 @@ impl Ask {
     {
         match (self, other) {
             (Ask::Code(code), Ask::Code(other)) => is_same_code(code, other),
+            (Ask::Early(early), Ask::Early(other)) => is_same_early(early, other),
+            (Ask::Renew(renewal), Ask::Renew(other)) => is_same_renewal(renewal, other),
+            (Ask::Permanent(settled), Ask::Permanent(other)) => is_same_permanence(settled, other),
             (Ask::Block(block), Ask::Block(other)) => is_same_block(block, other),
-            (Ask::Code(_), Ask::Block(_)) | (Ask::Block(_), Ask::Code(_)) => false,
+            _ => false,
         }
     }
 
@@ -152,6 +215,31 @@ fn is_same_code(code: &CodeAsk, other: &CodeAsk) -> bool
         && is_same_want(code.want, other.want)
         && code.label == other.label
         && is_same_evidence(&code.evidence, &other.evidence)
+}
+
+fn is_same_early(early: &EarlyAsk, other: &EarlyAsk) -> bool
+    ensures { result ≡ same_early early.now other.now }
+{
+    early.registry == other.registry
+        && is_same_want(early.want, other.want)
+        && early.label == other.label
+        && is_same_early_evidence(&early.evidence, &other.evidence)
+}
+
+fn is_same_renewal(renewal: &RenewalAsk, other: &RenewalAsk) -> bool
+    ensures { result ≡ same_renewal renewal.now other.now }
+{
+    renewal.registry == other.registry
+        && renewal.value == other.value
+        && is_same_early_evidence(&renewal.evidence, &other.evidence)
+}
+
+fn is_same_permanence(settled: &PermanenceAsk, other: &PermanenceAsk) -> bool
+    ensures { result ≡ same_permanence settled.now other.now }
+{
+    settled.registry == other.registry
+        && settled.value == other.value
+        && is_same_evidence(&settled.evidence, &other.evidence)
 }
 
 fn is_same_block(block: &BlockAsk, other: &BlockAsk) -> bool
@@ -176,6 +264,12 @@ fn is_same_want(want: Want, other: Want) -> bool
 
 fn is_same_evidence(evidence: &Evidence, other: &Evidence) -> bool
     ensures { result ≡ same_evidence evidence.now other.now }
+{
+    *evidence == *other
+}
+
+fn is_same_early_evidence(evidence: &EarlyEvidence, other: &EarlyEvidence) -> bool
+    ensures { result ≡ same_early_evidence evidence.now other.now }
 {
     *evidence == *other
 }

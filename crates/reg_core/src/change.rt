@@ -31,7 +31,8 @@ pub enum Change {
     Assign(Account, Ref, Account),
     /// Adds an expert's advice on a request, or replaces the one that the expert gave before.
     Advise(Account, Ref, Account, Advice),
-    /// Approves a request and adds the entry of the value that it is given.
+    /// Approves a request and adds the entry that it is given, in place of the one at its value, if
+    /// there is one: that is the same entry, in another term.
     GiveValue(Account, Ref, Entry),
     /// Approves a request and adds the block that it is given, with its holder.
     GiveBlock(Account, Ref, Holding),

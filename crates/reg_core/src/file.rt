@@ -20,6 +20,10 @@ impl File {
     pub fn copy(&self) -> Result<Self, AllocError>
         ensures { IfOk result (λ f. f ≡ self.now) }
     {
-        self.clone()
+        Ok(File {
+            request: self.request.copy()?,
+            experts: self.experts.clone()?,
+            advice: self.advice.clone()?,
+        })
     }
 }

@@ -9,10 +9,14 @@ pub enum Item {
     Account,
     Address,
     Block,
+    Chair,
     Contact,
+    Director,
+    Draft,
     Expert,
     /// A member that the body should not have.
     Extra,
+    Interest,
     Kind,
     Label,
     Least,
@@ -29,6 +33,7 @@ pub enum Item {
     Rfc,
     Size,
     Specification,
+    Stable,
     Stream,
     Text,
     Token,
@@ -36,6 +41,7 @@ pub enum Item {
     Until,
     Value,
     Verdict,
+    WillBeRfc,
 }
 
 impl Item {
@@ -47,9 +53,13 @@ impl Item {
             Item::Account => "account",
             Item::Address => "address",
             Item::Block => "block",
+            Item::Chair => "chair",
             Item::Contact => "contact",
+            Item::Director => "director",
+            Item::Draft => "draft",
             Item::Expert => "expert",
             Item::Extra => "extra",
+            Item::Interest => "interest",
             Item::Kind => "kind",
             Item::Label => "label",
             Item::Least => "least",
@@ -66,6 +76,7 @@ impl Item {
             Item::Rfc => "rfc",
             Item::Size => "size",
             Item::Specification => "specification",
+            Item::Stable => "stable",
             Item::Stream => "stream",
             Item::Text => "text",
             Item::Token => "token",
@@ -73,6 +84,7 @@ impl Item {
             Item::Until => "until",
             Item::Value => "value",
             Item::Verdict => "verdict",
+            Item::WillBeRfc => "will_be_rfc",
         }
     }
 }

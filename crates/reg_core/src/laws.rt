@@ -6,6 +6,7 @@ ghost use Rattle.reg_core.specs.Advice.{read_verdict, same_advice, verdict_word}
 ghost use Rattle.reg_core.specs.Ask.{same_ask};
 ghost use Rattle.reg_core.specs.BlocksGiven.{BlockAsksAreServedDuly, BlocksAreApart, BlocksDueAreLeast, ForeignBlocksAreHidden, PrivateHoldersAreHidden};
 ghost use Rattle.reg_core.specs.Capability.{same_cap, same_kind};
+ghost use Rattle.reg_core.specs.EarlyAllocations.{ExpiredValuesAreTaken, ForeignEntriesAreHidden, TermsMoveDuly};
 ghost use Rattle.reg_core.specs.Laws.{AnswersAreDone, ApprovalsAreAdvised, ApprovalsGiveWhatIsAllowed, ApprovalsStand, ChangesFit, DecidesSame, FirstWorldsAreWellKept, GivenStays, GivesDigests, RefusalsChangeNothing, RepeatsActOnce, RunsKeepWell, SubmissionsStand, TwoWorlds};
 ghost use Rattle.reg_core.specs.MayBeGiven.{AsksMeetTheirPolicy, NoValueIsGivenTwice};
 ghost use Rattle.reg_core.specs.Striking.{StagesAreOfRun, UnseenLeaveNoTrace};
@@ -56,17 +57,39 @@ pub fn approvals_are_advised()
 
 /// Asks meet their policy: a request is taken in, and approved, only for a value of its registry's
 /// ranges under a policy by which values are assigned one by one, with all evidence that this
-/// policy asks for (RFC 8126 section 4), and at which no entry stands; and what was approved has
-/// its entry, of the applicant's account.
+/// policy (RFC 8126 section 4), or an early allocation under it (RFC 7120 section 2), asks for, and
+/// at which no entry stands; or, to renew it or to make it permanent, an entry of the applicant's
+/// own; and what was approved has its entry, of the applicant's account.
 pub fn asks_meet_their_policy()
     ensures { (digest_of : List ℕ → List ℕ) → AsksMeetTheirPolicy digest_of }
 {}
 
-/// No value is given twice: in a run from a well kept world, an entry that is given after another
-/// was is of another registry or at another value.
+/// No value is given twice: in a run from a well kept world, what is given after an entry was is at
+/// another place, or it is the same entry of the same assignee, in another term.
 pub fn no_value_is_given_twice()
     ensures { (digest_of : List ℕ → List ℕ) → GivesDigests digest_of
         → NoValueIsGivenTwice digest_of }
+{}
+
+/// Terms move duly: whatever a command does, each entry stands after it as before; or a clerk
+/// approved, of its own assignee, a renewal, which moves the expiry of an entry that was not renewed
+/// before by a year of the calendar, or a permanence, which takes the expiry away (RFC 7120 section
+/// 3).
+pub fn terms_move_duly()
+    ensures { (digest_of : List ℕ → List ℕ) → TermsMoveDuly digest_of }
+{}
+
+/// Expired values are taken: no ask for a new entry at a value that has one is taken in, whatever
+/// the term of that entry.
+pub fn expired_values_are_taken()
+    ensures { (digest_of : List ℕ → List ℕ) → ExpiredValuesAreTaken digest_of }
+{}
+
+/// Entries of others are hidden from asks: a caller who asks for the renewal or the permanence of an
+/// entry that is not its own is answered alike whoever has the value, and where nobody has it, and
+/// changes nothing.
+pub fn foreign_entries_are_hidden()
+    ensures { (digest_of : List ℕ → List ℕ) → ForeignEntriesAreHidden digest_of }
 {}
 
 /// No address is given twice: in every run from a well kept world each block that was given lies
@@ -100,10 +123,10 @@ pub fn foreign_blocks_are_hidden()
     ensures { (digest_of : List ℕ → List ℕ) → ForeignBlocksAreHidden digest_of }
 {}
 
-/// What was given stays: in every run from a well kept world an entry keeps its label, its
-/// assignee and its first day, a block its holder, organization and address, a registry its
-/// ranges, a request its ask and, once it is not pending, its state, its experts and all advice on
-/// it; and none of them goes away, nor does a prefix of the pool.
+/// What was given stays: in every run from a well kept world an entry keeps its label and its
+/// assignee, and its term but for one renewal and its permanence, a block its holder, organization
+/// and address, a registry its ranges, a request its ask and, once it is not pending, its state,
+/// its experts and all advice on it; and none of them goes away, nor does a prefix of the pool.
 pub fn given_stays()
     ensures { (digest_of : List ℕ → List ℕ) → GivesDigests digest_of → GivenStays digest_of }
 {}

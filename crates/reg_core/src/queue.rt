@@ -23,6 +23,12 @@ impl QueueRow {
     pub fn copy(&self) -> Result<Self, AllocError>
         ensures { IfOk result (λ r. r ≡ self.now) }
     {
-        self.clone()
+        Ok(QueueRow {
+            account: self.account,
+            reference: self.reference,
+            ask: self.ask.copy()?,
+            word: self.word,
+            advice: self.advice.clone()?,
+        })
     }
 }

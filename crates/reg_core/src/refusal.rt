@@ -26,8 +26,17 @@ pub enum Refusal {
     /// 4.1 to 4.3 and 6); or the least value is wanted under such a policy or under one that no
     /// range has.
     Policy,
-    /// The policy asks for this item of evidence, and it is not met (RFC 8126 section 4).
+    /// No value under the policy is allocated early (RFC 7120 section 2).
+    Early,
+    /// The policy asks for this item of evidence, or an early allocation does, and it is not met
+    /// (RFC 8126 section 4, RFC 7120 section 2).
     Evidence(Item),
+    /// The value has no entry that is the applicant's.
+    Entry,
+    /// The entry has no expiry: there is nothing to renew, or to make permanent.
+    Permanent,
+    /// The entry was renewed before (RFC 7120 section 3.3).
+    Renewed,
     /// The value has an entry.
     Taken,
     /// Each value under the policy has an entry; or no block of the size is free.

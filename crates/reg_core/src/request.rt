@@ -127,6 +127,11 @@ impl Request {
     pub fn copy(&self) -> Result<Self, AllocError>
         ensures { IfOk result (λ r. r ≡ self.now) }
     {
-        self.clone()
+        Ok(Request {
+            account: self.account,
+            reference: self.reference,
+            ask: self.ask.copy()?,
+            state: self.state.copy()?,
+        })
     }
 }

@@ -1,5 +1,5 @@
 -- Gifts of blocks, and marks of holders, that fit a well kept world.
-use Rattle.std.proofs.Common.{◌≡◌, Bool, true, ◌&&◌, refl, sym, ap, subst, ◌∙◌}
+use Rattle.std.proofs.Common.{◌≡◌, ℕ, Bool, true, false, ◌&&◌, List, refl, sym, ap, subst, ◌∙◌}
 use Rattle.std.specs.Prelude.{Some, IsSome, is_some}
 use Rattle.std.specs.Cmp.{first_so, second_so}
 use Rattle.std.specs.Cmp.Derive.{both_true}
@@ -69,8 +69,8 @@ can_give_block w name case ask block kept is_there asks due =
             (λ other old is.
             stands_still w.entries w.entries w.blocks after (λ account place h. h)
             (λ account there h.
-            insert_passes block_keys w.blocks block (is_held_by account) refl (holder_in
-            (holding_from (holding_asked name.0 ask block))) free there h)
+            insert_passes block_keys w.blocks block (is_held_by account) (holder_in
+            (holding_from (holding_asked name.0 ask block))) (not_held account) there h)
             other.0 old.ask old.state (kept.given other old is))
             (λ old is.
             subst (λ x. stands_in w.entries after name.0 x state ≡ true)
@@ -103,6 +103,15 @@ can_give_block w name case ask block kept is_there asks due =
             a in_a b in_b;
       },
     )
+  where
+    -- nobody holds a block that is new
+    not_held : (account : List ℕ) → is_held_by account (get w.blocks block) ≡ true
+        → is_held_by account (Some (holder_in (holding_from (holding_asked name.0 ask block))))
+        ≡ true
+    not_held account h =
+        let none : is_held_by account (get w.blocks block) ≡ false =
+        ap (is_held_by account) (due_is_new w ask.size block due) in
+        absurd (cc)
 
 pub can_mark : (w : World) (block : SizedPrefix) (private : Bool) (h : Holder) → WellKept w
     → get w.blocks block ≡ Some h → CanApply w (SetPrivate block private)

@@ -1,41 +1,36 @@
 -- Changes that fit a well kept world.
-use Rattle.std.proofs.Common.{◌≡◌, ℕ, ◌^◌, Bool, true, false, cond, ◌&&◌, List, refl, sym, ap, subst, ◌∙◌, nat_lt, arith}
-use Rattle.std.specs.Prelude.{Some, None, IsSome, is_some, not}
+use Rattle.std.proofs.Common.{◌≡◌, ℕ, Bool, true, false, cond, ◌&&◌, List, refl, sym, ap, subst, ◌∙◌}
+use Rattle.std.specs.Prelude.{Option, Some, None, IsSome, is_some, not}
 use Rattle.std.specs.Cmp.{first_so, second_so}
 use Rattle.std.specs.Cmp.Derive.{both_true}
 use Rattle.std.specs.FinMap.{FinMap, get, insert, contains_key}
 use Rattle.std.specs.Ordering.{eq_by_cmp}
-use Rattle.std.proofs.lemmas.Bool.Decides.{nat_tests}
 use Rattle.reg_blocks.specs.Block.{SizedPrefix, block_cmp, leading_24}
 use Rattle.reg_blocks.specs.Pool.{is_pool_prefix}
 use Rattle.reg_ranges.specs.Tables.{Table}
-use Rattle.reg_ranges.specs.Texts.{is_text}
 use Rattle.reg_core.specs.Advice.{has_advice_form}
-use Rattle.reg_core.specs.Ask.{has_want_form, has_evidence_form, has_code_form, has_ask_form, same_size}
-use Rattle.reg_core.specs.Allowance.{entry_asked}
-use Rattle.reg_core.specs.Award.{entry_on}
-use Rattle.reg_core.specs.Entry.{registration_in, has_day_form, has_registration_form}
+use Rattle.reg_core.specs.Ask.{has_ask_form, registry_of}
+use Rattle.reg_core.specs.Entry.{registration_in, has_day_form}
 use Rattle.reg_core.specs.Maps.{text_cmp, same_text}
+use Rattle.reg_core.specs.MayBeGiven.{IsDuly, place_of}
 use Rattle.reg_core.specs.Names.{is_name}
 use Rattle.reg_core.specs.Request.{has_state_form}
-use Rattle.reg_core.specs.WellKept.{WellKept, CanApply, has_grant_form, has_registry_form, has_entry_form, has_request_form, has_seat_form, is_open_at, is_registered_to, is_held_by, stands_in}
+use Rattle.reg_core.specs.WellKept.{WellKept, CanApply, has_grant_form, has_registry_form, has_entry_form, has_request_form, has_seat_form, is_open_at, is_registered_to, is_registered_at, is_size_asked, is_held_by, stands_in}
 use Rattle.reg_core.specs.World.{World, RequestName, Place, place_cmp, in_state, pending}
 use Rattle.reg_core.specs.declared.advice.Advice.{Advice}
 use Rattle.reg_core.specs.declared.ask.Ask.{Ask}
-use Rattle.reg_core.specs.declared.ask.Ask.TheVariants.{Code, Block}
-use Rattle.reg_core.specs.declared.ask.CodeAsk.{CodeAsk}
 use Rattle.reg_core.specs.declared.capability.Cap.{Cap}
 use Rattle.reg_core.specs.declared.change.Change.TheVariants.{Grant, Revoke, Define, AddPool, Submit, Close, Assign, Advise, GiveValue}
+use Rattle.reg_core.specs.declared.entry.Entry.{Entry}
 use Rattle.reg_core.specs.declared.entry.Registration.{Registration}
 use Rattle.reg_core.specs.declared.request.Case.{Case}
 use Rattle.reg_core.specs.declared.holding.Holder.{Holder}
 use Rattle.reg_core.specs.declared.request.Given.TheVariants as given
 use Rattle.reg_core.specs.declared.request.State.{State}
 use Rattle.reg_core.specs.declared.request.State.TheVariants.{Pending, Approved, Declined, Withdrawn}
-use Rattle.reg_core.proofs.Allowances.{IsFree}
+use Rattle.reg_core.proofs.Keeping.Entries.{duly_fits, value_form, entry_form, entry_open, entry_own}
 use Rattle.reg_core.proofs.KeySets.{each_key, still_in, still_at, insert_passes}
 use Rattle.reg_core.proofs.MapLaws.{number_keys, text_keys, name_keys, place_keys, seat_keys, tied, get-at_insert, get-inserted, insert_keeps, remove_keeps, update_keeps}
-use Rattle.reg_core.proofs.SamenessIsDecided.{same_text-itself}
 
 -- ---- Capabilities and registries
 
@@ -301,18 +296,22 @@ module _ (entries others : FinMap place_cmp Registration) (blocks holdings : Fin
     (each_block : (account : List ℕ) (block : SizedPrefix)
     → is_held_by account (get blocks block) ≡ true
     → is_held_by account (get holdings block) ≡ true) where
+  registered_still : (account : List ℕ) (registry : Option (List ℕ)) (v : ℕ)
+      → is_registered_at entries account registry v ≡ true
+      → is_registered_at others account registry v ≡ true
+  registered_still account None v h = absurd (cc)
+  registered_still account (Some registry) v h = each_entry account (registry, v) h
+
   pub stands_still : (account : List ℕ) (ask : Ask) (state : State)
       → stands_in entries blocks account ask state ≡ true
       → stands_in others holdings account ask state ≡ true
   stands_still account ask Pending h = refl
-  stands_still account (Code ask) (Approved (given.Value v)) h =
-      each_entry account (ask.registry, v) h
-  stands_still account (Block ask) (Approved (given.Block block)) h =
-      both_true (first_so (same_size block.size ask.size) (is_held_by account (get blocks block)) h)
+  stands_still account ask (Approved (given.Value v)) h =
+      registered_still account (registry_of ask) v h
+  stands_still account ask (Approved (given.Block block)) h =
+      both_true (first_so (is_size_asked ask block.size) (is_held_by account (get blocks block)) h)
       (each_block account block
-      (second_so (same_size block.size ask.size) (is_held_by account (get blocks block)) h))
-  stands_still account (Code ask) (Approved (given.Block block)) h = absurd (cc)
-  stands_still account (Block ask) (Approved (given.Value v)) h = absurd (cc)
+      (second_so (is_size_asked ask block.size) (is_held_by account (get blocks block)) h))
   stands_still account ask (Declined reason) h = refl
   stands_still account ask Withdrawn h = refl
 
@@ -327,51 +326,42 @@ asks_this w name case old ask is_there asks is =
 
 -- ---- Entries
 
-pub can_give : (w : World) (name : RequestName) (case : Case) (ask : CodeAsk) (today v : ℕ)
-    → WellKept w → get w.requests name ≡ Some case → case.ask ≡ Code ask
-    → IsFree w ask.registry v → has_day_form today ≡ true
-    → CanApply w (GiveValue name.0 name.1 (entry_on today (entry_asked name.0 ask v)))
-can_give w name case ask today v kept is_there asks free day =
-    let place : Place = (ask.registry, v) in
-    let a = registration_in (entry_on today (entry_asked name.0 ask v)) in
-    let state = Approved (given.Value v) in
+pub can_give : (w : World) (name : RequestName) (case : Case) (ask : Ask) (today : ℕ)
+    (entry : Entry) → WellKept w → get w.requests name ≡ Some case → case.ask ≡ ask
+    → IsDuly w today name.0 ask entry → has_day_form today ≡ true
+    → CanApply w (GiveValue name.0 name.1 entry)
+can_give w name case ask today entry kept is_there asks duly day =
+    let place = place_of entry in
+    let a = registration_in entry in
+    let state = Approved (given.Value entry.value) in
     let form = kept.requests name case is_there in
     let names = first_so (is_name name.0 && is_name name.1) (has_ask_form case.ask)
     (first_so (is_name name.0 && is_name name.1 && has_ask_form case.ask)
     (has_state_form case.state) form) in
     let account_form = first_so (is_name name.0) (is_name name.1) names in
-    let ask_form : has_code_form ask ≡ true =
+    let ask_form : has_ask_form ask ≡ true =
     subst (λ x. has_ask_form x ≡ true) asks
     (second_so (is_name name.0 && is_name name.1) (has_ask_form case.ask)
     (first_so (is_name name.0 && is_name name.1 && has_ask_form case.ask)
     (has_state_form case.state) form)) in
-    let labelled =
-    first_so (is_name ask.registry && has_want_form ask.want && is_text ask.label)
-    (has_evidence_form ask.evidence) ask_form in
-    let label_form =
-    second_so (is_name ask.registry && has_want_form ask.want) (is_text ask.label) labelled in
-    let registry_form =
-    first_so (is_name ask.registry) (has_want_form ask.want)
-    (first_so (is_name ask.registry && has_want_form ask.want) (is_text ask.label) labelled) in
-    let below = free.below in
-    let value_form : nat_lt v (2 ^ 32) ≡ true = grind (arith, nat_tests, below) in
-    let registration_form : has_registration_form a ≡ true =
-    both_true (both_true label_form account_form) (both_true day refl) in (
+    let fit = duly_fits w kept name.0 entry ask today ask_form day duly in (
       ap is_some is_there,
       record {
         caps = kept.caps;
         registries = kept.registries;
         entries = insert_keeps place_keys
             (λ place a. has_entry_form place a ≡ true) w.entries place a kept.entries
-            (both_true (both_true registry_form value_form) registration_form);
+            (entry_form w kept name.0 entry ask fit account_form);
         open_values =
             insert_keeps place_keys
             (λ place a. is_open_at (get w.registries place.0) place.1
-            ≡ true) w.entries place a kept.open_values free.is_open;
+            ≡ true) w.entries place a kept.open_values (entry_open w kept name.0 entry ask fit);
         requests = update_keeps name_keys
             (λ name case. has_request_form name case ≡ true) w.requests name
             (in_state state) kept.requests
-            (λ old is. new_state name old state (kept.requests name old is) value_form);
+            (λ old is.
+            new_state name old state (kept.requests name old is)
+            (value_form w kept name.0 entry ask fit));
         given = update_keeps name_keys
             (λ name case.
             stands_in (insert w.entries place a) w.blocks name.0 case.ask case.state
@@ -379,14 +369,15 @@ can_give w name case ask today v kept is_there asks free day =
             (λ other old is.
             stands_still w.entries (insert w.entries place a) w.blocks w.blocks
             (λ account there h.
-            insert_passes place_keys w.entries place (is_registered_to account) refl a free.is_new
-            there h)
+            insert_passes place_keys w.entries place (is_registered_to account) a
+            (fit.replaces account) there h)
             (λ account block h. h) other.0 old.ask old.state (kept.given other old is))
             (λ old is.
-            subst (λ x. stands_in (insert w.entries place a) w.blocks name.0 x state ≡ true)
-            (sym (asks_this w name case old (Code ask) is_there asks is))
+            subst (λ x. is_registered_at (insert w.entries place a) name.0 x entry.value ≡ true)
+            (sym (ap registry_of (asks_this w name case old ask is_there asks is)
+            ∙ fit.of_registry))
             (ap (is_registered_to name.0) (get-inserted place_keys w.entries place a)
-            ∙ same_text-itself name.0));
+            ∙ entry_own w kept name.0 entry ask fit));
         queue = kept.queue;
         queued = λ seat there.
             still_at name_keys w.requests name (in_state state) seat.0 (kept.queued seat there);

@@ -3,7 +3,7 @@ use Rattle.std.proofs.Common.{◌≡◌, ℕ, Bool, false, List, refl, sym, ap, 
 use Rattle.std.specs.Prelude.{Option, Some, None, Ok, Err, option_map}
 use Rattle.std.specs.FinMap.{get}
 use Rattle.reg_early.specs.Moment.{utc_day}
-use Rattle.reg_core.specs.Award.{Award, new_entry, new_holding}
+use Rattle.reg_core.specs.Award.{Award, awarded_entry, new_holding}
 use Rattle.reg_core.specs.Holding.{with_mark}
 use Rattle.reg_core.specs.Maps.{update}
 use Rattle.reg_core.specs.World.{World, RequestName, in_state, applied, applied_if, pending, Seat}
@@ -84,7 +84,7 @@ module _ (digest_of : List ℕ → List ℕ) (w : World) (caller : Option (List 
       → let change = change_to_give (account, reference) (utc_day moment) award in
       DoneBy (Clerk (Approve account reference))
       (desk_by (account, reference) case (Make change)) change
-  given_done account reference case (new_entry e) is_there = (
+  given_done account reference case (awarded_entry e) is_there = (
     (Value e.value, refl),
     (refl, refl, in_new_state w (account, reference) case (Approved (Value e.value)) is_there),
   )

@@ -1,25 +1,22 @@
 -- What goes with an approval that changes something.
-use Rattle.std.proofs.Common.{◌≡◌, ℕ, true, List, refl, sym, ap, subst, ◌∙◌}
+use Rattle.std.proofs.Common.{◌≡◌, ℕ, true, List, sym, ap, subst, ◌∙◌}
 use Rattle.std.specs.Prelude.{Option, Some, Ok}
 use Rattle.std.specs.FinMap.{get}
-use Rattle.reg_core.specs.Allowance.{◌>>=◌, allowance_on, ground_of, needs_advice}
+use Rattle.reg_core.specs.Allowance.{◌>>=◌, ground_of, needs_advice}
 use Rattle.reg_core.specs.Award.{Allowance, given_in}
 use Rattle.reg_early.specs.Moment.{utc_day}
 use Rattle.reg_core.specs.Answer.{change_of}
 use Rattle.reg_core.specs.File.{was_advised}
-use Rattle.reg_core.specs.Laws.{IsOfAsk, ApprovalsGiveWhatIsAllowed, ApprovalsAreAdvised}
+use Rattle.reg_core.specs.Laws.{ApprovalsGiveWhatIsAllowed, ApprovalsAreAdvised}
 use Rattle.reg_core.specs.Step.{answer_to}
 use Rattle.reg_core.specs.View.{published}
 use Rattle.reg_core.specs.World.{World}
-use Rattle.reg_core.specs.declared.ask.Ask.{Ask}
-use Rattle.reg_core.specs.declared.ask.Ask.TheVariants.{Code, Block}
 use Rattle.reg_core.specs.declared.change.Change.{Change}
 use Rattle.reg_core.specs.declared.command.Command.TheVariants.{Clerk}
 use Rattle.reg_core.specs.declared.command.ClerkCommand.TheVariants.{Approve}
 use Rattle.reg_core.specs.declared.decide.Decision.TheVariants.{Make}
 use Rattle.reg_core.specs.declared.request.Case.{Case}
-use Rattle.reg_core.proofs.Allowances.{allowed_entry, allows_block}
-use Rattle.reg_core.proofs.Blocks.{due_is_due}
+use Rattle.reg_core.proofs.Allowances.{allowed_of_ask}
 use Rattle.reg_core.proofs.Files.{advised_by}
 use Rattle.reg_core.proofs.Outcomes.Accepted.{Row, accepted}
 use Rattle.reg_core.proofs.Outcomes.Deciding.{Decides, Approves}
@@ -42,18 +39,6 @@ approval digest_of w caller moment account reference change made =
     (Clerk (Approve account reference)) by.0 by.1).so.1 in
     record { row = is.row; is = is.is; so = makes _ _ by.0 change is.so by.2 }
 
--- what is allowed is of what the ask names
-of_ask : (w : World) (account : List ℕ) (ask : Ask) (allowance : Allowance)
-    → allowance_on (ground_of (published w) ask) account ask ≡ Ok allowance
-    → IsOfAsk account ask allowance.award
-of_ask w account (Code ask) allowance h =
-    let entry = allowed_entry (ground_of (published w) (Code ask)) account ask allowance h in
-    subst (IsOfAsk account (Code ask)) (sym entry.1) (refl, refl, refl)
-of_ask w account (Block ask) allowance h =
-    let is = allows_block (ground_of (published w) (Block ask)) account ask allowance h in
-    subst (IsOfAsk account (Block ask)) is.awards
-    ((due_is_due w ask.size is.block is.due).of_size, refl, refl, refl)
-
 pub approvals_give : (digest_of : List ℕ → List ℕ) → ApprovalsGiveWhatIsAllowed digest_of
 approvals_give digest_of w caller moment account reference change made =
     let is = approval digest_of w caller moment account reference change made in
@@ -65,7 +50,7 @@ approvals_give digest_of w caller moment account reference change made =
       allowance = allowance;
       allows = is.so.0.3;
       given = ap (λ r. r >>= (λ (a : Allowance). Ok (given_in a.award))) is.so.0.3;
-      of_ask = of_ask w account is.row.ask allowance is.so.0.3;
+      of_ask = allowed_of_ask w account is.row.ask allowance is.so.0.3;
       is = sym is.so.1;
     }
 

@@ -10,15 +10,15 @@ use Rattle.reg_blocks.specs.Pool.{is_pool_prefix}
 use Rattle.reg_early.specs.Moment.{is_in_clock, utc_day}
 use Rattle.reg_ranges.specs.Texts.{is_text}
 use Rattle.reg_core.specs.Advice.{has_advice_form}
-use Rattle.reg_core.specs.Allowance.{◌>>=◌, allowance_on, allowed, ground_of, needs_advice, entry_asked, holding_asked}
-use Rattle.reg_core.specs.Award.{Award, new_entry, new_holding, Allowance, given_in, entry_on, holding_from}
+use Rattle.reg_core.specs.Allowance.{allowance_on, allowed, ground_of, needs_advice, holding_asked}
+use Rattle.reg_core.specs.Award.{Award, AwardedEntry, awarded_entry, new_holding, entry_on, holding_from}
 use Rattle.reg_core.specs.Answer.{Outcome, Answer, change_of, change_by}
 use Rattle.reg_core.specs.Ask.{has_ask_form}
 use Rattle.reg_core.specs.BlocksGiven.{IsDueIn}
 use Rattle.reg_core.specs.Capability.{has_cap_form}
 use Rattle.reg_core.specs.Command.{own_name, about, has_command_form}
 use Rattle.reg_core.specs.File.{was_advised}
-use Rattle.reg_core.specs.Laws.{GivesDigests}
+use Rattle.reg_core.specs.Laws.{GivesDigests, IsOfAsk}
 use Rattle.reg_core.specs.Maps.{same_text}
 use Rattle.reg_core.specs.Names.{is_name, is_token}
 use Rattle.reg_core.specs.Request.{word_of}
@@ -28,9 +28,8 @@ use Rattle.reg_core.specs.View.{published, cap_at}
 use Rattle.reg_core.specs.WellKept.{has_grant_form, has_registry_form}
 use Rattle.reg_core.specs.World.{World, RequestName}
 use Rattle.reg_core.specs.declared.ask.Ask.{Ask}
-use Rattle.reg_core.specs.declared.ask.Ask.TheVariants.{Code, Block}
+use Rattle.reg_core.specs.declared.ask.Ask.TheVariants.{Block}
 use Rattle.reg_core.specs.declared.ask.BlockAsk.{BlockAsk}
-use Rattle.reg_core.specs.declared.ask.CodeAsk.{CodeAsk}
 use Rattle.reg_core.specs.declared.capability.Cap.{Cap}
 use Rattle.reg_core.specs.declared.capability.Kind.TheVariants as kind
 use Rattle.reg_core.specs.declared.change.Change.{Change}
@@ -49,12 +48,11 @@ use Rattle.reg_core.specs.declared.holding.Holder.{Holder}
 use Rattle.reg_core.specs.declared.holding.Holding.{Holding}
 use Rattle.reg_core.specs.declared.request.Case.{Case}
 use Rattle.reg_core.specs.declared.request.Given.{Given}
-use Rattle.reg_core.specs.declared.request.Given.TheVariants.{Value}
 use Rattle.reg_core.specs.declared.request.State.{State}
 use Rattle.reg_core.specs.declared.request.State.TheVariants.{Pending, Approved, Declined, Withdrawn}
 use Rattle.reg_core.specs.declared.request.StateWord.TheVariants as word
 use Rattle.reg_core.proofs.Outcomes.Deciding.{Rule, Decides}
-use Rattle.reg_core.proofs.Allowances.{allowed_entry, allows_block}
+use Rattle.reg_core.proofs.Allowances.{allowed_of_ask, allows_block}
 use Rattle.reg_core.proofs.Blocks.{due_is_due}
 use Rattle.reg_core.proofs.Outcomes.Accepted.{Tells, Comes, Row, Serves, ClerkServes, IsAccepted, accepted}
 
@@ -84,15 +82,17 @@ Closes w caller moment account (Approved given) = ⊥
 Closes w caller moment account (Declined reason) = ClerkServes w caller moment
 Closes w caller moment account Withdrawn = IsApplicant w caller moment account
 
--- a pending request was given a value that its ask is allowed
+-- a pending request was given the entry that its ask is allowed
 pub record Gives (w : World) (today : ℕ) (name : RequestName) (entry : Entry) : Type 0 where
   pub pending : WasPending w name
-  pub ask : CodeAsk
-  pub asks : pending.case.ask ≡ Code ask
-  pub allows : allowed (published w) name.0 (Code ask) ≡ Ok (Value entry.value)
-  pub is : entry_on today (entry_asked name.0 ask entry.value) ≡ entry
-  pub advised : needs_advice (ground_of (published w) (Code ask)) (Code ask) ≡ true
-      → was_advised w name ≡ true
+  pub ask : Ask
+  pub asks : pending.case.ask ≡ ask
+  pub award : AwardedEntry
+  pub needs : Bool
+  pub allows : allowance_on (ground_of (published w) ask) name.0 ask
+      ≡ Ok (record { award = awarded_entry award; needs_advice = needs })
+  pub is : entry_on today award ≡ entry
+  pub advised : needs_advice (ground_of (published w) ask) ask ≡ true → was_advised w name ≡ true
 
 -- a pending request was given the block that was due
 pub record GivesBlock (w : World) (name : RequestName) (holding : Holding) : Type 0 where
@@ -239,39 +239,42 @@ module _ (digest_of : List ℕ → List ℕ) (w : World) (caller : Option (List 
   pending_word (Declined reason) h = absurd (cc)
   pending_word Withdrawn h = absurd (cc)
 
-  -- a line for each ask
+  -- a line for each award
   gives_due : ClerkServes w caller moment → {name : RequestName} (was : WasPending w name)
-      (allowance : Allowance)
-      → allowance_on (ground_of (published w) was.case.ask) name.0 was.case.ask ≡ Ok allowance
+      (award : Award) (needs : Bool)
+      → allowance_on (ground_of (published w) was.case.ask) name.0 was.case.ask
+      ≡ Ok (record { award = award; needs_advice = needs })
       → (needs_advice (ground_of (published w) was.case.ask) was.case.ask ≡ true
       → was_advised w name ≡ true)
-      → Due w caller moment (change_to_give name (utc_day moment) allowance.award)
-  gives_due by {name = name} was allowance allows advised = at was.case.ask refl allows advised
+      → Due w caller moment (change_to_give name (utc_day moment) award)
+  gives_due by was (awarded_entry e) needs allows advised = (
+    by,
+    record {
+      pending = was;
+      ask = was.case.ask;
+      asks = refl;
+      award = e;
+      needs = needs;
+      allows = allows;
+      is = refl;
+      advised = advised;
+    },
+  )
+  gives_due by {name = name} was (new_holding h) needs allows advised =
+      at was.case.ask refl allows
+      (allowed_of_ask w name.0 was.case.ask (record { award = new_holding h; needs_advice = needs })
+      allows)
     where
       at : (ask : Ask) → was.case.ask ≡ ask
-          → allowance_on (ground_of (published w) ask) name.0 ask ≡ Ok allowance
-          → (needs_advice (ground_of (published w) ask) ask ≡ true → was_advised w name ≡ true)
-          → Due w caller moment (change_to_give name (utc_day moment) allowance.award)
-      at (Code ask) asks allows advised =
-          let entry = allowed_entry (ground_of (published w) (Code ask)) name.0 ask allowance
-          allows in
-          subst (λ a. Due w caller moment (change_to_give name (utc_day moment) a)) (sym entry.1) (
-            by,
-            record {
-              pending = was;
-              ask = ask;
-              asks = asks;
-              allows =
-                  ap (λ r. r >>= (λ (a : Allowance). Ok (given_in a.award))) allows
-                  ∙ ap (λ a. Ok (given_in a)) entry.1;
-              is = refl;
-              advised = advised;
-            },
-          )
-      at (Block ask) asks allows advised =
-          let is = allows_block (ground_of (published w) (Block ask)) name.0 ask allowance
-          allows in
-          subst (λ a. Due w caller moment (change_to_give name (utc_day moment) a)) is.awards (
+          → allowance_on (ground_of (published w) ask) name.0 ask
+          ≡ Ok (record { award = new_holding h; needs_advice = needs })
+          → IsOfAsk name.0 ask (new_holding h)
+          → Due w caller moment (GiveBlock name.0 name.1 (holding_from h))
+      at (Block ask) asks allows of =
+          let is = allows_block (ground_of (published w) (Block ask)) name.0 ask _ allows in
+          let awards = is.awards in
+          let same : holding_asked name.0 ask is.block ≡ h = cc in
+          subst (λ x. Due w caller moment (GiveBlock name.0 name.1 (holding_from x))) same (
             by,
             record {
               pending = was;
@@ -281,16 +284,17 @@ module _ (digest_of : List ℕ → List ℕ) (w : World) (caller : Option (List 
               is = refl;
             },
           )
+      at ask asks allows of = absurd of
 
   -- a line for each award
   award_about : (name : RequestName) (today : ℕ) (award : Award)
       → change_about (change_to_give name today award) ≡ Some name
-  award_about name today (new_entry e) = refl
+  award_about name today (awarded_entry e) = refl
   award_about name today (new_holding h) = refl
 
   award_form : (name : RequestName) (today : ℕ) (award : Award)
       → has_change_form (change_to_give name today award) ≡ true
-  award_form name today (new_entry e) = refl
+  award_form name today (awarded_entry e) = refl
   award_form name today (new_holding h) = refl
 
   due_so : (command : Command) (o : Outcome) (change : Change)
@@ -366,7 +370,8 @@ module _ (digest_of : List ℕ → List ℕ) (w : World) (caller : Option (List 
   due_so (Clerk (clerk.Approve account reference)) o change a made =
       due_by a.so.1.so made (λ facts. record {
         is_open = a.is_open;
-        due = gives_due a.so.0 (was_pending a.so.1 facts.0) facts.2 facts.3 facts.1;
+        due = gives_due a.so.0 (was_pending a.so.1 facts.0) facts.2.award facts.2.needs_advice
+            facts.3 facts.1;
         about = award_about (account, reference) (utc_day moment) facts.2.award;
         form = λ digests form.
             award_form (account, reference) (utc_day moment) facts.2.award;

@@ -1,22 +1,28 @@
 //! Whether an ask meets the published registers.
-ghost use Rattle.std.specs.Prelude.{◌≡◌};
+ghost use Rattle.std.specs.Prelude.{◌≡◌, option_map};
 ghost use Rattle.std.specs.List.{list_any};
 ghost use Rattle.std.specs.Option.{option_copied};
 ghost use Rattle.std.specs.Result.{result_map_both};
+ghost use Rattle.reg_early.specs.EarlyRequirements.{early_unmet};
+ghost use Rattle.reg_early.specs.Terms.{renewable, settleable};
 ghost use Rattle.reg_ranges.specs.Requirements.{first_item, is_closed_policy, unmet};
 ghost use Rattle.reg_ranges.specs.Sameness.{same_treatment};
-ghost use Rattle.reg_core.specs.Allowance.{allowance_on, allowed_on, block_allowance, code_allowance, is_met, open_policy, policy_for, policy_in, value_for as value_wanted};
+ghost use Rattle.reg_core.specs.Allowance.{allowance_on, allowed_on, block_allowance, code_allowance, early_allowance, is_met, is_met_early, may_renew, may_settle, open_policy, own_entry, permanence_allowance, policy_for, policy_in, renewal_allowance, value_for as value_wanted};
 ghost use Rattle.reg_core.specs.Award.{allowance_view};
+ghost use Rattle.reg_core.specs.Entry.{registration_in};
 ghost use Rattle.reg_core.specs.Ground.{seen};
 
-use crate::ask::{Ask, BlockAsk, CodeAsk, Want};
-use crate::decide::award::{Award, NewEntry, NewHolding};
+use crate::ask::{Ask, BlockAsk, CodeAsk, EarlyAsk, PermanenceAsk, RenewalAsk, Want};
+use crate::decide::award::{Award, AwardedEntry, NewHolding, Tenure};
 use crate::entry::Entry;
 use crate::refusal::Refusal;
 use crate::request::Given;
 use crate::text::Account;
 use reg_blocks::block::Block;
-use reg_ranges::evidence::Evidence;
+use reg_early::evidence::EarlyEvidence;
+use reg_early::requirements::early_missing;
+use reg_early::term::{RenewFault, SettleFault, Term};
+use reg_ranges::evidence::{Evidence, Item};
 use reg_ranges::policy::{Policy, Treatment};
 use reg_ranges::range::Range;
 use reg_ranges::requirements::{missing, needs_expert};
@@ -36,8 +42,8 @@ pub struct Ground<'a> {
     pub due: Option<&'a Block>,
 }
 
-/// What an ask is allowed. It borrows from the ask, the account and, where it gives a block, the
-/// ground.
+/// What an ask is allowed. It borrows from the ask, the account and, where it gives a block or an
+/// entry that stands, the ground.
 #[derive(Clone, Copy)]
 pub struct Allowance<'a> {
     /// What the ask is given.
@@ -47,8 +53,10 @@ pub struct Allowance<'a> {
 }
 
 /// What an ask of an account would be given now, or the first refusal that it meets: `Registry`,
-/// `Range`, `Policy`, `Evidence` with its item, then `Taken` or `Exhausted`; for a block only
-/// `Exhausted`. Other requests are not looked at, and no memory is taken.
+/// `Range`, `Policy`, `Early` where it asks for an early allocation or its renewal, `Evidence` with
+/// its item; then, of a new entry, `Taken` or `Exhausted`, and of one that stands `Entry`,
+/// `Permanent` or, of a renewal, `Renewed`; for a block only `Exhausted`. Other requests are not
+/// looked at, and no memory is taken.
 pub fn check_ask<'a>(account: &'a Account, ask: &'a Ask, rows: Ground<'a>) -> Result<Given, Refusal>
     ensures { result ≡ allowed_on (seen rows.entry) account.now ask.now }
 {
@@ -67,6 +75,9 @@ pub fn allowance_for<'a>(
 {
     match ask {
         Ask::Code(code) => code_allowance(account, code, rows),
+        Ask::Early(early) => early_allowance(account, early, rows),
+        Ask::Renew(renewal) => renewal_allowance(account, renewal, rows),
+        Ask::Permanent(permanence) => permanence_allowance(account, permanence, rows),
         Ask::Block(block) => block_allowance(account, block, rows.due),
     }
 }
@@ -83,11 +94,92 @@ fn code_allowance<'a>(
     let policy = policy_for(table, code.want)?;
     check_evidence(policy, &code.evidence)?;
     let value = value_for(rows, table, code.want)?;
-    let entry = NewEntry {
+    let entry = AwardedEntry {
         registry: &code.registry,
         value,
         label: &code.label,
         assignee: account,
+        tenure: Tenure::ForGood,
+    };
+    Ok(Allowance {
+        award: Award::Entry(entry),
+        needs_advice: needs_expert(policy),
+    })
+}
+
+// An early allocation is of a value without an entry, as an assignment is.
+fn early_allowance<'a>(
+    account: &'a Account,
+    early: &'a EarlyAsk,
+    rows: Ground<'_>,
+) -> Result<Allowance<'a>, Refusal>
+    ensures { result_map_both allowance_view (λ refusal. refusal) result
+        ≡ early_allowance (seen rows.entry) account.now early.now }
+{
+    let table = rows.table.ok_or(Refusal::Registry)?;
+    let policy = policy_for(table, early.want)?;
+    check_early_evidence(policy, &early.evidence)?;
+    let value = value_for(rows, table, early.want)?;
+    let entry = AwardedEntry {
+        registry: &early.registry,
+        value,
+        label: &early.label,
+        assignee: account,
+        tenure: Tenure::Early,
+    };
+    Ok(Allowance {
+        award: Award::Entry(entry),
+        needs_advice: needs_expert(policy),
+    })
+}
+
+// An applicant's own early allocation is renewed once, and no expert looks at it again.
+fn renewal_allowance<'a>(
+    account: &'a Account,
+    renewal: &'a RenewalAsk,
+    rows: Ground<'a>,
+) -> Result<Allowance<'a>, Refusal>
+    ensures { result_map_both allowance_view (λ refusal. refusal) result
+        ≡ renewal_allowance (seen rows.entry) account.now renewal.now }
+{
+    let table = rows.table.ok_or(Refusal::Registry)?;
+    let policy = policy_for(table, Want::Value(renewal.value))?;
+    check_early_evidence(policy, &renewal.evidence)?;
+    let own = own_entry(account, rows.entry)?;
+    check_renewable(own.term)?;
+    let entry = AwardedEntry {
+        registry: &renewal.registry,
+        value: renewal.value,
+        label: &own.label,
+        assignee: &own.assignee,
+        tenure: Tenure::Renewed(&own.term),
+    };
+    Ok(Allowance {
+        award: Award::Entry(entry),
+        needs_advice: false,
+    })
+}
+
+// An applicant's own early allocation becomes permanent on the evidence of an assignment.
+fn permanence_allowance<'a>(
+    account: &'a Account,
+    permanence: &'a PermanenceAsk,
+    rows: Ground<'a>,
+) -> Result<Allowance<'a>, Refusal>
+    ensures { result_map_both allowance_view (λ refusal. refusal) result
+        ≡ permanence_allowance (seen rows.entry) account.now permanence.now }
+{
+    let table = rows.table.ok_or(Refusal::Registry)?;
+    let policy = policy_for(table, Want::Value(permanence.value))?;
+    check_evidence(policy, &permanence.evidence)?;
+    let own = own_entry(account, rows.entry)?;
+    check_settleable(own.term)?;
+    let entry = AwardedEntry {
+        registry: &permanence.registry,
+        value: permanence.value,
+        label: &own.label,
+        assignee: &own.assignee,
+        tenure: Tenure::Settled(&own.term),
     };
     Ok(Allowance {
         award: Award::Entry(entry),
@@ -125,6 +217,38 @@ fn value_for(rows: Ground<'_>, table: &RangeTable, want: Want) -> Result<u32, Re
         Want::Value(_) if rows.entry.is_some() => Err(Refusal::Taken),
         Want::Value(value) => Ok(value),
         Want::Least(_) => rows.least.ok_or(Refusal::Exhausted),
+    }
+}
+
+// The entry that is the account's own, if there is one.
+fn own_entry<'a>(account: &Account, entry: Option<&'a Entry>) -> Result<&'a Entry, Refusal>
+    ensures { result_map_both (λ e. registration_in e.now) (λ refusal. refusal) result
+        ≡ own_entry account.now (option_map registration_in (option_copied entry.entry)) }
+{
+    match entry {
+        Some(entry) if entry.assignee == *account => Ok(entry),
+        _ => Err(Refusal::Entry),
+    }
+}
+
+// Only what expires can be renewed, and only once.
+fn check_renewable(term: Term) -> Result<(), Refusal>
+    ensures { result ≡ may_renew (renewable term) }
+{
+    match term.renewable() {
+        Ok(()) => Ok(()),
+        Err(RenewFault::Permanent) => Err(Refusal::Permanent),
+        Err(RenewFault::Renewed) => Err(Refusal::Renewed),
+    }
+}
+
+// Only what expires can become permanent.
+fn check_settleable(term: Term) -> Result<(), Refusal>
+    ensures { result ≡ may_settle (settleable term) }
+{
+    match term.settleable() {
+        Ok(()) => Ok(()),
+        Err(SettleFault::Permanent) => Err(Refusal::Permanent),
     }
 }
 
@@ -189,6 +313,16 @@ fn check_evidence(policy: Policy, evidence: &Evidence) -> Result<(), Refusal>
 {
     match missing(policy, evidence) {
         None => Ok(()),
+        Some(item) => Err(Refusal::Evidence(item)),
+    }
+}
+
+fn check_early_evidence(policy: Policy, evidence: &EarlyEvidence) -> Result<(), Refusal>
+    ensures { result ≡ is_met_early (first_item (early_unmet policy evidence.now)) }
+{
+    match early_missing(policy, evidence) {
+        None => Ok(()),
+        Some(Item::Policy) => Err(Refusal::Early),
         Some(item) => Err(Refusal::Evidence(item)),
     }
 }

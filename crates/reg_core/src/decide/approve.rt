@@ -20,11 +20,11 @@ use reg_early::day::Day;
 /// that was declined or withdrawn is refused as `Closed`; a pending one is given what its ask is
 /// allowed, or is refused where that is, or as `Advice` where experts review it and none of its
 /// experts is for it.
-pub fn decide_approve(
-    request: &Request,
+pub fn decide_approve<'a>(
+    request: &'a Request,
     experts: &[Account],
     opinions: &[Opinion],
-    rows: Ground<'_>,
+    rows: Ground<'a>,
     today: Day,
 ) -> Result<Decision, Deny>
     ensures { let name : RequestName = (request.now.account, request.now.reference) in
@@ -39,10 +39,10 @@ pub fn decide_approve(
     }
 }
 
-fn decide_pending(
-    request: &Request,
+fn decide_pending<'a>(
+    request: &'a Request,
     advised: bool,
-    rows: Ground<'_>,
+    rows: Ground<'a>,
     today: Day,
 ) -> Result<Decision, Deny>
     ensures { let name : RequestName = (request.now.account, request.now.reference) in

@@ -1,6 +1,6 @@
 //! What an ask is given, part by part.
 ghost use Rattle.std.specs.Prelude.{◌≡◌, IfOk};
-ghost use Rattle.reg_core.specs.Award.{award_view, entry_on, entry_view, given_in, holding_from, holding_view};
+ghost use Rattle.reg_core.specs.Award.{award_view, entry_on, entry_view, given_in, holding_from, holding_view, tenure_view, term_on};
 ghost use Rattle.reg_core.specs.Rules.{change_to_give};
 
 use crate::change::Change;
@@ -16,19 +16,33 @@ use std::alloc::AllocError;
 /// What an ask is given: with the name of the request and the day, all that the change is made of.
 #[derive(Clone, Copy)]
 pub enum Award<'a> {
-    /// A new entry.
-    Entry(NewEntry<'a>),
+    /// An entry: a new one, or the one that stands, in another term.
+    Entry(AwardedEntry<'a>),
     /// A block, with its holder.
     Block(NewHolding<'a>),
 }
 
-/// An entry, but for its term.
+/// How long an entry is given for.
 #[derive(Clone, Copy)]
-pub struct NewEntry<'a> {
+pub enum Tenure<'a> {
+    /// A new one, for good.
+    ForGood,
+    /// A new one, allocated early (RFC 7120 section 3.1).
+    Early,
+    /// The one that stands in this term, renewed (RFC 7120 section 3.3).
+    Renewed(&'a Term),
+    /// The one that stands in this term, for good.
+    Settled(&'a Term),
+}
+
+/// An entry, but for its term, which is known on the day of the approval.
+#[derive(Clone, Copy)]
+pub struct AwardedEntry<'a> {
     pub registry: &'a Name,
     pub value: u32,
     pub label: &'a Text,
     pub assignee: &'a Account,
+    pub tenure: Tenure<'a>,
 }
 
 /// A block with its holder, who is not private.
@@ -63,7 +77,7 @@ impl Award<'_> {
     {
         match self {
             Award::Entry(entry) => {
-                let entry = entry.from_day(today)?;
+                let entry = entry.on(today)?;
                 Ok(Change::GiveValue(*account, *reference, entry))
             }
             Award::Block(holding) => {
@@ -74,9 +88,23 @@ impl Award<'_> {
     }
 }
 
-impl NewEntry<'_> {
-    // The entry, from a day on and for good.
-    fn from_day(&self, today: Day) -> Result<Entry, AllocError>
+impl Tenure<'_> {
+    // The term of an entry that is given on a day.
+    fn term(self, today: Day) -> Term
+        ensures { result ≡ term_on today (tenure_view self.entry) }
+    {
+        match self {
+            Tenure::ForGood => Term::permanent(today),
+            Tenure::Early => Term::early(today),
+            Tenure::Renewed(term) => term.renewed_on(today),
+            Tenure::Settled(term) => term.settled(),
+        }
+    }
+}
+
+impl AwardedEntry<'_> {
+    // The entry, as it is given on a day.
+    fn on(&self, today: Day) -> Result<Entry, AllocError>
         ensures { IfOk result (λ e. e ≡ entry_on today (entry_view self.now)) }
     {
         Ok(Entry {
@@ -84,7 +112,7 @@ impl NewEntry<'_> {
             value: self.value,
             label: self.label.copy()?,
             assignee: *self.assignee,
-            term: Term::permanent(today),
+            term: self.tenure.term(today),
         })
     }
 }

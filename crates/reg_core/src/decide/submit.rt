@@ -16,12 +16,12 @@ use crate::text::{Account, Ref};
 /// Decides a submission over the applicant's own request under that reference and the published
 /// rows that the ask needs: the same ask again changes nothing, another one is refused as `Ref`,
 /// and a new one is refused where it is not allowed.
-pub fn decide_submit(
+pub fn decide_submit<'a>(
     existing: Option<&Request>,
-    account: &Account,
+    account: &'a Account,
     reference: &Ref,
-    ask: &Ask,
-    rows: Ground<'_>,
+    ask: &'a Ask,
+    rows: Ground<'a>,
 ) -> Result<Decision, Deny>
     ensures { let allowance = allowed_on (seen rows.entry) account.now ask.now in
         Follows (submit_rule allowance (account.now, reference.now) ask.now
