@@ -1,6 +1,7 @@
 //! What keeps the content of an office.
-ghost use Rattle.std.specs.Prelude.{◌≡◌, Bool, option_map};
+ghost use Rattle.std.specs.Prelude.{◌≡◌, Bool, IfOk, map, option_map};
 ghost use Rattle.std.specs.FinMap.{contains_key, get, keys};
+ghost use Rattle.std.specs.List.Sorted.{IsStrictlyIncreasing};
 ghost use Rattle.reg_core.specs.BlockDue.{due_in};
 ghost use Rattle.reg_core.specs.Entry.{entry_row};
 ghost use Rattle.reg_core.specs.File.{file as file_of};
@@ -91,10 +92,12 @@ pub trait Keeper {
             (λ w entry. entry ≡
             option_map (entry_row registry.now value) (get w.entries (registry.now, value))) };
 
-    /// All entries of a registry, by value.
+    /// All entries of a registry, by value. Their values ascend whatever the premise.
     fn entries(&mut self, registry: &Name) -> Result<Rows<Entry>, Fault>
-        ensures { Selects world Holds Sound FAILS self.old self.new result
-            (λ w entries. entries ≡ entry_rows (entries_of registry.now w.entries)) };
+        ensures rows { Selects world Holds Sound FAILS self.old self.new result
+            (λ w entries. entries ≡ entry_rows (entries_of registry.now w.entries)) }
+        ensures ascending { IfOk result
+            (λ entries. IsStrictlyIncreasing (map (λ e. e.value) entries)) };
 
     /// The least value of a registry that lies in a range under a policy and has no entry, if
     /// there is the registry and such a value.

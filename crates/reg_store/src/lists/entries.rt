@@ -1,6 +1,7 @@
 //! Entries by their registries, and then by value.
-ghost use Rattle.std.specs.Prelude.{◌≡◌, IfOk, OnOk, OnErr, option_map};
+ghost use Rattle.std.specs.Prelude.{◌≡◌, IfOk, OnOk, OnErr, map, option_map};
 ghost use Rattle.std.specs.FinMap as fin;
+ghost use Rattle.std.specs.List.Sorted.{IsStrictlyIncreasing};
 ghost use Rattle.std.specs.Ordering.{nat_cmp};
 ghost use Rattle.reg_core.specs.Entry.{entry_row as entry_of, registration_in};
 ghost use Rattle.reg_core.specs.Maps.{text_cmp};
@@ -35,8 +36,9 @@ pub fn entries_in(
     entries: &Entries,
     registry: &Name,
 ) -> Result<Rows<Entry>, AllocError>
-    ensures { IfOk result (λ rows. rows ≡
+    ensures rows { IfOk result (λ rows. rows ≡
         entry_rows (entries_of registry.now (pair_map text_cmp nat_cmp entries.now))) }
+    ensures ascending { IfOk result (λ rows. IsStrictlyIncreasing (map (λ e. e.value) rows)) }
 {
     Ok(Rows::from_vec(list_group(
         alloc,

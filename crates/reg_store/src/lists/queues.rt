@@ -29,7 +29,10 @@ pub fn queued_in(
 ) -> Result<Option<QueueRow>, AllocError>
     ensures { IfOk result (λ row. row ≡ fin.get (all_queues queues.now) (expert.now, name.now)) }
 {
-    row_in(queues, expert, name).cloned()
+    match row_in(queues, expert, name) {
+        Some(row) => Ok(Some(row.copy()?)),
+        None => Ok(None),
+    }
 }
 
 /// Puts an expert's advice into the row of a request in the expert's queue, if it is there.

@@ -76,7 +76,8 @@ impl Registrations {
     }
 }
 
-// The entry and its value, or, where there is no memory for the value, neither.
+// The entry and its value, or, where there is no memory for the value, neither. Only a value that is
+// not taken can lack memory: so the entry that is taken away again has replaced none.
 fn put_both(
     alloc: Global,
     entries: &mut Entries,
