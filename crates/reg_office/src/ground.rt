@@ -1,15 +1,16 @@
 //! The published rows that an ask needs, as a keeper gives them.
 ghost use Rattle.std.specs.Prelude.{◌≡◌, None, true};
-ghost use Rattle.reg_core.specs.Allowance.{ground_of};
+ghost use Rattle.reg_core.specs.Allowance.{ground_of, value_ground};
 ghost use Rattle.reg_core.specs.Ground.{seen};
 ghost use Rattle.reg_core.specs.View.{published};
 ghost use Rattle.reg_core.specs.declared.ask.Ask.TheVariants as asks;
 ghost use Rattle.reg_keeper.specs.Keeper.{Selects};
 
 use reg_blocks::block::Block;
-use reg_core::ask::{Ask, BlockAsk, CodeAsk, Want};
+use reg_core::ask::{Ask, BlockAsk, Want};
 use reg_core::decide::Ground;
 use reg_core::entry::Entry;
+use reg_core::text::Name;
 use reg_keeper::keeper::{Fault, Keeper};
 use reg_ranges::table::RangeTable;
 use std::marker::Model;
@@ -85,20 +86,27 @@ fn ground_for<K: Keeper>(keeper: &mut K, ask: &Ask) -> Result<GroundRows, Fault>
         (λ w rows. rows ≡ ground_of (published w) ask.now) }
 {
     match ask {
-        Ask::Code(code) => code_ground(keeper, code),
+        Ask::Code(code) => value_ground(keeper, &code.registry, code.want),
+        Ask::Early(early) => value_ground(keeper, &early.registry, early.want),
+        Ask::Renew(renewal) => {
+            value_ground(keeper, &renewal.registry, Want::Value(renewal.value))
+        }
+        Ask::Permanent(permanence) => {
+            value_ground(keeper, &permanence.registry, Want::Value(permanence.value))
+        }
         Ask::Block(block) => block_ground(keeper, block),
     }
 }
 
-// Those that an ask for a value needs. No entry is looked at where the least value is wanted.
-fn code_ground<K: Keeper>(keeper: &mut K, code: &CodeAsk) -> Result<GroundRows, Fault>
+// Those that an ask of a registry needs. No entry is looked at where the least value is wanted.
+fn value_ground<K: Keeper>(keeper: &mut K, registry: &Name, want: Want) -> Result<GroundRows, Fault>
     ensures { Selects K.world K.Holds K.Sound K.FAILS keeper.old keeper.new result
-        (λ w rows. rows ≡ ground_of (published w) (asks.Code code.now)) }
+        (λ w rows. rows ≡ value_ground (published w) registry.now want) }
 {
-    let table = keeper.ranges(&code.registry)?;
-    match code.want {
+    let table = keeper.ranges(registry)?;
+    match want {
         Want::Value(value) => {
-            let entry = keeper.entry(&code.registry, value)?;
+            let entry = keeper.entry(registry, value)?;
             Ok(GroundRows {
                 table,
                 entry,
@@ -107,7 +115,7 @@ fn code_ground<K: Keeper>(keeper: &mut K, code: &CodeAsk) -> Result<GroundRows, 
             })
         }
         Want::Least(policy) => {
-            let least = keeper.least(&code.registry, policy)?;
+            let least = keeper.least(registry, policy)?;
             Ok(GroundRows {
                 table,
                 entry: None,

@@ -1,6 +1,7 @@
 //! Laws of the office at the digest that it uses, the SHA-256 of a token: the contracts of
 //! functions that change nothing and take no memory.
 ghost use Rattle.reg_core.specs.BlocksGiven.{BlockAsksAreServedDuly, BlocksAreApart, BlocksDueAreLeast, ForeignBlocksAreHidden, PrivateHoldersAreHidden};
+ghost use Rattle.reg_core.specs.EarlyAllocations.{ExpiredValuesAreTaken, ForeignEntriesAreHidden, TermsMoveDuly};
 ghost use Rattle.reg_core.specs.Laws.{AnswersAreDone, ApprovalsAreAdvised, ApprovalsGiveWhatIsAllowed, ApprovalsStand, ChangesFit, FirstWorldsAreWellKept, GivenStays, RefusalsChangeNothing, RepeatsActOnce, RunsKeepWell, SubmissionsStand, TwoWorlds};
 ghost use Rattle.reg_core.specs.MayBeGiven.{AsksMeetTheirPolicy, NoValueIsGivenTwice};
 ghost use Rattle.reg_core.specs.Striking.{StagesAreOfRun, UnseenLeaveNoTrace};
@@ -64,20 +65,48 @@ pub fn approvals_are_advised()
 
 /// Asks meet their policy: a request is taken in, and approved, only for a value of its registry's
 /// ranges under a policy by which values are assigned one by one, with all evidence that this
-/// policy asks for (RFC 8126 section 4), and at which no entry stands; and what was approved has
-/// its entry, of the applicant's account.
+/// policy (RFC 8126 section 4), or an early allocation under it (RFC 7120 section 2), asks for, and
+/// at which no entry stands; or, to renew it or to make it permanent, an entry of the applicant's
+/// own; and what was approved has its entry, of the applicant's account.
 pub fn asks_meet_their_policy()
     ensures { AsksMeetTheirPolicy token_digest }
 {
     reg_core::laws::asks_meet_their_policy();
 }
 
-/// No value is given twice: in a run from a well kept office, an entry that is given after another
-/// was is of another registry or at another value.
+/// No value is given twice: in a run from a well kept office, what is given after an entry was is
+/// at another place, or it is the same entry of the same assignee, in another term.
 pub fn no_value_is_given_twice()
     ensures { NoValueIsGivenTwice token_digest }
 {
     reg_core::laws::no_value_is_given_twice();
+}
+
+/// Terms move duly: whatever a command does, each entry stands after it as before; or a clerk
+/// approved, of its own assignee, a renewal, which moves the expiry of an entry that was not renewed
+/// before by a year of the calendar, or a permanence, which takes the expiry away (RFC 7120 section
+/// 3).
+pub fn terms_move_duly()
+    ensures { TermsMoveDuly token_digest }
+{
+    reg_core::laws::terms_move_duly();
+}
+
+/// Expired values are taken: no ask for a new entry at a value that has one is taken in, whatever
+/// the term of that entry.
+pub fn expired_values_are_taken()
+    ensures { ExpiredValuesAreTaken token_digest }
+{
+    reg_core::laws::expired_values_are_taken();
+}
+
+/// Entries of others are hidden from asks: a caller who asks for the renewal or the permanence of an
+/// entry that is not its own is answered alike whoever has the value, and where nobody has it, and
+/// changes nothing.
+pub fn foreign_entries_are_hidden()
+    ensures { ForeignEntriesAreHidden token_digest }
+{
+    reg_core::laws::foreign_entries_are_hidden();
 }
 
 /// No address is given twice: in every run from a well kept office each block that was given lies
@@ -121,10 +150,10 @@ pub fn foreign_blocks_are_hidden()
     reg_core::laws::foreign_blocks_are_hidden();
 }
 
-/// What was given stays: in every run from a well kept office an entry keeps its label, its
-/// assignee and its first day, a block its holder, organization and address, a registry its
-/// ranges, a request its ask and, once it is not pending, its state, its experts and all advice on
-/// it; and none of them goes away, nor does a prefix of the pool.
+/// What was given stays: in every run from a well kept office an entry keeps its label and its
+/// assignee, and its term but for one renewal and its permanence, a block its holder, organization
+/// and address, a registry its ranges, a request its ask and, once it is not pending, its state,
+/// its experts and all advice on it; and none of them goes away, nor does a prefix of the pool.
 pub fn given_stays()
     ensures { GivenStays token_digest }
 {

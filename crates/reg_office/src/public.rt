@@ -12,9 +12,8 @@ use crate::stop::Stop;
 use reg_core::command::PublicCommand;
 use reg_core::content::Content;
 use reg_core::entry::{Entry, PageEntry};
-use reg_core::page::Page;
+use reg_core::page::{Page, PageEntries};
 use reg_core::refusal::Refusal;
-use reg_core::rows::Rows;
 use reg_core::text::Name;
 use reg_early::day::Day;
 use reg_keeper::keeper::{Fault, Keeper};
@@ -109,12 +108,12 @@ fn entries_on<K: Keeper>(
     keeper: &mut K,
     today: Day,
     name: &Name,
-) -> Result<Rows<PageEntry>, Fault>
+) -> Result<PageEntries, Fault>
     ensures { Selects K.world K.Holds K.Sound K.FAILS keeper.old keeper.new result
         (λ w entries. entries ≡ page_entries (published w) name.now today) }
 {
     let entries = keeper.entries(name)?;
-    Ok(Rows::from_vec(shown(alloc, entries.into_vec(), today)?))
+    Ok(PageEntries::from_vec(shown(alloc, entries.into_vec(), today)?))
 }
 
 fn shown(alloc: Global, entries: Vec<Entry>, today: Day) -> Result<Vec<PageEntry>, AllocError>

@@ -1,0 +1,5 @@
+use Rattle.reg_office.specs.Caller.{token_digest}
+use Rattle.reg_office.proofs.laws.foreign_entries_are_hidden.Goals as goal
+
+pub returns : goal.returns
+returns c = c.foreign_entries_are_hidden.ensures token_digest
