@@ -12,7 +12,7 @@ use Rattle.reg_core.specs.declared.item.Item.{Item}
 use Rattle.reg_core.specs.declared.wire_refusal.WireRefusal.{WireRefusal}
 use Rattle.reg_core.specs.declared.wire_refusal.WireRefusal.TheVariants as refusal
 use Rattle.reg_core.specs.Item.{item_name}
-use Rattle.reg_parse.specs.Bodies.Members.{or_refusal, needed, formed, optional, text_form, number_form, until_form, whole, below}
+use Rattle.reg_parse.specs.Bodies.Members.{Reading, ◌>>=◌, or_refusal, needed, formed, optional, text_form, number_form, until_form, whole, below}
 
 -- whatever is read passes the test
 pub record Passes {A E : Type 0} (test : A → Bool) (reading : Result A E) : Type 0 where
@@ -24,6 +24,12 @@ ok-passes test x h = record { passed = λ y e. let same : x ≡ y = cc in rw (�
 
 pub err-passes : {A E : Type 0} (test : A → Bool) (e : E) → Passes test (Err e)
 err-passes test e = record { passed = λ y h. cc }
+
+-- what is read after a part passes, whatever that part is
+pub after-passes : {A B : Type 0} (test : B → Bool) (part : Reading A) (more : A → Reading B)
+    → ((x : A) → part ≡ Ok x → Passes test (more x)) → Passes test (part >>= more)
+after-passes test (Ok x) more h = h x refl
+after-passes test (Err e) more h = err-passes test e
 
 -- ---- forms
 

@@ -1,31 +1,33 @@
 -- An ask that is read has its form.
-use Rattle.std.proofs.Common.{◌≡◌, ℕ, List, Bool, true, false, Option, Some, None, Ok, Err, refl, cond}
+use Rattle.std.proofs.Common.{◌≡◌, ◌∙◌, ◌&&◌, ℕ, List, Bool, true, false, Option, Some, None, Ok, Err, refl, cond}
 use Rattle.std.specs.Prelude.{⊤}
 use Rattle.serde_json.specs.Data.{Data}
 use Rattle.serde_json.specs.Find.{get, as_object}
 use Rattle.reg_ranges.specs.Rfcs.{PublishedRfc}
 use Rattle.reg_ranges.specs.Texts.{is_within, is_text}
-use Rattle.reg_ranges.specs.declared.evidence.Evidence.{Evidence}
 use Rattle.reg_ranges.specs.declared.evidence.Stream.{Stream}
 use Rattle.reg_ranges.specs.declared.evidence.Track.{Track}
+use Rattle.reg_early.specs.Forms.{has_early_form}
 use Rattle.reg_core.specs.Names.{is_name}
-use Rattle.reg_core.specs.Ask.{has_note_form, has_rfc_form, has_evidence_form, has_want_form, has_ask_form, has_block_form, has_code_form}
+use Rattle.reg_core.specs.Ask.{has_note_form, has_rfc_form, has_evidence_form, has_want_form, has_ask_form, has_block_form, has_code_form, has_early_ask_form, has_permanence_form, has_renewal_form}
 use Rattle.reg_blocks.specs.declared.size.Size.{Size}
-use Rattle.reg_core.specs.declared.ask.BlockAsk.{BlockAsk}
-use Rattle.reg_core.specs.declared.ask.CodeAsk.{CodeAsk}
-use Rattle.reg_core.specs.declared.ask.Ask.TheVariants.{Code, Block}
-use Rattle.reg_core.specs.declared.ask.Want.{Want}
+use Rattle.reg_core.specs.declared.ask.Ask.{Ask}
+use Rattle.reg_core.specs.declared.ask.Ask.TheVariants.{Code, Early, Renew, Permanent, Block}
 use Rattle.reg_core.specs.declared.ask.Want.TheVariants as want
 use Rattle.reg_core.specs.declared.item.Item.TheVariants as item
 use Rattle.reg_core.specs.declared.wire_refusal.WireRefusal.TheVariants as refusal
 use Rattle.reg_parse.specs.declared.bodies.ask.AskKind.{AskKind}
 use Rattle.reg_parse.specs.declared.bodies.ask.AskKind.TheVariants as kind
+use Rattle.reg_parse.specs.declared.bodies.value.AllocatedValue.{AllocatedValue}
+use Rattle.reg_parse.specs.declared.bodies.value.WantedValue.{WantedValue}
 use Rattle.reg_core.specs.Item.{item_name}
-use Rattle.reg_parse.specs.Bodies.Members.{Reading, ◌>>=◌, needed, member_in, optional, only, is_among, text_form, number_form}
+use Rattle.reg_parse.specs.Bodies.Members.{Reading, ◌>>=◌, needed, member_in, optional, optional_truth, only, is_among, text_form, number_form}
 use Rattle.reg_parse.specs.Bodies.Rfc.{rfc_form, rfc_items, rfc_with, stream_form, track_form}
+use Rattle.reg_parse.specs.Bodies.EarlyEvidence.{early_evidence_of}
 use Rattle.reg_parse.specs.Bodies.Evidence.{evidence_of}
-use Rattle.reg_parse.specs.Bodies.Ask.{ask_of, block_of, block_items, code_of, code_items, size_form, ask_of_kind, ask_kind_form, want_by, want_of, policy_form}
-use Rattle.reg_parse.proofs.Formed.{Passes, Gives, ok-passes, err-passes, guard, after, mapped, or_refusal-passes, needed-passes, optional-passes, note-passes, text_form-gives, number_form-gives}
+use Rattle.reg_parse.specs.Bodies.Value.{allocated_value_of, policy_form, want_by, want_of, wanted_value_of}
+use Rattle.reg_parse.specs.Bodies.Ask.{ask_of, ask_kind_form, ask_of_kind, block_of, block_items, code_of, code_items, code_with, early_of, early_items, early_with, permanence_of, permanence_items, permanence_with, renewal_of, renewal_items, renewal_with, size_form}
+use Rattle.reg_parse.proofs.Formed.{Passes, Gives, is_below, after-passes, ok-passes, err-passes, guard, after, mapped, or_refusal-passes, needed-passes, optional-passes, note-passes, text_form-gives, number_form-gives}
 
 -- ---- evidence
 
@@ -74,7 +76,30 @@ evidence_of-passes json =
     (optional-passes has_rfc_form item.Rfc rfc_form json refl rfc_form-gives)
     (note-passes item.Minute json)
 
--- ---- asks
+early_evidence_of-passes : (json : Data) → Passes has_early_form (early_evidence_of json)
+unfolding early_evidence_of
+early_evidence_of-passes json =
+    after-passes has_early_form (optional item.Draft (text_form is_text) json) _
+    (λ d hd. after-passes has_early_form (optional_truth item.Stable json) _
+    (λ s hs. after-passes has_early_form (optional_truth item.Interest json) _
+    (λ i hi. after-passes has_early_form (optional item.Chair (text_form is_text) json) _
+    (λ c hc. after-passes has_early_form (optional item.Director (text_form is_text) json) _
+    (λ a ha. after-passes has_early_form (optional_truth item.WillBeRfc json) _
+    (λ p hp. ok-passes has_early_form _
+    (rw (
+      (note-passes item.Draft json).passed d hd,
+      (note-passes item.Chair json).passed c hc,
+      (note-passes item.Director json).passed a ha,
+    ) refl)))))))
+
+-- ---- values
+
+abbrev has_wanted_form : WantedValue → Bool
+has_wanted_form value =
+    is_name value.registry && has_want_form value.want && is_text value.label
+
+abbrev has_allocated_form : AllocatedValue → Bool
+has_allocated_form value = is_name value.registry && is_below value.value
 
 want_by-passes : (value least : Option Data) → Passes has_want_form (want_by value least)
 want_by-passes (Some value) None =
@@ -86,38 +111,69 @@ want_by-passes None (Some least) =
 want_by-passes (Some value) (Some least) = err-passes _ (refusal.Field item.Value)
 want_by-passes None None = err-passes _ (refusal.Field item.Value)
 
-code_parts : (r : Reading (List ℕ)) (w : Reading Want) (l : Reading (List ℕ)) (v : Reading Evidence)
-    (o : Reading ⊤)
-    → Passes is_name r → Passes has_want_form w → Passes is_text l → Passes has_evidence_form v
-    → Passes has_code_form
-    (r >>= (λ registry. w
-    >>= (λ wanted. l
-    >>= (λ label. v
-    >>= (λ evidence. o
-    >>= (λ others. Ok
-    (record { registry = registry; want = wanted; label = label; evidence = evidence })))))))
-code_parts (Ok r) (Ok w) (Ok l) (Ok v) (Ok o) hr hw hl hv =
-    ok-passes has_code_form _
-    (rw (hr.passed r refl, hw.passed w refl, hl.passed l refl, hv.passed v refl) refl)
-code_parts (Ok r) (Ok w) (Ok l) (Ok v) (Err e) hr hw hl hv = err-passes _ e
-code_parts (Ok r) (Ok w) (Ok l) (Err e) o hr hw hl hv = err-passes _ e
-code_parts (Ok r) (Ok w) (Err e) v o hr hw hl hv = err-passes _ e
-code_parts (Ok r) (Err e) l v o hr hw hl hv = err-passes _ e
-code_parts (Err e) w l v o hr hw hl hv = err-passes _ e
+wanted_value_of-passes : (json : Data) → Passes has_wanted_form (wanted_value_of json)
+unfolding wanted_value_of
+wanted_value_of-passes json =
+    let registry = needed-passes is_name item.Registry _ json (text_form-gives is_name) in
+    let want = want_by-passes (get (item_name item.Value) json) (get (item_name item.Least) json) in
+    let label = needed-passes is_text item.Label _ json (text_form-gives is_text) in
+    after-passes has_wanted_form (needed item.Registry (text_form is_name) json) _
+    (λ r hr. after-passes has_wanted_form (want_of json) _
+    (λ w hw. after-passes has_wanted_form (needed item.Label (text_form is_text) json) _
+    (λ l hl. ok-passes has_wanted_form _
+    (rw (registry.passed r hr, want.passed w hw, label.passed l hl) refl))))
+
+allocated_value_of-passes : (json : Data) → Passes has_allocated_form (allocated_value_of json)
+unfolding allocated_value_of
+allocated_value_of-passes json =
+    let registry = needed-passes is_name item.Registry _ json (text_form-gives is_name) in
+    let value = needed-passes is_below item.Value number_form json number_form-gives in
+    after-passes has_allocated_form (needed item.Registry (text_form is_name) json) _
+    (λ r hr. after-passes has_allocated_form (needed item.Value number_form json) _
+    (λ v hv. ok-passes has_allocated_form _ (rw (registry.passed r hr, value.passed v hv) refl)))
+
+-- ---- asks
+
+-- an ask of a value and of evidence passes where both pass
+with_evidence-passes : {V E A : Type 0} (of_value : V → Bool) (of_evidence : E → Bool)
+    (test : A → Bool) (ask : V → E → A) (value : Reading V) (evidence : Reading E)
+    (others : Reading ⊤) → Passes of_value value → Passes of_evidence evidence
+    → ((v : V) (e : E) → of_value v ≡ true → of_evidence e ≡ true → test (ask v e) ≡ true)
+    → Passes test (value >>= (λ v. evidence >>= (λ e. others >>= (λ none. Ok (ask v e)))))
+with_evidence-passes of_value of_evidence test ask (Ok v) (Ok e) (Ok o) hv he h =
+    ok-passes test _ (h v e (hv.passed v refl) (he.passed e refl))
+with_evidence-passes of_value of_evidence test ask (Ok v) (Ok e) (Err o) hv he h = err-passes _ o
+with_evidence-passes of_value of_evidence test ask (Ok v) (Err e) o hv he h = err-passes _ e
+with_evidence-passes of_value of_evidence test ask (Err v) e o hv he h = err-passes _ v
 
 code_of-passes : (json : Data) → Passes has_code_form (code_of json)
 unfolding code_of
 code_of-passes json =
-    code_parts (needed item.Registry (text_form is_name) json) (want_of json)
-    (needed item.Label (text_form is_text) json) (evidence_of json) (only code_items json)
-    (needed-passes is_name item.Registry _ json (text_form-gives is_name))
-    (want_by-passes (get (item_name item.Value) json) (get (item_name item.Least) json))
-    (needed-passes is_text item.Label _ json (text_form-gives is_text)) (evidence_of-passes json)
+    with_evidence-passes has_wanted_form has_evidence_form has_code_form code_with
+    (wanted_value_of json) (evidence_of json) (only code_items json)
+    (wanted_value_of-passes json) (evidence_of-passes json) (λ v e hv he. rw (hv, he) refl)
 
-code_ask : (code : Reading CodeAsk) → Passes has_code_form code
-    → Passes has_ask_form (code >>= (λ c. Ok (Code c)))
-code_ask (Ok code) h = ok-passes has_ask_form (Code code) (h.passed code refl)
-code_ask (Err e) h = err-passes _ e
+early_of-passes : (json : Data) → Passes has_early_ask_form (early_of json)
+unfolding early_of
+early_of-passes json =
+    with_evidence-passes has_wanted_form has_early_form has_early_ask_form early_with
+    (wanted_value_of json) (early_evidence_of json) (only early_items json)
+    (wanted_value_of-passes json) (early_evidence_of-passes json) (λ v e hv he. rw (hv, he) refl)
+
+renewal_of-passes : (json : Data) → Passes has_renewal_form (renewal_of json)
+unfolding renewal_of
+renewal_of-passes json =
+    with_evidence-passes has_allocated_form has_early_form has_renewal_form renewal_with
+    (allocated_value_of json) (early_evidence_of json) (only renewal_items json)
+    (allocated_value_of-passes json) (early_evidence_of-passes json)
+    (λ v e hv he. rw (hv, he) refl)
+
+permanence_of-passes : (json : Data) → Passes has_permanence_form (permanence_of json)
+unfolding permanence_of
+permanence_of-passes json =
+    with_evidence-passes has_allocated_form has_evidence_form has_permanence_form permanence_with
+    (allocated_value_of json) (evidence_of json) (only permanence_items json)
+    (allocated_value_of-passes json) (evidence_of-passes json) (λ v e hv he. rw (hv, he) refl)
 
 block_parts : (s : Reading Size) (g : Reading (List ℕ)) (a : Reading (List ℕ)) (o : Reading ⊤)
     → Passes is_text g → Passes is_text a
@@ -143,17 +199,29 @@ block_of-passes json =
     (needed-passes is_text item.Organization _ json (text_form-gives is_text))
     (needed-passes is_text item.Address _ json (text_form-gives is_text))
 
-block_ask : (block : Reading BlockAsk) → Passes has_block_form block
-    → Passes has_ask_form (block >>= (λ b. Ok (Block b)))
-block_ask (Ok block) h = ok-passes has_ask_form (Block block) (h.passed block refl)
-block_ask (Err e) h = err-passes _ e
+-- an ask has the form of its kind
+of_kind-passes : {A : Type 0} (test : A → Bool) (ask : A → Ask) (reading : Reading A)
+    → ((x : A) → has_ask_form (ask x) ≡ test x) → Passes test reading
+    → Passes has_ask_form (reading >>= (λ x. Ok (ask x)))
+of_kind-passes test ask (Ok x) same h =
+    ok-passes has_ask_form (ask x) (same x ∙ h.passed x refl)
+of_kind-passes test ask (Err e) same h = err-passes _ e
 
-ask_of-passes_at : (k : Reading AskKind) (json : Data)
-    → Passes has_ask_form (k >>= (λ asked. ask_of_kind asked json))
-ask_of-passes_at (Ok kind.Code) json = code_ask (code_of json) (code_of-passes json)
-ask_of-passes_at (Ok kind.Block) json = block_ask (block_of json) (block_of-passes json)
-ask_of-passes_at (Err e) json = err-passes _ e
+ask_of_kind-passes : (k : AskKind) (json : Data) → Passes has_ask_form (ask_of_kind k json)
+ask_of_kind-passes kind.Code json =
+    of_kind-passes has_code_form Code (code_of json) (λ x. refl) (code_of-passes json)
+ask_of_kind-passes kind.Early json =
+    of_kind-passes has_early_ask_form Early (early_of json) (λ x. refl) (early_of-passes json)
+ask_of_kind-passes kind.Renew json =
+    of_kind-passes has_renewal_form Renew (renewal_of json) (λ x. refl) (renewal_of-passes json)
+ask_of_kind-passes kind.Permanent json =
+    of_kind-passes has_permanence_form Permanent (permanence_of json) (λ x. refl)
+    (permanence_of-passes json)
+ask_of_kind-passes kind.Block json =
+    of_kind-passes has_block_form Block (block_of json) (λ x. refl) (block_of-passes json)
 
 pub ask_of-passes : (json : Data) → Passes has_ask_form (ask_of json)
 unfolding ask_of
-ask_of-passes json = ask_of-passes_at (needed item.Kind ask_kind_form json) json
+ask_of-passes json =
+    after-passes has_ask_form (needed item.Kind ask_kind_form json) _
+    (λ k h. ask_of_kind-passes k json)

@@ -2,6 +2,8 @@
 pub mod Members
 pub mod Rfc
 pub mod Evidence
+pub mod EarlyEvidence
+pub mod Value
 pub mod Ask
 pub mod Advice
 pub mod Capability

@@ -3,5 +3,7 @@
 pub mod advice;
 pub mod ask;
 pub mod capability;
+pub mod early_evidence;
 pub mod evidence;
 pub mod members;
+pub mod value;

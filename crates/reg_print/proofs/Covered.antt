@@ -1,13 +1,17 @@
 -- The rows of a range have its values, each in one row.
-use Rattle.std.proofs.Common.{◌≡◌, ℕ, ◌+◌, ◌-◌, ◌<◌, ◌≤◌, nat_lt, nat_le, List, [], ◌∷◌, ◌++◌, filter, Bool, true, false, Option, Some, None, refl, subst, arith, append-nil}
+use Rattle.std.proofs.Common.{◌≡◌, ℕ, ◌+◌, ◌-◌, ◌<◌, ◌≤◌, nat_lt, nat_le, List, [], ◌∷◌, ◌++◌, map, filter, Bool, true, false, Option, Some, None, refl, subst, arith, append-nil}
 use Rattle.std.specs.Prelude.{cond, if◌then◌else◌}
 use Rattle.std.specs.Cmp.{first_so, second_so}
 use Rattle.std.proofs.lemmas.Bool.Decides.{nat_tests}
 use Rattle.reg_ranges.specs.declared.range.Range.{Range}
+use Rattle.reg_ranges.proofs.Increasing.{Rises, rises_any}
 use Rattle.reg_core.specs.declared.entry.PageEntry.{PageEntry}
 use Rattle.reg_print.specs.declared.listing.rows.Status.{Status}
 use Rattle.reg_print.specs.Listing.{ListedRow, closed_status, is_in, free_row, entry_row, free_rows, rows_from, rows_by}
-use Rattle.reg_print.specs.Laws.{Ascend, Cover, RowsCoverRanges}
+use Rattle.reg_print.specs.Laws.{Cover, RowsCoverRanges}
+
+abbrev values_of : List PageEntry → List ℕ
+values_of entries = map (λ e. e.value) entries
 
 -- the entries ascend by value, from `least` to the last at most
 abbrev Within : ℕ → ℕ → List PageEntry → Type 0
@@ -33,7 +37,7 @@ kept_at range m e rest false is h taken skipped = skipped
 
 -- the entries of a range, of those that ascend
 kept : (range : Range) (m n : ℕ) (es : List PageEntry) → ((v : ℕ) → n ≤ v → range.lo ≤ v → m ≤ v)
-    → Ascend n es → Within m range.hi (filter (is_in range) es)
+    → Rises n (values_of es) → Within m range.hi (filter (is_in range) es)
 kept range m n [] h ascends = tt
 kept range m n (e ∷ es) h ascends =
     let above = ascends.0 in
@@ -76,7 +80,8 @@ from_covers range next (e ∷ es) h within =
     (entry_row range e ∷ rows_from range (e.value + 1) es) low
     (refl, omega arith, from_covers range (e.value + 1) es (omega arith) within.2)
 
-by_covers : (range : Range) (entries : List PageEntry) (closed : Option Status) → Ascend 0 entries
+by_covers : (range : Range) (entries : List PageEntry) (closed : Option Status)
+    → Rises 0 (values_of entries)
     → range.lo ≤ range.hi → Cover range.lo (range.hi + 1) (rows_by closed entries range)
 by_covers range entries (Some status) ascends some = (refl, some, refl)
 by_covers range entries None ascends some =
@@ -85,4 +90,5 @@ by_covers range entries None ascends some =
 
 pub rows_cover : RowsCoverRanges
 rows_cover entries range ascends some =
-    by_covers range entries (closed_status range.treatment) ascends some
+    by_covers range entries (closed_status range.treatment)
+    (rises_any (values_of entries) ascends) some

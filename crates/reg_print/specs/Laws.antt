@@ -1,13 +1,9 @@
 -- The laws of listings.
-use Rattle.std.specs.Prelude.{◌≡◌, ℕ, ◌+◌, ◌≤◌, List, [], ◌∷◌}
+use Rattle.std.specs.Prelude.{◌≡◌, ℕ, ◌+◌, ◌≤◌, List, [], ◌∷◌, map}
+use Rattle.std.specs.List.Sorted.{IsStrictlyIncreasing}
 use Rattle.reg_ranges.specs.declared.range.Range.{Range}
 use Rattle.reg_core.specs.declared.entry.PageEntry.{PageEntry}
 use Rattle.reg_print.specs.Listing.{ListedRow, range_rows}
-
--- the entries ascend by value, from `least` on
-abbrev pub Ascend : ℕ → List PageEntry → Type 0
-Ascend least [] = Unit {0}
-Ascend least (e ∷ es) = (least ≤ e.value) × Ascend (e.value + 1) es
 
 -- the rows have the values from `next` on and below `end`, each in one row, and each row has one at
 -- least
@@ -16,8 +12,8 @@ Cover next end [] = next ≡ end
 Cover next end (row ∷ rows) =
     (row.values.lo ≡ next) × (next ≤ row.values.hi) × Cover (row.values.hi + 1) end rows
 
--- the rows of a range have its values, each in one row
+-- the rows of a range have its values, each in one row, where the values of the entries ascend
 abbrev pub RowsCoverRanges : Type 0
 RowsCoverRanges =
-    (entries : List PageEntry) (range : Range) → Ascend 0 entries → range.lo ≤ range.hi
-    → Cover range.lo (range.hi + 1) (range_rows entries range)
+    (entries : List PageEntry) (range : Range) → IsStrictlyIncreasing (map (λ e. e.value) entries)
+    → range.lo ≤ range.hi → Cover range.lo (range.hi + 1) (range_rows entries range)

@@ -6,6 +6,7 @@ ghost use Rattle.serde_json.specs.Read.{read, max_depth};
 ghost use Rattle.serde_json.specs.View.{items_of};
 ghost use Rattle.serde_json.specs.Written.{compact_text};
 ghost use Rattle.reg_print.specs.Printed.{Added, Printed, PrintedMembers};
+ghost use Rattle.reg_print.specs.Trees.Members.{true_if};
 
 use json::Writer;
 use reg_core::rows::Rows;
@@ -212,5 +213,16 @@ impl Printer {
         self.name(name)?;
         self.flag(flag)?;
         Ok(())
+    }
+
+    /// A member that is true, where the flag is.
+    pub fn put_true_if(&mut self, name: &str, flag: bool) -> Result<(), AllocError>
+        ensures { OnOk result
+            (PrintedMembers self.old.json self.new.json 0 ((name.now, true_if flag) ∷ [])) }
+    {
+        if !flag {
+            return Ok(());
+        }
+        self.put_flag(name, flag)
     }
 }

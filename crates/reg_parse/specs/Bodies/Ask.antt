@@ -1,41 +1,43 @@
 -- The ask that an object is, or the first of its members at fault.
-use Rattle.std.specs.Prelude.{ℕ, List, [], ◌∷◌, Option, Some, None, Ok, Err, codes, if◌then◌else◌, option_and_then, option_map}
+use Rattle.std.specs.Prelude.{ℕ, List, [], ◌∷◌, Option, Some, None, Ok, codes, if◌then◌else◌, option_and_then}
 use Rattle.std.specs.Str.{bytes_eq}
 use Rattle.serde_json.specs.Data.{Data}
-use Rattle.serde_json.specs.Find.{get, as_str}
+use Rattle.serde_json.specs.Find.{as_str}
 use Rattle.reg_blocks.specs.Size.{word_of}
 use Rattle.reg_blocks.specs.declared.size.Size.{Size}
 use Rattle.reg_blocks.specs.declared.size.Size.TheVariants.{MaL, MaM, MaS}
 use Rattle.reg_ranges.specs.Texts.{is_text}
-use Rattle.reg_ranges.specs.Words.{read_policy}
-use Rattle.reg_ranges.specs.declared.policy.Policy.{Policy}
-use Rattle.reg_core.specs.Names.{is_name}
+use Rattle.reg_ranges.specs.declared.evidence.Evidence.{Evidence}
+use Rattle.reg_early.specs.declared.evidence.EarlyEvidence.{EarlyEvidence}
 use Rattle.reg_core.specs.declared.ask.Ask.{Ask}
 use Rattle.reg_core.specs.declared.ask.Ask.TheVariants as ask
 use Rattle.reg_core.specs.declared.ask.BlockAsk.{BlockAsk}
 use Rattle.reg_core.specs.declared.ask.CodeAsk.{CodeAsk}
-use Rattle.reg_core.specs.declared.ask.Want.{Want}
-use Rattle.reg_core.specs.declared.ask.Want.TheVariants as want
+use Rattle.reg_core.specs.declared.ask.EarlyAsk.{EarlyAsk}
+use Rattle.reg_core.specs.declared.ask.PermanenceAsk.{PermanenceAsk}
+use Rattle.reg_core.specs.declared.ask.RenewalAsk.{RenewalAsk}
 use Rattle.reg_core.specs.declared.item.Item.{Item}
 use Rattle.reg_core.specs.declared.item.Item.TheVariants as item
-use Rattle.reg_core.specs.declared.wire_refusal.WireRefusal.TheVariants.{Field}
 use Rattle.reg_parse.specs.declared.bodies.ask.AskKind.{AskKind}
 use Rattle.reg_parse.specs.declared.bodies.ask.AskKind.TheVariants as kind
-use Rattle.reg_core.specs.Item.{item_name}
-use Rattle.reg_parse.specs.Bodies.Members.{Reading, ◌>>=◌, or_refusal, needed, only, text_form, number_form}
+use Rattle.reg_parse.specs.declared.bodies.value.AllocatedValue.{AllocatedValue}
+use Rattle.reg_parse.specs.declared.bodies.value.WantedValue.{WantedValue}
+use Rattle.reg_parse.specs.Bodies.Members.{Reading, ◌>>=◌, needed, only, text_form}
+use Rattle.reg_parse.specs.Bodies.EarlyEvidence.{early_evidence_of}
 use Rattle.reg_parse.specs.Bodies.Evidence.{evidence_of}
+use Rattle.reg_parse.specs.Bodies.Value.{allocated_value_of, wanted_value_of}
 
 -- which kind of ask its word names
 abbrev pub ask_kind_named : List ℕ → Option AskKind
 ask_kind_named word =
     if bytes_eq word (codes "code") then Some kind.Code
-    else (if bytes_eq word (codes "block") then Some kind.Block else None)
+    else (if bytes_eq word (codes "early") then Some kind.Early
+    else (if bytes_eq word (codes "renew") then Some kind.Renew
+    else (if bytes_eq word (codes "permanent") then Some kind.Permanent
+    else (if bytes_eq word (codes "block") then Some kind.Block else None))))
 
 abbrev pub ask_kind_form : Data → Option AskKind
 ask_kind_form json = option_and_then ask_kind_named (as_str json)
-
-abbrev pub policy_form : Data → Option Policy
-policy_form json = option_and_then read_policy (as_str json)
 
 -- which size its word names
 abbrev pub size_named : List ℕ → Option Size
@@ -47,32 +49,83 @@ size_named word =
 abbrev pub size_form : Data → Option Size
 size_form json = option_and_then size_named (as_str json)
 
--- what is wanted, by the members `value` and `least`: exactly one of them is there, and has its
--- form
-abbrev pub want_by : Option Data → Option Data → Reading Want
-want_by (Some value) None =
-    or_refusal (Field item.Value) (option_map want.Value (number_form value))
-want_by None (Some least) =
-    or_refusal (Field item.Least) (option_map want.Least (policy_form least))
-want_by (Some value) (Some least) = Err (Field item.Value)
-want_by None None = Err (Field item.Value)
-
-abbrev pub want_of : Data → Reading Want
-want_of json = want_by (get (item_name item.Value) json) (get (item_name item.Least) json)
-
 abbrev pub code_items : List Item
 code_items =
     item.Kind ∷ item.Registry ∷ item.Value ∷ item.Least ∷ item.Label ∷ item.Contact
     ∷ item.Specification ∷ item.Rfc ∷ item.Minute ∷ []
 
+abbrev pub code_with : WantedValue → Evidence → CodeAsk
+code_with wanted evidence = record {
+  registry = wanted.registry;
+  want = wanted.want;
+  label = wanted.label;
+  evidence = evidence;
+}
+
 unfoldable pub code_of : Data → Reading CodeAsk
 code_of json = do
-  registry ← needed item.Registry (text_form is_name) json
-  wanted ← want_of json
-  label ← needed item.Label (text_form is_text) json
+  wanted ← wanted_value_of json
   evidence ← evidence_of json
   others ← only code_items json
-  Ok (record { registry = registry; want = wanted; label = label; evidence = evidence })
+  Ok (code_with wanted evidence)
+
+abbrev pub early_items : List Item
+early_items =
+    item.Kind ∷ item.Registry ∷ item.Value ∷ item.Least ∷ item.Label ∷ item.Draft ∷ item.Stable
+    ∷ item.Interest ∷ item.Chair ∷ item.Director ∷ item.WillBeRfc ∷ []
+
+abbrev pub early_with : WantedValue → EarlyEvidence → EarlyAsk
+early_with wanted evidence = record {
+  registry = wanted.registry;
+  want = wanted.want;
+  label = wanted.label;
+  evidence = evidence;
+}
+
+unfoldable pub early_of : Data → Reading EarlyAsk
+early_of json = do
+  wanted ← wanted_value_of json
+  evidence ← early_evidence_of json
+  others ← only early_items json
+  Ok (early_with wanted evidence)
+
+abbrev pub renewal_items : List Item
+renewal_items =
+    item.Kind ∷ item.Registry ∷ item.Value ∷ item.Draft ∷ item.Stable ∷ item.Interest ∷ item.Chair
+    ∷ item.Director ∷ item.WillBeRfc ∷ []
+
+abbrev pub renewal_with : AllocatedValue → EarlyEvidence → RenewalAsk
+renewal_with allocated evidence = record {
+  registry = allocated.registry;
+  value = allocated.value;
+  evidence = evidence;
+}
+
+unfoldable pub renewal_of : Data → Reading RenewalAsk
+renewal_of json = do
+  allocated ← allocated_value_of json
+  evidence ← early_evidence_of json
+  others ← only renewal_items json
+  Ok (renewal_with allocated evidence)
+
+abbrev pub permanence_items : List Item
+permanence_items =
+    item.Kind ∷ item.Registry ∷ item.Value ∷ item.Contact ∷ item.Specification ∷ item.Rfc
+    ∷ item.Minute ∷ []
+
+abbrev pub permanence_with : AllocatedValue → Evidence → PermanenceAsk
+permanence_with allocated evidence = record {
+  registry = allocated.registry;
+  value = allocated.value;
+  evidence = evidence;
+}
+
+unfoldable pub permanence_of : Data → Reading PermanenceAsk
+permanence_of json = do
+  allocated ← allocated_value_of json
+  evidence ← evidence_of json
+  others ← only permanence_items json
+  Ok (permanence_with allocated evidence)
 
 abbrev pub block_items : List Item
 block_items = item.Kind ∷ item.Size ∷ item.Organization ∷ item.Address ∷ []
@@ -89,6 +142,15 @@ abbrev pub ask_of_kind : AskKind → Data → Reading Ask
 ask_of_kind kind.Code json = do
   code ← code_of json
   Ok (ask.Code code)
+ask_of_kind kind.Early json = do
+  early ← early_of json
+  Ok (ask.Early early)
+ask_of_kind kind.Renew json = do
+  renewal ← renewal_of json
+  Ok (ask.Renew renewal)
+ask_of_kind kind.Permanent json = do
+  permanence ← permanence_of json
+  Ok (ask.Permanent permanence)
 ask_of_kind kind.Block json = do
   block ← block_of json
   Ok (ask.Block block)

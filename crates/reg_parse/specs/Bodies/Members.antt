@@ -1,5 +1,5 @@
 -- How the members of a body are read.
-use Rattle.std.specs.Prelude.{◌≡◌, ℕ, ◌^◌, ◌&&◌, List, Bool, true, nat_lt, Option, Some, None, Result, Ok, Err, codes, if◌then◌else◌, option_and_then, option_map, ⊤}
+use Rattle.std.specs.Prelude.{◌≡◌, ℕ, ◌^◌, ◌&&◌, List, Bool, true, false, nat_lt, Option, Some, None, Result, Ok, Err, codes, if◌then◌else◌, option_and_then, option_map, ⊤}
 use Rattle.std.specs.Str.{is_utf8, bytes_eq}
 use Rattle.std.specs.List.{list_any}
 use Rattle.serde_json.specs.Data.{Data, Members, member, no_members}
@@ -64,6 +64,14 @@ formed item form (Some json) = or_refusal (Field item) (option_map Some (form js
 
 abbrev pub optional : {A : Type 0} → Item → (Data → Option A) → Data → Reading (Option A)
 optional item form json = formed item form (get (item_name item) json)
+
+-- a member that is true or false, and false where it is missing
+abbrev pub truth_by : Item → Option Data → Reading Bool
+truth_by item None = Ok false
+truth_by item (Some json) = or_refusal (Field item) (as_bool json)
+
+abbrev pub optional_truth : Item → Data → Reading Bool
+optional_truth item json = truth_by item (get (item_name item) json)
 
 -- no other members than these
 abbrev pub names_any : List Item → List ℕ → Bool

@@ -2,15 +2,22 @@
 ghost use Rattle.std.specs.Prelude.{◌≡◌};
 ghost use Rattle.serde_json.specs.View.{view};
 ghost use Rattle.reg_parse.specs.Bodies.Members.{Gives, needed};
-ghost use Rattle.reg_parse.specs.Bodies.Ask.{ask_kind_named, ask_kind_form, policy_form, size_form, size_named, want_of, code_of, block_of, ask_of};
+ghost use Rattle.reg_parse.specs.Bodies.Ask.{ask_kind_named, ask_kind_form, ask_of};
 
-use crate::bodies::evidence::read_evidence;
-use crate::bodies::members;
-use reg_blocks::size::Size;
-use reg_core::ask::{Ask, BlockAsk, CodeAsk, Want};
+mod block;
+mod code;
+mod early;
+mod permanence;
+mod renewal;
+
+use crate::bodies::ask::block::read_block;
+use crate::bodies::ask::code::read_code;
+use crate::bodies::ask::early::read_early;
+use crate::bodies::ask::permanence::read_permanence;
+use crate::bodies::ask::renewal::read_renewal;
+use reg_core::ask::Ask;
 use reg_core::item::Item;
 use reg_core::wire_refusal::ReadFault;
-use reg_ranges::policy::Policy;
 use serde_json::Value;
 use std::alloc::Global;
 
@@ -18,6 +25,9 @@ use std::alloc::Global;
 #[derive(Clone, Copy, Debug, PartialEq, Eq)]
 pub enum AskKind {
     Code,
+    Early,
+    Renew,
+    Permanent,
     Block,
 }
 
@@ -28,6 +38,9 @@ pub fn read_ask(alloc: Global, json: &Value) -> Result<Ask, ReadFault>
 {
     match ask_kind(json)? {
         AskKind::Code => Ok(Ask::Code(read_code(alloc, json)?)),
+        AskKind::Early => Ok(Ask::Early(read_early(alloc, json)?)),
+        AskKind::Renew => Ok(Ask::Renew(read_renewal(alloc, json)?)),
+        AskKind::Permanent => Ok(Ask::Permanent(read_permanence(alloc, json)?)),
         AskKind::Block => Ok(Ask::Block(read_block(alloc, json)?)),
     }
 }
@@ -49,96 +62,10 @@ fn ask_kind_named(word: &str) -> Option<AskKind>
 {
     match word {
         "code" => Some(AskKind::Code),
+        "early" => Some(AskKind::Early),
+        "renew" => Some(AskKind::Renew),
+        "permanent" => Some(AskKind::Permanent),
         "block" => Some(AskKind::Block),
         _ => None,
     }
-}
-
-#[tactic(auto, unfolding(crate::specs::Bodies::Ask::code_of))]
-fn read_code(alloc: Global, json: &Value) -> Result<CodeAsk, ReadFault>
-    ensures { Gives result (code_of (view json.now)) }
-{
-    let registry = members::word(json, Item::Registry)?;
-    let want = read_want(json)?;
-    let label = members::text(alloc, json, Item::Label)?;
-    let evidence = read_evidence(alloc, json)?;
-    members::only(
-        &[
-            Item::Kind,
-            Item::Registry,
-            Item::Value,
-            Item::Least,
-            Item::Label,
-            Item::Contact,
-            Item::Specification,
-            Item::Rfc,
-            Item::Minute,
-        ],
-        json,
-    )?;
-    Ok(CodeAsk {
-        registry,
-        want,
-        label,
-        evidence,
-    })
-}
-
-#[tactic(auto, unfolding(crate::specs::Bodies::Ask::block_of))]
-fn read_block(alloc: Global, json: &Value) -> Result<BlockAsk, ReadFault>
-    ensures { Gives result (block_of (view json.now)) }
-{
-    let size = size_in(json)?;
-    let organization = members::text(alloc, json, Item::Organization)?;
-    let address = members::text(alloc, json, Item::Address)?;
-    members::only(
-        &[Item::Kind, Item::Size, Item::Organization, Item::Address],
-        json,
-    )?;
-    Ok(BlockAsk {
-        size,
-        organization,
-        address,
-    })
-}
-
-fn size_in(json: &Value) -> Result<Size, ReadFault>
-    ensures { Gives result (needed Item.Size size_form (view json.now)) }
-{
-    match json.get(Item::Size.name()).and_then(Value::as_str) {
-        Some(word) => match size_named(word) {
-            Some(size) => Ok(size),
-            None => Err(ReadFault::field(Item::Size)),
-        },
-        None => Err(ReadFault::field(Item::Size)),
-    }
-}
-
-fn size_named(word: &str) -> Option<Size>
-    ensures { result ≡ size_named word.now }
-{
-    Size::read(word.as_bytes())
-}
-
-// `Value` where both or neither of the two members are there.
-fn read_want(json: &Value) -> Result<Want, ReadFault>
-    ensures { Gives result (want_of (view json.now)) }
-{
-    match (json.get(Item::Value.name()), json.get(Item::Least.name())) {
-        (Some(value), None) => match members::number(value) {
-            Some(value) => Ok(Want::Value(value)),
-            None => Err(ReadFault::field(Item::Value)),
-        },
-        (None, Some(least)) => match policy_in(least) {
-            Some(policy) => Ok(Want::Least(policy)),
-            None => Err(ReadFault::field(Item::Least)),
-        },
-        _ => Err(ReadFault::field(Item::Value)),
-    }
-}
-
-fn policy_in(json: &Value) -> Option<Policy>
-    ensures { result ≡ policy_form (view json.now) }
-{
-    Policy::read(json.as_str()?.as_bytes())
 }

@@ -7,7 +7,7 @@ ghost use Rattle.std.specs.String.{string_bytes};
 ghost use Rattle.serde_json.specs.View.{view};
 ghost use Rattle.serde_json.specs.Find.{as_object};
 ghost use Rattle.reg_ranges.specs.Texts.{is_text};
-ghost use Rattle.reg_parse.specs.Bodies.Members.{Gives, GivesSeen, object_of, needed, optional, only, is_among, names_any, text_form, number_form, until_form, truth_form, kind_form, kind_named, verdict_form};
+ghost use Rattle.reg_parse.specs.Bodies.Members.{Gives, GivesSeen, object_of, needed, optional, optional_truth, only, is_among, names_any, text_form, number_form, until_form, truth_form, kind_form, kind_named, verdict_form};
 
 use reg_core::advice::Verdict;
 use reg_core::capability::{Kind, Until};
@@ -84,6 +84,20 @@ pub fn number(json: &Value) -> Option<u32>
     }
 }
 
+/// The whole number of this member, 0 to 4294967295. `Field` with the item where it is missing or no
+/// such number. It takes no memory.
+pub fn whole_number(object: &Value, item: Item) -> Result<u32, ReadFault>
+    ensures { Gives result (needed item number_form (view object.now)) }
+{
+    match object.get(item.name()) {
+        Some(member) => match number(member) {
+            Some(n) => Ok(n),
+            None => Err(ReadFault::field(item)),
+        },
+        None => Err(ReadFault::field(item)),
+    }
+}
+
 /// The end of a capability in this member, a whole number of 0 to 32503680000 written with digits
 /// alone. `Field` with the item where it is missing or no such number.
 pub fn until(object: &Value, item: Item) -> Result<Until, ReadFault>
@@ -106,6 +120,17 @@ pub fn truth(object: &Value, item: Item) -> Result<bool, ReadFault>
     match object.get(item.name()).and_then(Value::as_bool) {
         Some(truth) => Ok(truth),
         None => Err(ReadFault::field(item)),
+    }
+}
+
+/// Whether this member is true; false where it is missing. `Field` with the item where it is neither
+/// true nor false. It takes no memory.
+pub fn truth_if_there(object: &Value, item: Item) -> Result<bool, ReadFault>
+    ensures { Gives result (optional_truth item (view object.now)) }
+{
+    match object.get(item.name()) {
+        Some(_) => truth(object, item),
+        None => Ok(false),
     }
 }
 

@@ -5,12 +5,15 @@ use Rattle.reg_blocks.specs.Size.{word_of}
 use Rattle.reg_ranges.specs.Rfcs.{PublishedRfc}
 use Rattle.reg_ranges.specs.Words.{policy_word, stream_word, track_word}
 use Rattle.reg_core.specs.declared.ask.Ask.{Ask}
-use Rattle.reg_core.specs.declared.ask.Ask.TheVariants.{Code, Block}
+use Rattle.reg_core.specs.declared.ask.Ask.TheVariants.{Code, Early, Renew, Permanent, Block}
 use Rattle.reg_core.specs.declared.ask.BlockAsk.{BlockAsk}
 use Rattle.reg_core.specs.declared.ask.CodeAsk.{CodeAsk}
+use Rattle.reg_core.specs.declared.ask.EarlyAsk.{EarlyAsk}
+use Rattle.reg_core.specs.declared.ask.PermanenceAsk.{PermanenceAsk}
+use Rattle.reg_core.specs.declared.ask.RenewalAsk.{RenewalAsk}
 use Rattle.reg_core.specs.declared.ask.Want.{Want}
 use Rattle.reg_core.specs.declared.ask.Want.TheVariants.{Value, Least}
-use Rattle.reg_print.specs.Trees.Members.{Listed, object_with, text, text_if, whole_number}
+use Rattle.reg_print.specs.Trees.Members.{Listed, object_with, text, text_if, true_if, whole_number}
 
 abbrev pub rfc_members : PublishedRfc → Listed
 rfc_members rfc =
@@ -51,6 +54,54 @@ code_members ask =
 abbrev pub code_tree : CodeAsk → Data
 code_tree ask = object_with (code_members ask)
 
+abbrev pub early_members : EarlyAsk → Listed
+early_members ask =
+    (codes "chair", text_if ask.evidence.chair)
+    ∷ (codes "director", text_if ask.evidence.director)
+    ∷ (codes "draft", text_if ask.evidence.draft)
+    ∷ (codes "interest", true_if ask.evidence.interest)
+    ∷ (codes "kind", text (codes "early"))
+    ∷ (codes "label", text ask.label)
+    ∷ (codes "least", least_if ask.want)
+    ∷ (codes "registry", text ask.registry)
+    ∷ (codes "stable", true_if ask.evidence.stable)
+    ∷ (codes "value", value_if ask.want)
+    ∷ (codes "will_be_rfc", true_if ask.evidence.will_be_rfc)
+    ∷ []
+
+abbrev pub early_tree : EarlyAsk → Data
+early_tree ask = object_with (early_members ask)
+
+abbrev pub renewal_members : RenewalAsk → Listed
+renewal_members ask =
+    (codes "chair", text_if ask.evidence.chair)
+    ∷ (codes "director", text_if ask.evidence.director)
+    ∷ (codes "draft", text_if ask.evidence.draft)
+    ∷ (codes "interest", true_if ask.evidence.interest)
+    ∷ (codes "kind", text (codes "renew"))
+    ∷ (codes "registry", text ask.registry)
+    ∷ (codes "stable", true_if ask.evidence.stable)
+    ∷ (codes "value", whole_number ask.value)
+    ∷ (codes "will_be_rfc", true_if ask.evidence.will_be_rfc)
+    ∷ []
+
+abbrev pub renewal_tree : RenewalAsk → Data
+renewal_tree ask = object_with (renewal_members ask)
+
+abbrev pub permanence_members : PermanenceAsk → Listed
+permanence_members ask =
+    (codes "contact", text_if ask.evidence.contact)
+    ∷ (codes "kind", text (codes "permanent"))
+    ∷ (codes "minute", text_if ask.evidence.minute)
+    ∷ (codes "registry", text ask.registry)
+    ∷ (codes "rfc", rfc_if ask.evidence.rfc)
+    ∷ (codes "specification", text_if ask.evidence.spec)
+    ∷ (codes "value", whole_number ask.value)
+    ∷ []
+
+abbrev pub permanence_tree : PermanenceAsk → Data
+permanence_tree ask = object_with (permanence_members ask)
+
 abbrev pub block_members : BlockAsk → Listed
 block_members ask =
     (codes "address", text ask.address)
@@ -64,4 +115,7 @@ block_tree ask = object_with (block_members ask)
 
 abbrev pub ask_tree : Ask → Data
 ask_tree (Code ask) = code_tree ask
+ask_tree (Early ask) = early_tree ask
+ask_tree (Renew ask) = renewal_tree ask
+ask_tree (Permanent ask) = permanence_tree ask
 ask_tree (Block ask) = block_tree ask

@@ -1,6 +1,6 @@
 -- Objects of JSON by their members, some of which may be absent.
-use Rattle.std.specs.Prelude.{ℕ, List, [], ◌∷◌, map, Option, Some, None, option_map}
-use Rattle.serde_json.specs.Data.{Data, number, unsigned, string, array, object, Members, no_members, put}
+use Rattle.std.specs.Prelude.{ℕ, Bool, true, false, List, [], ◌∷◌, map, Option, Some, None, option_map}
+use Rattle.serde_json.specs.Data.{Data, boolean, number, unsigned, string, array, object, Members, no_members, put}
 use Rattle.serde_json.specs.View.{items_of}
 
 -- An object of the members that are there. `put` keeps them in byte order of their names.
@@ -27,6 +27,11 @@ text_if bytes = option_map string bytes
 
 abbrev pub whole_number : ℕ → Option Data
 whole_number n = Some (number (unsigned n))
+
+-- a mark, which is a member only where it is set
+abbrev pub true_if : Bool → Option Data
+true_if true = Some (boolean true)
+true_if false = None
 
 -- an array of texts
 abbrev pub names_tree : List (List ℕ) → Data

@@ -1,10 +1,10 @@
-//! Prints asks. Members that are absent are not printed.
+//! Prints asks. Members that are absent, and marks that are not set, are not printed.
 ghost use Rattle.std.specs.Prelude.{[], ◌∷◌, codes, OnOk};
 ghost use Rattle.reg_print.specs.Printed.{PrintedMembers};
-ghost use Rattle.reg_print.specs.Trees.Ask.{ask_tree, block_tree, code_tree, least_if, rfc_tree, value_if};
+ghost use Rattle.reg_print.specs.Trees.Ask.{ask_tree, block_tree, code_tree, early_tree, least_if, permanence_tree, renewal_tree, rfc_tree, value_if};
 
 use crate::printing::{Itself, Print, Printer};
-use reg_core::ask::{Ask, BlockAsk, CodeAsk, Want};
+use reg_core::ask::{Ask, BlockAsk, CodeAsk, EarlyAsk, PermanenceAsk, RenewalAsk, Want};
 use reg_ranges::evidence::Rfc;
 use std::alloc::AllocError;
 
@@ -17,6 +17,9 @@ impl Print<Itself> for Ask {
     fn print(&self, out: &mut Printer) -> Result<(), AllocError> {
         match self {
             Ask::Code(ask) => ask.print(out),
+            Ask::Early(ask) => ask.print(out),
+            Ask::Renew(ask) => ask.print(out),
+            Ask::Permanent(ask) => ask.print(out),
             Ask::Block(ask) => ask.print(out),
         }
     }
@@ -38,6 +41,69 @@ impl Print<Itself> for CodeAsk {
         out.put_if("rfc", &self.evidence.rfc)?;
         out.put_if("specification", &self.evidence.spec)?;
         put_value_if(out, self.want)?;
+        out.close_object()?;
+        Ok(())
+    }
+}
+
+impl Print<Itself> for EarlyAsk {
+    ghost tree = { early_tree };
+
+    ghost levels = { 2 };
+
+    fn print(&self, out: &mut Printer) -> Result<(), AllocError> {
+        out.open_object()?;
+        out.put_if("chair", &self.evidence.chair)?;
+        out.put_if("director", &self.evidence.director)?;
+        out.put_if("draft", &self.evidence.draft)?;
+        out.put_true_if("interest", self.evidence.interest)?;
+        out.put_text("kind", "early")?;
+        out.put("label", &self.label)?;
+        put_least_if(out, self.want)?;
+        out.put("registry", &self.registry)?;
+        out.put_true_if("stable", self.evidence.stable)?;
+        put_value_if(out, self.want)?;
+        out.put_true_if("will_be_rfc", self.evidence.will_be_rfc)?;
+        out.close_object()?;
+        Ok(())
+    }
+}
+
+impl Print<Itself> for RenewalAsk {
+    ghost tree = { renewal_tree };
+
+    ghost levels = { 2 };
+
+    fn print(&self, out: &mut Printer) -> Result<(), AllocError> {
+        out.open_object()?;
+        out.put_if("chair", &self.evidence.chair)?;
+        out.put_if("director", &self.evidence.director)?;
+        out.put_if("draft", &self.evidence.draft)?;
+        out.put_true_if("interest", self.evidence.interest)?;
+        out.put_text("kind", "renew")?;
+        out.put("registry", &self.registry)?;
+        out.put_true_if("stable", self.evidence.stable)?;
+        out.put_number("value", u64::from(self.value))?;
+        out.put_true_if("will_be_rfc", self.evidence.will_be_rfc)?;
+        out.close_object()?;
+        Ok(())
+    }
+}
+
+impl Print<Itself> for PermanenceAsk {
+    ghost tree = { permanence_tree };
+
+    ghost levels = { 2 };
+
+    fn print(&self, out: &mut Printer) -> Result<(), AllocError> {
+        out.open_object()?;
+        out.put_if("contact", &self.evidence.contact)?;
+        out.put_text("kind", "permanent")?;
+        out.put_if("minute", &self.evidence.minute)?;
+        out.put("registry", &self.registry)?;
+        out.put_if("rfc", &self.evidence.rfc)?;
+        out.put_if("specification", &self.evidence.spec)?;
+        out.put_number("value", u64::from(self.value))?;
         out.close_object()?;
         Ok(())
     }

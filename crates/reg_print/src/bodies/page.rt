@@ -1,12 +1,12 @@
 //! Prints registries.
 ghost use Rattle.std.specs.Prelude.{[], ◌∷◌, codes, Some, OnOk};
 ghost use Rattle.reg_print.specs.Printed.{PrintedMembers};
-ghost use Rattle.reg_print.specs.Trees.Page.{day_data, defined_tree, entry_tree, expires_if, page_tree, range_tree, ranges_tree, renewed_if};
+ghost use Rattle.reg_print.specs.Trees.Page.{day_data, defined_tree, entries_tree, entry_tree, expires_if, page_tree, range_tree, ranges_tree, renewed_if};
 
 use crate::note::note_text;
 use crate::printing::{Itself, Print, Printer};
 use reg_core::entry::PageEntry;
-use reg_core::page::Page;
+use reg_core::page::{Page, PageEntries};
 use reg_core::text::Name;
 use reg_early::day::{Day, day_text};
 use reg_early::term::Term;
@@ -44,6 +44,17 @@ impl Print<Defined> for Name {
         out.put("defined", self)?;
         out.close_object()?;
         Ok(())
+    }
+}
+
+/// The entries, in order.
+impl Print<Itself> for PageEntries {
+    ghost tree = { entries_tree };
+
+    ghost levels = { 2 };
+
+    fn print(&self, out: &mut Printer) -> Result<(), AllocError> {
+        out.list(self.as_slice())
     }
 }
 

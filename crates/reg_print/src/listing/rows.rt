@@ -1,11 +1,11 @@
 //! A registry as a listing: a row for each entry and for each run of values without one, and how
 //! they stand.
 ghost use Rattle.std.specs.Prelude.{◌≡◌, ◌≤◌, ◌^◌, ◌++◌, map, Some, IfOk, OnOk};
-ghost use Rattle.reg_print.specs.Listing.{status_word, run_text, closed_status, policy_of, whole, row_view, is_in, closed_row, free_row, entry_row, free_rows, open_rows, range_rows, page_rows};
+ghost use Rattle.reg_print.specs.Listing.{status_word, run_text, closed_status, policy_of, whole, row_view, closed_row, free_row, entry_row, free_rows, rows_from, range_rows, page_rows};
 
 use crate::note::note_text;
 use reg_core::entry::PageEntry;
-use reg_core::page::Page;
+use reg_core::page::{Page, PageEntries};
 use reg_early::term;
 use reg_ranges::policy::{Policy, Treatment};
 use reg_ranges::range::Range;
@@ -74,14 +74,14 @@ pub struct ListingRow<'a> {
     pub entry: Option<&'a PageEntry>,
 }
 
-/// The rows of a registry, in order of their values. Each range is looked up among all entries: at
-/// most 64 passes.
+/// The rows of a registry, in order of their values. It goes over the ranges once, and over the
+/// entries once, since those of each range are looked up by its ends.
 pub fn rows(alloc: Global, page: &Page) -> Result<Vec<ListingRow<'_>>, AllocError>
     ensures { IfOk result (λ v. map row_view v.items ≡ page_rows page.now) }
 {
     let mut rows = Vec::new(alloc);
     for range in page.table.ranges() {
-        push_rows(&mut rows, range, page.entries.as_slice())?;
+        push_rows(&mut rows, range, &page.entries)?;
     }
     Ok(rows)
 }
@@ -91,7 +91,7 @@ pub fn rows(alloc: Global, page: &Page) -> Result<Vec<ListingRow<'_>>, AllocErro
 fn push_rows<'a>(
     rows: &mut Vec<ListingRow<'a>>,
     range: &'a Range,
-    entries: &'a [PageEntry],
+    entries: &'a PageEntries,
 ) -> Result<(), AllocError>
     ensures { OnOk result
         (map row_view rows.new.items ≡ map row_view rows.old.items
@@ -99,13 +99,13 @@ fn push_rows<'a>(
 {
     match closed_status(range.treatment) {
         Some(status) => rows.push(closed_row(status, range))?,
-        None => push_open(rows, range, entries)?,
+        None => push_open(rows, range, entries.in_range(range))?,
     }
     Ok(())
 }
 
-// The rows of a range whose values are assigned one by one: `next` is the first value that has no
-// row yet.
+// The rows of a range whose values are assigned one by one, and of which these are the entries:
+// `next` is the first value that has no row yet.
 fn push_open<'a>(
     rows: &mut Vec<ListingRow<'a>>,
     range: &Range,
@@ -113,18 +113,16 @@ fn push_open<'a>(
 ) -> Result<(), AllocError>
     ensures { OnOk result
         (map row_view rows.new.items ≡ map row_view rows.old.items
-        ++ open_rows range.now entries.now) }
+        ++ rows_from range.now range.now.lo entries.now) }
 {
     let lo = range.lo;
     let hi = range.hi;
     let mut next = u64::from(lo);
     for entry in entries {
-        if is_in(range, entry) {
-            let value = entry.value;
-            push_free(rows, range, next, u64::from(value))?;
-            rows.push(entry_row(range, entry))?;
-            next = u64::from(value) + 1;
-        }
+        let value = entry.value;
+        push_free(rows, range, next, u64::from(value))?;
+        rows.push(entry_row(range, entry))?;
+        next = u64::from(value) + 1;
     }
     push_free(rows, range, next, u64::from(hi) + 1)
 }
@@ -149,13 +147,6 @@ fn push_free<'a>(
         rows.push(free_row(range, run))?;
     }
     Ok(())
-}
-
-fn is_in(range: &Range, entry: &PageEntry) -> bool
-    ensures { result ≡ is_in range.now entry.now }
-{
-    let value = entry.value;
-    range.lo <= value && value <= range.hi
 }
 
 fn closed_row(status: Status, range: &Range) -> ListingRow<'_>

@@ -1,0 +1,25 @@
+-- What an applicant shows for an early allocation, as members of its ask.
+use Rattle.std.specs.Prelude.{Ok}
+use Rattle.serde_json.specs.Data.{Data}
+use Rattle.reg_ranges.specs.Texts.{is_text}
+use Rattle.reg_early.specs.declared.evidence.EarlyEvidence.{EarlyEvidence}
+use Rattle.reg_core.specs.declared.item.Item.TheVariants as item
+use Rattle.reg_parse.specs.Bodies.Members.{Reading, ◌>>=◌, optional, optional_truth, text_form}
+
+-- each part may be missing; where it is there it has its form
+unfoldable pub early_evidence_of : Data → Reading EarlyEvidence
+early_evidence_of json = do
+  draft ← optional item.Draft (text_form is_text) json
+  stable ← optional_truth item.Stable json
+  interest ← optional_truth item.Interest json
+  chair ← optional item.Chair (text_form is_text) json
+  director ← optional item.Director (text_form is_text) json
+  promise ← optional_truth item.WillBeRfc json
+  Ok (record {
+    draft = draft;
+    stable = stable;
+    interest = interest;
+    chair = chair;
+    director = director;
+    will_be_rfc = promise;
+  })

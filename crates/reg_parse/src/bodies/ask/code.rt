@@ -1,0 +1,42 @@
+//! Reads asks for a value.
+ghost use Rattle.serde_json.specs.View.{view};
+ghost use Rattle.reg_parse.specs.Bodies.Members.{Gives};
+ghost use Rattle.reg_parse.specs.Bodies.Ask.{code_of};
+
+use crate::bodies::evidence::read_evidence;
+use crate::bodies::members;
+use crate::bodies::value::read_wanted_value;
+use reg_core::ask::CodeAsk;
+use reg_core::item::Item;
+use reg_core::wire_refusal::ReadFault;
+use serde_json::Value;
+use std::alloc::Global;
+
+/// The ask for a value that this object is, or the first of its members at fault.
+#[tactic(auto, unfolding(crate::specs::Bodies::Ask::code_of))]
+pub fn read_code(alloc: Global, json: &Value) -> Result<CodeAsk, ReadFault>
+    ensures { Gives result (code_of (view json.now)) }
+{
+    let wanted = read_wanted_value(alloc, json)?;
+    let evidence = read_evidence(alloc, json)?;
+    members::only(
+        &[
+            Item::Kind,
+            Item::Registry,
+            Item::Value,
+            Item::Least,
+            Item::Label,
+            Item::Contact,
+            Item::Specification,
+            Item::Rfc,
+            Item::Minute,
+        ],
+        json,
+    )?;
+    Ok(CodeAsk {
+        registry: wanted.registry,
+        want: wanted.want,
+        label: wanted.label,
+        evidence,
+    })
+}

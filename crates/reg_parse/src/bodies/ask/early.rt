@@ -1,0 +1,44 @@
+//! Reads asks for an early allocation.
+ghost use Rattle.serde_json.specs.View.{view};
+ghost use Rattle.reg_parse.specs.Bodies.Members.{Gives};
+ghost use Rattle.reg_parse.specs.Bodies.Ask.{early_of};
+
+use crate::bodies::early_evidence::read_early_evidence;
+use crate::bodies::members;
+use crate::bodies::value::read_wanted_value;
+use reg_core::ask::EarlyAsk;
+use reg_core::item::Item;
+use reg_core::wire_refusal::ReadFault;
+use serde_json::Value;
+use std::alloc::Global;
+
+/// The ask for an early allocation that this object is, or the first of its members at fault.
+#[tactic(auto, unfolding(crate::specs::Bodies::Ask::early_of))]
+pub fn read_early(alloc: Global, json: &Value) -> Result<EarlyAsk, ReadFault>
+    ensures { Gives result (early_of (view json.now)) }
+{
+    let wanted = read_wanted_value(alloc, json)?;
+    let evidence = read_early_evidence(alloc, json)?;
+    members::only(
+        &[
+            Item::Kind,
+            Item::Registry,
+            Item::Value,
+            Item::Least,
+            Item::Label,
+            Item::Draft,
+            Item::Stable,
+            Item::Interest,
+            Item::Chair,
+            Item::Director,
+            Item::WillBeRfc,
+        ],
+        json,
+    )?;
+    Ok(EarlyAsk {
+        registry: wanted.registry,
+        want: wanted.want,
+        label: wanted.label,
+        evidence,
+    })
+}

@@ -1,0 +1,14 @@
+use Rattle.std.proofs.Common.{refl, lit≤}
+use Rattle.reg_print.specs.Trees.Ask.{early_members}
+use Rattle.reg_print.proofs.PrintedTokens.{◌▸◌, printed_within, prints_object}
+use Rattle.reg_print.proofs.bodies.ask.EarlyAskPrintItself.print.Goals as goal
+
+pub returns : goal.returns
+returns c =
+    printed_within (lit≤ tt)
+    (prints_object (early_members c.args.self.now) refl c.in_ok-open_object.ensures
+    (c.in_ok-put_if.ensures ▸ c.in_ok-put_if-2.ensures ▸ c.in_ok-put_if-3.ensures
+    ▸ c.in_ok-put_true_if.ensures ▸ c.in_ok-put_text.ensures ▸ c.in_ok-put.ensures
+    ▸ c.in_ok-put_least_if.ensures ▸ c.in_ok-put-2.ensures ▸ c.in_ok-put_true_if-2.ensures
+    ▸ c.in_ok-put_value_if.ensures ▸ c.in_ok-put_true_if-3.ensures)
+    c.in_ok-close_object.ensures)
