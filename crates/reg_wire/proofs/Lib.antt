@@ -1,5 +1,6 @@
 pub mod AlikeLines
 pub mod AnswerLines
+pub mod AskForms
 pub mod AskText
 pub mod Calls
 pub mod LineSoFar

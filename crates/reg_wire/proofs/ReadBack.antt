@@ -1,5 +1,5 @@
 -- An ask is read back from its JSON.
-use Rattle.std.proofs.Common.{◌≡◌, ℕ, ◌^◌, List, Bool, true, ◌&&◌, Option, Some, None, Ok, refl, nat_lt, arith}
+use Rattle.std.proofs.Common.{◌≡◌, ◌∙◌, ℕ, ◌^◌, List, Bool, true, false, Option, Some, None, Ok, refl, ap, nat_lt, arith, option_and_then}
 use Rattle.std.specs.Prelude.{⊤}
 use Rattle.std.specs.Cmp.{first_so, second_so}
 use Rattle.std.proofs.lemmas.Bool.Decides.{nat_tests}
@@ -17,26 +17,37 @@ use Rattle.reg_ranges.specs.declared.evidence.Track.{Track}
 use Rattle.reg_ranges.specs.declared.evidence.Track.TheVariants as track
 use Rattle.reg_ranges.specs.declared.policy.Policy.{Policy}
 use Rattle.reg_ranges.specs.declared.policy.Policy.TheVariants as policy
+use Rattle.reg_early.specs.Forms.{has_early_form}
+use Rattle.reg_early.specs.declared.evidence.EarlyEvidence.{EarlyEvidence}
 use Rattle.reg_core.specs.Names.{is_name}
-use Rattle.reg_core.specs.Ask.{has_note_form, has_rfc_form, has_evidence_form, has_want_form, has_block_form, has_code_form, has_ask_form}
+use Rattle.reg_core.specs.Ask.{has_note_form, has_rfc_form, has_evidence_form, has_want_form, has_block_form, has_code_form, has_early_ask_form, has_permanence_form, has_renewal_form, has_ask_form}
 use Rattle.reg_core.specs.declared.ask.Ask.{Ask}
-use Rattle.reg_core.specs.declared.ask.Ask.TheVariants.{Code, Block}
+use Rattle.reg_core.specs.declared.ask.Ask.TheVariants.{Code, Early, Renew, Permanent, Block}
 use Rattle.reg_core.specs.declared.ask.BlockAsk.{BlockAsk}
 use Rattle.reg_core.specs.declared.ask.CodeAsk.{CodeAsk}
+use Rattle.reg_core.specs.declared.ask.EarlyAsk.{EarlyAsk}
+use Rattle.reg_core.specs.declared.ask.PermanenceAsk.{PermanenceAsk}
+use Rattle.reg_core.specs.declared.ask.RenewalAsk.{RenewalAsk}
 use Rattle.reg_core.specs.declared.ask.Want.{Want}
 use Rattle.reg_core.specs.declared.ask.Want.TheVariants.{Value, Least}
-use Rattle.reg_parse.specs.declared.bodies.ask.AskKind.{AskKind}
-use Rattle.reg_parse.specs.declared.bodies.ask.AskKind.TheVariants as kind
 use Rattle.reg_core.specs.declared.item.Item.{Item}
 use Rattle.reg_core.specs.declared.item.Item.TheVariants as item
 use Rattle.reg_core.specs.Item.{item_name}
-use Rattle.reg_print.specs.Trees.Members.{text_if}
-use Rattle.reg_parse.specs.Bodies.Members.{Reading, ◌>>=◌, needed, formed, optional, only, text_form}
+use Rattle.reg_print.specs.Trees.Members.{Listed, object_with, text, text_if, true_if, whole_number}
+use Rattle.reg_print.specs.Trees.Ask.{ask_tree, block_members, block_tree, code_members, code_tree, early_members, early_tree, least_if, permanence_members, permanence_tree, renewal_members, renewal_tree, rfc_if, rfc_tree, value_if}
+use Rattle.reg_print.proofs.ListedMembers.{ascends}
+use Rattle.reg_parse.specs.declared.bodies.ask.AskKind.{AskKind}
+use Rattle.reg_parse.specs.declared.bodies.ask.AskKind.TheVariants as kind
+use Rattle.reg_parse.specs.declared.bodies.value.AllocatedValue.{AllocatedValue}
+use Rattle.reg_parse.specs.declared.bodies.value.WantedValue.{WantedValue}
+use Rattle.reg_parse.specs.Bodies.Members.{Reading, ◌>>=◌, needed, formed, number_form, optional, optional_truth, only, text_form, truth_by}
 use Rattle.reg_parse.specs.Bodies.Rfc.{rfc_form}
+use Rattle.reg_parse.specs.Bodies.EarlyEvidence.{early_evidence_of}
 use Rattle.reg_parse.specs.Bodies.Evidence.{evidence_of}
-use Rattle.reg_parse.specs.Bodies.Ask.{ask_of, ask_of_kind, ask_kind_form, block_items, block_of, size_form, size_named, code_of, code_items, want_by, want_of}
-use Rattle.reg_print.specs.Trees.Ask.{ask_tree, block_members, block_tree, code_members, code_tree, least_if, rfc_if, rfc_tree, value_if}
-use Rattle.reg_wire.proofs.ListedMembers.{get-object_with, needed-object_with, optional-object_with, only-object_with}
+use Rattle.reg_parse.specs.Bodies.Value.{allocated_value_of, want_by, want_of, wanted_value_of}
+use Rattle.reg_parse.specs.Bodies.Ask.{ask_of, ask_of_kind, ask_kind_form, block_items, block_of, size_form, size_named, code_items, code_of, code_with, early_items, early_of, early_with, permanence_items, permanence_of, permanence_with, renewal_items, renewal_of, renewal_with}
+use Rattle.reg_wire.proofs.AskForms.{HasWantedForm, early_formed, evidence_formed, value_formed, want_formed}
+use Rattle.reg_wire.proofs.ListedMembers.{find_listed, get-object_with, needed-object_with, optional-object_with, only-object_with}
 
 -- ---- words
 
@@ -71,12 +82,44 @@ size_back size.MaL = refl
 size_back size.MaM = refl
 size_back size.MaS = refl
 
--- ---- evidence
+-- ---- members
+
+named_back : (form : List ℕ → Bool) (s : List ℕ) → form s ≡ true
+    → text_form form (string s) ≡ Some s
+named_back form s h = rw h refl
 
 note_back : (part : Item) (note : Option (List ℕ)) → has_note_form note ≡ true
     → formed part (text_form is_text) (text_if note) ≡ Ok note
 note_back part None h = refl
 note_back part (Some s) h = rw h refl
+
+mark_back : (part : Item) (b : Bool) → truth_by part (true_if b) ≡ Ok b
+mark_back part true = refl
+mark_back part false = refl
+
+number_back : (n : ℕ) → nat_lt n (2 ^ 32) ≡ true
+    → option_and_then number_form (whole_number n) ≡ Some n
+number_back n h = rw h refl
+
+-- what is read of a member that is listed so
+needed_back : {A : Type 0} (part : Item) (form : Data → Option A) (x : A) (o : Option Data)
+    (ms : Listed) → ascends ms ≡ true → find_listed (item_name part) ms ≡ o
+    → option_and_then form o ≡ Some x → needed part form (object_with ms) ≡ Ok x
+needed_back part form x o ms h found back =
+    needed-object_with part form x ms h (ap (option_and_then form) found ∙ back)
+
+optional_back : {A : Type 0} (part : Item) (form : Data → Option A) (x : Option A)
+    (o : Option Data) (ms : Listed) → ascends ms ≡ true → find_listed (item_name part) ms ≡ o
+    → formed part form o ≡ Ok x → optional part form (object_with ms) ≡ Ok x
+optional_back part form x o ms h found back =
+    optional-object_with part form x ms h (ap (formed part form) found ∙ back)
+
+truth_back : (part : Item) (b : Bool) (ms : Listed) → ascends ms ≡ true
+    → find_listed (item_name part) ms ≡ true_if b → optional_truth part (object_with ms) ≡ Ok b
+truth_back part b ms h found =
+    ap (truth_by part) (get-object_with (item_name part) ms h ∙ found) ∙ mark_back part b
+
+-- ---- evidence
 
 small : (n : ℕ) → is_within 1 99999 n ≡ true → nat_lt n (2 ^ 32) ≡ true
 small n h = grind (arith, nat_tests)
@@ -92,6 +135,14 @@ rfc_back : (rfc : Option PublishedRfc) → has_rfc_form rfc ≡ true
 rfc_back None h = refl
 rfc_back (Some rfc) h = rw (rfc_form-rfc_tree rfc h) refl
 
+-- these members list this evidence
+record ListEvidence (ms : Listed) (e : Evidence) : Type 0 where
+  ascending : ascends ms ≡ true
+  contact : find_listed (item_name item.Contact) ms ≡ text_if e.contact
+  spec : find_listed (item_name item.Specification) ms ≡ text_if e.spec
+  rfc : find_listed (item_name item.Rfc) ms ≡ rfc_if e.rfc
+  minute : find_listed (item_name item.Minute) ms ≡ text_if e.minute
+
 evidence_joined : (e : Evidence) (c s m : Reading (Option (List ℕ)))
     (r : Reading (Option PublishedRfc)) → c ≡ Ok e.contact → s ≡ Ok e.spec → r ≡ Ok e.rfc
     → m ≡ Ok e.minute
@@ -102,93 +153,233 @@ evidence_joined : (e : Evidence) (c s m : Reading (Option (List ℕ)))
     (record { contact = contact; spec = specification; rfc = rfc; minute = minute })))))) ≡ Ok e
 evidence_joined e c s m r hc hs hr hm = rw (hc, hs, hr, hm) refl
 
-evidence_back : (ask : CodeAsk) → has_evidence_form ask.evidence ≡ true
-    → evidence_of (code_tree ask) ≡ Ok ask.evidence
+evidence_back : (ms : Listed) (e : Evidence) → ListEvidence ms e → has_evidence_form e ≡ true
+    → evidence_of (object_with ms) ≡ Ok e
 unfolding evidence_of
-evidence_back ask h =
-    let e = ask.evidence in
-    let before_minute =
-    first_so (has_note_form e.contact && has_note_form e.spec && has_rfc_form e.rfc)
-    (has_note_form e.minute) h in
-    let before_rfc =
-    first_so (has_note_form e.contact && has_note_form e.spec) (has_rfc_form e.rfc)
-    before_minute in
-    evidence_joined e (optional item.Contact (text_form is_text) (code_tree ask))
-    (optional item.Specification (text_form is_text) (code_tree ask))
-    (optional item.Minute (text_form is_text) (code_tree ask))
-    (optional item.Rfc rfc_form (code_tree ask))
-    (optional-object_with item.Contact (text_form is_text) e.contact (code_members ask) refl
-    (note_back item.Contact e.contact
-    (first_so (has_note_form e.contact) (has_note_form e.spec) before_rfc)))
-    (optional-object_with item.Specification (text_form is_text) e.spec (code_members ask) refl
-    (note_back item.Specification e.spec
-    (second_so (has_note_form e.contact) (has_note_form e.spec) before_rfc)))
-    (optional-object_with item.Rfc rfc_form e.rfc (code_members ask) refl
-    (rfc_back e.rfc
-    (second_so (has_note_form e.contact && has_note_form e.spec) (has_rfc_form e.rfc)
-    before_minute)))
-    (optional-object_with item.Minute (text_form is_text) e.minute (code_members ask) refl
-    (note_back item.Minute e.minute
-    (second_so (has_note_form e.contact && has_note_form e.spec && has_rfc_form e.rfc)
-    (has_note_form e.minute) h)))
+evidence_back ms e l h =
+    let shown = evidence_formed e h in
+    evidence_joined e (optional item.Contact (text_form is_text) (object_with ms))
+    (optional item.Specification (text_form is_text) (object_with ms))
+    (optional item.Minute (text_form is_text) (object_with ms))
+    (optional item.Rfc rfc_form (object_with ms))
+    (optional_back item.Contact (text_form is_text) e.contact (text_if e.contact) ms l.ascending
+    l.contact (note_back item.Contact e.contact shown.contact))
+    (optional_back item.Specification (text_form is_text) e.spec (text_if e.spec) ms l.ascending
+    l.spec (note_back item.Specification e.spec shown.spec))
+    (optional_back item.Rfc rfc_form e.rfc (rfc_if e.rfc) ms l.ascending l.rfc
+    (rfc_back e.rfc shown.rfc))
+    (optional_back item.Minute (text_form is_text) e.minute (text_if e.minute) ms l.ascending
+    l.minute (note_back item.Minute e.minute shown.minute))
 
--- ---- asks
+-- these members list this evidence for an early allocation
+record ListEarlyEvidence (ms : Listed) (e : EarlyEvidence) : Type 0 where
+  ascending : ascends ms ≡ true
+  draft : find_listed (item_name item.Draft) ms ≡ text_if e.draft
+  stable : find_listed (item_name item.Stable) ms ≡ true_if e.stable
+  interest : find_listed (item_name item.Interest) ms ≡ true_if e.interest
+  chair : find_listed (item_name item.Chair) ms ≡ text_if e.chair
+  director : find_listed (item_name item.Director) ms ≡ text_if e.director
+  will_be_rfc : find_listed (item_name item.WillBeRfc) ms ≡ true_if e.will_be_rfc
+
+early_joined : (e : EarlyEvidence) (d c a : Reading (Option (List ℕ))) (s i p : Reading Bool)
+    → d ≡ Ok e.draft → s ≡ Ok e.stable → i ≡ Ok e.interest → c ≡ Ok e.chair → a ≡ Ok e.director
+    → p ≡ Ok e.will_be_rfc
+    → (d >>= (λ draft. s
+    >>= (λ stable. i
+    >>= (λ interest. c
+    >>= (λ chair. a
+    >>= (λ director. p
+    >>= (λ promise. Ok
+    (record {
+      draft = draft;
+      stable = stable;
+      interest = interest;
+      chair = chair;
+      director = director;
+      will_be_rfc = promise;
+    })))))))) ≡ Ok e
+early_joined e d c a s i p hd hs hi hc ha hp = rw (hd, hs, hi, hc, ha, hp) refl
+
+early_evidence_back : (ms : Listed) (e : EarlyEvidence) → ListEarlyEvidence ms e
+    → has_early_form e ≡ true → early_evidence_of (object_with ms) ≡ Ok e
+unfolding early_evidence_of
+early_evidence_back ms e l h =
+    let shown = early_formed e h in
+    early_joined e (optional item.Draft (text_form is_text) (object_with ms))
+    (optional item.Chair (text_form is_text) (object_with ms))
+    (optional item.Director (text_form is_text) (object_with ms))
+    (optional_truth item.Stable (object_with ms)) (optional_truth item.Interest (object_with ms))
+    (optional_truth item.WillBeRfc (object_with ms))
+    (optional_back item.Draft (text_form is_text) e.draft (text_if e.draft) ms l.ascending l.draft
+    (note_back item.Draft e.draft shown.draft))
+    (truth_back item.Stable e.stable ms l.ascending l.stable)
+    (truth_back item.Interest e.interest ms l.ascending l.interest)
+    (optional_back item.Chair (text_form is_text) e.chair (text_if e.chair) ms l.ascending l.chair
+    (note_back item.Chair e.chair shown.chair))
+    (optional_back item.Director (text_form is_text) e.director (text_if e.director) ms l.ascending
+    l.director (note_back item.Director e.director shown.director))
+    (truth_back item.WillBeRfc e.will_be_rfc ms l.ascending l.will_be_rfc)
+
+-- ---- values
 
 want_by_back : (w : Want) → has_want_form w ≡ true → want_by (value_if w) (least_if w) ≡ Ok w
 want_by_back (Value v) h = rw h refl
 want_by_back (Least p) h = rw (policy_back p) refl
 
-want_back : (ask : CodeAsk) → has_want_form ask.want ≡ true → want_of (code_tree ask) ≡ Ok ask.want
-want_back ask h =
+-- these members list this value, which is wanted
+record ListWanted (ms : Listed) (w : WantedValue) : Type 0 where
+  ascending : ascends ms ≡ true
+  registry : find_listed (item_name item.Registry) ms ≡ text w.registry
+  value : find_listed (item_name item.Value) ms ≡ value_if w.want
+  least : find_listed (item_name item.Least) ms ≡ least_if w.want
+  label : find_listed (item_name item.Label) ms ≡ text w.label
+
+want_back : (ms : Listed) (w : WantedValue) → ListWanted ms w → has_want_form w.want ≡ true
+    → want_of (object_with ms) ≡ Ok w.want
+want_back ms w l h =
     rw (
-      get-object_with (item_name item.Value) (code_members ask) refl,
-      get-object_with (item_name item.Least) (code_members ask) refl,
-    ) (want_by_back ask.want h)
+      get-object_with (item_name item.Value) ms l.ascending,
+      get-object_with (item_name item.Least) ms l.ascending,
+      l.value,
+      l.least,
+    ) (want_by_back w.want h)
 
-named_back : (form : List ℕ → Bool) (s : List ℕ) → form s ≡ true
-    → text_form form (string s) ≡ Some s
-named_back form s h = rw h refl
-
-code_joined : (ask : CodeAsk) (r l : Reading (List ℕ)) (w : Reading Want) (v : Reading Evidence)
-    (o : Reading ⊤) → r ≡ Ok ask.registry → w ≡ Ok ask.want → l ≡ Ok ask.label → v ≡ Ok ask.evidence
-    → o ≡ Ok tt
-    → (r >>= (λ registry. w
+wanted_joined : (w : WantedValue) (r l : Reading (List ℕ)) (v : Reading Want)
+    → r ≡ Ok w.registry → v ≡ Ok w.want → l ≡ Ok w.label
+    → (r >>= (λ registry. v
     >>= (λ wanted. l
-    >>= (λ label. v
-    >>= (λ evidence. o
-    >>= (λ others. Ok
-    (record { registry = registry; want = wanted; label = label; evidence = evidence })))))))
-    ≡ Ok ask
-code_joined ask r l w v o hr hw hl hv ho = rw (hr, hw, hl, hv, ho) refl
+    >>= (λ label. Ok (record { registry = registry; want = wanted; label = label }))))) ≡ Ok w
+wanted_joined w r l v hr hv hl = rw (hr, hv, hl) refl
+
+wanted_back : (ms : Listed) (w : WantedValue) → ListWanted ms w
+    → HasWantedForm w.registry w.want w.label → wanted_value_of (object_with ms) ≡ Ok w
+unfolding wanted_value_of
+wanted_back ms w l h =
+    wanted_joined w (needed item.Registry (text_form is_name) (object_with ms))
+    (needed item.Label (text_form is_text) (object_with ms)) (want_of (object_with ms))
+    (needed_back item.Registry (text_form is_name) w.registry (text w.registry) ms l.ascending
+    l.registry (named_back is_name w.registry h.registry))
+    (want_back ms w l h.want)
+    (needed_back item.Label (text_form is_text) w.label (text w.label) ms l.ascending l.label
+    (named_back is_text w.label h.label))
+
+-- these members list this value, which was allocated
+record ListAllocated (ms : Listed) (v : AllocatedValue) : Type 0 where
+  ascending : ascends ms ≡ true
+  registry : find_listed (item_name item.Registry) ms ≡ text v.registry
+  value : find_listed (item_name item.Value) ms ≡ whole_number v.value
+
+allocated_joined : (v : AllocatedValue) (r : Reading (List ℕ)) (n : Reading ℕ)
+    → r ≡ Ok v.registry → n ≡ Ok v.value
+    → (r >>= (λ registry. n >>= (λ value. Ok (record { registry = registry; value = value }))))
+    ≡ Ok v
+allocated_joined v r n hr hn = rw (hr, hn) refl
+
+allocated_back : (ms : Listed) (v : AllocatedValue) → ListAllocated ms v
+    → is_name v.registry ≡ true → nat_lt v.value (2 ^ 32) ≡ true
+    → allocated_value_of (object_with ms) ≡ Ok v
+unfolding allocated_value_of
+allocated_back ms v l named below =
+    allocated_joined v (needed item.Registry (text_form is_name) (object_with ms))
+    (needed item.Value number_form (object_with ms))
+    (needed_back item.Registry (text_form is_name) v.registry (text v.registry) ms l.ascending
+    l.registry (named_back is_name v.registry named))
+    (needed_back item.Value number_form v.value (whole_number v.value) ms l.ascending l.value
+    (number_back v.value below))
+
+-- ---- asks
+
+-- an ask of a value and of evidence, which are both read back
+ask_joined : {V E A : Type 0} (ask : V → E → A) (v : V) (e : E) (value : Reading V)
+    (evidence : Reading E) (others : Reading ⊤) → value ≡ Ok v → evidence ≡ Ok e
+    → others ≡ Ok tt
+    → (value >>= (λ x. evidence >>= (λ y. others >>= (λ none. Ok (ask x y))))) ≡ Ok (ask v e)
+ask_joined ask v e value evidence others hv he ho = rw (hv, he, ho) refl
 
 code_back : (ask : CodeAsk) → has_code_form ask ≡ true → code_of (code_tree ask) ≡ Ok ask
 unfolding code_of
 code_back ask h =
-    let before_evidence =
-    first_so (is_name ask.registry && has_want_form ask.want && is_text ask.label)
-    (has_evidence_form ask.evidence) h in
-    let before_label =
-    first_so (is_name ask.registry && has_want_form ask.want) (is_text ask.label)
-    before_evidence in
-    code_joined ask (needed item.Registry (text_form is_name) (code_tree ask))
-    (needed item.Label (text_form is_text) (code_tree ask)) (want_of (code_tree ask))
-    (evidence_of (code_tree ask)) (only code_items (code_tree ask))
-    (needed-object_with item.Registry (text_form is_name) ask.registry (code_members ask) refl
-    (named_back is_name ask.registry
-    (first_so (is_name ask.registry) (has_want_form ask.want) before_label)))
-    (want_back ask (second_so (is_name ask.registry) (has_want_form ask.want) before_label))
-    (needed-object_with item.Label (text_form is_text) ask.label (code_members ask) refl
-    (named_back is_text ask.label
-    (second_so (is_name ask.registry && has_want_form ask.want) (is_text ask.label)
-    before_evidence)))
-    (evidence_back ask
-    (second_so (is_name ask.registry && has_want_form ask.want && is_text ask.label)
-    (has_evidence_form ask.evidence) h))
-    (only-object_with code_items (code_members ask) refl refl)
+    let ms = code_members ask in
+    let parts = want_formed ask.registry ask.want ask.label (has_evidence_form ask.evidence) h in
+    let wanted : WantedValue =
+    record { registry = ask.registry; want = ask.want; label = ask.label } in
+    ask_joined code_with wanted ask.evidence (wanted_value_of (object_with ms))
+    (evidence_of (object_with ms)) (only code_items (object_with ms))
+    (wanted_back ms wanted
+    (record { ascending = refl; registry = refl; value = refl; least = refl; label = refl })
+    parts.wanted)
+    (evidence_back ms ask.evidence
+    (record { ascending = refl; contact = refl; spec = refl; rfc = refl; minute = refl })
+    parts.evidence)
+    (only-object_with code_items ms refl refl)
 
-kind_joined : (ask : CodeAsk) (json : Data) (k : Reading AskKind) → k ≡ Ok kind.Code
-    → code_of json ≡ Ok ask → (k >>= (λ asked. ask_of_kind asked json)) ≡ Ok (Code ask)
-kind_joined ask json k hk hc = rw (hk, hc) refl
+early_back : (ask : EarlyAsk) → has_early_ask_form ask ≡ true
+    → early_of (early_tree ask) ≡ Ok ask
+unfolding early_of
+early_back ask h =
+    let ms = early_members ask in
+    let parts = want_formed ask.registry ask.want ask.label (has_early_form ask.evidence) h in
+    let wanted : WantedValue =
+    record { registry = ask.registry; want = ask.want; label = ask.label } in
+    ask_joined early_with wanted ask.evidence (wanted_value_of (object_with ms))
+    (early_evidence_of (object_with ms)) (only early_items (object_with ms))
+    (wanted_back ms wanted
+    (record { ascending = refl; registry = refl; value = refl; least = refl; label = refl })
+    parts.wanted)
+    (early_evidence_back ms ask.evidence
+    (record {
+      ascending = refl;
+      draft = refl;
+      stable = refl;
+      interest = refl;
+      chair = refl;
+      director = refl;
+      will_be_rfc = refl;
+    })
+    parts.evidence)
+    (only-object_with early_items ms refl refl)
+
+renewal_back : (ask : RenewalAsk) → has_renewal_form ask ≡ true
+    → renewal_of (renewal_tree ask) ≡ Ok ask
+unfolding renewal_of
+renewal_back ask h =
+    let ms = renewal_members ask in
+    let parts =
+    value_formed ask.registry (nat_lt ask.value (2 ^ 32)) (has_early_form ask.evidence) h in
+    let allocated : AllocatedValue = record { registry = ask.registry; value = ask.value } in
+    ask_joined renewal_with allocated ask.evidence (allocated_value_of (object_with ms))
+    (early_evidence_of (object_with ms)) (only renewal_items (object_with ms))
+    (allocated_back ms allocated (record { ascending = refl; registry = refl; value = refl })
+    parts.registry parts.value)
+    (early_evidence_back ms ask.evidence
+    (record {
+      ascending = refl;
+      draft = refl;
+      stable = refl;
+      interest = refl;
+      chair = refl;
+      director = refl;
+      will_be_rfc = refl;
+    })
+    parts.evidence)
+    (only-object_with renewal_items ms refl refl)
+
+permanence_back : (ask : PermanenceAsk) → has_permanence_form ask ≡ true
+    → permanence_of (permanence_tree ask) ≡ Ok ask
+unfolding permanence_of
+permanence_back ask h =
+    let ms = permanence_members ask in
+    let parts =
+    value_formed ask.registry (nat_lt ask.value (2 ^ 32)) (has_evidence_form ask.evidence) h in
+    let allocated : AllocatedValue = record { registry = ask.registry; value = ask.value } in
+    ask_joined permanence_with allocated ask.evidence (allocated_value_of (object_with ms))
+    (evidence_of (object_with ms)) (only permanence_items (object_with ms))
+    (allocated_back ms allocated (record { ascending = refl; registry = refl; value = refl })
+    parts.registry parts.value)
+    (evidence_back ms ask.evidence
+    (record { ascending = refl; contact = refl; spec = refl; rfc = refl; minute = refl })
+    parts.evidence)
+    (only-object_with permanence_items ms refl refl)
 
 block_joined : (ask : BlockAsk) (s : Reading Size) (g a : Reading (List ℕ)) (o : Reading ⊤)
     → s ≡ Ok ask.size → g ≡ Ok ask.organization → a ≡ Ok ask.address → o ≡ Ok tt
@@ -215,17 +406,32 @@ block_back ask h =
     (named_back is_text ask.address (second_so (is_text ask.organization) (is_text ask.address) h)))
     (only-object_with block_items (block_members ask) refl refl)
 
-block_kind : (ask : BlockAsk) (json : Data) (k : Reading AskKind) → k ≡ Ok kind.Block
-    → block_of json ≡ Ok ask → (k >>= (λ asked. ask_of_kind asked json)) ≡ Ok (Block ask)
-block_kind ask json k hk hb = rw (hk, hb) refl
+-- an ask of a kind, which its word names
+of_kind_joined : {A : Type 0} (ask : A → Ask) (x : A) (reading : Reading A) → reading ≡ Ok x
+    → (reading >>= (λ y. Ok (ask y))) ≡ Ok (ask x)
+of_kind_joined ask x reading h = rw h refl
+
+kind_back : (k : AskKind) (ask : Ask) (ms : Listed) → ascends ms ≡ true
+    → option_and_then ask_kind_form (find_listed (item_name item.Kind) ms) ≡ Some k
+    → ask_of_kind k (object_with ms) ≡ Ok ask → ask_of (object_with ms) ≡ Ok ask
+unfolding ask_of
+kind_back k ask ms h named read =
+    ap (λ found. found >>= (λ asked. ask_of_kind asked (object_with ms)))
+    (needed-object_with item.Kind ask_kind_form k ms h named) ∙ read
 
 pub ask_of-ask_tree : (ask : Ask) → has_ask_form ask ≡ true → ask_of (ask_tree ask) ≡ Ok ask
-unfolding ask_of
 ask_of-ask_tree (Code ask) h =
-    kind_joined ask (code_tree ask) (needed item.Kind ask_kind_form (code_tree ask))
-    (needed-object_with item.Kind ask_kind_form kind.Code (code_members ask) refl refl)
-    (code_back ask h)
+    kind_back kind.Code (Code ask) (code_members ask) refl refl
+    (of_kind_joined Code ask (code_of (code_tree ask)) (code_back ask h))
+ask_of-ask_tree (Early ask) h =
+    kind_back kind.Early (Early ask) (early_members ask) refl refl
+    (of_kind_joined Early ask (early_of (early_tree ask)) (early_back ask h))
+ask_of-ask_tree (Renew ask) h =
+    kind_back kind.Renew (Renew ask) (renewal_members ask) refl refl
+    (of_kind_joined Renew ask (renewal_of (renewal_tree ask)) (renewal_back ask h))
+ask_of-ask_tree (Permanent ask) h =
+    kind_back kind.Permanent (Permanent ask) (permanence_members ask) refl refl
+    (of_kind_joined Permanent ask (permanence_of (permanence_tree ask)) (permanence_back ask h))
 ask_of-ask_tree (Block ask) h =
-    block_kind ask (block_tree ask) (needed item.Kind ask_kind_form (block_tree ask))
-    (needed-object_with item.Kind ask_kind_form kind.Block (block_members ask) refl refl)
-    (block_back ask h)
+    kind_back kind.Block (Block ask) (block_members ask) refl refl
+    (of_kind_joined Block ask (block_of (block_tree ask)) (block_back ask h))

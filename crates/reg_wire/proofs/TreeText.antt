@@ -1,5 +1,5 @@
 -- What is printed of a tree of texts and whole numbers reads back as the tree.
-use Rattle.std.proofs.Common.{◌≡◌, ℕ, suc, ◌^◌, ◌<◌, ◌≤◌, List, [], ◌∷◌, Bool, true, false, Option, Some, None, Ok, refl, sym, ap, ◌∙◌, option_and_then, arith, append-nil}
+use Rattle.std.proofs.Common.{◌≡◌, ℕ, suc, ◌^◌, ◌<◌, ◌≤◌, List, [], ◌∷◌, ◌++◌, Bool, true, false, Option, Some, None, Ok, refl, sym, ap, ◌∙◌, option_and_then, arith, append-nil}
 use Rattle.std.specs.Fmt.{decimal}
 use Rattle.std.specs.Str.{IsUtf8}
 use Rattle.std.proofs.lemmas.Fmt.{IsAscii-decimal}
@@ -12,7 +12,7 @@ use Rattle.json.specs.Tree as tree
 use Rattle.json.proofs.Printed.Decimals.{IsNumber-decimal}
 use Rattle.json.proofs.Printed.Tokens.{tokens-print}
 use Rattle.json.proofs.Printed.Trees.{value-json_tokens, ArePrintable-json_tokens}
-use Rattle.json.proofs.Printed.Utf8.{IsUtf8-quoted, IsUtf8-are_ascii}
+use Rattle.json.proofs.Printed.Utf8.{are_ascii, IsUtf8-quoted, IsUtf8-are_ascii}
 use Rattle.serde_json.specs.Data.{Data, null, boolean, number, string, array, object, Items, no_items, item, Members, no_members, member, Num, unsigned, negative, float}
 use Rattle.serde_json.specs.Read.{read, of_json, max_depth}
 use Rattle.serde_json.specs.Written.{outline, members_outline, compact_text, items_text, members_text, comma_if}
@@ -118,6 +118,10 @@ number-readable n k h =
       same = rw (number_of-decimal k h) refl;
     }
 
+pub boolean-readable : (n : ℕ) (b : Bool) → Readable n (boolean b)
+boolean-readable n b =
+    record { plain = tt; numbers = tt; shallow = omega arith; same = refl }
+
 abbrev pub IfReadable : ℕ → Option Data → Type 0
 IfReadable n None = Unit {0}
 IfReadable n (Some d) = Readable n d
@@ -126,6 +130,24 @@ IfReadable n (Some d) = Readable n d
 abbrev pub AllReadable : ℕ → Listed → Type 0
 AllReadable n [] = Unit {0}
 AllReadable n (m ∷ ms) = IsUtf8 m.0 × IfReadable n m.1 × AllReadable n ms
+
+-- members that read back, of which some may be absent
+pub record AreReadable (n : ℕ) (ms : Listed) : Type 0 where
+  pub all : AllReadable n ms
+
+pub member-readable : (n : ℕ) (k : List ℕ) (o : Option Data) → are_ascii k ≡ true → IfReadable n o
+    → AreReadable n ((k, o) ∷ [])
+member-readable n k o named h = record { all = (IsUtf8-are_ascii k named, h, tt) }
+
+all_readable : (n : ℕ) (xs ys : Listed) → AllReadable n xs → AllReadable n ys
+    → AllReadable n (xs ++ ys)
+all_readable n [] ys h more = more
+all_readable n (x ∷ xs) ys h more = (h.0, h.1, all_readable n xs ys h.2 more)
+
+-- members behind members
+infixr 5 ◌▸◌
+pub ◌▸◌ : {n : ℕ} {xs ys : Listed} → AreReadable n xs → AreReadable n ys → AreReadable n (xs ++ ys)
+◌▸◌ {n} {xs} {ys} h more = record { all = all_readable n xs ys h.all more.all }
 
 plain_at : (n : ℕ) (k : List ℕ) (o : Option Data) (ms : Members) → IsUtf8 k → IfReadable n o
     → ArePlain ms → ArePlain (some_member k o ms)
@@ -175,9 +197,9 @@ listed-readable n ms h r = record {
   same = listed-reads ms h (all_read n ms r);
 }
 
-pub object_with-readable : (n : ℕ) (ms : Listed) → ascends ms ≡ true → AllReadable n ms
+pub object_with-readable : (n : ℕ) (ms : Listed) → ascends ms ≡ true → AreReadable n ms
     → Readable (suc n) (object_with ms)
-object_with-readable n ms h r = rw (with_members-as_listed ms h) (listed-readable n ms h r)
+object_with-readable n ms h r = rw (with_members-as_listed ms h) (listed-readable n ms h r.all)
 
 -- the text of an object that reads back is its body
 pub object_of-compact_text : (n : ℕ) (ms : Listed) → n ≤ max_depth → Readable n (object_with ms)
