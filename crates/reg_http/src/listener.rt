@@ -10,11 +10,16 @@ use reg_parse::route::Routes;
 use std::alloc::Global;
 use std::io;
 use std::io::{ErrorKind, Read, Write};
-use std::net::{TcpListener, TcpStream};
+use std::net::{Shutdown, TcpListener, TcpStream};
 use std::time::{Clock, Duration};
 
 /// How many seconds a peer has to send its request, and again to take the answer.
 pub const PATIENCE_SECONDS: u64 = 10;
+
+// For how many seconds, and how often, what a refused peer still sends is read.
+const LINGER_SECONDS: u64 = 1;
+
+const MOST_LINGERING_READS: u32 = 32;
 
 /// What became of connections.
 #[derive(Clone, Copy, Debug, PartialEq, Eq)]
@@ -28,8 +33,9 @@ pub struct Connections {
 /// Serves so many connections of a listener, one after the other, one request each, at the moment
 /// of the clock when it comes; a clock that fails or stands before 1970 gives moment 0. What has
 /// not been read whole within the patience is a failed read, and what has not been written within
-/// as much again a failed write. A connection that cannot be accepted, or fails, is dropped, and
-/// the next is served. The office is changed by at most one request of each connection, and by
+/// as much again a failed write. After a refusal what the peer still sends is read for a second, at
+/// most 128 KiB of it. A connection that cannot be accepted, or fails, is dropped, and the next is
+/// served. The office is changed by at most one request of each connection, and by
 /// nothing else.
 pub fn serve_listener<C: Clock, K: Keeper>(
     alloc: Global,
@@ -68,15 +74,33 @@ fn serve_next<C: Clock, K: Keeper>(
     ensures { ChangesByTurns (AnswersOver K.world K.Holds K.Sound) 1 office.old office.new }
 {
     let (stream, _) = listener.accept().ok()?;
+    let status = exchange(alloc, clock, office, routes, &stream, patience);
+    if status.is_some_and(|status| status >= 400) {
+        linger(&stream, clock);
+    }
+    status
+}
+
+// One exchange over a connection; gives the status of the answer that was written whole.
+fn exchange<C: Clock, K: Keeper>(
+    alloc: Global,
+    clock: &C,
+    office: &mut Office<K>,
+    routes: &Routes,
+    stream: &TcpStream,
+    patience: Duration,
+) -> Option<u16>
+    ensures { ChangesByTurns (AnswersOver K.world K.Holds K.Sound) 1 office.old office.new }
+{
     let read_by = clock.monotonic().ok()?.checked_add(patience)?;
     let write_by = read_by.checked_add(patience)?;
     let mut reader = Timed {
-        stream: &stream,
+        stream,
         clock,
         end: read_by,
     };
     let mut writer = Timed {
-        stream: &stream,
+        stream,
         clock,
         end: write_by,
     };
@@ -89,6 +113,32 @@ fn serve_next<C: Clock, K: Keeper>(
         &mut writer,
     )
     .ok()
+}
+
+// Reads for a while what a refused peer still sends, and drops it. Where a connection is closed
+// with bytes that were not read, the system resets it, and the peer may lose the answer (RFC 9112
+// section 9.6).
+fn linger<C: Clock>(stream: &TcpStream, clock: &C) {
+    let Some(end) = lingering_end(stream, clock) else {
+        return;
+    };
+    let mut rest = Timed { stream, clock, end };
+    let mut buffer = [0; 4096];
+    for _ in 0..MOST_LINGERING_READS {
+        match rest.read(&mut buffer) {
+            Ok(read) if read > 0 => {}
+            _ => return,
+        }
+    }
+}
+
+// Tells the peer that nothing more is sent, and gives the end of what is read then.
+fn lingering_end<C: Clock>(stream: &TcpStream, clock: &C) -> Option<Duration> {
+    stream.shutdown(Shutdown::Write).ok()?;
+    clock
+        .monotonic()
+        .ok()?
+        .checked_add(Duration::from_secs(LINGER_SECONDS))
 }
 
 // Seconds since 1970-01-01T00:00:00Z.

@@ -1,5 +1,5 @@
 //! Writes an answer.
-ghost use Rattle.std.specs.Prelude.{◌≡◌, ◌<◌, [], OnOk, IfOk, IfErr, take, length};
+ghost use Rattle.std.specs.Prelude.{◌≡◌, ◌≢◌, ◌<◌, [], true, false, OnOk, IfOk, IfErr, take, length};
 ghost use Rattle.std.specs.Io.KnownBytes.{Appends};
 ghost use Rattle.reg_http.specs.Response.{status, response_text};
 ghost use Rattle.reg_http.specs.Sending.{IsUnsent};
@@ -28,16 +28,24 @@ pub(crate) fn send_response<W: Write>(
     ensures err { IfErr result (λ fault. IsUnsent fault response (W.contents writer.old)
         (W.contents writer.new)) }
 {
-    if let Response::Answer(Answer::Storage) = &response {
-        return send_storage(writer);
-    }
     let made = response_bytes(alloc, &response);
+    let is_storage = is_storage(&response);
     drop(response);
-    let (status, bytes) = made?;
-    match send(writer, bytes.as_slice()) {
-        Ok(()) => Ok(status),
-        Err(n) => Err(WireFault::Write(n)),
+    match made {
+        Ok((status, bytes)) => match send(writer, bytes.as_slice()) {
+            Ok(()) => Ok(status),
+            Err(n) => Err(WireFault::Write(n)),
+        },
+        Err(_) if is_storage => send_storage(writer),
+        Err(_) => Err(WireFault::Memory),
     }
+}
+
+fn is_storage(response: &Response) -> bool
+    ensures yes { result ≡ true → response.now ≡ storage }
+    ensures no { result ≡ false → response.now ≢ storage }
+{
+    matches!(response, Response::Answer(Answer::Storage))
 }
 
 fn send_storage<W: Write>(writer: &mut W) -> Result<u16, WireFault>

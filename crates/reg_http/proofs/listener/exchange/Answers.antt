@@ -1,6 +1,6 @@
 use Rattle.reg_http.specs.Serving.{AnswersOver}
 use Rattle.reg_http.proofs.Turns.{turn}
-use Rattle.reg_http.proofs.listener.serve_next.Goals as goal
+use Rattle.reg_http.proofs.listener.exchange.Goals as goal
 
 pub returns : goal.returns
 returns g c =
