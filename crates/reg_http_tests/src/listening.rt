@@ -1,0 +1,142 @@
+//! A listener on loopback, and its clients.
+use crate::messages::NO_REGISTRY;
+use crate::served::Served;
+use reg_http::listener::Connections;
+use std::io::{Read, Write};
+use std::net::{Ipv4Addr, Shutdown, SocketAddr, TcpListener, TcpStream};
+use std::test::Fail;
+use std::time::Duration;
+
+// A listener at any port of loopback, and its address.
+fn listening(rt: &HostRuntime) -> Result<(TcpListener, SocketAddr), Fail> {
+    let listener = TcpListener::bind(rt, SocketAddr::from((Ipv4Addr::LOCALHOST, 0)))?;
+    let address = listener.local_addr()?;
+    Ok((listener, address))
+}
+
+// A client that has sent these bytes.
+fn client(rt: &HostRuntime, address: SocketAddr, bytes: &[u8]) -> Result<TcpStream, Fail> {
+    let mut stream = TcpStream::connect(rt, address)?;
+    stream.write_all(bytes)?;
+    Ok(stream)
+}
+
+// A client that can send no more.
+fn silenced(stream: TcpStream) -> Result<TcpStream, Fail> {
+    stream.shutdown(Shutdown::Write)?;
+    Ok(stream)
+}
+
+// What a client reads until the connection is closed.
+fn all_of(rt: &HostRuntime, stream: &mut TcpStream) -> Result<Vec<u8>, Fail> {
+    let mut bytes = Vec::new(rt.alloc());
+    stream.read_to_end(&mut bytes)?;
+    Ok(bytes)
+}
+
+// What becomes of a first request over loopback, and its answer.
+fn first_request(rt: &HostRuntime, served: &mut Served) -> Result<(Connections, Vec<u8>), Fail> {
+    let (listener, address) = listening(rt)?;
+    let mut peer = client(rt, address, b"GET /registries HTTP/1.1\r\nHost: x\r\n\r\n")?;
+    let done = served.listen(rt, &listener, 1, Duration::from_secs(10));
+    drop(listener);
+    let answer = all_of(rt, &mut peer);
+    drop(peer);
+    Ok((done, answer?))
+}
+
+#[test]
+fn a_first_request_over_loopback(rt: HostRuntime) -> Result<(), Fail> {
+    let mut served = Served::founded(rt.alloc())?;
+    let given = first_request(&rt, &mut served);
+    drop(served);
+    let (done, answer) = given?;
+    assert_eq!(rt;
+        done,
+        Connections {
+            answered: 1,
+            dropped: 0
+        }
+    );
+    assert_eq!(rt; answer.as_slice(), NO_REGISTRY);
+    Ok(())
+}
+
+/// Clients: one sends nothing, one a part of a request, one such a part and no more, and the last
+/// a request.
+#[derive(Drop)]
+struct Peers {
+    silent: TcpStream,
+    slow: TcpStream,
+    half: TcpStream,
+    last: TcpStream,
+}
+
+/// What each of them reads.
+#[derive(Drop)]
+struct Heard {
+    silent: Vec<u8>,
+    slow: Vec<u8>,
+    half: Vec<u8>,
+    last: Vec<u8>,
+}
+
+impl Peers {
+    // They are connected in this order.
+    fn connected(rt: &HostRuntime, address: SocketAddr) -> Result<Peers, Fail> {
+        let silent = client(rt, address, b"")?;
+        let slow = client(rt, address, b"GET /reg")?;
+        let half = silenced(client(rt, address, b"GET /reg")?)?;
+        let last = client(rt, address, b"GET /registries HTTP/1.1\r\n\r\n")?;
+        Ok(Peers {
+            silent,
+            slow,
+            half,
+            last,
+        })
+    }
+
+    fn heard(&mut self, rt: &HostRuntime) -> Result<Heard, Fail> {
+        let silent = all_of(rt, &mut self.silent)?;
+        let slow = all_of(rt, &mut self.slow)?;
+        let half = all_of(rt, &mut self.half)?;
+        let last = all_of(rt, &mut self.last)?;
+        Ok(Heard {
+            silent,
+            slow,
+            half,
+            last,
+        })
+    }
+}
+
+// What becomes of the four connections, and what the clients read.
+fn four_peers(rt: &HostRuntime, served: &mut Served) -> Result<(Connections, Heard), Fail> {
+    let (listener, address) = listening(rt)?;
+    let mut peers = Peers::connected(rt, address)?;
+    let done = served.listen(rt, &listener, 4, Duration::from_millis(200));
+    drop(listener);
+    let heard = peers.heard(rt);
+    drop(peers);
+    Ok((done, heard?))
+}
+
+#[test]
+fn peers_who_are_silent_or_gone(rt: HostRuntime) -> Result<(), Fail> {
+    let mut served = Served::founded(rt.alloc())?;
+    let given = four_peers(&rt, &mut served);
+    drop(served);
+    let (done, heard) = given?;
+    assert_eq!(rt;
+        done,
+        Connections {
+            answered: 2,
+            dropped: 2
+        }
+    );
+    assert!(rt; heard.silent.is_empty());
+    assert!(rt; heard.slow.is_empty());
+    assert!(rt; heard.half.ends_with(b"{\"error\":\"head\"}"));
+    assert!(rt; heard.last.ends_with(b"\r\n\r\n[]"));
+    Ok(())
+}

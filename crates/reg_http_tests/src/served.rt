@@ -1,0 +1,112 @@
+//! An office that is asked over HTTP.
+use crate::messages::request;
+use reg_http::listener::{Connections, serve_listener};
+use reg_http::serving::serve_one;
+use reg_http::wire_fault::WireFault;
+use reg_office::Office;
+use reg_parse::route::Routes;
+use reg_store::lists::ListKeeper;
+use std::alloc::{AllocError, Global};
+use std::io::{Read, Write};
+use std::net::TcpListener;
+use std::process::Abort;
+use std::test::Fail;
+use std::time::{Clock, Duration};
+
+/// The moment of all requests.
+pub const MOMENT: u64 = 1_700_000_000;
+
+/// The token of the first clerk.
+pub const CLERK: &str = "clerk-token-00001";
+
+const GRANT: &[u8] =
+    b"{\"account\":\"alice\",\"kind\":\"applicant\",\"token\":\"alice-token-00001\",\"until\":1800000000}";
+
+const RANGES: &[u8] =
+    b"lo,hi,treatment,note\n0,63,standards-action,\n64,191,first-come-first-served,\n192,255,reserved,\n";
+
+/// What came back.
+#[derive(Drop)]
+pub struct Answered {
+    pub status: Result<u16, WireFault>,
+    pub bytes: Vec<u8>,
+}
+
+/// An office in memory, with its router.
+#[derive(Drop)]
+pub struct Served {
+    office: Office<ListKeeper>,
+    routes: Routes,
+}
+
+impl Served {
+    /// An office that is founded, and nothing else.
+    pub fn founded(alloc: Global) -> Result<Served, Fail> {
+        let routes = Routes::new(alloc)?;
+        let mut office = Office::new(alloc, ListKeeper::new(alloc));
+        office.found(CLERK.as_bytes())?;
+        Ok(Served { office, routes })
+    }
+
+    /// An office with an applicant, alice, and a registry, `flags`.
+    pub fn opened<R: Abort + AllocGlobal>(rt: &R) -> Result<Served, Fail> {
+        let mut served = Served::founded(rt.alloc())?;
+        served.open(rt)?;
+        Ok(served)
+    }
+
+    fn open<R: Abort + AllocGlobal>(&mut self, rt: &R) -> Result<(), Fail> {
+        let alloc = rt.alloc();
+        let grant = request(alloc, "PUT", "/desk/tokens", Some(CLERK), GRANT)?;
+        assert_eq!(rt; self.asked(alloc, grant.as_slice())?.status, Ok(200));
+        let path = "/desk/registries/flags/255";
+        let define = request(alloc, "PUT", path, Some(CLERK), RANGES)?;
+        assert_eq!(rt; self.asked(alloc, define.as_slice())?.status, Ok(200));
+        Ok(())
+    }
+
+    /// Sends bytes, and gives what came back.
+    pub fn asked(&mut self, alloc: Global, input: &[u8]) -> Result<Answered, AllocError> {
+        let mut reader = input;
+        let mut bytes = Vec::new(alloc);
+        let status = self.serve(alloc, &mut reader, &mut bytes);
+        Ok(Answered { status, bytes })
+    }
+
+    /// Serves one request of a reader.
+    pub fn serve<R: Read, W: Write>(
+        &mut self,
+        alloc: Global,
+        reader: &mut R,
+        writer: &mut W,
+    ) -> Result<u16, WireFault> {
+        serve_one(
+            alloc,
+            &mut self.office,
+            &self.routes,
+            MOMENT,
+            reader,
+            writer,
+        )
+    }
+
+    /// Serves so many connections of a listener.
+    pub fn listen<R: Clock + AllocGlobal>(
+        &mut self,
+        rt: &R,
+        listener: &TcpListener,
+        count: u32,
+        patience: Duration,
+    ) -> Connections {
+        let alloc = rt.alloc();
+        serve_listener(
+            alloc,
+            rt,
+            &mut self.office,
+            &self.routes,
+            listener,
+            count,
+            patience,
+        )
+    }
+}

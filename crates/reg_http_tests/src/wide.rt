@@ -1,0 +1,168 @@
+//! A registry of 64 ranges that are all of 32 bits, and asks in it with texts of full length.
+use crate::asked::Asked;
+use crate::carriers::Both;
+use crate::generated::{ALICE, EXPERT};
+use crate::sequence::{FULL, text_of};
+use crate::served::CLERK;
+use std::alloc::{AllocError, Global};
+use std::process::Abort;
+use std::test::Fail;
+
+const RANGES: usize = 64;
+
+// How many values a range has.
+const WIDTH: u64 = 67_108_864;
+
+// The treatments, in turn, and whether single values are assigned under each.
+const TREATMENTS: [(&str, bool); 11] = [
+    ("first-come-first-served", true),
+    ("expert-review", true),
+    ("specification-required", true),
+    ("rfc-required", true),
+    ("ietf-review", true),
+    ("standards-action", true),
+    ("iesg-approval", true),
+    ("private-use", false),
+    ("experimental-use", false),
+    ("hierarchical-allocation", false),
+    ("reserved", false),
+];
+
+// What shows the registry, and the requests in it.
+const LOOKS: [(&str, Option<&str>); 5] = [
+    ("/registries/wide", None),
+    ("/listings/registries/wide", None),
+    ("/requests", Some(ALICE)),
+    ("/queue", Some(EXPERT)),
+    ("/desk/requests", Some(CLERK)),
+];
+
+fn treatment(place: usize) -> (&'static str, bool) {
+    TREATMENTS[place % TREATMENTS.len()]
+}
+
+// A request with this body.
+fn asked(
+    alloc: Global,
+    method: &'static str,
+    path: &str,
+    token: Option<&'static str>,
+    body: &str,
+) -> Result<Asked, AllocError> {
+    Ok(Asked {
+        method,
+        path: String::from_str(alloc, path)?,
+        token,
+        body: String::from_str(alloc, body)?,
+    })
+}
+
+// The range file, with notes of full length.
+fn range_file(alloc: Global) -> Result<String, AllocError> {
+    let note = text_of(alloc, FULL)?;
+    let mut file = String::from_str(alloc, "lo,hi,treatment,note\n")?;
+    for place in 0..RANGES {
+        let lo = place as u64 * WIDTH;
+        let hi = lo + (WIDTH - 1);
+        let (word, _) = treatment(place);
+        let row = format!(in alloc; "{lo},{hi},{word},{note}\n")?;
+        file.push_str(row.as_str())?;
+    }
+    Ok(file)
+}
+
+// An ask for what this member names, with all that any policy asks for, each text of full length.
+fn ask(alloc: Global, member: &str) -> Result<String, AllocError> {
+    let text = text_of(alloc, FULL)?;
+    format!(in alloc;
+        "{{\"kind\":\"code\",\"registry\":\"wide\",{member},\"label\":\"{text}\",\"contact\":\"{text}\",\"specification\":\"{text}\",\"rfc\":{{\"number\":99999,\"stream\":\"ietf\",\"track\":\"standards\"}},\"minute\":\"{text}\"}}"
+    )
+}
+
+fn advice(alloc: Global) -> Result<String, AllocError> {
+    let text = text_of(alloc, FULL)?;
+    format!(in alloc; "{{\"verdict\":\"for\",\"text\":\"{text}\"}}")
+}
+
+// Asks for what the member names, has an expert advise on that, and approves it, which succeeds
+// where single values are assigned.
+fn assert_ask<R: Abort + AllocGlobal>(
+    rt: &R,
+    both: &mut Both,
+    name: &str,
+    member: &str,
+    is_assigned: bool,
+) -> Result<(), Fail> {
+    let alloc = rt.alloc();
+    let (made, done) = if is_assigned { (201, 200) } else { (409, 404) };
+    let own = format!(in alloc; "/requests/{name}")?;
+    let body = ask(alloc, member)?;
+    let submission = asked(alloc, "PUT", own.as_str(), Some(ALICE), body.as_str())?;
+    assert_eq!(rt; both.assert_alike(rt, &submission)?, made);
+    let path = format!(in alloc; "/desk/experts/alice/{name}/xan")?;
+    let assignment = asked(alloc, "PUT", path.as_str(), Some(CLERK), "")?;
+    assert_eq!(rt; both.assert_alike(rt, &assignment)?, done);
+    let path = format!(in alloc; "/queue/alice/{name}")?;
+    let body = advice(alloc)?;
+    let review = asked(alloc, "PUT", path.as_str(), Some(EXPERT), body.as_str())?;
+    assert_eq!(rt; both.assert_alike(rt, &review)?, done);
+    let path = format!(in alloc; "/desk/approve/alice/{name}")?;
+    let approval = asked(alloc, "PUT", path.as_str(), Some(CLERK), "")?;
+    assert_eq!(rt; both.assert_alike(rt, &approval)?, done);
+    let look = asked(alloc, "GET", own.as_str(), Some(ALICE), "")?;
+    assert_eq!(rt; both.assert_alike(rt, &look)?, done);
+    Ok(())
+}
+
+fn assert_value<R: Abort + AllocGlobal>(
+    rt: &R,
+    both: &mut Both,
+    value: u64,
+    is_assigned: bool,
+) -> Result<(), Fail> {
+    let name = format!(in rt.alloc(); "v-{value}")?;
+    let member = format!(in rt.alloc(); "\"value\":{value}")?;
+    assert_ask(rt, both, name.as_str(), member.as_str(), is_assigned)
+}
+
+// Asks for both ends of each range.
+fn assert_ends<R: Abort + AllocGlobal>(rt: &R, both: &mut Both) -> Result<(), Fail> {
+    for place in 0..RANGES {
+        let (_, is_assigned) = treatment(place);
+        let lo = place as u64 * WIDTH;
+        assert_value(rt, both, lo, is_assigned)?;
+        assert_value(rt, both, lo + (WIDTH - 1), is_assigned)?;
+    }
+    Ok(())
+}
+
+// Asks for the least value under each policy.
+fn assert_leasts<R: Abort + AllocGlobal>(rt: &R, both: &mut Both) -> Result<(), Fail> {
+    for (word, is_assigned) in TREATMENTS {
+        if word != "reserved" {
+            let member = format!(in rt.alloc(); "\"least\":\"{word}\"")?;
+            assert_ask(rt, both, word, member.as_str(), is_assigned)?;
+        }
+    }
+    Ok(())
+}
+
+fn assert_looks<R: Abort + AllocGlobal>(rt: &R, both: &mut Both) -> Result<(), Fail> {
+    for (path, token) in LOOKS {
+        let look = asked(rt.alloc(), "GET", path, token, "")?;
+        assert_eq!(rt; both.assert_alike(rt, &look)?, 200);
+    }
+    Ok(())
+}
+
+/// Defines the registry in both offices, asks for both ends of each range and for the least value
+/// under each policy, and looks at it all.
+pub fn assert_wide<R: Abort + AllocGlobal>(rt: &R, both: &mut Both) -> Result<(), Fail> {
+    let file = range_file(rt.alloc())?;
+    let path = "/desk/registries/wide/4294967295";
+    let define = asked(rt.alloc(), "PUT", path, Some(CLERK), file.as_str())?;
+    assert_eq!(rt; both.assert_alike(rt, &define)?, 200);
+    assert_ends(rt, both)?;
+    assert_leasts(rt, both)?;
+    assert_looks(rt, both)
+}
