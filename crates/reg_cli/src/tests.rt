@@ -10,6 +10,8 @@ mod command_lines;
 mod day;
 mod decisions;
 mod devices;
+mod early;
+mod early_asks;
 mod experts;
 mod failing_keeper;
 mod floods;

@@ -1,4 +1,4 @@
-//! Tests of what the program does not reach yet, or cannot: blocks and the free places for them, the
+//! Tests of what the program does not reach: blocks and the free places for them, the
 //! days of early allocation, sets of numbers, and range files that no text can hold. They stand in a
 //! crate of their own because the gate proves a crate that has tests a second time, whole, together
 //! with them. What the program answers is tested in `reg_cli`.
@@ -8,8 +8,6 @@
 mod blocks;
 #[cfg(test)]
 mod early;
-#[cfg(test)]
-mod entries;
 #[cfg(test)]
 mod free_values;
 #[cfg(test)]
