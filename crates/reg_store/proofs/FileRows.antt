@@ -1,14 +1,11 @@
 -- A request's file, as its panel and the advice on it are held.
-use Rattle.std.proofs.Common.{◌≡◌, ℕ, List, [], ◌∷◌, refl, ap, map}
+use Rattle.std.proofs.Common.{◌≡◌, refl, ap}
 use Rattle.std.specs.Prelude.{Option, Some, None, option_map}
-use Rattle.std.specs.Map.{keys_of}
-use Rattle.reg_core.specs.File.{experts_of, opinion, opinions_of, file}
+use Rattle.reg_core.specs.File.{experts_of, opinions_of, file}
 use Rattle.reg_core.specs.Request.{request_row}
-use Rattle.reg_core.specs.World.{World, RequestName, Seat}
-use Rattle.reg_core.specs.declared.advice.Advice.{Advice}
+use Rattle.reg_core.specs.World.{World, RequestName}
 use Rattle.reg_core.specs.declared.request.Case.{Case}
 use Rattle.reg_core.specs.declared.request.Request.{Request}
-use Rattle.reg_store.specs.Groups.{group_rows}
 
 -- a request that is there, with its experts and the advice on it
 pub file-there : (w : World) (name : RequestName) (o : Option Case) (request : Request)

@@ -9,11 +9,9 @@ pub mod Entries
 pub mod Requests
 pub mod Opinions
 pub mod Panels
-pub mod Pool
 pub mod File
 pub mod Queues
 pub mod Reviews
-pub mod Taken
 pub mod Registrations
 pub mod Held
 pub mod Holdings

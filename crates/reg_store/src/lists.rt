@@ -14,13 +14,11 @@ mod file;
 mod holdings;
 mod opinions;
 mod panels;
-mod pool;
 mod queues;
 mod registrations;
 mod registries;
 mod requests;
 mod reviews;
-mod taken;
 
 use crate::maps::{row_at, set_row, unset_row};
 use blocks::Blocks;
@@ -130,10 +128,7 @@ impl Keeper for ListKeeper {
         let Some(table) = row_at(&self.registries, registry) else {
             return Ok(None);
         };
-        Ok(
-            self.registrations
-                .least(self.alloc, registry, table, policy),
-        )
+        Ok(self.registrations.least(registry, table, policy))
     }
 
     fn pool(&mut self) -> Result<Pool, Fault> {

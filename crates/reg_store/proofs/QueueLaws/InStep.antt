@@ -1,5 +1,5 @@
 -- The queues of experts after each change, and a whole queue.
-use Rattle.std.proofs.Common.{◌≡◌, ℕ, Bool, true, false, cond, ◌&&◌, List, [], ◌∷◌, refl, sym, ap}
+use Rattle.std.proofs.Common.{◌≡◌, ℕ, true, false, cond, ◌&&◌, List, [], ◌∷◌, refl, sym, ap}
 use Rattle.std.proofs.Common.{◌∙◌, map}
 use Rattle.std.specs.Prelude.{Option, Some, None, is_some, option_map, option_and_then, filter_map}
 use Rattle.std.specs.Ordering.{eq_by_cmp}

@@ -2,30 +2,28 @@
 ghost use Rattle.std.specs.Prelude.{◌≡◌, None, Contains, IsTrue, IfOk, OnOk, OnErr};
 ghost use Rattle.std.specs.FinMap as fin;
 ghost use Rattle.reg_blocks.specs.Block.{leading_24};
-ghost use Rattle.reg_blocks.specs.Pool.{is_pool_prefix, IsPool};
+ghost use Rattle.reg_blocks.specs.Pool.{is_pool_prefix};
 ghost use Rattle.reg_core.specs.BlockDue.{due_in};
 ghost use Rattle.reg_core.specs.Holding.{holder_in, with_mark};
 ghost use Rattle.reg_core.specs.Maps.{update};
-ghost use Rattle.reg_places.specs.Places.{Follows, pool_of};
+ghost use Rattle.reg_vacancies.specs.Places.{AreLeftBy, pool_in};
 ghost use Rattle.reg_store.specs.Lists.Holdings.{blocks_held};
 
 use crate::lists::holdings::Holdings;
-use crate::lists::pool::put_prefix;
 use reg_blocks::block::Block;
 use reg_blocks::pool::Pool;
 use reg_blocks::size::Size;
 use reg_core::holding::Holding;
-use reg_places::places::Places;
+use reg_vacancies::places::FreePlaces;
 use std::alloc::{AllocError, Global};
-use std::collections::BTreeSet;
 
-/// The pool with the free places in it, and the blocks that were given. So no block is looked at to
-/// find the one due.
+/// The blocks that were given, and beside them the pool with the free places in it. So no block is
+/// looked at to find the one due.
 #[derive(Drop)]
 pub struct Blocks {
-    places: Places,
+    places: FreePlaces,
     holdings: Holdings,
-    ghost follows: { ∥ Follows places (fin.keys (blocks_held holdings)) ∥₁ },
+    ghost left: { AreLeftBy places (blocks_held holdings) },
 }
 
 impl Blocks {
@@ -37,7 +35,7 @@ impl Blocks {
         ensures blocks { blocks_given result ≡ fin.empty }
     {
         Blocks {
-            places: Places::new(alloc),
+            places: FreePlaces::new(alloc),
             holdings: Holdings::new(alloc),
         }
     }
@@ -46,14 +44,14 @@ impl Blocks {
     pub fn pool(&self, alloc: Global) -> Result<Pool, AllocError>
         ensures { IfOk result (λ pool. pool ≡ fin.keys (pool_held self.now)) }
     {
-        pool_with(alloc, self.places.prefixes())
+        self.places.pool(alloc)
     }
 
     /// Whether the prefix is in the pool.
     pub fn has_prefix(&self, prefix: u32) -> bool
         ensures { result ≡ fin.contains_key (pool_held self.now) prefix }
     {
-        self.places.prefixes().contains(&prefix)
+        self.places.has_prefix(prefix)
     }
 
     /// The blocks that were given.
@@ -67,7 +65,6 @@ impl Blocks {
     pub fn due(&self, size: Size) -> Option<Block>
         ensures { result ≡ due_in (pool_held self.now) (blocks_given self.now) size }
     {
-        let _prefixes = self.places.prefixes();
         self.places.due(size)
     }
 
@@ -90,7 +87,6 @@ impl Blocks {
         ensures err { OnErr result (blocks_given self.new ≡ blocks_given self.old) }
         ensures pool { pool_held self.new ≡ pool_held self.old }
     {
-        let _prefixes = self.places.prefixes();
         give_both(alloc, &mut self.places, &mut self.holdings, holding)
     }
 
@@ -104,31 +100,18 @@ impl Blocks {
     }
 }
 
-// The pool with these prefixes.
-fn pool_with(alloc: Global, prefixes: &BTreeSet<u32>) -> Result<Pool, AllocError>
-    requires { IsPool prefixes.now.keys }
-    ensures { IfOk result (λ pool. pool ≡ prefixes.now.keys) }
-{
-    let mut pool = Pool::new(alloc);
-    for prefix in prefixes {
-        put_prefix(&mut pool, *prefix)?;
-    }
-    let _prefixes = pool.prefixes();
-    Ok(pool)
-}
-
 // Among the blocks and out of the places, or, where there is no memory for the second, neither.
 fn give_both(
     alloc: Global,
-    places: &mut Places,
+    places: &mut FreePlaces,
     holdings: &mut Holdings,
     holding: Holding,
 ) -> Result<(), AllocError>
     requires absent { fin.get (blocks_held holdings.old) holding.block ≡ None }
-    requires in_pool { Contains (pool_of places.old) (leading_24 holding.block) }
-    requires follows { ∥ Follows places.old (fin.keys (blocks_held holdings.old)) ∥₁ }
-    ensures follows { ∥ Follows places.new (fin.keys (blocks_held holdings.new)) ∥₁ }
-    ensures pool { pool_of places.new ≡ pool_of places.old }
+    requires in_pool { Contains (fin.keys (pool_in places.old)) (leading_24 holding.block) }
+    requires left { AreLeftBy places.old (blocks_held holdings.old) }
+    ensures left { AreLeftBy places.new (blocks_held holdings.new) }
+    ensures pool { pool_in places.new ≡ pool_in places.old }
     ensures ok { OnOk result (blocks_held holdings.new
         ≡ fin.insert (blocks_held holdings.old) holding.block (holder_in holding)) }
     ensures err { OnErr result (blocks_held holdings.new ≡ blocks_held holdings.old) }

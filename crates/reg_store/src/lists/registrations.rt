@@ -4,28 +4,26 @@ ghost use Rattle.std.specs.FinMap as fin;
 ghost use Rattle.reg_ranges.specs.FreeValues.{least_value};
 ghost use Rattle.reg_core.specs.Entry.{registration_in};
 ghost use Rattle.reg_core.specs.LeastFree.{values_in};
+ghost use Rattle.reg_vacancies.specs.Values.{AreTakenBy};
 ghost use Rattle.reg_store.specs.Lists.Entries.{all_entries};
-ghost use Rattle.reg_store.specs.Lists.Taken.{AreTaken};
 
 use crate::groups::take_row;
 use crate::lists::entries::{Entries, put_entry};
-use crate::lists::taken::{Taken, put_value};
 use reg_core::entry::Entry;
 use reg_core::text::Name;
-use reg_free::least::least_free_of;
-use reg_free::runs::Runs;
 use reg_ranges::policy::Policy;
 use reg_ranges::table::RangeTable;
+use reg_vacancies::values::TakenValues;
 use std::alloc::{AllocError, Global};
 use std::collections::BTreeMap;
 
-/// The entries of registries by value; and, once more, the values that have entries as a set for
-/// each registry. So no entry is looked at to find the least value without one.
+/// The entries of registries by value, and beside them the values that have entries. So no entry
+/// is looked at to find the least value without one.
 #[derive(Drop)]
 pub struct Registrations {
     entries: Entries,
-    taken: Taken,
-    ghost in_step: { AreTaken (all_entries entries) taken },
+    taken: TakenValues,
+    ghost in_step: { AreTakenBy taken (all_entries entries) },
 }
 
 impl Registrations {
@@ -37,7 +35,7 @@ impl Registrations {
     {
         Registrations {
             entries: BTreeMap::new(alloc),
-            taken: BTreeMap::new(alloc),
+            taken: TakenValues::new(alloc),
         }
     }
 
@@ -50,20 +48,11 @@ impl Registrations {
 
     /// The least value of a registry with these ranges that lies under the policy and has no
     /// entry, if there is such a value.
-    pub fn least(
-        &self,
-        alloc: Global,
-        registry: &Name,
-        table: &RangeTable,
-        policy: Policy,
-    ) -> Option<u32>
+    pub fn least(&self, registry: &Name, table: &RangeTable, policy: Policy) -> Option<u32>
         ensures { result ≡ least_value table.now policy
             (values_in registry.now (entries_held self.now)) }
     {
-        match self.taken.get(registry) {
-            Some(taken) => least_free_of(table, policy, taken),
-            None => least_free_of(table, policy, &Runs::new(alloc)),
-        }
+        self.taken.least(registry, table, policy)
     }
 
     /// Adds an entry, or replaces the one at its registry and value.
@@ -76,16 +65,16 @@ impl Registrations {
     }
 }
 
-// The entry and its value, or, where there is no memory for the value, neither. Only a value that is
-// not taken can lack memory: so the entry that is taken away again has replaced none.
+// The entry and its value, or, where there is no memory for the value, neither. Only a value that
+// is not taken can lack memory: so the entry that is taken away again has replaced none.
 fn put_both(
     alloc: Global,
     entries: &mut Entries,
-    taken: &mut Taken,
+    taken: &mut TakenValues,
     entry: Entry,
 ) -> Result<(), AllocError>
-    requires { AreTaken (all_entries entries.old) taken.old }
-    ensures in_step { AreTaken (all_entries entries.new) taken.new }
+    requires { AreTakenBy taken.old (all_entries entries.old) }
+    ensures in_step { AreTakenBy taken.new (all_entries entries.new) }
     ensures ok { OnOk result (all_entries entries.new ≡ fin.insert (all_entries entries.old)
         (entry.registry, entry.value) (registration_in entry)) }
     ensures err { OnErr result (all_entries entries.new ≡ all_entries entries.old) }
@@ -93,7 +82,7 @@ fn put_both(
     let registry = entry.registry;
     let value = entry.value;
     put_entry(alloc, entries, entry)?;
-    match put_value(alloc, taken, &registry, value) {
+    match taken.take(&registry, value) {
         Ok(()) => Ok(()),
         Err(error) => {
             take_row(entries, &registry, &value);

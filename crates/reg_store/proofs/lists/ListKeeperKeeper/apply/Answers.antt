@@ -1,9 +1,8 @@
 use Rattle.std.proofs.Common.{subst}
 use Rattle.reg_core.specs.WellKept.{CanApply}
 use Rattle.reg_core.specs.declared.change.Change.{Change}
+use Rattle.reg_vacancies.proofs.Fitting.{may_be_added, may_be_given}
 use Rattle.reg_store.specs.Lists.{world_in}
-use Rattle.reg_store.proofs.BlockKeys.{may_be_given}
-use Rattle.reg_store.proofs.PrefixSets.{may_be_added}
 use Rattle.reg_store.proofs.lists.ListKeeperKeeper.apply.Goals as goal
 
 pub add_prefix-requires : goal.add_prefix-requires

@@ -1,4 +1,4 @@
-use Rattle.std.proofs.Common.{◌++◌, List, ap, sym, ◌∙◌, map, rules}
+use Rattle.std.proofs.Common.{◌++◌, ap, sym, ◌∙◌, map, rules}
 use Rattle.reg_blocks.specs.Block.{SizedPrefix, block_cmp}
 use Rattle.reg_core.specs.Holding.{listed_row, masked}
 use Rattle.reg_core.specs.declared.holding.Holder.{Holder}

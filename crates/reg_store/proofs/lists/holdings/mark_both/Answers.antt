@@ -1,7 +1,7 @@
-use Rattle.std.proofs.Common.{◌≡◌, sym, ap, subst, ◌∙◌}
+use Rattle.std.proofs.Common.{sym, subst}
 use Rattle.reg_core.specs.Holding.{with_mark}
 use Rattle.reg_core.specs.Maps.{update}
-use Rattle.reg_store.specs.Lists.Held.{AreHeld, all_held, account_of}
+use Rattle.reg_store.specs.Lists.Held.{AreHeld, all_held}
 use Rattle.reg_store.specs.Maps.{finite_map}
 use Rattle.reg_blocks.specs.Block.{block_cmp}
 use Rattle.reg_store.proofs.HeldLaws.{held-mark}

@@ -2,7 +2,6 @@ use Rattle.std.proofs.Common.{◌≡◌, List, ℕ, sym, ap, subst, ◌∙◌}
 use Rattle.std.specs.FinMap.{insert, remove}
 use Rattle.reg_blocks.specs.Block.{SizedPrefix, block_cmp}
 use Rattle.reg_core.specs.Holding.{holder_in}
-use Rattle.reg_core.specs.declared.holding.Holder.{Holder}
 use Rattle.reg_store.specs.Lists.Held.{AreHeld, all_held}
 use Rattle.reg_store.specs.Maps.{finite_map}
 use Rattle.reg_store.proofs.FiniteMaps.Nested.{remove-inserted}

@@ -1,4 +1,4 @@
-use Rattle.std.proofs.Common.{◌≡◌, sym, subst, ◌∙◌}
+use Rattle.std.proofs.Common.{sym, subst}
 use Rattle.std.specs.FinMap.{remove}
 use Rattle.reg_blocks.specs.Block.{block_cmp}
 use Rattle.reg_store.specs.Lists.Held.{AreHeld, all_held}

@@ -1,11 +1,8 @@
-use Rattle.std.proofs.Common.{◌≡◌, ◌&&◌, false, cond, ap, ◌∙◌}
+use Rattle.std.proofs.Common.{◌&&◌, cond, ap, ◌∙◌}
 use Rattle.std.specs.Prelude.{is_some, option_map}
-use Rattle.std.specs.BTreeMap as tree
 use Rattle.std.specs.BTreeMap.{is_at}
-use Rattle.std.specs.FinMap.{get, contains_key}
-use Rattle.reg_core.specs.Maps.{text_cmp}
+use Rattle.std.specs.FinMap.{get}
 use Rattle.reg_core.specs.World.{name_cmp}
-use Rattle.reg_store.specs.Lists.Panels.{seats}
 use Rattle.reg_store.specs.Lists.Queues.{all_queues, with_word}
 use Rattle.reg_store.proofs.lists.queues.set_words.Goals as goal
 

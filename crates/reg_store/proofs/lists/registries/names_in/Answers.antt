@@ -1,4 +1,4 @@
-use Rattle.std.proofs.Common.{◌++◌, List, ℕ, ap, sym, ◌∙◌, map, rules}
+use Rattle.std.proofs.Common.{◌++◌, List, ℕ, ap, sym, ◌∙◌, rules}
 use Rattle.std.specs.Map.{keys_of}
 use Rattle.reg_ranges.specs.Tables.{Table}
 use Rattle.reg_core.proofs.MapLaws.{text_keys}

@@ -1,18 +1,20 @@
-use Rattle.std.proofs.Common.{sym, ap, subst, ◌∙◌}
-use Rattle.std.specs.FinMap.{keys}
-use Rattle.std.proofs.Math.Logic.{∥∥₁_map}
+use Rattle.std.proofs.Common.{sym, subst}
 use Rattle.reg_core.specs.Holding.{with_mark}
-use Rattle.reg_places.specs.Places.{Follows}
+use Rattle.reg_core.specs.Maps.{update}
+use Rattle.reg_core.proofs.MapLaws.{block_keys}
+use Rattle.reg_vacancies.specs.Places.{AreLeftBy}
+use Rattle.reg_vacancies.proofs.Carrying.{contains-changed, left-same}
 use Rattle.reg_store.specs.Lists.Holdings.{blocks_held}
-use Rattle.reg_store.proofs.BlockKeys.{keys-update}
 use Rattle.reg_store.proofs.lists.blocks.Blocks.mark.Goals as goal
 
 pub invariant_of-self : goal.invariant_of-self
 invariant_of-self c =
     let self = c.args.self.now in
+    let blocks = blocks_held self.holdings in
+    let block = c.args.block.now in
+    let marked = with_mark c.args.private in
     record {
-      follows = ∥∥₁_map self.follows (subst (Follows self.places)
-          (sym (ap keys c.mark.ensures
-          ∙ keys-update (blocks_held self.holdings) c.args.block.now
-          (with_mark c.args.private))));
+      left = subst (AreLeftBy self.places) (sym c.mark.ensures)
+          (left-same self.places blocks (update blocks block marked)
+          (contains-changed block_keys blocks block marked) self.left);
     }

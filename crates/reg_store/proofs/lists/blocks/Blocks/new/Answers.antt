@@ -1,12 +1,8 @@
-use Rattle.std.proofs.Common.{sym, ap, subst, ◌∙◌}
-use Rattle.std.specs.FinMap.{keys}
-use Rattle.std.proofs.lemmas.Grind.{merely}
-use Rattle.reg_places.specs.Places.{Follows}
-use Rattle.reg_store.proofs.BlockKeys.{keys-none}
+use Rattle.std.proofs.Common.{sym, subst}
+use Rattle.reg_vacancies.specs.Places.{AreLeftBy}
 use Rattle.reg_store.proofs.lists.blocks.Blocks.new.Goals as goal
 
 pub invariant_of-result : goal.invariant_of-result
 invariant_of-result c = record {
-  follows = merely (subst (Follows c.new.result) (sym (ap keys c.new-2.ensures ∙ keys-none))
-      c.new.ensures.follows);
+  left = subst (AreLeftBy c.new.result) (sym c.new-2.ensures) c.new.ensures.left;
 }

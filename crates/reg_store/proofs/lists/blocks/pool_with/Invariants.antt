@@ -1,7 +1,0 @@
-use Rattle.std.proofs.Common.{◌≡◌, map}
-use Rattle.std.specs.Map.Iter.{deref}
-use Rattle.reg_store.specs.Lists.Pool.{prefix_set}
-use Rattle.reg_store.proofs.lists.blocks.pool_with.Given as goal
-
-abbrev pub invariant-loop-prefix : goal.invariant-loop-prefix
-invariant-loop-prefix l = prefix_set l.pool ≡ prefix_set (map deref l.yielded)

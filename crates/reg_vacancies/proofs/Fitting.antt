@@ -1,0 +1,28 @@
+-- What a change that fits the office gives where the vacancies are to follow it.
+use Rattle.std.proofs.Common.{ℕ, List}
+use Rattle.std.specs.Prelude.{Contains, IsTrue}
+use Rattle.std.specs.FinMap.{keys}
+use Rattle.reg_blocks.specs.Block.{leading_24}
+use Rattle.reg_blocks.specs.Pool.{is_pool_prefix}
+use Rattle.reg_core.specs.Holding.{holder_in}
+use Rattle.reg_core.specs.WellKept.{CanApply}
+use Rattle.reg_core.specs.World.{World}
+use Rattle.reg_core.specs.declared.change.Change.TheVariants.{AddPool, GiveBlock}
+use Rattle.reg_core.specs.declared.holding.Holding.{Holding}
+use Rattle.reg_core.proofs.KeySets.{is_inserted}
+use Rattle.reg_core.proofs.MapLaws.{block_keys, get-inserted, number_keys}
+use Rattle.reg_vacancies.proofs.KeyLists.{contains_at}
+
+-- a prefix that can be added may be in a pool
+pub may_be_added : (w : World) (prefix : ℕ) → CanApply w (AddPool prefix)
+    → IsTrue (is_pool_prefix prefix)
+may_be_added w prefix can = can.1.pool prefix (is_inserted number_keys w.pool prefix tt)
+
+-- a block that can be given lies in a prefix of the pool
+pub may_be_given : (w : World) (account reference : List ℕ) (holding : Holding)
+    → CanApply w (GiveBlock account reference holding)
+    → Contains (keys w.pool) (leading_24 holding.block)
+may_be_given w account reference holding can =
+    contains_at number_keys w.pool (leading_24 holding.block)
+    (can.1.in_pool holding.block (holder_in holding)
+    (get-inserted block_keys w.blocks holding.block (holder_in holding)))
