@@ -1,0 +1,39 @@
+-- What endures in a call goes on in the next.
+use Rattle.std.proofs.Common.{inl, inr, arith}
+use Rattle.sqlite.specs.Tree.{Trees}
+use Rattle.sqlite.specs.State.{State, Survives}
+use Rattle.reg_tables.specs.Connection.{Endures}
+use Rattle.reg_tables.specs.Lasting.{Lasts}
+
+pub endures_in : (old new : State) (Commits : Trees → Type 0) → Survives old new Commits
+    → Endures old new
+endures_in old new Commits it = record {
+  clean = λ clean. let less = it.clean in omega arith;
+  faults = it.counts;
+  stays_open = λ clean none was. elim (it.closes clean was) [
+    | inl still ↦ still
+    | inr more ↦ absurd (omega (arith, more, none))
+  ];
+}
+
+pub endures_lasting : (old new : State) → Lasts old new → Endures old new
+endures_lasting old new it = record {
+  clean = λ clean. let less = it.clean in omega arith;
+  faults = it.counts;
+  stays_open = λ clean none was. elim (it.closes clean was) [
+    | inl still ↦ still
+    | inr more ↦ absurd (omega (arith, more, none))
+  ];
+}
+
+pub endures_still : (s : State) → Endures s s
+endures_still s = record { clean = λ clean. clean; faults = omega arith; stays_open = λ _ _ still. still }
+
+pub endures_then : (a b c : State) → Endures a b → Endures b c → Endures a c
+endures_then a b c p q = record {
+  clean = λ clean. p.clean (q.clean clean);
+  faults = let low = p.faults in let high = q.faults in omega arith;
+  stays_open = λ clean none was.
+      let high = q.faults in
+      q.stays_open clean none (p.stays_open (q.clean clean) (omega arith) was);
+}

@@ -1,0 +1,11 @@
+pub mod Enduring
+pub mod InsertLemmas
+pub mod InsertStatements
+pub mod MakeLemmas
+pub mod SelectLemmas
+pub mod ValueLemmas
+pub mod RestLemmas
+pub mod Statements
+pub mod EditLemmas
+pub mod SchemaLemmas
+pub mod EditStatements

@@ -1,0 +1,86 @@
+-- What the rows of a SELECT over one table are.
+use Rattle.std.specs.Prelude.{unwrap_or}
+use Rattle.std.proofs.Common.{◌≡◌, ℕ, ◌^◌, nat_le, List, [], ◌∷◌, ◌++◌}
+use Rattle.std.proofs.Common.{map, filter, true, false, cond, None, refl, sym, ap, subst, ◌∙◌}
+use Rattle.std.specs.List.{flat_map, range_with_len}
+use Rattle.std.specs.List.Sorted.{IsPermutation}
+use Rattle.std.proofs.lemmas.List.Sorted.{IsPermutation-map}
+use Rattle.sqlite.specs.declared.types.Value.TheVariants.{Null}
+use Rattle.sqlite.specs.Order.{Row, column}
+use Rattle.sqlite.specs.Tree.{Trees}
+use Rattle.sqlite.specs.Term.{Term, Env, col}
+use Rattle.sqlite.specs.Query.{Query, IsAnswer, output, Output}
+use Rattle.sqlite.specs.Program.{overlay}
+use Rattle.sqlite.specs.Command.TheVariants.{Select}
+use Rattle.sqlite.specs.State.{State, Shown}
+use Rattle.sqlite.proofs.Callers.{reads_as}
+use Rattle.sqlite_schema.specs.declared.program.Program.{Program}
+use Rattle.sqlite_value.specs.declared.keys.Key.{Key}
+use Rattle.reg_tables.specs.Schema.{office_schema}
+use Rattle.reg_tables.specs.Selecting.{select_from, passes, shows, Selects, columns_of, stored}
+
+module _ (t : ℕ) (tests project : List Term) (order : List (Term × Key)) (params : Row) where
+  abbrev q : Query
+  q = select_from t tests project order
+
+  abbrev env_of : Row → List Env
+  env_of r = cond (passes tests params r) ((params ∷ r ∷ []) ∷ []) []
+
+  abbrev wanted : List Row → List Row
+  wanted rows = map (shows project params) (filter (passes tests params) rows)
+
+  abbrev values : List Output → List Row
+  values = map (λ (o : Output). o.1)
+
+  matched : (rs : List Row) → values (map (output q) (flat_map env_of rs)) ≡ wanted rs
+  matched [] = refl
+  matched (r ∷ rs) = elim (passes tests params r) as (λ b.
+      values (map (output q) (cond b ((params ∷ r ∷ []) ∷ []) [] ++ flat_map env_of rs))
+      ≡ map (shows project params) (cond b (r ∷ filter (passes tests params) rs)
+      (filter (passes tests params) rs))) [
+        | true ↦ ap (λ more. shows project params r ∷ more) (matched rs)
+        | false ↦ matched rs
+      ]
+
+  -- the rows that pass, in some order
+  pub answer_rows : (db : Trees) (rows : List Row) → IsAnswer q db params rows
+      → IsPermutation (wanted (db t)) rows
+  answer_rows db rows a =
+      let moved = IsPermutation-map (λ (o : Output). o.1) a.kept a.ordered a.same in
+      let kept : values a.kept ≡ wanted (db t) =
+      ap values (a.distinct ∙ ap (map (output q)) a.grouped) ∙ matched (db t) in
+      let shown : rows ≡ values a.ordered = a.shown in
+      subst (λ xs. IsPermutation xs rows) kept
+      (subst (IsPermutation (values a.kept)) (sym shown) moved)
+
+-- no table is computed first
+pub as_kept : (db : Trees) (t : ℕ) → overlay db [] t ≡ db t
+as_kept db t = elim (nat_le (2 ^ 31) t) as (λ b. unwrap_or (cond b None None) (db t) ≡ db t) [
+  | true ↦ refl
+  | false ↦ refl
+]
+
+-- the rows of a query are what is shown of the rows that pass, in some order
+pub selected : (sql : List ℕ) (t : ℕ) (tests project : List Term) (order : List (Term × Key))
+    (params : Row) (old new : State) (rows : List Row) → Selects sql t tests project order
+    → old.now.schema ≡ office_schema → Shown sql params old new rows
+    → IsPermutation (map (shows project params) (filter (passes tests params) (old.now.trees t)))
+    rows
+selected sql t tests project order params old new rows s has h =
+    let program : Program =
+    record { lets = []; body = select_from t tests project order } in
+    let read = reads_as sql params old new office_schema has (Select program s.names) s.is
+    s.plain s.unlisted rows h in
+    subst (λ xs. IsPermutation (map (shows project params) (filter (passes tests params) xs)) rows)
+    (as_kept old.now.trees t)
+    (answer_rows t tests project order params (overlay old.now.trees []) rows (read.answer Null))
+
+columns_shown : (params row : Row) (places : List ℕ)
+    → shows (map (col 1) places) params row ≡ map (column row) places
+columns_shown params row [] = refl
+columns_shown params row (c ∷ places) =
+    ap (λ more. column row c ∷ more) (columns_shown params row places)
+
+-- a row is shown whole by all its columns
+pub shows_columns : (n : ℕ) (params row : Row) → shows (columns_of n) params row ≡ stored n row
+shows_columns n params row = columns_shown params row (range_with_len 1 n)

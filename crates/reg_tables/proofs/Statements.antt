@@ -1,0 +1,11 @@
+-- What the queries of an office select.
+pub mod Office
+pub mod Caps
+pub mod Registries
+pub mod Ranges
+pub mod Entries
+pub mod Requests
+pub mod Queue
+pub mod Advice
+pub mod Pool
+pub mod Blocks

@@ -1,0 +1,26 @@
+-- What the queries on the table of the blocks select.
+use Rattle.std.proofs.Common.{ℕ, List, [], ◌∷◌, codes, refl}
+use Rattle.sqlite.specs.Listing.{understood}
+use Rattle.sqlite_tied.specs.Compute.{everything}
+use Rattle.reg_tables.specs.Selecting.{Selects, equals, columns_of, ordered_by}
+use Rattle.reg_tables.specs.Texts.{select_block, select_blocks_of, select_blocks}
+
+abbrev names : List (List ℕ)
+names =
+    codes "first" ∷ codes "size" ∷ codes "holder" ∷ codes "organization" ∷ codes "address" ∷
+    codes "private" ∷ []
+
+pub block_by_key : Selects select_block 18 (equals ((1, 0) ∷ [])) (columns_of 6)
+    []
+unfolding understood everything
+block_by_key = record { names = names; is = refl; plain = (refl, refl); unlisted = refl }
+
+pub blocks_of_holder : Selects select_blocks_of 18 (equals ((3, 0) ∷ [])) (columns_of 6)
+    (ordered_by (1 ∷ []))
+unfolding understood everything
+blocks_of_holder = record { names = names; is = refl; plain = (refl, refl); unlisted = refl }
+
+pub all_blocks : Selects select_blocks 18 [] (columns_of 6)
+    (ordered_by (1 ∷ []))
+unfolding understood everything
+all_blocks = record { names = names; is = refl; plain = (refl, refl); unlisted = refl }

@@ -1,0 +1,15 @@
+-- What the query on the version selects.
+use Rattle.std.proofs.Common.{ℕ, List, [], ◌∷◌, codes, refl}
+use Rattle.sqlite.specs.Listing.{understood}
+use Rattle.sqlite_tied.specs.Compute.{everything}
+use Rattle.reg_tables.specs.Selecting.{Selects, columns_of}
+use Rattle.reg_tables.specs.Texts.{select_version}
+
+abbrev names : List (List ℕ)
+names =
+    codes "version" ∷ []
+
+pub office_version : Selects select_version 0 [] (columns_of 1)
+    []
+unfolding understood everything
+office_version = record { names = names; is = refl; plain = (refl, refl); unlisted = refl }

@@ -1,0 +1,20 @@
+-- What the queries on the table of the ranges select.
+use Rattle.std.proofs.Common.{ℕ, List, [], ◌∷◌, codes, refl}
+use Rattle.sqlite.specs.Listing.{understood}
+use Rattle.sqlite_tied.specs.Compute.{everything}
+use Rattle.reg_tables.specs.Selecting.{Selects, equals, columns_of, ordered_by}
+use Rattle.reg_tables.specs.Texts.{select_ranges_of, select_ranges}
+
+abbrev names : List (List ℕ)
+names =
+    codes "registry" ∷ codes "lo" ∷ codes "hi" ∷ codes "treatment" ∷ codes "note" ∷ []
+
+pub ranges_of_registry : Selects select_ranges_of 5 (equals ((1, 0) ∷ [])) (columns_of 5)
+    (ordered_by (2 ∷ []))
+unfolding understood everything
+ranges_of_registry = record { names = names; is = refl; plain = (refl, refl); unlisted = refl }
+
+pub all_ranges : Selects select_ranges 5 [] (columns_of 5)
+    (ordered_by (1 ∷ 2 ∷ []))
+unfolding understood everything
+all_ranges = record { names = names; is = refl; plain = (refl, refl); unlisted = refl }

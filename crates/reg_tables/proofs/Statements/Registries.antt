@@ -1,0 +1,20 @@
+-- What the queries on the table of the registries select.
+use Rattle.std.proofs.Common.{ℕ, List, [], ◌∷◌, codes, refl}
+use Rattle.sqlite.specs.Listing.{understood}
+use Rattle.sqlite_tied.specs.Compute.{everything}
+use Rattle.reg_tables.specs.Selecting.{Selects, equals, columns_of, ordered_by}
+use Rattle.reg_tables.specs.Texts.{select_registry, select_registries}
+
+abbrev names : List (List ℕ)
+names =
+    codes "name" ∷ codes "max" ∷ []
+
+pub registry_by_key : Selects select_registry 3 (equals ((1, 0) ∷ [])) (columns_of 2)
+    []
+unfolding understood everything
+registry_by_key = record { names = names; is = refl; plain = (refl, refl); unlisted = refl }
+
+pub all_registries : Selects select_registries 3 [] (columns_of 2)
+    (ordered_by (1 ∷ []))
+unfolding understood everything
+all_registries = record { names = names; is = refl; plain = (refl, refl); unlisted = refl }

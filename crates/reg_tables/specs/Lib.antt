@@ -1,0 +1,11 @@
+pub mod Schema
+pub mod Connection
+pub mod Inserting
+pub mod Making
+pub mod Lasting
+pub mod Values
+pub mod Selecting
+pub mod Texts
+pub mod Editing
+pub mod Bare
+pub mod Inside

@@ -1,0 +1,351 @@
+-- The tables of an office, schema 1.
+use Rattle.std.specs.Prelude.{ℕ, Bool, true, false, List, [], ◌∷◌, codes, None}
+use Rattle.sqlite.specs.Collation.TheVariants.{Binary}
+use Rattle.sqlite.specs.declared.types.Value.TheVariants.{Null}
+use Rattle.sqlite_value.specs.Keys.{plain}
+use Rattle.sqlite.specs.Table.{Table}
+use Rattle.sqlite.specs.Schema.{Schema}
+use Rattle.sqlite.specs.Kind.{Kind}
+use Rattle.sqlite.specs.Kind.TheVariants.{Integer, Text}
+use Rattle.sqlite_schema.specs.declared.schema.Action.TheVariants.{NoAction}
+use Rattle.sqlite_schema.specs.declared.schema.Column.{Column}
+use Rattle.sqlite_schema.specs.declared.schema.Index.{Index}
+use Rattle.sqlite_schema.specs.declared.schema.Reference.{Reference}
+
+-- a column of a STRICT table
+abbrev column : Kind → Bool → List ℕ → Column
+column kind required name = record {
+  name = name;
+  kind = kind;
+  is_strict = true;
+  not_null = required;
+  default = Null;
+  collation = Binary;
+}
+
+abbrev text : List ℕ → Column
+text = column Text true
+
+abbrev text_or_null : List ℕ → Column
+text_or_null = column Text false
+
+abbrev whole : List ℕ → Column
+whole = column Integer true
+
+abbrev whole_or_null : List ℕ → Column
+whole_or_null = column Integer false
+
+-- a foreign key without actions
+abbrev refers : List ℕ → List ℕ → List (List ℕ) → Reference
+refers columns parent parent_columns = record {
+  columns = columns;
+  parent = parent;
+  parent_columns = parent_columns;
+  on_delete = NoAction;
+  on_update = NoAction;
+  is_deferred = false;
+}
+
+-- the index that SQLite makes of a key of columns of text and numbers
+abbrev index : List ℕ → ℕ → ℕ → List ℕ → Index
+index name tree table columns = record {
+  name = name;
+  tree = tree;
+  table = table;
+  columns = columns;
+  order = plain;
+  is_unique = true;
+}
+
+abbrev pub make_office : List ℕ
+make_office = codes "CREATE TABLE office (version INTEGER NOT NULL) STRICT"
+
+abbrev pub office_table : Table
+office_table = record {
+  name = codes "office";
+  tree = 0;
+  columns =
+      whole (codes "version") ∷
+      [];
+  key = None;
+  primary = [];
+  uniques = [];
+  orders = [];
+  checks = [];
+  references = [];
+  computed = [];
+  stamps = record { places = []; terms = []; formats = [] };
+  is_counted = false;
+}
+
+abbrev pub make_caps : List ℕ
+make_caps = codes "CREATE TABLE caps (digest TEXT NOT NULL PRIMARY KEY, account TEXT NOT NULL, kind TEXT NOT NULL, until INTEGER NOT NULL) STRICT"
+
+abbrev pub caps_table : Table
+caps_table = record {
+  name = codes "caps";
+  tree = 1;
+  columns =
+      text (codes "digest") ∷
+      text (codes "account") ∷
+      text (codes "kind") ∷
+      whole (codes "until") ∷
+      [];
+  key = None;
+  primary = 1 ∷ [];
+  uniques = (1 ∷ []) ∷ [];
+  orders = plain ∷ [];
+  checks = [];
+  references = [];
+  computed = [];
+  stamps = record { places = []; terms = []; formats = [] };
+  is_counted = false;
+}
+
+abbrev pub make_registries : List ℕ
+make_registries = codes "CREATE TABLE registries (name TEXT NOT NULL PRIMARY KEY, max INTEGER NOT NULL) STRICT"
+
+abbrev pub registries_table : Table
+registries_table = record {
+  name = codes "registries";
+  tree = 3;
+  columns =
+      text (codes "name") ∷
+      whole (codes "max") ∷
+      [];
+  key = None;
+  primary = 1 ∷ [];
+  uniques = (1 ∷ []) ∷ [];
+  orders = plain ∷ [];
+  checks = [];
+  references = [];
+  computed = [];
+  stamps = record { places = []; terms = []; formats = [] };
+  is_counted = false;
+}
+
+abbrev pub make_ranges : List ℕ
+make_ranges = codes "CREATE TABLE ranges (registry TEXT NOT NULL, lo INTEGER NOT NULL, hi INTEGER NOT NULL, treatment TEXT NOT NULL, note TEXT NOT NULL, PRIMARY KEY (registry, lo), FOREIGN KEY (registry) REFERENCES registries (name)) STRICT"
+
+abbrev pub ranges_table : Table
+ranges_table = record {
+  name = codes "ranges";
+  tree = 5;
+  columns =
+      text (codes "registry") ∷
+      whole (codes "lo") ∷
+      whole (codes "hi") ∷
+      text (codes "treatment") ∷
+      text (codes "note") ∷
+      [];
+  key = None;
+  primary = 1 ∷ 2 ∷ [];
+  uniques = (1 ∷ 2 ∷ []) ∷ [];
+  orders = plain ∷ [];
+  checks = [];
+  references = refers (1 ∷ []) (codes "registries")
+      (codes "name" ∷ []) ∷ [];
+  computed = [];
+  stamps = record { places = []; terms = []; formats = [] };
+  is_counted = false;
+}
+
+abbrev pub make_entries : List ℕ
+make_entries = codes "CREATE TABLE entries (registry TEXT NOT NULL, value INTEGER NOT NULL, label TEXT NOT NULL, assignee TEXT NOT NULL, first INTEGER NOT NULL, expires INTEGER, renewed INTEGER NOT NULL, PRIMARY KEY (registry, value), FOREIGN KEY (registry) REFERENCES registries (name)) STRICT"
+
+abbrev pub entries_table : Table
+entries_table = record {
+  name = codes "entries";
+  tree = 7;
+  columns =
+      text (codes "registry") ∷
+      whole (codes "value") ∷
+      text (codes "label") ∷
+      text (codes "assignee") ∷
+      whole (codes "first") ∷
+      whole_or_null (codes "expires") ∷
+      whole (codes "renewed") ∷
+      [];
+  key = None;
+  primary = 1 ∷ 2 ∷ [];
+  uniques = (1 ∷ 2 ∷ []) ∷ [];
+  orders = plain ∷ [];
+  checks = [];
+  references = refers (1 ∷ []) (codes "registries")
+      (codes "name" ∷ []) ∷ [];
+  computed = [];
+  stamps = record { places = []; terms = []; formats = [] };
+  is_counted = false;
+}
+
+abbrev pub make_requests : List ℕ
+make_requests = codes "CREATE TABLE requests (account TEXT NOT NULL, reference TEXT NOT NULL, kind TEXT NOT NULL, registry TEXT, value INTEGER, least TEXT, label TEXT, contact TEXT, specification TEXT, rfc_number INTEGER, rfc_stream TEXT, rfc_track TEXT, minute TEXT, draft TEXT, stable INTEGER, interest INTEGER, chair TEXT, director TEXT, will_be_rfc INTEGER, size TEXT, organization TEXT, address TEXT, state TEXT NOT NULL, given TEXT, reason TEXT, PRIMARY KEY (account, reference)) STRICT"
+
+abbrev pub requests_table : Table
+requests_table = record {
+  name = codes "requests";
+  tree = 9;
+  columns =
+      text (codes "account") ∷
+      text (codes "reference") ∷
+      text (codes "kind") ∷
+      text_or_null (codes "registry") ∷
+      whole_or_null (codes "value") ∷
+      text_or_null (codes "least") ∷
+      text_or_null (codes "label") ∷
+      text_or_null (codes "contact") ∷
+      text_or_null (codes "specification") ∷
+      whole_or_null (codes "rfc_number") ∷
+      text_or_null (codes "rfc_stream") ∷
+      text_or_null (codes "rfc_track") ∷
+      text_or_null (codes "minute") ∷
+      text_or_null (codes "draft") ∷
+      whole_or_null (codes "stable") ∷
+      whole_or_null (codes "interest") ∷
+      text_or_null (codes "chair") ∷
+      text_or_null (codes "director") ∷
+      whole_or_null (codes "will_be_rfc") ∷
+      text_or_null (codes "size") ∷
+      text_or_null (codes "organization") ∷
+      text_or_null (codes "address") ∷
+      text (codes "state") ∷
+      text_or_null (codes "given") ∷
+      text_or_null (codes "reason") ∷
+      [];
+  key = None;
+  primary = 1 ∷ 2 ∷ [];
+  uniques = (1 ∷ 2 ∷ []) ∷ [];
+  orders = plain ∷ [];
+  checks = [];
+  references = [];
+  computed = [];
+  stamps = record { places = []; terms = []; formats = [] };
+  is_counted = false;
+}
+
+abbrev pub make_queue : List ℕ
+make_queue = codes "CREATE TABLE queue (account TEXT NOT NULL, reference TEXT NOT NULL, expert TEXT NOT NULL, PRIMARY KEY (account, reference, expert), UNIQUE (expert, account, reference), FOREIGN KEY (account, reference) REFERENCES requests (account, reference)) STRICT"
+
+abbrev pub queue_table : Table
+queue_table = record {
+  name = codes "queue";
+  tree = 11;
+  columns =
+      text (codes "account") ∷
+      text (codes "reference") ∷
+      text (codes "expert") ∷
+      [];
+  key = None;
+  primary = 1 ∷ 2 ∷ 3 ∷ [];
+  uniques = (1 ∷ 2 ∷ 3 ∷ []) ∷ (3 ∷ 1 ∷ 2 ∷ []) ∷ [];
+  orders = plain ∷ plain ∷ [];
+  checks = [];
+  references = refers (1 ∷ 2 ∷ []) (codes "requests")
+      (codes "account" ∷ codes "reference" ∷ []) ∷ [];
+  computed = [];
+  stamps = record { places = []; terms = []; formats = [] };
+  is_counted = false;
+}
+
+abbrev pub make_advice : List ℕ
+make_advice = codes "CREATE TABLE advice (account TEXT NOT NULL, reference TEXT NOT NULL, expert TEXT NOT NULL, verdict TEXT NOT NULL, text TEXT NOT NULL, PRIMARY KEY (account, reference, expert), FOREIGN KEY (account, reference, expert) REFERENCES queue (account, reference, expert)) STRICT"
+
+abbrev pub advice_table : Table
+advice_table = record {
+  name = codes "advice";
+  tree = 14;
+  columns =
+      text (codes "account") ∷
+      text (codes "reference") ∷
+      text (codes "expert") ∷
+      text (codes "verdict") ∷
+      text (codes "text") ∷
+      [];
+  key = None;
+  primary = 1 ∷ 2 ∷ 3 ∷ [];
+  uniques = (1 ∷ 2 ∷ 3 ∷ []) ∷ [];
+  orders = plain ∷ [];
+  checks = [];
+  references = refers (1 ∷ 2 ∷ 3 ∷ []) (codes "queue")
+      (codes "account" ∷ codes "reference" ∷ codes "expert" ∷ []) ∷ [];
+  computed = [];
+  stamps = record { places = []; terms = []; formats = [] };
+  is_counted = false;
+}
+
+abbrev pub make_pool : List ℕ
+make_pool = codes "CREATE TABLE pool (prefix INT NOT NULL PRIMARY KEY) STRICT"
+
+abbrev pub pool_table : Table
+pool_table = record {
+  name = codes "pool";
+  tree = 16;
+  columns =
+      whole (codes "prefix") ∷
+      [];
+  key = None;
+  primary = 1 ∷ [];
+  uniques = (1 ∷ []) ∷ [];
+  orders = plain ∷ [];
+  checks = [];
+  references = [];
+  computed = [];
+  stamps = record { places = []; terms = []; formats = [] };
+  is_counted = false;
+}
+
+abbrev pub make_blocks : List ℕ
+make_blocks = codes "CREATE TABLE blocks (first INT NOT NULL PRIMARY KEY, size TEXT NOT NULL, holder TEXT NOT NULL, organization TEXT NOT NULL, address TEXT NOT NULL, private INTEGER NOT NULL, UNIQUE (holder, first)) STRICT"
+
+abbrev pub blocks_table : Table
+blocks_table = record {
+  name = codes "blocks";
+  tree = 18;
+  columns =
+      whole (codes "first") ∷
+      text (codes "size") ∷
+      text (codes "holder") ∷
+      text (codes "organization") ∷
+      text (codes "address") ∷
+      whole (codes "private") ∷
+      [];
+  key = None;
+  primary = 1 ∷ [];
+  uniques = (1 ∷ []) ∷ (3 ∷ 1 ∷ []) ∷ [];
+  orders = plain ∷ plain ∷ [];
+  checks = [];
+  references = [];
+  computed = [];
+  stamps = record { places = []; terms = []; formats = [] };
+  is_counted = false;
+}
+
+abbrev pub office_schema : Schema
+office_schema = record {
+  tables =
+      office_table ∷
+      caps_table ∷
+      registries_table ∷
+      ranges_table ∷
+      entries_table ∷
+      requests_table ∷
+      queue_table ∷
+      advice_table ∷
+      pool_table ∷
+      blocks_table ∷
+      [];
+  indexes =
+      index (codes "sqlite_autoindex_caps_1") 2 1 (1 ∷ []) ∷
+      index (codes "sqlite_autoindex_registries_1") 4 3 (1 ∷ []) ∷
+      index (codes "sqlite_autoindex_ranges_1") 6 5 (1 ∷ 2 ∷ []) ∷
+      index (codes "sqlite_autoindex_entries_1") 8 7 (1 ∷ 2 ∷ []) ∷
+      index (codes "sqlite_autoindex_requests_1") 10 9 (1 ∷ 2 ∷ []) ∷
+      index (codes "sqlite_autoindex_queue_1") 12 11 (1 ∷ 2 ∷ 3 ∷ []) ∷
+      index (codes "sqlite_autoindex_queue_2") 13 11 (3 ∷ 1 ∷ 2 ∷ []) ∷
+      index (codes "sqlite_autoindex_advice_1") 15 14 (1 ∷ 2 ∷ 3 ∷ []) ∷
+      index (codes "sqlite_autoindex_pool_1") 17 16 (1 ∷ []) ∷
+      index (codes "sqlite_autoindex_blocks_1") 19 18 (1 ∷ []) ∷
+      index (codes "sqlite_autoindex_blocks_2") 20 18 (3 ∷ 1 ∷ []) ∷
+      [];
+  views = [];
+}

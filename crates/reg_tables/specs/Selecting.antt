@@ -1,0 +1,64 @@
+-- What a SELECT over one table of an office answers.
+use Rattle.std.specs.Prelude.{◌≡◌, ℕ, pos, negsuc, Bool, false, List, [], ◌∷◌, map, None}
+use Rattle.std.specs.List.{list_all, range_with_len}
+use Rattle.sqlite.specs.declared.types.Value.TheVariants.{Int}
+use Rattle.sqlite.specs.Collation.TheVariants.{Binary}
+use Rattle.sqlite.specs.Order.{Row, column}
+use Rattle.sqlite.specs.Term.{Term, lit, col, op2, holds, eval_all}
+use Rattle.sqlite.specs.Query.{Query, inner, end}
+use Rattle.sqlite.specs.Command.TheVariants.{Select}
+use Rattle.sqlite.specs.Given.{IsPlain}
+use Rattle.sqlite.specs.Listing.{understood, reads_listing}
+use Rattle.sqlite.proofs.Callers.{command_of}
+use Rattle.sqlite_value.specs.Keys.{ascending}
+use Rattle.sqlite_value.specs.declared.keys.Key.{Key}
+use Rattle.sqlite_sql.specs.declared.ops.BinaryOp.TheVariants.{Compare}
+use Rattle.sqlite_sql.specs.declared.ops.CompareOp.TheVariants.{Eq}
+use Rattle.reg_tables.specs.Schema.{office_schema}
+
+-- the query on the table in this tree, with these tests, columns and keys of its order
+abbrev pub select_from : ℕ → List Term → List Term → List (Term × Key) → Query
+select_from t tests project order = record {
+  from = inner t end;
+  filter = tests;
+  group = None;
+  project = project;
+  distinct = false;
+  collations = [];
+  order = order;
+  limit = lit (Int (negsuc 0));
+  offset = lit (Int (pos 0));
+}
+
+-- whether a row passes the WHERE, with these parameters
+abbrev pub passes : List Term → Row → Row → Bool
+passes tests params row = list_all (holds (params ∷ row ∷ [])) tests
+
+-- what is shown of a row
+abbrev pub shows : List Term → Row → Row → Row
+shows project params row = eval_all project (params ∷ row ∷ [])
+
+-- the text is a query over one table of an office
+pub record Selects (sql : List ℕ) (t : ℕ) (tests project : List Term)
+    (order : List (Term × Key)) : Type 0 where
+  pub names : List (List ℕ)
+  pub is : command_of (understood office_schema sql)
+      ≡ Select (record { lets = []; body = select_from t tests project order }) names
+  pub plain : IsPlain (understood office_schema sql)
+  pub unlisted : reads_listing office_schema sql ≡ false
+
+-- each of these columns equals a parameter: pairs of their places
+abbrev pub equals : List (ℕ × ℕ) → List Term
+equals pairs = map (λ p. op2 (Compare Eq Binary) (col 1 p.0) (col 0 p.1)) pairs
+
+-- the columns of a table, in order
+abbrev pub columns_of : ℕ → List Term
+columns_of n = map (col 1) (range_with_len 1 n)
+
+-- in the order of the columns at these places
+abbrev pub ordered_by : List ℕ → List (Term × Key)
+ordered_by places = map (λ c. (col 1 c, ascending Binary)) places
+
+-- a row of a table without its rowid
+abbrev pub stored : ℕ → Row → Row
+stored n row = map (column row) (range_with_len 1 n)

@@ -1,0 +1,7 @@
+//! The tables of an office, and what statements do to them.
+#![tactic(auto)]
+
+pub mod make;
+mod same;
+pub mod schema;
+pub mod write;
