@@ -1,0 +1,44 @@
+-- The rows of `advice` keep advice: what is written reads back, and only that reads.
+use Rattle.std.proofs.Common.{◌≡◌, true, Some, refl, subst}
+use Rattle.std.proofs.lemmas.Option.{same_Some}
+use Rattle.sqlite.specs.Order.{Row, column}
+use Rattle.reg_ranges.specs.Texts.{is_text}
+use Rattle.reg_core.specs.Names.{is_name}
+use Rattle.reg_core.proofs.VerdictsReadBack.{verdicts_read}
+use Rattle.reg_records.specs.Advice.{advice_columns, advice_in, advice_values, is_expert_advice}
+use Rattle.reg_records.specs.Laws.{KeepsRows}
+use Rattle.reg_records.specs.declared.advice.ExpertAdvice.{ExpertAdvice}
+use Rattle.reg_records.proofs.ColumnLaws.{both, column_some, column-at, formed_texts, words}
+
+pub advice_back : (advice : ExpertAdvice) → is_expert_advice advice ≡ true
+    → advice_in (advice_values advice) ≡ Some advice
+advice_back row form =
+    both _ _ form (λ form text. both _ _ form (λ form expert. both _ _ form (λ account reference.
+    column-at (formed_texts is_name) row.account account _ _ (
+    column-at (formed_texts is_name) row.reference reference _ _ (
+    column-at (formed_texts is_name) row.expert expert _ _ (
+    column-at (words verdicts_read) row.advice.verdict refl _ _ (
+    column-at (formed_texts is_text) row.advice.text text _ _ refl)))))))
+
+advice_read : (row : Row) (advice : ExpertAdvice) → advice_in row ≡ Some advice
+    → (advice_columns row ≡ advice_values advice) × (is_expert_advice advice ≡ true)
+advice_read row advice h =
+    column_some (formed_texts is_name) (column row 0) _ advice h (λ account is0 form0 h.
+    column_some (formed_texts is_name) (column row 1) _ advice h (λ reference is1 form1 h.
+    column_some (formed_texts is_name) (column row 2) _ advice h (λ expert is2 form2 h.
+    column_some (words verdicts_read) (column row 3) _ advice h (λ verdict is3 form3 h.
+    column_some (formed_texts is_text) (column row 4) _ advice h (λ text is4 form4 h.
+    subst (λ a. (advice_columns row ≡ advice_values a) × (is_expert_advice a ≡ true))
+    (same_Some _ _ h)
+    (rw (is0, is1, is2, is3, is4) refl, rw (form0, form1, form2, form4) refl))))))
+
+pub advice_exact : (row : Row) (advice : ExpertAdvice) → advice_in row ≡ Some advice
+    → advice_columns row ≡ advice_values advice
+advice_exact row advice h = (advice_read row advice h).0
+
+pub advice_formed : (row : Row) (advice : ExpertAdvice) → advice_in row ≡ Some advice
+    → is_expert_advice advice ≡ true
+advice_formed row advice h = (advice_read row advice h).1
+
+pub advice_kept : KeepsRows advice_columns advice_in advice_values is_expert_advice
+advice_kept = record { back = advice_back; exact = advice_exact; formed = advice_formed }

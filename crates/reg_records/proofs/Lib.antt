@@ -1,0 +1,12 @@
+pub mod WordsReadBack
+pub mod ColumnLaws
+pub mod GrantLaws
+pub mod RegistryLaws
+pub mod RangeLaws
+pub mod EntryLaws
+pub mod SeatLaws
+pub mod AdviceLaws
+pub mod PrefixLaws
+pub mod HoldingLaws
+pub mod VersionLaws
+pub mod RequestLaws

@@ -1,0 +1,47 @@
+-- The requests of a well kept world have the form of those that rows hold.
+use Rattle.std.proofs.Common.{◌≡◌, ℕ, true, List, refl}
+use Rattle.std.specs.FinMap.{FinMap}
+use Rattle.std.proofs.lemmas.Bool.{and_from}
+use Rattle.reg_blocks.specs.Block.{block_cmp}
+use Rattle.reg_core.specs.WellKept.{has_request_form, stands_in}
+use Rattle.reg_core.specs.World.{place_cmp}
+use Rattle.reg_core.specs.declared.ask.Ask.{Ask}
+use Rattle.reg_core.specs.declared.ask.Ask.TheVariants.{Code, Early, Renew, Permanent, Block}
+use Rattle.reg_core.specs.declared.entry.Registration.{Registration}
+use Rattle.reg_core.specs.declared.holding.Holder.{Holder}
+use Rattle.reg_core.specs.declared.request.Given.TheVariants as given
+use Rattle.reg_core.specs.declared.request.State.{State}
+use Rattle.reg_core.specs.declared.request.State.TheVariants.{Pending, Approved, Declined, Withdrawn}
+use Rattle.reg_records.specs.Requests.Forms.{gives_its_kind}
+use Rattle.reg_records.specs.Requests.Laws.{KeptRequestsHaveRows}
+
+-- what is an entry or a block of the account's is of the kind that was asked for
+pub stands_in-gives_its_kind : (entries : FinMap place_cmp Registration)
+    (blocks : FinMap block_cmp Holder) (account : List ℕ) (ask : Ask) (state : State)
+    → stands_in entries blocks account ask state ≡ true → gives_its_kind ask state ≡ true
+stands_in-gives_its_kind entries blocks account ask Pending h = refl
+stands_in-gives_its_kind entries blocks account ask (Declined reason) h = refl
+stands_in-gives_its_kind entries blocks account ask Withdrawn h = refl
+stands_in-gives_its_kind entries blocks account (Code a) (Approved (given.Value v)) h = refl
+stands_in-gives_its_kind entries blocks account (Early a) (Approved (given.Value v)) h = refl
+stands_in-gives_its_kind entries blocks account (Renew a) (Approved (given.Value v)) h = refl
+stands_in-gives_its_kind entries blocks account (Permanent a) (Approved (given.Value v)) h = refl
+stands_in-gives_its_kind entries blocks account (Block a) (Approved (given.Value v)) h =
+    absurd (cc)
+stands_in-gives_its_kind entries blocks account (Code a) (Approved (given.Block b)) h =
+    absurd (cc)
+stands_in-gives_its_kind entries blocks account (Early a) (Approved (given.Block b)) h =
+    absurd (cc)
+stands_in-gives_its_kind entries blocks account (Renew a) (Approved (given.Block b)) h =
+    absurd (cc)
+stands_in-gives_its_kind entries blocks account (Permanent a) (Approved (given.Block b)) h =
+    absurd (cc)
+stands_in-gives_its_kind entries blocks account (Block a) (Approved (given.Block b)) h = refl
+
+-- so each request of the world can be written
+pub kept-is_request : KeptRequestsHaveRows
+kept-is_request w kept name case h =
+    and_from (has_request_form name case) (gives_its_kind case.ask case.state)
+    (kept.requests name case h)
+    (stands_in-gives_its_kind w.entries w.blocks name.0 case.ask case.state
+    (kept.given name case h))

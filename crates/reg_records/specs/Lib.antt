@@ -1,0 +1,13 @@
+pub mod Columns
+pub mod Words
+pub mod Caps
+pub mod Registries
+pub mod Ranges
+pub mod Entries
+pub mod Queue
+pub mod Advice
+pub mod Pool
+pub mod Blocks
+pub mod Office
+pub mod Laws
+pub mod Requests

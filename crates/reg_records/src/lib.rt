@@ -1,0 +1,17 @@
+//! The rows of an office as records of tables.
+#![tactic(auto)]
+
+pub mod advice;
+pub mod blocks;
+pub mod caps;
+pub mod column;
+pub mod entries;
+pub mod laws;
+pub mod office;
+pub mod pool;
+pub mod queue;
+pub mod ranges;
+pub mod record;
+pub mod registries;
+pub mod requests;
+pub mod word;

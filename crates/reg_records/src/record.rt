@@ -1,0 +1,28 @@
+//! A row of a table as a value.
+ghost use Rattle.std.specs.Prelude.{◌≡◌, IfOk, Option};
+ghost use Rattle.std.specs.declared.cmp.Ordering.{Ordering};
+ghost use Rattle.sqlite.specs.Order.{Row as SqlRow};
+
+use sqlite::Row;
+use std::alloc::{AllocError, Global};
+use std::cmp::Ordering;
+
+/// What a row of a table holds, where each column has its form.
+pub trait Record: Drop {
+    /// What the columns of a row hold, in the order of the table's columns.
+    ghost of: { SqlRow → Option Self };
+
+    /// The value of a row; none where a column has another form.
+    fn read(alloc: Global, row: &Row) -> Result<Option<Self>, AllocError>
+        ensures { IfOk result (λ value. value ≡ of row.now) };
+}
+
+/// A value of a row with a place among the others of its table.
+pub trait Keyed: Record {
+    /// The order of the keys.
+    ghost order: { Self → Self → Ordering };
+
+    /// How the key compares with that of another row.
+    fn compare(&self, other: &Self) -> Ordering
+        ensures { result ≡ order self.now other.now };
+}

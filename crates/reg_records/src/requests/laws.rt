@@ -1,0 +1,27 @@
+//! The laws of the rows of requests. Each function is its contract.
+ghost use Rattle.reg_records.specs.Laws.{KeepsRows};
+ghost use Rattle.reg_records.specs.Requests.Forms.{is_request};
+ghost use Rattle.reg_records.specs.Requests.Laws.{KeptRequestsHaveRows, RowsReadByTheirColumns, StatesAreReplaced};
+ghost use Rattle.reg_records.specs.Requests.Reading.{request_columns, request_in};
+ghost use Rattle.reg_records.specs.Requests.Values.{request_values};
+
+/// What is written for a request reads as it, and a row that reads has exactly what is written for
+/// what it reads as.
+pub fn requests_read_back()
+    ensures { KeepsRows request_columns request_in request_values is_request }
+{}
+
+/// The columns of the state alone put a request in another state.
+pub fn states_are_replaced()
+    ensures { StatesAreReplaced }
+{}
+
+/// What a row has past the columns of the table does not count.
+pub fn rows_read_by_their_columns()
+    ensures { RowsReadByTheirColumns }
+{}
+
+/// Each request of a well kept world can be written, and reads back.
+pub fn kept_requests_have_rows()
+    ensures { KeptRequestsHaveRows }
+{}
