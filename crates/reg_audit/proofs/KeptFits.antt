@@ -1,0 +1,216 @@
+-- A row is new to an audit, and fits what it keeps, where it is new to the world and fits it.
+use Rattle.std.proofs.Common.{◌≡◌, ℕ, Bool, true, false, ◌&&◌, List, refl, sym, ap, subst, ◌∙◌}
+use Rattle.std.specs.Prelude.{Option, Some, None, IsSome, IsTrue, is_some, not, option_map, unwrap_or, ◌↔◌}
+use Rattle.std.specs.BTreeMap as tree
+use Rattle.std.specs.BTreeSet.{contains}
+use Rattle.std.specs.FinMap.{get, contains_key}
+use Rattle.std.specs.Ordering.{nat_cmp}
+use Rattle.reg_blocks.specs.Block.{SizedPrefix, Clash, block_cmp, leading_24}
+use Rattle.reg_ranges.specs.Tables.{Table}
+use Rattle.reg_core.specs.Ask.{registry_of}
+use Rattle.reg_core.specs.Maps.{text_cmp}
+use Rattle.reg_core.specs.MayBeGiven.{place_of}
+use Rattle.reg_core.specs.WellKept.{WellKept, is_registered_to, is_registered_at, is_held_by, is_size_asked, stands_in}
+use Rattle.reg_core.specs.World.{World, Seat, name_cmp, place_cmp, seat_cmp}
+use Rattle.reg_core.specs.declared.advice.Advice.{Advice}
+use Rattle.reg_core.specs.declared.ask.Ask.{Ask}
+use Rattle.reg_core.specs.declared.capability.Cap.{Cap}
+use Rattle.reg_core.specs.declared.entry.Entry.{Entry}
+use Rattle.reg_core.specs.declared.entry.Registration.{Registration}
+use Rattle.reg_core.specs.declared.holding.Holder.{Holder}
+use Rattle.reg_core.specs.declared.holding.Holding.{Holding}
+use Rattle.reg_core.specs.declared.request.Given.TheVariants as given
+use Rattle.reg_core.specs.declared.request.Request.{Request}
+use Rattle.reg_core.specs.declared.request.State.{State}
+use Rattle.reg_core.specs.declared.request.State.TheVariants.{Pending, Approved, Declined, Withdrawn}
+use Rattle.reg_audit.specs.Audits.{Keeps, assignee_of, account_of}
+use Rattle.reg_audit.specs.Blocks.{AreApart, IsHeld}
+use Rattle.reg_audit.specs.Requests.{is_account, is_assigned_at, stands_by}
+use Rattle.reg_audit.specs.Rows.{Fits, IsNew, IsApart, name_of, seat_of}
+use Rattle.reg_audit.specs.declared.audit.Audit.{Audit}
+use Rattle.reg_audit.specs.declared.row.Row.{Row}
+use Rattle.reg_audit.specs.declared.row.Row.TheVariants as row
+
+is_some-mapped : {X Y : Type 0} (f : X → Y) (o : Option X) → is_some (option_map f o) ≡ is_some o
+is_some-mapped f None = refl
+is_some-mapped f (Some x) = refl
+
+is_account-assignee : (account : List ℕ) (o : Option Registration)
+    → is_account account (option_map assignee_of o) ≡ is_registered_to account o
+is_account-assignee account None = refl
+is_account-assignee account (Some a) = refl
+
+is_account-holder : (account : List ℕ) (o : Option Holder)
+    → is_account account (option_map account_of o) ≡ is_held_by account o
+is_account-holder account None = refl
+is_account-holder account (Some h) = refl
+
+-- what tells whether a row is new tells it of an equal row
+pub new_as : {P : Type 0} (w : World) (next other : Row) → next ≡ other → P ↔ IsNew w other
+    → P ↔ IsNew w next
+new_as {P = P} w next other is tells = subst (λ (r : Row). P ↔ IsNew w r) (sym is) tells
+
+-- so does what tells whether a row fits
+pub fits_as : {P : Type 0} (w : World) (next other : Row) → next ≡ other → P ↔ Fits w other
+    → P ↔ Fits w next
+fits_as {P = P} w next other is tells = subst (λ (r : Row). P ↔ Fits w r) (sym is) tells
+
+-- two tests with one answer are true together
+pub same_truth : (a b : Bool) → a ≡ b → IsTrue a ↔ IsTrue b
+same_truth a b e = ((λ h. sym e ∙ h), (λ h. e ∙ h))
+
+-- a test fails where another with the same answer does
+pub fails : (r b : Bool) → r ≡ b → IsTrue (not r) ↔ (b ≡ false)
+fails true b is = ((λ h. absurd (cc)), (λ h. absurd (cc)))
+fails false b is = ((λ h. sym is), (λ h. refl))
+
+-- nothing is there where the test whether something is fails
+pub missing : {X : Type 0} (r : Bool) (o : Option X) → r ≡ is_some o → IsTrue (not r) ↔ (o ≡ None)
+missing r None is = ((λ h. refl), (λ h. ap not is))
+missing r (Some x) is =
+    ((λ h. let gone = sym h ∙ ap not is in absurd (cc)), (λ h. absurd (cc)))
+
+-- and where nothing is made of it
+unmade : {X Y : Type 0} (f : X → Y) (r : Bool) (o : Option X)
+    → is_some (option_map f o) ≡ not r → IsTrue r ↔ (is_some o ≡ false)
+unmade f true None is = ((λ h. refl), (λ h. refl))
+unmade f false None is = absurd (cc)
+unmade f true (Some x) is = absurd (cc)
+unmade f false (Some x) is = ((λ h. absurd (cc)), (λ h. absurd (cc)))
+
+-- advice on an assignment is marked where it is there
+mark_of : (seat : Option (Unit {0})) (advice : Option Advice) → (IsSome advice → IsSome seat)
+    → unwrap_or (option_map (λ there. is_some advice) seat) false ≡ is_some advice
+mark_of None None assigned = refl
+mark_of None (Some advice) assigned = let there = assigned refl in absurd (cc)
+mark_of (Some there) advice assigned = refl
+
+-- advice is on assignments
+assigned_of : (w : World) → WellKept w → (seat : Seat) → (o : Option Advice)
+    → get w.advice seat ≡ o → IsSome o → IsSome (get w.queue seat)
+assigned_of w kept seat None is there = absurd (cc)
+assigned_of w kept seat (Some advice) is there = kept.advised seat advice is
+
+module _ (audit : Audit) (w : World) (keeps : Keeps audit w) where
+  assigned-registered : (account : List ℕ) (registry : Option (List ℕ)) (v : ℕ)
+      → is_assigned_at audit.assignees account registry v
+      ≡ is_registered_at w.entries account registry v
+  assigned-registered account None v = refl
+  assigned-registered account (Some registry) v =
+      ap (is_account account) (keeps.assignees (registry, v))
+      ∙ is_account-assignee account (get w.entries (registry, v))
+
+  -- a request stands by the accounts that are kept where it stands by the rows
+  pub stands_by-stands_in : (account : List ℕ) (ask : Ask) (state : State)
+      → stands_by audit.assignees audit.holders account ask state
+      ≡ stands_in w.entries w.blocks account ask state
+  stands_by-stands_in account ask Pending = refl
+  stands_by-stands_in account ask (Approved (given.Value v)) =
+      assigned-registered account (registry_of ask) v
+  stands_by-stands_in account ask (Approved (given.Block block)) =
+      ap (λ held. is_size_asked ask block.size && held)
+      (ap (is_account account) (keeps.holders block)
+      ∙ is_account-holder account (get w.blocks block))
+  stands_by-stands_in account ask (Declined reason) = refl
+  stands_by-stands_in account ask Withdrawn = refl
+
+  held-given : (block : SizedPrefix)
+      → IsHeld audit.holders block ↔ IsSome (get w.blocks block)
+  held-given block =
+      same_truth _ _
+      (ap is_some (keeps.holders block) ∙ is_some-mapped account_of (get w.blocks block))
+
+  -- no two blocks of a well kept world share an address
+  pub holders_apart : WellKept w → AreApart audit.holders
+  holders_apart kept a b in_a in_b clash =
+      kept.apart a b ((held-given a).0 in_a) ((held-given b).0 in_b) clash
+
+  pub apart_kept : (block : SizedPrefix)
+      → ((other : SizedPrefix) → IsHeld audit.holders other → ¬ Clash block other)
+      ↔ IsApart w.blocks block
+  apart_kept block = (
+    (λ apart other there. apart other ((held-given other).1 there)),
+    (λ apart other held. apart other ((held-given other).0 held)),
+  )
+
+  -- a block of the pool fits where it shares no address with another
+  pub block_fits : WellKept w → (holding : Holding) (leading : ℕ) (r : Bool)
+      → leading ≡ leading_24 holding.block → IsTrue (contains nat_cmp audit.prefixes leading)
+      → (AreApart audit.holders → IsTrue r
+      ↔ ((other : SizedPrefix) → IsHeld audit.holders other → ¬ Clash holding.block other))
+      → IsTrue r ↔ Fits w (row.Block holding)
+  block_fits kept holding leading r is there tells = (
+    (λ h. (
+      sym (keeps.prefixes (leading_24 holding.block))
+          ∙ ap (contains nat_cmp audit.prefixes) (sym is) ∙ there,
+      (apart_kept holding.block).0 ((tells (holders_apart kept)).0 h),
+    )),
+    (λ fits. (tells (holders_apart kept)).1 ((apart_kept holding.block).1 fits.1)),
+  )
+
+  -- ---- New rows
+
+  pub new_cap : (digest : List ℕ) (cap : Cap) (r : Bool)
+      → r ≡ contains text_cmp audit.caps digest → IsTrue (not r) ↔ IsNew w (row.Cap digest cap)
+  new_cap digest cap r is = missing r (get w.caps digest) (is ∙ keeps.caps digest)
+
+  pub new_registry : (name : List ℕ) (table : Table) (r : Bool)
+      → r ≡ is_some (tree.get text_cmp audit.registries name)
+      → IsTrue (not r) ↔ IsNew w (row.Registry name table)
+  new_registry name table r is =
+      missing r (get w.registries name) (is ∙ ap is_some (keeps.registries name))
+
+  pub new_entry : (entry : Entry) (r : Bool)
+      → r ≡ is_some (tree.get place_cmp audit.assignees (place_of entry))
+      → IsTrue (not r) ↔ IsNew w (row.Entry entry)
+  new_entry entry r is =
+      missing r (get w.entries (place_of entry))
+      (is ∙ ap is_some (keeps.assignees (place_of entry))
+      ∙ is_some-mapped assignee_of (get w.entries (place_of entry)))
+
+  pub new_prefix : (prefix : ℕ) (r : Bool) → r ≡ contains nat_cmp audit.prefixes prefix
+      → IsTrue (not r) ↔ IsNew w (row.Prefix prefix)
+  new_prefix prefix r is = fails r (contains_key w.pool prefix) (is ∙ keeps.prefixes prefix)
+
+  pub new_block : (holding : Holding) (r : Bool)
+      → r ≡ is_some (tree.get block_cmp audit.holders holding.block)
+      → IsTrue (not r) ↔ IsNew w (row.Block holding)
+  new_block holding r is =
+      missing r (get w.blocks holding.block)
+      (is ∙ ap is_some (keeps.holders holding.block)
+      ∙ is_some-mapped account_of (get w.blocks holding.block))
+
+  pub new_request : (request : Request) (r : Bool)
+      → r ≡ contains name_cmp audit.requests (name_of request)
+      → IsTrue (not r) ↔ IsNew w (row.Request request)
+  new_request request r is =
+      missing r (get w.requests (name_of request)) (is ∙ keeps.requests (name_of request))
+
+  module _ (account reference expert : List ℕ) (found : Option Bool)
+      (is : found ≡ tree.get seat_cmp audit.assignments (seat_of account reference expert)) where
+    seat : Seat
+    seat = seat_of account reference expert
+
+    pub new_assignment : (r : Bool) → is_some found ≡ not r
+        → IsTrue r ↔ IsNew w (row.Assignment account reference expert)
+    unfolding seat
+    new_assignment r none =
+        unmade (λ there. is_some (get w.advice seat)) r (get w.queue seat)
+        (sym (ap is_some (is ∙ keeps.assignments seat)) ∙ none)
+
+    pub new_advice : WellKept w → (advice : Advice) (r : Bool) → r ≡ unwrap_or found false
+        → IsTrue (not r) ↔ IsNew w (row.Advice account reference expert advice)
+    unfolding seat
+    new_advice kept advice r marked =
+        missing r (get w.advice seat)
+        (marked ∙ ap (λ o. unwrap_or o false) (is ∙ keeps.assignments seat)
+        ∙ mark_of (get w.queue seat) (get w.advice seat)
+        (assigned_of w kept seat (get w.advice seat) refl))
+
+    pub advice_fits : (advice : Advice) (r : Bool) → r ≡ is_some found
+        → IsTrue r ↔ Fits w (row.Advice account reference expert advice)
+    unfolding seat
+    advice_fits advice r there =
+        same_truth r _
+        (there ∙ ap is_some (is ∙ keeps.assignments seat)
+        ∙ is_some-mapped (λ there. is_some (get w.advice seat)) (get w.queue seat))

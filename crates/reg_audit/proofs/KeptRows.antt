@@ -1,0 +1,277 @@
+-- What an audit keeps of a world, as a row is added to both.
+use Rattle.std.proofs.Common.{◌≡◌, ℕ, Bool, true, false, cond, List, refl, sym, ap, subst, ◌∙◌}
+use Rattle.std.specs.Prelude.{Option, Some, None, IsTrue, is_some, option_map}
+use Rattle.std.specs.BTreeMap as tree
+use Rattle.std.specs.BTreeMap.{BTreeMap, is_at}
+use Rattle.std.specs.BTreeSet as set
+use Rattle.std.specs.BTreeSet.{BTreeSet}
+use Rattle.std.specs.Cmp.{eq_by_cmp_equiv}
+use Rattle.std.specs.FinMap as map
+use Rattle.std.specs.FinMap.{FinMap, get, contains_key, insert, get-empty}
+use Rattle.std.specs.List.{list_any}
+use Rattle.std.specs.Map.{lookup}
+use Rattle.std.specs.Ordering.{nat_cmp, eq_by_cmp}
+use Rattle.std.specs.declared.cmp.Ordering.{Ordering}
+use Rattle.reg_blocks.specs.Block.{SizedPrefix, block_cmp}
+use Rattle.reg_ranges.specs.Tables.{Table}
+use Rattle.reg_core.specs.Entry.{registration_in}
+use Rattle.reg_core.specs.Holding.{holder_in}
+use Rattle.reg_core.specs.Maps.{text_cmp}
+use Rattle.reg_core.specs.MayBeGiven.{place_of}
+use Rattle.reg_core.specs.Request.{case_of}
+use Rattle.reg_core.specs.World.{World, Place, RequestName, Seat, name_cmp, place_cmp, seat_cmp, empty_world}
+use Rattle.reg_core.specs.declared.advice.Advice.{Advice}
+use Rattle.reg_core.specs.declared.capability.Cap.{Cap}
+use Rattle.reg_core.specs.declared.entry.Entry.{Entry}
+use Rattle.reg_core.specs.declared.holding.Holding.{Holding}
+use Rattle.reg_core.specs.declared.request.Request.{Request}
+use Rattle.reg_core.proofs.MapLaws.{IsKeyOrder, text_keys, number_keys, name_keys, place_keys, seat_keys, block_keys, tied, get-at_insert}
+use Rattle.reg_audit.specs.Audits.{Keeps, assignee_of, account_of}
+use Rattle.reg_audit.specs.Rows.{with_row, name_of, seat_of, IsInTurn, Fits}
+use Rattle.reg_audit.specs.declared.audit.Audit.{Audit}
+use Rattle.reg_audit.specs.declared.row.Row.{Row}
+use Rattle.reg_audit.specs.declared.row.Row.TheVariants as row
+
+-- ---- A map and a set, beside a map with more in its rows
+
+mapped : {X Y : Type 0} (f : X → Y) (b : Bool) (x : X) (o : Option X)
+    → cond b (Some (f x)) (option_map f o) ≡ option_map f (cond b (Some x) o)
+mapped f true x o = refl
+mapped f false x o = refl
+
+there_or : {X : Type 0} (b : Bool) (x : X) (o : Option X)
+    → cond b true (is_some o) ≡ is_some (cond b (Some x) o)
+there_or true x o = refl
+there_or false x o = refl
+
+-- a mark is set at a key that is there
+marked : {X : Type 0} (b : Bool) (x : X) (o : Option X) (key : Option (Unit {0}))
+    → (b ≡ true → is_some key ≡ true)
+    → cond b (Some true) (option_map (λ there. is_some o) key)
+    ≡ option_map (λ there. is_some (cond b (Some x) o)) key
+marked true x o None h = let there = h refl in absurd (cc)
+marked true x o (Some u) h = refl
+marked false x o key h = refl
+
+module _ {K X : Type 0} {R : K → K → Ordering} (o : IsKeyOrder R) (m : FinMap R X) (k : K) (x : X)
+  where
+    -- a map that keeps a part of each row does so with one row more
+    part_put : {Y : Type 0} (f : X → Y) (old new : BTreeMap K Y)
+        → tree.Updates R old new k (Some (f x))
+        → ((q : K) → tree.get R old q ≡ option_map f (get m q)) → (q : K)
+        → tree.get R new q ≡ option_map f (get (insert m k x) q)
+    part_put f old new put same q =
+        put.0 q
+        ∙ (λ i. cond ((eq_by_cmp_equiv o.total).symm k q i) (Some (f x)) (same q i))
+        ∙ mapped f (eq_by_cmp R q k) x (get m q)
+        ∙ sym (ap (option_map f) (get-at_insert o m k x q))
+
+    -- a map that keeps each row
+    row_put : (old new : BTreeMap K X) → tree.Updates R old new k (Some x)
+        → ((q : K) → tree.get R old q ≡ get m q) → (q : K)
+        → tree.get R new q ≡ get (insert m k x) q
+    row_put old new put same q =
+        put.0 q
+        ∙ (λ i. cond ((eq_by_cmp_equiv o.total).symm k q i) (Some x) (same q i))
+        ∙ sym (get-at_insert o m k x q)
+
+    -- a set that keeps each key
+    key_put : (old new : BTreeSet K) → set.Updates R old new k true
+        → ((q : K) → set.contains R old q ≡ contains_key m q) → (q : K)
+        → set.contains R new q ≡ contains_key (insert m k x) q
+    key_put old new put same q =
+        put.0 q
+        ∙ (λ i. cond ((eq_by_cmp_equiv o.total).symm k q i) true (same q i))
+        ∙ there_or (eq_by_cmp R q k) x (get m q)
+        ∙ sym (ap is_some (get-at_insert o m k x q))
+
+-- ---- An audit
+
+-- what is kept of a world with a row is kept of it with an equal row
+pub of_row : {audit : Audit} (w : World) (next other : Row) → next ≡ other
+    → (IsInTurn w other → Fits w other → Keeps audit (with_row w other))
+    → IsInTurn w next → Fits w next → Keeps audit (with_row w next)
+of_row {audit = audit} w next other is keeps =
+    subst (λ (r : Row). IsInTurn w r → Fits w r → Keeps audit (with_row w r)) (sym is) keeps
+
+module _ (audit : Audit) (w : World) (keeps : Keeps audit w) where
+  pub keeps_cap : (new : BTreeSet (List ℕ)) (digest : List ℕ) (cap : Cap)
+      → set.Updates text_cmp audit.caps new digest true
+      → Keeps (record audit { caps = new }) (with_row w (row.Cap digest cap))
+  keeps_cap new digest cap put = record {
+    caps = key_put text_keys w.caps digest cap audit.caps new put keeps.caps;
+    registries = keeps.registries;
+    assignees = keeps.assignees;
+    prefixes = keeps.prefixes;
+    holders = keeps.holders;
+    requests = keeps.requests;
+    assignments = keeps.assignments;
+  }
+
+  pub keeps_registry : (new : BTreeMap (List ℕ) Table) (name : List ℕ) (table : Table)
+      → tree.Updates text_cmp audit.registries new name (Some table)
+      → Keeps (record audit { registries = new }) (with_row w (row.Registry name table))
+  keeps_registry new name table put = record {
+    caps = keeps.caps;
+    registries =
+        row_put text_keys w.registries name table audit.registries new put keeps.registries;
+    assignees = keeps.assignees;
+    prefixes = keeps.prefixes;
+    holders = keeps.holders;
+    requests = keeps.requests;
+    assignments = keeps.assignments;
+  }
+
+  pub keeps_entry : (new : BTreeMap Place (List ℕ)) (entry : Entry)
+      → tree.Updates place_cmp audit.assignees new (place_of entry) (Some entry.assignee)
+      → Keeps (record audit { assignees = new }) (with_row w (row.Entry entry))
+  keeps_entry new entry put = record {
+    caps = keeps.caps;
+    registries = keeps.registries;
+    assignees = part_put place_keys w.entries (place_of entry) (registration_in entry)
+        assignee_of audit.assignees new put keeps.assignees;
+    prefixes = keeps.prefixes;
+    holders = keeps.holders;
+    requests = keeps.requests;
+    assignments = keeps.assignments;
+  }
+
+  pub keeps_prefix : (new : BTreeSet ℕ) (prefix : ℕ)
+      → set.Updates nat_cmp audit.prefixes new prefix true
+      → Keeps (record audit { prefixes = new }) (with_row w (row.Prefix prefix))
+  keeps_prefix new prefix put = record {
+    caps = keeps.caps;
+    registries = keeps.registries;
+    assignees = keeps.assignees;
+    prefixes = key_put number_keys w.pool prefix tt audit.prefixes new put keeps.prefixes;
+    holders = keeps.holders;
+    requests = keeps.requests;
+    assignments = keeps.assignments;
+  }
+
+  pub keeps_block : (new : BTreeMap SizedPrefix (List ℕ)) (holding : Holding)
+      → tree.Updates block_cmp audit.holders new holding.block (Some holding.holder)
+      → Keeps (record audit { holders = new }) (with_row w (row.Block holding))
+  keeps_block new holding put = record {
+    caps = keeps.caps;
+    registries = keeps.registries;
+    assignees = keeps.assignees;
+    prefixes = keeps.prefixes;
+    holders = part_put block_keys w.blocks holding.block (holder_in holding) account_of
+        audit.holders new put keeps.holders;
+    requests = keeps.requests;
+    assignments = keeps.assignments;
+  }
+
+  pub keeps_request : (new : BTreeSet RequestName) (request : Request)
+      → set.Updates name_cmp audit.requests new (name_of request) true
+      → Keeps (record audit { requests = new }) (with_row w (row.Request request))
+  keeps_request new request put = record {
+    caps = keeps.caps;
+    registries = keeps.registries;
+    assignees = keeps.assignees;
+    prefixes = keeps.prefixes;
+    holders = keeps.holders;
+    requests = key_put name_keys w.requests (name_of request) (case_of request) audit.requests
+        new put keeps.requests;
+    assignments = keeps.assignments;
+  }
+
+  -- nobody was assigned to it, and nobody has advised yet
+  pub keeps_assignment : (new : BTreeMap Seat Bool) (account reference expert : List ℕ)
+      → w.advice ≡ map.empty
+      → tree.Updates seat_cmp audit.assignments new (seat_of account reference expert)
+      (Some false)
+      → Keeps (record audit { assignments = new })
+      (with_row w (row.Assignment account reference expert))
+  keeps_assignment new account reference expert turn put = record {
+    caps = keeps.caps;
+    registries = keeps.registries;
+    assignees = keeps.assignees;
+    prefixes = keeps.prefixes;
+    holders = keeps.holders;
+    requests = keeps.requests;
+    assignments = λ q.
+        let unadvised : is_some (get w.advice q) ≡ false =
+        ap (λ m. is_some (get m q)) turn ∙ ap is_some (get-empty seat_cmp q) in
+        put.0 q
+        ∙ (λ i.
+        cond ((eq_by_cmp_equiv seat_keys.total).symm (seat_of account reference expert) q i)
+        (Some (sym unadvised i)) (keeps.assignments q i))
+        ∙ mapped (λ there. is_some (get w.advice q))
+        (eq_by_cmp seat_cmp q (seat_of account reference expert)) tt (get w.queue q)
+        ∙ sym (ap (option_map (λ there. is_some (get w.advice q)))
+        (get-at_insert seat_keys w.queue (seat_of account reference expert) tt q));
+  }
+
+  -- the request is assigned to the expert, who has advised now
+  pub keeps_advice : (new : BTreeMap Seat Bool) (account reference expert : List ℕ)
+      (advice : Advice) → IsTrue (contains_key w.queue (seat_of account reference expert))
+      → tree.Updates seat_cmp audit.assignments new (seat_of account reference expert) (Some true)
+      → Keeps (record audit { assignments = new })
+      (with_row w (row.Advice account reference expert advice))
+  keeps_advice new account reference expert advice assigned put = record {
+    caps = keeps.caps;
+    registries = keeps.registries;
+    assignees = keeps.assignees;
+    prefixes = keeps.prefixes;
+    holders = keeps.holders;
+    requests = keeps.requests;
+    assignments = λ q.
+        let seat = seat_of account reference expert in
+        put.0 q
+        ∙ (λ i. cond ((eq_by_cmp_equiv seat_keys.total).symm seat q i) (Some true)
+        (keeps.assignments q i))
+        ∙ marked (eq_by_cmp seat_cmp q seat) advice (get w.advice q) (get w.queue q)
+        (λ t. subst (λ (s : Seat). contains_key w.queue s ≡ true) (sym (tied seat_keys q seat t))
+        assigned)
+        ∙ sym (ap (λ o. option_map (λ there. is_some o) (get w.queue q))
+        (get-at_insert seat_keys w.advice seat advice q));
+  }
+
+  -- where no memory was there, what was kept is
+  pub keeps_still : (new : BTreeMap Seat Bool) → tree.IsUnchanged audit.assignments new
+      → Keeps (record audit { assignments = new }) w
+  keeps_still new same = record {
+    caps = keeps.caps;
+    registries = keeps.registries;
+    assignees = keeps.assignees;
+    prefixes = keeps.prefixes;
+    holders = keeps.holders;
+    requests = keeps.requests;
+    assignments = λ q. ap (lookup (is_at (seat_cmp q))) same ∙ keeps.assignments q;
+  }
+
+-- ---- No rows
+
+none_in_map : {K Y : Type 0} (R : K → K → Ordering) (m : BTreeMap K Y) → tree.IsEmpty m → (q : K)
+    → tree.get R m q ≡ None
+none_in_map R m none q = ap (lookup (is_at (R q))) none
+
+none_in_set : {K : Type 0} (R : K → K → Ordering) (s : BTreeSet K) → set.IsEmpty s → (q : K)
+    → set.contains R s q ≡ false
+none_in_set R s none q = ap (list_any (is_at (R q))) none
+
+-- maps and sets without rows keep a world without rows
+pub keeps_none : (audit : Audit) → set.IsEmpty audit.caps → tree.IsEmpty audit.registries
+    → tree.IsEmpty audit.assignees → set.IsEmpty audit.prefixes → tree.IsEmpty audit.holders
+    → set.IsEmpty audit.requests → tree.IsEmpty audit.assignments → Keeps audit empty_world
+keeps_none audit caps registries assignees prefixes holders requests assignments = record {
+  caps = λ q. none_in_set text_cmp audit.caps caps q ∙ sym (ap is_some (get-empty text_cmp q));
+  registries = λ q.
+      none_in_map text_cmp audit.registries registries q ∙ sym (get-empty text_cmp q);
+  assignees = λ q.
+      none_in_map place_cmp audit.assignees assignees q
+      ∙ sym (ap (option_map assignee_of) (get-empty place_cmp q));
+  prefixes = λ q.
+      none_in_set nat_cmp audit.prefixes prefixes q ∙ sym (ap is_some (get-empty nat_cmp q));
+  holders = λ q.
+      none_in_map block_cmp audit.holders holders q
+      ∙ sym (ap (option_map account_of) (get-empty block_cmp q));
+  requests = λ q.
+      none_in_set name_cmp audit.requests requests q ∙ sym (ap is_some (get-empty name_cmp q));
+  assignments = λ q.
+      none_in_map seat_cmp audit.assignments assignments q
+      ∙ sym (ap (option_map (λ there. is_some (get empty_world.advice q)))
+      (get-empty seat_cmp q));
+}

@@ -1,0 +1,6 @@
+pub mod Neighbours
+pub mod Parts
+pub mod RowsDecide
+pub mod KeptRows
+pub mod KeptFits
+pub mod Feeding

@@ -1,0 +1,44 @@
+use Rattle.std.proofs.Common.{sym, ap, ◌∙◌}
+use Rattle.reg_core.specs.WellKept.{is_open_at}
+use Rattle.reg_audit.proofs.KeptFits.{advice_fits, block_fits, fits_as, same_truth, stands_by-stands_in}
+use Rattle.reg_audit.proofs.audit.Audit.fits.Goals as goal
+
+pub returns-in-Entry : goal.returns-in-Entry
+returns-in-Entry c = λ w keeps kept.
+    let entry = c.in-Entry.entry in
+    fits_as w c.args.row.now _ c.in-Entry.is
+    (same_truth _ _
+    (c.is_open.ensures
+    ∙ ap (λ table. is_open_at table entry.value) (keeps.registries entry.registry)))
+
+pub returns-then-contains : goal.returns-then-contains
+returns-then-contains c = λ w keeps kept.
+    fits_as w c.args.row.now _ c.in-Block.is
+    (block_fits c.args.self.now w keeps kept c.in-Block.holding c.leading_bits.result
+    c.is_apart.result c.leading_bits.ensures (sym c.contains.ensures ∙ c.if-contains.true)
+    c.is_apart.ensures)
+
+pub returns-in-Request : goal.returns-in-Request
+returns-in-Request c = λ w keeps kept.
+    let request = c.in-Request.request in
+    fits_as w c.args.row.now _ c.in-Request.is
+    (same_truth _ _
+    (c.stands.ensures
+    ∙ stands_by-stands_in c.args.self.now w keeps request.account request.ask request.state))
+
+pub returns-then-ne : goal.returns-then-ne
+returns-then-ne c = λ w keeps kept.
+    let tells = same_truth c.contains-then-ne.result _
+    (c.contains-then-ne.ensures
+    ∙ keeps.requests (c.in-Assignment.account, c.in-Assignment.reference)) in
+    fits_as w c.args.row.now _ c.in-Assignment.is (
+      (λ h. (sym c.ne.ensures ∙ c.if-ne.true, tells.0 h)),
+      (λ fits. tells.1 fits.1),
+    )
+
+pub returns-in-Advice : goal.returns-in-Advice
+returns-in-Advice c = λ w keeps kept.
+    fits_as w c.args.row.now _ c.in-Advice.is
+    (advice_fits c.args.self.now w keeps c.in-Advice.account c.in-Advice.reference
+    c.in-Advice.expert c.advised.result c.advised.ensures c.in-Advice.field-3 c.is_some.result
+    c.is_some.ensures)

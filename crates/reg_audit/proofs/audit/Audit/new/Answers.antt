@@ -1,0 +1,24 @@
+use Rattle.std.proofs.Common.{true, refl}
+use Rattle.reg_core.proofs.Keeping.RunsKeepWell.{first_worlds_kept}
+use Rattle.reg_audit.specs.declared.audit.Audit.{Audit}
+use Rattle.reg_audit.proofs.KeptRows.{keeps_none}
+use Rattle.reg_audit.proofs.audit.Audit.new.Goals as goal
+
+pub returns : goal.returns
+returns c =
+    let audit : Audit = record {
+      caps = c.new.result;
+      registries = c.new-2.result;
+      assignees = c.new-3.result;
+      prefixes = c.new-4.result;
+      holders = c.new-5.result;
+      requests = c.new-6.result;
+      assignments = c.new-7.result;
+      well_kept = true;
+    } in record {
+      says = ((λ h. first_worlds_kept.0), (λ h. refl));
+      keeps = λ h.
+          keeps_none audit c.new.ensures.empty c.new-2.ensures.empty c.new-3.ensures.empty
+          c.new-4.ensures.empty c.new-5.ensures.empty c.new-6.ensures.empty
+          c.new-7.ensures.empty;
+    }

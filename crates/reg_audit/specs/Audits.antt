@@ -1,0 +1,66 @@
+-- What an audit keeps of the rows that it was fed, and what it says of them.
+use Rattle.std.specs.Prelude.{◌≡◌, ◌↔◌, ℕ, Bool, List, Option, IsTrue, Result, IfOk, OnOk, OnErr, is_some, option_map}
+use Rattle.std.specs.BTreeMap as tree
+use Rattle.std.specs.BTreeSet as set
+use Rattle.std.specs.FinMap.{get, contains_key}
+use Rattle.std.specs.Ordering.{nat_cmp}
+use Rattle.reg_blocks.specs.Block.{SizedPrefix, block_cmp}
+use Rattle.reg_core.specs.Maps.{text_cmp}
+use Rattle.reg_core.specs.WellKept.{WellKept}
+use Rattle.reg_core.specs.World.{World, Place, RequestName, Seat, name_cmp, place_cmp, seat_cmp}
+use Rattle.reg_core.specs.declared.entry.Registration.{Registration}
+use Rattle.reg_core.specs.declared.holding.Holder.{Holder}
+use Rattle.reg_audit.specs.Rows.{with_row, IsNew, IsInTurn}
+use Rattle.reg_audit.specs.declared.audit.Audit.{Audit}
+use Rattle.reg_audit.specs.declared.row.Row.{Row}
+
+abbrev pub assignee_of : Registration → List ℕ
+assignee_of a = a.assignee
+
+abbrev pub account_of : Holder → List ℕ
+account_of h = h.account
+
+-- whether the expert gave an advice, of an expert to whom the request is assigned
+abbrev pub advised_at : World → Seat → Option Bool
+advised_at w seat = option_map (λ there. is_some (get w.advice seat)) (get w.queue seat)
+
+-- the keys of the world's capabilities, its registries and its pool, the assignees of its entries,
+-- the accounts that hold its blocks, the names of its requests, and which of its assignments were
+-- advised
+pub record Keeps (audit : Audit) (w : World) : Type 0 where
+  pub caps : (digest : List ℕ)
+      → set.contains text_cmp audit.caps digest ≡ contains_key w.caps digest
+  pub registries : (name : List ℕ)
+      → tree.get text_cmp audit.registries name ≡ get w.registries name
+  pub assignees : (place : Place)
+      → tree.get place_cmp audit.assignees place ≡ option_map assignee_of (get w.entries place)
+  pub prefixes : (prefix : ℕ)
+      → set.contains nat_cmp audit.prefixes prefix ≡ contains_key w.pool prefix
+  pub holders : (block : SizedPrefix)
+      → tree.get block_cmp audit.holders block ≡ option_map account_of (get w.blocks block)
+  pub requests : (name : RequestName)
+      → set.contains name_cmp audit.requests name ≡ contains_key w.requests name
+  pub assignments : (seat : Seat)
+      → tree.get seat_cmp audit.assignments seat ≡ advised_at w seat
+
+-- what the audit says of the rows that it was fed
+abbrev pub is_well_kept : Audit → Bool
+is_well_kept audit = audit.well_kept
+
+-- the audit was fed the rows of the world: it says whether this is well kept, and where it is, it
+-- keeps what later rows are judged by
+pub record Audits (audit : Audit) (w : World) : Type 0 where
+  pub says : IsTrue (is_well_kept audit) ↔ WellKept w
+  pub keeps : IsTrue (is_well_kept audit) → Keeps audit w
+
+-- fed a row in its turn, the audit tells whether the row is new and the world with it well kept; if
+-- the row is new, it was fed the rows of the world with it. What it tells it says from then on, and
+-- where it said that the rows are not well kept it says so again. At an error it was not fed the row
+pub record Feeds {E : Type 0} (old new : Audit) (result : Result Bool E) (next : Row) : Type 0 where
+  pub tells : (w : World) → Audits old w → IsInTurn w next
+      → IfOk result (λ kept. IsTrue kept ↔ (IsNew w next × WellKept (with_row w next)))
+  pub ok : (w : World) → Audits old w → IsInTurn w next → IsNew w next
+      → OnOk result (Audits new (with_row w next))
+  pub says : IfOk result (λ kept. kept ≡ is_well_kept new)
+  pub stays : IsTrue (is_well_kept new) → IsTrue (is_well_kept old)
+  pub err : (w : World) → Audits old w → OnErr result (Audits new w)

@@ -1,0 +1,5 @@
+pub mod Rows
+pub mod Blocks
+pub mod Requests
+pub mod Audits
+pub mod Laws

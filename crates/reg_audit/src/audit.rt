@@ -1,0 +1,178 @@
+//! The audit of an office's rows.
+ghost use Rattle.std.specs.Prelude.{◌≡◌, ◌↔◌, IsTrue, OnOk, OnErr};
+ghost use Rattle.std.specs.BTreeMap.{get};
+ghost use Rattle.reg_core.specs.WellKept.{WellKept};
+ghost use Rattle.reg_core.specs.World.{World, empty_world, seat_cmp};
+ghost use Rattle.reg_audit.specs.Rows.{with_row, seat_of, IsNew, IsInTurn, Fits};
+
+use crate::blocks::{Holders, is_apart, leading_bits};
+use crate::maps::{add_key, set_row};
+use crate::requests::{Assignees, stands};
+use crate::row::Row;
+use crate::values::{Registries, is_open};
+use reg_blocks::pool::is_pool_prefix;
+use reg_core::text::{Account, Digest, Ref};
+use reg_ranges::formed::Formed;
+use std::alloc::{AllocError, Global};
+use std::collections::{BTreeMap, BTreeSet};
+
+/// Finds whether rows make a well kept office, as they are read one by one. Of each row it keeps
+/// only what later rows are judged by, and after a row that does not fit nothing more.
+///
+/// Registries come before entries, prefixes before blocks, entries and blocks before requests,
+/// requests before assignments, and these before advice.
+#[derive(Drop)]
+pub struct Audit {
+    caps: BTreeSet<Digest>,
+    registries: Registries,
+    assignees: Assignees,
+    prefixes: BTreeSet<u32>,
+    holders: Holders,
+    requests: BTreeSet<(Account, Ref)>,
+    // Whether the expert gave an advice.
+    assignments: BTreeMap<((Account, Ref), Account), bool>,
+    // Whether all rows were new and fitted.
+    well_kept: bool,
+}
+
+impl Audit {
+    ghost use Rattle.reg_audit.specs.Audits.{Audits, Feeds, Keeps, is_well_kept};
+
+    /// An audit that was fed no row. It takes no memory.
+    pub fn new(alloc: Global) -> Self
+        ensures { Audits result empty_world }
+    {
+        Audit {
+            caps: BTreeSet::new(alloc),
+            registries: BTreeMap::new(alloc),
+            assignees: BTreeMap::new(alloc),
+            prefixes: BTreeSet::new(alloc),
+            holders: BTreeMap::new(alloc),
+            requests: BTreeSet::new(alloc),
+            assignments: BTreeMap::new(alloc),
+            well_kept: true,
+        }
+    }
+
+    /// Feeds a row, and says whether all rows so far make a well kept office, of which no two have
+    /// one key. Only want of memory is an error.
+    pub fn feed(&mut self, row: Row) -> Result<bool, AllocError>
+        ensures { Feeds self.old self.new result row }
+    {
+        if !self.accepts(&row) {
+            self.well_kept = false;
+            return Ok(false);
+        }
+        self.keep(row)?;
+        Ok(true)
+    }
+
+    /// Whether all rows that were fed make a well kept office.
+    pub fn is_well_kept(&self) -> bool
+        ensures value { result ≡ is_well_kept self.now }
+        ensures world { (w : World) → Audits self.now w → IsTrue result ↔ WellKept w }
+    {
+        self.well_kept
+    }
+
+    // Whether the rows before make a well kept office, and do so with this one, which is new.
+    fn accepts(&self, row: &Row) -> bool
+        ensures so_far { IsTrue result → IsTrue self.now.well_kept }
+        ensures world { (w : World) → Audits self.now w → IsInTurn w row.now
+            → IsTrue result ↔ (IsNew w row.now × WellKept (with_row w row.now)) }
+    {
+        row.formed();
+        self.well_kept && self.admits(row)
+    }
+
+    // Whether a row is new and fits those that are kept.
+    fn admits(&self, row: &Row) -> bool
+        ensures { (w : World) → Keeps self.now w → WellKept w
+            → IsTrue result ↔ (IsNew w row.now × Fits w row.now) }
+    {
+        self.is_new(row) && self.fits(row)
+    }
+
+    // Whether no row that is kept has the key of this one.
+    fn is_new(&self, row: &Row) -> bool
+        ensures { (w : World) → Keeps self.now w → WellKept w → IsTrue result ↔ IsNew w row.now }
+    {
+        match row {
+            Row::Cap(digest, _) => !self.caps.contains(digest),
+            Row::Registry(name, _) => !self.registries.contains_key(name),
+            Row::Entry(entry) => !self.assignees.contains_key(&(entry.registry, entry.value)),
+            Row::Prefix(prefix) => !self.prefixes.contains(prefix),
+            Row::Block(holding) => !self.holders.contains_key(&holding.block),
+            Row::Request(request) => !self
+                .requests
+                .contains(&(request.account, request.reference)),
+            Row::Assignment(account, reference, expert) => {
+                self.advised(account, reference, expert).is_none()
+            }
+            Row::Advice(account, reference, expert, _) => {
+                !self.advised(account, reference, expert).unwrap_or(false)
+            }
+        }
+    }
+
+    // Whether a row fits those that are kept.
+    fn fits(&self, row: &Row) -> bool
+        ensures { (w : World) → Keeps self.now w → WellKept w → IsTrue result ↔ Fits w row.now }
+    {
+        match row {
+            Row::Cap(_, _) | Row::Registry(_, _) => true,
+            Row::Entry(entry) => is_open(&self.registries, &entry.registry, entry.value),
+            Row::Prefix(prefix) => is_pool_prefix(*prefix),
+            Row::Block(holding) => {
+                self.prefixes.contains(&leading_bits(&holding.block))
+                    && is_apart(&self.holders, &holding.block)
+            }
+            Row::Request(request) => stands(&self.assignees, &self.holders, request),
+            Row::Assignment(account, reference, expert) => {
+                expert != account && self.requests.contains(&(*account, *reference))
+            }
+            Row::Advice(account, reference, expert, _) => {
+                self.advised(account, reference, expert).is_some()
+            }
+        }
+    }
+
+    // Whether an expert gave an advice on a request, if it is assigned to the expert.
+    fn advised(&self, account: &Account, reference: &Ref, expert: &Account) -> Option<bool>
+        ensures { result
+            ≡ get seat_cmp self.now.assignments (seat_of account.now reference.now expert.now) }
+    {
+        self.assignments
+            .get(&((*account, *reference), *expert))
+            .copied()
+    }
+
+    // Keeps of a row that is in turn, and fits, what later rows are judged by.
+    fn keep(&mut self, row: Row) -> Result<(), AllocError>
+        ensures ok { OnOk result ((w : World) → Keeps self.old w → IsInTurn w row → Fits w row
+            → Keeps self.new (with_row w row)) }
+        ensures err { OnErr result ((w : World) → Keeps self.old w → Keeps self.new w) }
+        ensures same { self.new.well_kept ≡ self.old.well_kept }
+    {
+        match row {
+            Row::Cap(digest, _) => add_key(&mut self.caps, digest),
+            Row::Registry(name, table) => set_row(&mut self.registries, name, table),
+            Row::Entry(entry) => set_row(
+                &mut self.assignees,
+                (entry.registry, entry.value),
+                entry.assignee,
+            ),
+            Row::Prefix(prefix) => add_key(&mut self.prefixes, prefix),
+            Row::Block(holding) => set_row(&mut self.holders, holding.block, holding.holder),
+            Row::Request(request) => {
+                add_key(&mut self.requests, (request.account, request.reference))
+            }
+            Row::Assignment(account, reference, expert) => {
+                set_row(&mut self.assignments, ((account, reference), expert), false)
+            }
+            Row::Advice(account, reference, expert, _) => {
+                set_row(&mut self.assignments, ((account, reference), expert), true)
+            }
+        }
+    }
+}

@@ -1,0 +1,10 @@
+//! Whether rows make a well kept office, found as they are read.
+#![tactic(auto)]
+
+pub mod audit;
+mod blocks;
+pub mod laws;
+mod maps;
+mod requests;
+pub mod row;
+mod values;

@@ -1,0 +1,105 @@
+//! The rows of an office.
+ghost use Rattle.std.specs.Prelude.{◌≡◌, true};
+ghost use Rattle.reg_core.specs.Entry.{registration_in};
+ghost use Rattle.reg_core.specs.Holding.{holder_in};
+ghost use Rattle.reg_core.specs.MayBeGiven.{place_of};
+ghost use Rattle.reg_core.specs.Request.{case_of};
+ghost use Rattle.reg_core.specs.WellKept.{has_entry_form, has_holding_form, has_request_form};
+ghost use Rattle.reg_audit.specs.Rows.{name_of};
+
+use reg_core::advice::Advice;
+use reg_core::capability::Cap;
+use reg_core::entry::Entry;
+use reg_core::holding::Holding;
+use reg_core::request::Request;
+use reg_core::text::{Account, Digest, Name, Ref};
+use reg_ranges::formed::Formed;
+use reg_ranges::table::RangeTable;
+
+/// A row of an office.
+#[derive(Drop)]
+pub enum Row {
+    /// A capability, at the digest of its token.
+    Cap(Digest, Cap),
+    /// The ranges of a registry, at its name.
+    Registry(Name, RangeTable),
+    /// An entry of a registry.
+    Entry(Entry),
+    /// A prefix of the pool.
+    Prefix(u32),
+    /// A block that was given, with its holder.
+    Block(Holding),
+    /// A request.
+    Request(Request),
+    /// An expert to whom a request is assigned: the request's account and reference, the expert.
+    Assignment(Account, Ref, Account),
+    /// What an expert says of a request: the request's account and reference, the expert, the
+    /// advice.
+    Advice(Account, Ref, Account, Advice),
+}
+
+impl Formed for Row {
+    ghost use Rattle.reg_audit.specs.Rows.{has_row_form};
+
+    ghost has_form = { has_row_form };
+
+    #[tactic(auto, using(std::proofs::lemmas::Bool::Decides::nat_tests))]
+    fn formed(&self) {
+        match self {
+            Row::Cap(digest, cap) => {
+                digest.formed();
+                cap.formed();
+            }
+            Row::Registry(name, table) => {
+                name.formed();
+                table.formed();
+            }
+            Row::Entry(entry) => entry_formed(entry),
+            Row::Prefix(prefix) => {
+                let _prefix = *prefix;
+            }
+            Row::Block(holding) => holding_formed(holding),
+            Row::Request(request) => request_formed(request),
+            Row::Assignment(account, reference, expert) => {
+                account.formed();
+                reference.formed();
+                expert.formed();
+            }
+            Row::Advice(account, reference, expert, advice) => {
+                account.formed();
+                reference.formed();
+                expert.formed();
+                advice.formed();
+            }
+        }
+    }
+}
+
+#[tactic(auto, using(std::proofs::lemmas::Bool::Decides::nat_tests))]
+fn entry_formed(entry: &Entry)
+    ensures { has_entry_form (place_of entry.now) (registration_in entry.now) ≡ true }
+{
+    entry.registry.formed();
+    let _value = entry.value;
+    entry.label.formed();
+    entry.assignee.formed();
+    entry.term.formed();
+}
+
+fn holding_formed(holding: &Holding)
+    ensures { has_holding_form holding.now.block (holder_in holding.now) ≡ true }
+{
+    let _prefix = holding.block.prefix();
+    holding.holder.formed();
+    holding.organization.formed();
+    holding.address.formed();
+}
+
+fn request_formed(request: &Request)
+    ensures { has_request_form (name_of request.now) (case_of request.now) ≡ true }
+{
+    request.account.formed();
+    request.reference.formed();
+    request.ask.formed();
+    request.state.formed();
+}
