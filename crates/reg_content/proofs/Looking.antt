@@ -1,0 +1,45 @@
+-- A call that only looks at the tables leaves an office's rows.
+use Rattle.std.proofs.Common.{◌≡◌, sym, subst, refl, Option, Some, None, option_to_list, slice_get, ap, Ok}
+use Rattle.std.specs.Prelude.{Result, IfOk}
+use Rattle.sqlite.specs.State.{State}
+use Rattle.reg_core.specs.World.{World}
+use Rattle.reg_tables.specs.Connection.{Endures, Holds, IsIdle, Stays}
+use Rattle.reg_content.specs.Calls.{IsKeeping, Looks}
+use Rattle.reg_tables.proofs.Enduring.{endures_then}
+use Rattle.reg_tables.proofs.RestLemmas.{stays_then}
+use Rattle.reg_content.specs.Content.{IsStored, content_of, world_in}
+
+pub keeps_on : (old new : State) → IsKeeping old → IsIdle new → Stays old new → IsKeeping new
+keeps_on old new keeping idle stays = record {
+  idle = idle;
+  stored = λ h. subst IsStored (sym (stays.same h)) (keeping.stored (stays.held h));
+}
+
+pub looks : {T E : Type 0} {old new : State} {result : Result T E} {Gives : World → T → Type 0}
+    → IsKeeping old → IsIdle new → Endures old new → Stays old new
+    → (Holds new → IfOk result (Gives (world_in old))) → Looks old new result Gives
+looks {old = old} {new = new} keeping idle endures stays value = record {
+  keeping = keeps_on old new keeping idle stays;
+  endures = endures;
+  stays = stays;
+  value = value;
+}
+
+pub first_of : {T : Type 0} (o : Option T) → slice_get (option_to_list o) 0 ≡ o
+first_of None = refl
+first_of (Some x) = refl
+
+-- two calls that look, one after the other, look as one
+pub looks_then : {T U V E : Type 0} {a b c : State} {x : T} {y : U} {z : V}
+    {F : World → T → Type 0} {G : World → U → Type 0} {H : World → V → Type 0}
+    → Looks {E = E} a b (Ok x) F → Looks {E = E} b c (Ok y) G
+    → ((w : World) → F w x → G w y → H w z) → Looks {E = E} a c (Ok z) H
+looks_then {a = a} {b = b} {c = c} {y = y} {G = G} first second joins = record {
+  keeping = second.keeping;
+  endures = endures_then a b c first.endures second.endures;
+  stays = stays_then a b c first.stays second.stays;
+  value = λ h.
+      let held = second.stays.held h in
+      let same : world_in b ≡ world_in a = ap content_of (first.stays.same held) in
+      joins (world_in a) (first.value held) (subst (λ w. G w y) same (second.value h));
+}

@@ -1,0 +1,154 @@
+-- The rows of one registry more, and of one range more.
+use Rattle.std.proofs.Common.{◌≡◌, ℕ, ◌<◌, List, [], ◌∷◌, true, false, cond, pos, Some, None}
+use Rattle.std.proofs.Common.{Option, IsSome, option_map, filter_map, refl, sym, ap, subst}
+use Rattle.std.proofs.Common.{◌∙◌}
+use Rattle.std.specs.FinMap.{FinMap, get, insert, find, get-from_entries}
+use Rattle.std.specs.List.{AllByRecursion, cons_option}
+use Rattle.std.specs.Ordering.{eq_by_cmp}
+use Rattle.sqlite.specs.Cast.{cast_all}
+use Rattle.sqlite.specs.Effect.{Database}
+use Rattle.sqlite.specs.Order.{Row}
+use Rattle.reg_ranges.specs.declared.range.Range.{Range}
+use Rattle.reg_core.specs.Maps.{text_cmp, update}
+use Rattle.reg_core.specs.World.{Place, place_cmp}
+use Rattle.reg_core.proofs.MapLaws.{get-at_insert, place_keys, text_keys, tied}
+use Rattle.reg_records.specs.Ranges.{is_registry_range, range_in, range_values}
+use Rattle.reg_records.specs.Registries.{is_registry, registry_values}
+use Rattle.reg_records.specs.declared.ranges.RegistryRange.{RegistryRange}
+use Rattle.reg_records.specs.declared.registries.Registry.{Registry}
+use Rattle.reg_records.proofs.RangeLaws.{range_back}
+use Rattle.reg_records.proofs.RegistryLaws.{registry_back}
+use Rattle.reg_tables.specs.Editing.{IsOffice}
+use Rattle.reg_tables.specs.Inserting.{AddedRow}
+use Rattle.reg_tables.specs.Schema.{ranges_table, registries_table}
+use Rattle.reg_tables.specs.Selecting.{stored}
+use Rattle.reg_tables.proofs.InsertLemmas.{cast_int}
+use Rattle.reg_content.specs.Content.{IsStored, content_of, max_at, maxes_in, range_at, ranges_in}
+use Rattle.reg_content.specs.Content.{registry_table}
+use Rattle.reg_content.specs.Registries.{CanFollow, with_range}
+use Rattle.reg_content.specs.RowMaps.{held_in}
+use Rattle.reg_content.specs.Tables.{tables_in}
+use Rattle.reg_content.proofs.RegistryRows.{ranges-at, registry-at}
+use Rattle.reg_content.proofs.RegistryRowsMaps.{AreAtFirst, place_free, range_more, registry_more}
+use Rattle.reg_content.proofs.RegistryRowsTurning.{ranges_turn, registries_turn}
+use Rattle.reg_content.proofs.RowMaps.Tables.{added}
+
+-- what is written for a registry is stored as it is
+pub registry_cast : (r : Registry)
+    → cast_all registries_table.columns (registry_values r) ≡ registry_values r
+registry_cast r = rw (cast_int (pos r.max)) refl
+
+pub range_cast : (r : RegistryRange)
+    → cast_all ranges_table.columns (range_values r) ≡ range_values r
+range_cast r = rw (cast_int (pos r.range.lo), cast_int (pos r.range.hi)) refl
+
+no_more : {X Y : Type 0} (f : X → Y) (r : Option X) → option_map f r ≡ None → r ≡ None
+no_more f None none = refl
+no_more f (Some x) none = absurd (cc)
+
+some_of : {X Y : Type 0} (f : X → Y) (r : Option X) (y : Y) → option_map f r ≡ Some y → IsSome r
+some_of f None y is = absurd (cc)
+some_of f (Some x) y is = refl
+
+-- what was there is there after one more
+still_there : (largest : FinMap text_cmp ℕ) (name : List ℕ) (max : ℕ) (q : List ℕ)
+    → IsSome (get largest q) → IsSome (get (insert largest name max) q)
+still_there largest name max q there =
+    subst IsSome (sym (get-at_insert text_keys largest name max q))
+    (elim (eq_by_cmp text_cmp q name) as (λ b. IsSome (cond b (Some max) (get largest q)))
+    [ true ↦ refl | false ↦ there ])
+
+pub registry_added : (old new : Database) (r : Registry) → is_registry r ≡ true → IsStored old
+    → get (content_of old).registries r.name ≡ None → IsOffice new
+    → AddedRow registries_table.tree (registry_values r) old new
+    → IsStored new × (content_of new ≡ record (content_of old) {
+      registries = insert (content_of old).registries r.name
+          (record { max = r.max; ranges = [] });
+    })
+unfolding max_at
+registry_added old new r form was none office row =
+    let reads : max_at (row.id ∷ registry_values r) ≡ Some (r.name, r.max) =
+    ap (option_map (λ r. (r.name, r.max))) (registry_back r form) in
+    let largest = maxes_in (tables_in old.trees) in
+    let m = ranges_in (tables_in old.trees) in
+    let absent : get largest r.name ≡ None =
+    no_more (registry_table m r.name) (get largest r.name)
+    (sym (registry-at largest m r.name) ∙ none) in
+    let turned = registries_turn old new was office (insert largest r.name r.max) row.others
+    (added text_keys was.kept.registries reads absent row.rows)
+    (still_there largest r.name r.max) in (
+      turned.0,
+      turned.1 ∙ ap (λ registries. record (content_of old) { registries = registries })
+          (registry_more largest m r.name r.max absent was.kept.owned),
+    )
+
+-- ---- Ranges
+
+first_found : (place : Place) (x : Range) (rows : List Row)
+    → find place_cmp place (filter_map range_at rows) ≡ Some x → place.1 ≡ x.lo
+unfolding range_at
+first_found place x [] is = absurd (cc)
+first_found place x (row ∷ rows) is =
+    elim (range_in (stored 5 row)) as (λ o. find place_cmp place
+    (cons_option (option_map (λ r. ((r.registry, r.range.lo), r.range)) o)
+    (filter_map range_at rows)) ≡ Some x → place.1 ≡ x.lo) [
+      | None ↦ λ is. first_found place x rows is
+      | Some r ↦ λ is.
+          elim (eq_by_cmp place_cmp place (r.registry, r.range.lo)) as
+          (λ b. eq_by_cmp place_cmp place (r.registry, r.range.lo) ≡ b
+          → cond b (Some r.range) (find place_cmp place (filter_map range_at rows)) ≡ Some x
+          → place.1 ≡ x.lo) [
+            | true ↦ λ t is.
+                let same : r.range ≡ x = cc in
+                ap (λ (p : Place). p.1) (tied place_keys place (r.registry, r.range.lo) t)
+                ∙ ap (λ (x : Range). x.lo) same
+            | false ↦ λ t is. first_found place x rows is
+          ] refl is
+    ] is
+
+-- a range is kept at its first value
+at_first : (rows : List Row) → AreAtFirst (held_in range_at rows)
+at_first rows place x is =
+    first_found place x rows
+    (sym (get-from_entries place_keys.total (filter_map range_at rows) place) ∙ is)
+
+pub range_added : (old new : Database) (r : RegistryRange) → is_registry_range r ≡ true
+    → IsStored old → CanFollow (content_of old).registries r.registry r.range → IsOffice new
+    → AddedRow ranges_table.tree (range_values r) old new
+    → IsStored new × (content_of new ≡ record (content_of old) {
+      registries = update (content_of old).registries r.registry (with_range r.range);
+    })
+unfolding range_at
+range_added old new r form was follows office row =
+    let place : Place = (r.registry, r.range.lo) in
+    let reads : range_at (row.id ∷ range_values r) ≡ Some (place, r.range) =
+    ap (option_map (λ r. ((r.registry, r.range.lo), r.range))) (range_back r form) in
+    let largest = maxes_in (tables_in old.trees) in
+    let m = ranges_in (tables_in old.trees) in
+    let first = at_first (old.trees ranges_table.tree) in
+    let low = subst (λ rs. AllByRecursion (λ x. x.lo < r.range.lo) rs)
+    (sym (ranges-at largest m r.registry follows.0 follows.1)) follows.2 in
+    let free = place_free m r.registry r.range first low in
+    let there : IsSome (get largest r.registry) =
+    some_of (registry_table m r.registry) (get largest r.registry) follows.0
+    (sym (registry-at largest m r.registry) ∙ follows.1) in
+    let turned = ranges_turn old new was office (insert m place r.range) row.others
+    (added place_keys was.kept.ranges reads free row.rows)
+    (owned m largest place r.range there was.kept.owned) in (
+      turned.0,
+      turned.1 ∙ ap (λ registries. record (content_of old) { registries = registries })
+          (range_more m r.registry r.range first low largest),
+    )
+  where
+    owned : (m : FinMap place_cmp Range) (largest : FinMap text_cmp ℕ) (place : Place) (x : Range)
+        → IsSome (get largest place.0)
+        → ((p : Place) → IsSome (get m p) → IsSome (get largest p.0))
+        → (p : Place) → IsSome (get (insert m place x) p) → IsSome (get largest p.0)
+    owned m largest place x there all p is =
+        elim (eq_by_cmp place_cmp p place) as (λ b. eq_by_cmp place_cmp p place ≡ b
+        → IsSome (cond b (Some x) (get m p)) → IsSome (get largest p.0)) [
+          | true ↦ λ t is.
+              subst (λ (p : Place). IsSome (get largest p.0)) (sym (tied place_keys p place t))
+              there
+          | false ↦ λ t is. all p is
+        ] refl (subst IsSome (get-at_insert place_keys m place x p) is)

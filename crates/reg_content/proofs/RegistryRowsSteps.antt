@@ -1,0 +1,109 @@
+-- Writes inside a transaction, one after the other, and the ranges that are written so.
+use Rattle.std.proofs.Common.{◌≡◌, ℕ, zero, suc, ◌+◌, ◌<◌, ◌≤◌, List, [], ◌∷◌, ◌++◌, length, map}
+use Rattle.std.proofs.Common.{take, get_or, true, false, cond, Some, Ok}
+use Rattle.std.proofs.Common.{option_map, refl, sym, ap, subst, ◌∙◌, arith}
+use Rattle.std.specs.FinMap.{FinMap, get, insert}
+use Rattle.std.specs.List.{AllByRecursion}
+use Rattle.std.specs.Ordering.{eq_by_cmp}
+use Rattle.std.proofs.lemmas.List.{take_more}
+use Rattle.sqlite.specs.State.{State}
+use Rattle.reg_ranges.specs.Tables.{IsPartition, Table}
+use Rattle.reg_ranges.specs.declared.range.Range.{Range}
+use Rattle.reg_ranges.proofs.Increasing.{Rises, rises_any}
+use Rattle.reg_core.specs.Maps.{replaced, text_cmp, update}
+use Rattle.reg_core.specs.World.{World}
+use Rattle.reg_core.proofs.MapLaws.{get-at_insert, get-inserted, same_at, text_keys}
+use Rattle.reg_tables.proofs.Enduring.{endures_then}
+use Rattle.reg_content.specs.Calls.{Steps}
+use Rattle.reg_content.specs.Registries.{CanFollow, with_range}
+
+-- ---- Two writes
+
+module _ {T U E : Type 0} {a b c : State} {x : T} {F G : World → Type 0} {f g : World → World}
+    (first : Steps {T = T} {E = E} a b (Ok x) F f) where
+  -- the second fits what the first leaves, and the two together make one change
+  pub steps_then : {h : World → World} (y : U) → Steps {T = U} {E = E} b c (Ok y) G g
+      → ((w : World) → F w → G (f w) × (g (f w) ≡ h w)) → Steps {T = U} {E = E} a c (Ok y) F h
+  steps_then y second joins = record {
+    endures = endures_then a b c first.endures second.endures;
+    kept = λ clean.
+        let one = first.kept (second.endures.clean clean) in
+        let two = second.kept clean in
+        record {
+          was_open = λ is_open. one.was_open (two.was_open is_open);
+          committed = λ is_open. two.committed is_open ∙ one.committed (two.was_open is_open);
+        };
+    went = λ clean.
+        let one = first.went (second.endures.clean clean) in
+        let two = second.went clean in
+        record {
+          was_open = one.was_open;
+          is_open = two.is_open;
+          committed = two.committed ∙ one.committed;
+          live = two.live;
+        };
+    turns = λ clean stored fits.
+        let one = first.turns (second.endures.clean clean) stored fits in
+        let both = joins _ fits in
+        let two = second.turns clean one.0 (subst G (sym one.1) both.0) in
+        (two.0, two.1 ∙ ap g one.1 ∙ both.1);
+  }
+
+-- ---- The ranges of a table
+
+reaches : (low : ℕ) (rs : List Range) (i : ℕ) (d : Range) → i < length rs
+    → Rises low (map (λ r. r.lo) rs) → low ≤ (get_or rs i d).lo
+reaches low [] i d inside up = absurd (omega (arith, inside))
+reaches low (r ∷ rs) zero d inside up = up.0
+reaches low (r ∷ rs) (suc i) d inside up =
+    let rest = reaches (r.lo + 1) rs i d (omega (arith, inside)) up.1 in
+    omega (arith, rest, up.0)
+
+-- of ranges in order each begins above those before it
+begin_below : (low : ℕ) (rs : List Range) (i : ℕ) (d : Range) → i < length rs
+    → Rises low (map (λ r. r.lo) rs)
+    → AllByRecursion (λ r. r.lo < (get_or rs i d).lo) (take i rs)
+begin_below low [] i d inside up = absurd (omega (arith, inside))
+begin_below low (r ∷ rs) zero d inside up = tt
+begin_below low (r ∷ rs) (suc i) d inside up =
+    let rest = reaches (r.lo + 1) rs i d (omega (arith, inside)) up.1 in
+    (omega (arith, rest), begin_below (r.lo + 1) rs i d (omega (arith, inside)) up.1)
+
+abbrev pub table_of : ℕ → List Range → Table
+table_of max ranges = record { max = max; ranges = ranges }
+
+module _ (m : FinMap text_cmp Table) (name : List ℕ) where
+  twice : (t u : Table) → insert (insert m name t) name u ≡ insert m name u
+  twice t u = same_at text_keys _ _ (λ q.
+      get-at_insert text_keys (insert m name t) name u q
+      ∙ elim (eq_by_cmp text_cmp q name) as (λ b. eq_by_cmp text_cmp q name ≡ b
+      → cond b (Some u) (get (insert m name t) q) ≡ cond b (Some u) (get m q)) [
+        | true ↦ λ e. refl
+        | false ↦ λ e. get-at_insert text_keys m name t q ∙ ap (λ b. cond b (Some t) (get m q)) e
+      ] refl
+      ∙ sym (get-at_insert text_keys m name u q))
+
+  -- a registry with the first ranges of a table gets the next one
+  pub next_range : (table : Table) (i : ℕ) (r : Range) → i < length table.ranges
+      → r ≡ get_or table.ranges i r → IsPartition table
+      → CanFollow (insert m name (table_of table.max (take i table.ranges))) name r
+      × (update (insert m name (table_of table.max (take i table.ranges))) name (with_range r)
+      ≡ insert m name (table_of table.max (take (i + 1) table.ranges)))
+  next_range table i r inside here partition =
+      let some = table_of table.max (take i table.ranges) in
+      let there = get-inserted text_keys m name some in
+      let low = begin_below 0 table.ranges i r inside
+      (rises_any (map (λ r. r.lo) table.ranges) partition.ascending) in (
+        (
+          some,
+          there,
+          subst (λ (next : Range). AllByRecursion (λ r. r.lo < next.lo) (take i table.ranges))
+              (sym here) low,
+        ),
+        ap (λ o. replaced (insert m name some) name (option_map (with_range r) o)) there
+            ∙ twice some (with_range r some)
+            ∙ ap (λ (next : Range). insert m name
+            (table_of table.max (take i table.ranges ++ next ∷ []))) here
+            ∙ ap (λ rs. insert m name (table_of table.max rs))
+            (sym (take_more table.ranges i r inside)),
+      )

@@ -1,0 +1,17 @@
+use Rattle.sqlite.specs.Held.{state}
+use Rattle.reg_content.proofs.RequestRowsStated.{request_stated}
+use Rattle.reg_content.proofs.requests.set_state.Goals as goal
+
+pub returns-clause-steps : goal.returns-clause-steps
+returns-clause-steps g c =
+    let old = state g.S.Store c.args.tx.now.conn.now in
+    let new = state g.S.Store c.write.new.tx.conn.now in
+    record {
+      endures = c.write.ensures.endures;
+      kept = c.write.ensures.kept;
+      went = c.in_ok-write.ensures.went;
+      turns = λ clean.
+          let ran = rw c.named_state.ensures at c.in_ok-write.ensures.ran clean in
+          request_stated c.args.account.now c.args.reference.now c.args.state.now c.formed.ensures
+          old new c.in_ok-write.field-0 ran;
+    }

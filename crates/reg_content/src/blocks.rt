@@ -1,0 +1,175 @@
+//! Blocks that were given, in their table.
+ghost use Rattle.std.specs.Prelude.{◌≡◌, ◌&&◌, true, None, IfOk, IsSome, map};
+ghost use Rattle.std.specs.Prelude.{option_and_then, option_map};
+ghost use Rattle.std.specs.FinMap.{get, insert};
+ghost use Rattle.std.specs.Ordering.{eq_by_cmp};
+ghost use Rattle.sqlite.specs.Held.{state};
+ghost use Rattle.reg_blocks.specs.Block.{Clash, SizedPrefix, block_cmp};
+ghost use Rattle.reg_core.specs.Holding.{holder_in, holding_row, holding_rows, with_mark};
+ghost use Rattle.reg_core.specs.Holding.{listed_row, listed_rows, masked, masked_blocks};
+ghost use Rattle.reg_core.specs.Maps.{only_if, same_text, update};
+ghost use Rattle.reg_core.specs.View.{holdings_of};
+ghost use Rattle.reg_core.specs.World.{World};
+ghost use Rattle.reg_records.specs.Blocks.{is_holding};
+ghost use Rattle.reg_content.specs.Calls.{IsKeeping, Looks, Steps};
+
+use crate::select::{all, one};
+use crate::write::write;
+use reg_blocks::block::Block;
+use reg_core::holding::{Holding, Listed};
+use reg_core::rows::Rows;
+use reg_core::text::Account;
+use reg_keeper::keeper::Fault;
+use reg_ranges::formed::Formed;
+use reg_records::blocks::holding_values;
+use reg_records::column::{flag_value, name_value, whole_value};
+use sqlite::{Alter, Connection, Transaction};
+use std::alloc::{AllocError, Global};
+
+/// All blocks that were given, in order, as the public sees them.
+pub fn blocks<S: Alter>(alloc: Global, conn: &mut Connection<S>) -> Result<Rows<Listed>, Fault>
+    requires { IsKeeping (state S.Store conn.old) }
+    ensures { Looks (state S.Store conn.old) (state S.Store conn.new) result
+        (λ w rows. rows ≡ listed_rows (masked_blocks w.blocks)) }
+{
+    let holdings = all::<S, Holding>(
+        alloc,
+        conn,
+        "SELECT first, size, holder, organization, address, private FROM blocks ORDER BY first",
+        &[],
+    )?;
+    Ok(listed_all(alloc, holdings)?)
+}
+
+/// All blocks of an account, in order.
+pub fn holdings<S: Alter>(
+    alloc: Global,
+    conn: &mut Connection<S>,
+    account: &Account,
+) -> Result<Rows<Holding>, Fault>
+    requires { IsKeeping (state S.Store conn.old) }
+    ensures { Looks (state S.Store conn.old) (state S.Store conn.new) result
+        (λ w rows. rows ≡ holding_rows (holdings_of account.now w)) }
+{
+    let holdings = all::<S, Holding>(
+        alloc,
+        conn,
+        "SELECT first, size, holder, organization, address, private FROM blocks \
+         WHERE holder = ?1 ORDER BY first",
+        &[name_value(account)],
+    )?;
+    Ok(Rows::from_vec(holdings))
+}
+
+/// A block, if it is one of an account's.
+pub fn holding<S: Alter>(
+    alloc: Global,
+    conn: &mut Connection<S>,
+    account: &Account,
+    block: &Block,
+) -> Result<Option<Holding>, Fault>
+    requires { IsKeeping (state S.Store conn.old) }
+    ensures { Looks (state S.Store conn.old) (state S.Store conn.new) result
+        (λ w row. row ≡ option_map (holding_row block.now)
+        (get (holdings_of account.now w) block.now)) }
+{
+    let found = one::<S, Holding>(
+        alloc,
+        conn,
+        "SELECT first, size, holder, organization, address, private FROM blocks \
+         WHERE first = ?1",
+        &[whole_value(block.first())],
+    )?;
+    Ok(if_of(found, account, block))
+}
+
+/// Adds a block that was not given yet.
+pub fn add_block<S: Alter>(tx: &mut Transaction<'_, S>, holding: &Holding) -> Result<(), Fault>
+    ensures same_reference { tx.new.conn.ghost_name ≡ tx.old.conn.ghost_name }
+    ensures steps { Steps (state S.Store tx.old.conn.now) (state S.Store tx.new.conn.now) result
+        (λ (w : World). get w.blocks holding.now.block ≡ None)
+        (λ (w : World). record w {
+          blocks = insert w.blocks holding.now.block (holder_in holding.now);
+        }) }
+{
+    formed(holding);
+    write(
+        tx,
+        "INSERT INTO blocks (first, size, holder, organization, address, private) \
+         VALUES (?1, ?2, ?3, ?4, ?5, ?6)",
+        &holding_values(holding),
+    )?;
+    Ok(())
+}
+
+/// Marks a block that was given as private or not. No other block shares an address with it.
+pub fn set_mark<S: Alter>(
+    tx: &mut Transaction<'_, S>,
+    block: &Block,
+    private: bool,
+) -> Result<(), Fault>
+    ensures same_reference { tx.new.conn.ghost_name ≡ tx.old.conn.ghost_name }
+    ensures steps { Steps (state S.Store tx.old.conn.now) (state S.Store tx.new.conn.now) result
+        (λ (w : World). IsSome (get w.blocks block.now)
+        × ((other : SizedPrefix) → IsSome (get w.blocks other) → Clash other block.now
+        → other ≡ block.now))
+        (λ (w : World). record w { blocks = update w.blocks block.now (with_mark private) }) }
+{
+    write(
+        tx,
+        "UPDATE blocks SET private = ?2 WHERE first = ?1",
+        &[whole_value(block.first()), flag_value(private)],
+    )?;
+    Ok(())
+}
+
+/// Does nothing: the parts of a holding have their forms.
+fn formed(holding: &Holding)
+    ensures { is_holding holding.now ≡ true }
+{
+    let _prefix = holding.block.prefix();
+    holding.holder.formed();
+    holding.organization.formed();
+    holding.address.formed();
+}
+
+/// The holding, if it is of this block and one of this account's.
+fn if_of(found: Option<Holding>, account: &Account, block: &Block) -> Option<Holding>
+    ensures { result ≡ option_and_then (λ h. only_if
+        (eq_by_cmp block_cmp block.now h.block && same_text h.holder account.now) h) found }
+{
+    match found {
+        Some(holding) if block.cmp(&holding.block).is_eq() && holding.holder == *account => {
+            Some(holding)
+        }
+        _ => None,
+    }
+}
+
+/// The holdings, as the public sees them.
+fn listed_all(alloc: Global, holdings: Vec<Holding>) -> Result<Rows<Listed>, AllocError>
+    ensures { IfOk result (λ rows. rows
+        ≡ map (λ h. listed_row h.block (masked (holder_in h))) holdings.items) }
+{
+    let rows: Vec<Listed> = holdings.into_iter().map(listed).collect(alloc)?;
+    Ok(Rows::from_vec(rows))
+}
+
+/// The holding, as the public sees it.
+fn listed(holding: Holding) -> Listed
+    ensures { result ≡ listed_row holding.block (masked (holder_in holding)) }
+{
+    let block = holding.block;
+    if holding.private {
+        return Listed {
+            block,
+            organization: None,
+            address: None,
+        };
+    }
+    Listed {
+        block,
+        organization: Some(holding.organization),
+        address: Some(holding.address),
+    }
+}

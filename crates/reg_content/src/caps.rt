@@ -1,0 +1,75 @@
+//! Capabilities in their table.
+ghost use Rattle.std.specs.Prelude.{◌≡◌, None};
+ghost use Rattle.std.specs.FinMap.{get, insert, remove};
+ghost use Rattle.sqlite.specs.Held.{state};
+ghost use Rattle.reg_core.specs.World.{World};
+ghost use Rattle.reg_content.specs.Calls.{IsKeeping, Looks, Steps};
+
+use crate::select::one;
+use crate::write::write;
+use reg_core::capability::Cap;
+use reg_core::text::Digest;
+use reg_keeper::keeper::Fault;
+use reg_ranges::formed::Formed;
+use reg_records::caps::Grant;
+use reg_records::column::name_value;
+use sqlite::{Alter, Connection, Transaction};
+use std::alloc::Global;
+
+/// The capability at a digest.
+pub fn cap<S: Alter>(
+    alloc: Global,
+    conn: &mut Connection<S>,
+    digest: &Digest,
+) -> Result<Option<Cap>, Fault>
+    requires { IsKeeping (state S.Store conn.old) }
+    ensures { Looks (state S.Store conn.old) (state S.Store conn.new) result
+        (λ w cap. cap ≡ get w.caps digest.now) }
+{
+    let grant = one::<S, Grant>(
+        alloc,
+        conn,
+        "SELECT digest, account, kind, until FROM caps WHERE digest = ?1",
+        &[name_value(digest)],
+    )?;
+    Ok(grant.map(|grant| grant.cap))
+}
+
+/// Adds a capability at a digest that has none.
+pub fn add_cap<S: Alter>(
+    tx: &mut Transaction<'_, S>,
+    digest: &Digest,
+    cap: &Cap,
+) -> Result<(), Fault>
+    ensures same_reference { tx.new.conn.ghost_name ≡ tx.old.conn.ghost_name }
+    ensures steps { Steps (state S.Store tx.old.conn.now) (state S.Store tx.new.conn.now) result
+        (λ (w : World). get w.caps digest.now ≡ None)
+        (λ (w : World). record w { caps = insert w.caps digest.now cap.now }) }
+{
+    let grant = Grant {
+        digest: *digest,
+        cap: *cap,
+    };
+    grant.formed();
+    write(
+        tx,
+        "INSERT INTO caps (digest, account, kind, until) VALUES (?1, ?2, ?3, ?4)",
+        &grant.values(),
+    )?;
+    Ok(())
+}
+
+/// Takes the capability at a digest away, if there is one.
+pub fn take_cap<S: Alter>(tx: &mut Transaction<'_, S>, digest: &Digest) -> Result<(), Fault>
+    ensures same_reference { tx.new.conn.ghost_name ≡ tx.old.conn.ghost_name }
+    ensures steps { Steps (state S.Store tx.old.conn.now) (state S.Store tx.new.conn.now) result
+        (λ (w : World). Unit {0})
+        (λ (w : World). record w { caps = remove w.caps digest.now }) }
+{
+    write(
+        tx,
+        "DELETE FROM caps WHERE digest = ?1",
+        &[name_value(digest)],
+    )?;
+    Ok(())
+}

@@ -1,0 +1,155 @@
+//! Entries in their table.
+ghost use Rattle.std.specs.Prelude.{◌≡◌, true, None, IfOk, IsSome, IsTrue, map, option_map};
+ghost use Rattle.std.specs.FinMap.{get, insert};
+ghost use Rattle.std.specs.List.Sorted.{IsStrictlyIncreasing};
+ghost use Rattle.sqlite.specs.Held.{state};
+ghost use Rattle.reg_core.specs.Entry.{entry_row, registration_in};
+ghost use Rattle.reg_core.specs.Page.{entry_rows};
+ghost use Rattle.reg_core.specs.View.{entries_of};
+ghost use Rattle.reg_core.specs.World.{World, place_cmp};
+ghost use Rattle.reg_records.specs.Entries.{is_entry};
+ghost use Rattle.reg_tables.specs.Connection.{Endures, Holds, IsIdle, Stays};
+ghost use Rattle.reg_tables.specs.Schema.{entries_table};
+ghost use Rattle.reg_content.specs.Calls.{IsKeeping, Looks, Steps};
+ghost use Rattle.reg_content.specs.Content.{registration_at};
+ghost use Rattle.reg_content.specs.RowMaps.{IsTable, held_in};
+
+use crate::select::{all, one};
+use crate::write::write;
+use reg_core::entry::Entry;
+use reg_core::rows::Rows;
+use reg_core::text::Name;
+use reg_keeper::keeper::Fault;
+use reg_ranges::formed::Formed;
+use reg_records::column::{name_value, number_value};
+use reg_records::entries::entry_values;
+use sqlite::{Alter, Connection, Transaction};
+use std::alloc::Global;
+
+/// The entry of a registry at a value.
+pub fn entry<S: Alter>(
+    alloc: Global,
+    conn: &mut Connection<S>,
+    registry: &Name,
+    value: u32,
+) -> Result<Option<Entry>, Fault>
+    requires { IsKeeping (state S.Store conn.old) }
+    ensures { Looks (state S.Store conn.old) (state S.Store conn.new) result
+        (λ w entry. entry ≡
+        option_map (entry_row registry.now value) (get w.entries (registry.now, value))) }
+{
+    one::<S, Entry>(
+        alloc,
+        conn,
+        "SELECT registry, value, label, assignee, first, expires, renewed FROM entries \
+         WHERE registry = ?1 AND value = ?2",
+        &[name_value(registry), number_value(value)],
+    )
+}
+
+/// All entries of a registry, by value. Their values ascend whatever the premise.
+pub fn entries<S: Alter>(
+    alloc: Global,
+    conn: &mut Connection<S>,
+    registry: &Name,
+) -> Result<Rows<Entry>, Fault>
+    requires { IsKeeping (state S.Store conn.old) }
+    ensures rows { Looks (state S.Store conn.old) (state S.Store conn.new) result
+        (λ w entries. entries ≡ entry_rows (entries_of registry.now w.entries)) }
+    ensures ascending { IfOk result
+        (λ entries. IsStrictlyIncreasing (map (λ e. e.value) entries)) }
+{
+    let rows = all::<S, Entry>(
+        alloc,
+        conn,
+        "SELECT registry, value, label, assignee, first, expires, renewed FROM entries \
+         WHERE registry = ?1 ORDER BY value",
+        &[name_value(registry)],
+    )?;
+    if values_ascend(rows.as_slice()) {
+        Ok(Rows::from_vec(rows))
+    } else {
+        Err(Fault::Store)
+    }
+}
+
+/// The entries of all registries, by registry and then by value. Where there is an answer, the
+/// rows of the table are these entries, no two at one place.
+pub fn all_entries<S: Alter>(alloc: Global, conn: &mut Connection<S>) -> Result<Vec<Entry>, Fault>
+    requires { IsIdle (state S.Store conn.old) }
+    ensures idle { IsIdle (state S.Store conn.new) }
+    ensures endures { Endures (state S.Store conn.old) (state S.Store conn.new) }
+    ensures stays { Stays (state S.Store conn.old) (state S.Store conn.new) }
+    ensures table { Holds (state S.Store conn.new) → IfOk result (λ rows.
+        IsTable place_cmp registration_at ((state S.Store conn.old).now.trees entries_table.tree)) }
+    ensures rows { Holds (state S.Store conn.new) → IfOk result (λ rows.
+        rows.items ≡ entry_rows (held_in registration_at
+        ((state S.Store conn.old).now.trees entries_table.tree))) }
+{
+    all(
+        alloc,
+        conn,
+        "SELECT registry, value, label, assignee, first, expires, renewed FROM entries \
+         ORDER BY registry, value",
+        &[],
+    )
+}
+
+/// Adds an entry at a value of a registry that has none.
+pub fn add_entry<S: Alter>(tx: &mut Transaction<'_, S>, entry: &Entry) -> Result<(), Fault>
+    ensures same_reference { tx.new.conn.ghost_name ≡ tx.old.conn.ghost_name }
+    ensures steps { Steps (state S.Store tx.old.conn.now) (state S.Store tx.new.conn.now) result
+        (λ (w : World). get w.entries (entry.now.registry, entry.now.value) ≡ None)
+        (λ (w : World). record w {
+          entries = insert w.entries (entry.now.registry, entry.now.value)
+              (registration_in entry.now);
+        }) }
+{
+    formed(entry);
+    write(
+        tx,
+        "INSERT INTO entries (registry, value, label, assignee, first, expires, renewed) \
+         VALUES (?1, ?2, ?3, ?4, ?5, ?6, ?7)",
+        &entry_values(entry),
+    )?;
+    Ok(())
+}
+
+/// Changes the entry at a value of a registry to this one.
+pub fn change_entry<S: Alter>(tx: &mut Transaction<'_, S>, entry: &Entry) -> Result<(), Fault>
+    ensures same_reference { tx.new.conn.ghost_name ≡ tx.old.conn.ghost_name }
+    ensures steps { Steps (state S.Store tx.old.conn.now) (state S.Store tx.new.conn.now) result
+        (λ (w : World). IsSome (get w.entries (entry.now.registry, entry.now.value)))
+        (λ (w : World). record w {
+          entries = insert w.entries (entry.now.registry, entry.now.value)
+              (registration_in entry.now);
+        }) }
+{
+    formed(entry);
+    write(
+        tx,
+        "UPDATE entries SET label = ?3, assignee = ?4, first = ?5, expires = ?6, renewed = ?7 \
+         WHERE registry = ?1 AND value = ?2",
+        &entry_values(entry),
+    )?;
+    Ok(())
+}
+
+/// Whether each entry has a greater value than the one before it.
+fn values_ascend(entries: &[Entry]) -> bool
+    ensures { IsTrue result → IsStrictlyIncreasing (map (λ e. e.value) entries.now) }
+{
+    entries.is_sorted_by(|entry, next| entry.value < next.value)
+}
+
+/// Does nothing: the parts of an entry have their forms.
+#[tactic(auto, using(std::proofs::lemmas::Bool::Decides::nat_tests))]
+fn formed(entry: &Entry)
+    ensures { is_entry entry.now ≡ true }
+{
+    entry.registry.formed();
+    let _value = entry.value;
+    entry.label.formed();
+    entry.assignee.formed();
+    entry.term.formed();
+}

@@ -1,0 +1,103 @@
+//! Changes that write more than one row.
+ghost use Rattle.std.specs.Prelude.{◌≡◌, true, None, Some};
+ghost use Rattle.std.specs.FinMap.{contains_key, get, insert};
+ghost use Rattle.sqlite.specs.Held.{state};
+ghost use Rattle.reg_core.specs.Entry.{registration_in};
+ghost use Rattle.reg_core.specs.Holding.{holder_in};
+ghost use Rattle.reg_core.specs.World.{World, pending, with_state};
+ghost use Rattle.reg_core.specs.declared.request.Case.{Case};
+ghost use Rattle.reg_core.specs.declared.request.Given.TheVariants as given;
+ghost use Rattle.reg_core.specs.declared.request.State.TheVariants.{Approved};
+ghost use Rattle.reg_records.specs.Requests.Forms.{gives_its_kind};
+ghost use Rattle.reg_content.specs.Calls.{Steps};
+
+use crate::blocks::add_block;
+use crate::entries::{add_entry, change_entry};
+use crate::requests::{add_request, set_state};
+use reg_core::ask::Ask;
+use reg_core::entry::Entry;
+use reg_core::holding::Holding;
+use reg_core::request::{Request, State};
+use reg_core::text::{Account, Ref};
+use reg_keeper::keeper::Fault;
+use sqlite::{Alter, Transaction};
+use std::alloc::Global;
+
+/// Adds a pending request at a name that has none.
+pub fn submit<S: Alter>(
+    tx: &mut Transaction<'_, S>,
+    account: &Account,
+    reference: &Ref,
+    ask: &Ask,
+) -> Result<(), Fault>
+    ensures same_reference { tx.new.conn.ghost_name ≡ tx.old.conn.ghost_name }
+    ensures steps { Steps (state S.Store tx.old.conn.now) (state S.Store tx.new.conn.now) result
+        (λ (w : World). get w.requests (account.now, reference.now) ≡ None)
+        (λ (w : World). record w {
+          requests = insert w.requests (account.now, reference.now) (pending ask.now);
+        }) }
+{
+    let request = Request {
+        account: *account,
+        reference: *reference,
+        ask: ask.copy()?,
+        state: State::Pending,
+    };
+    let done = add_request(tx, &request);
+    drop(request);
+    done
+}
+
+/// Approves a request and adds the entry that it is given, or puts it in the place of one.
+pub fn give_value<S: Alter>(
+    alloc: Global,
+    tx: &mut Transaction<'_, S>,
+    account: &Account,
+    reference: &Ref,
+    entry: &Entry,
+    replaces: bool,
+) -> Result<(), Fault>
+    ensures same_reference { tx.new.conn.ghost_name ≡ tx.old.conn.ghost_name }
+    ensures steps { Steps (state S.Store tx.old.conn.now) (state S.Store tx.new.conn.now) result
+        (λ (w : World). ((case : Case)
+        × (get w.requests (account.now, reference.now) ≡ Some case)
+        × (gives_its_kind case.ask (Approved (given.Value entry.now.value)) ≡ true))
+        × (replaces ≡ contains_key w.entries (entry.now.registry, entry.now.value)))
+        (λ (w : World). record (with_state w (account.now, reference.now)
+        (Approved (given.Value entry.now.value))) {
+          entries = insert w.entries (entry.now.registry, entry.now.value)
+              (registration_in entry.now);
+        }) }
+{
+    set_state(alloc, tx, account, reference, &entry.approval())?;
+    if replaces {
+        change_entry(tx, entry)?;
+    } else {
+        add_entry(tx, entry)?;
+    }
+    Ok(())
+}
+
+/// Approves a request and adds the block that it is given.
+pub fn give_block<S: Alter>(
+    alloc: Global,
+    tx: &mut Transaction<'_, S>,
+    account: &Account,
+    reference: &Ref,
+    holding: &Holding,
+) -> Result<(), Fault>
+    ensures same_reference { tx.new.conn.ghost_name ≡ tx.old.conn.ghost_name }
+    ensures steps { Steps (state S.Store tx.old.conn.now) (state S.Store tx.new.conn.now) result
+        (λ (w : World). ((case : Case)
+        × (get w.requests (account.now, reference.now) ≡ Some case)
+        × (gives_its_kind case.ask (Approved (given.Block holding.now.block)) ≡ true))
+        × (get w.blocks holding.now.block ≡ None))
+        (λ (w : World). record (with_state w (account.now, reference.now)
+        (Approved (given.Block holding.now.block))) {
+          blocks = insert w.blocks holding.now.block (holder_in holding.now);
+        }) }
+{
+    set_state(alloc, tx, account, reference, &holding.approval())?;
+    add_block(tx, holding)?;
+    Ok(())
+}

@@ -1,0 +1,176 @@
+//! Registries with their ranges in their tables.
+ghost use Rattle.std.specs.Prelude.{◌≡◌, Some, None, IfOk, [], map, option_map};
+ghost use Rattle.std.specs.FinMap.{get, insert, keys};
+ghost use Rattle.sqlite.specs.Held.{state};
+ghost use Rattle.reg_ranges.specs.Tables.{Table};
+ghost use Rattle.reg_core.specs.Maps.{update};
+ghost use Rattle.reg_core.specs.World.{World};
+ghost use Rattle.reg_content.specs.Calls.{IsKeeping, Looks, Steps};
+ghost use Rattle.reg_content.specs.Registries.{CanFollow, with_range};
+
+use crate::select::{all, one};
+use crate::write::write;
+use reg_core::rows::Rows;
+use reg_core::text::Name;
+use reg_keeper::keeper::Fault;
+use reg_ranges::formed::Formed;
+use reg_ranges::range::Range;
+use reg_ranges::table::RangeTable;
+use reg_records::column::name_value;
+use reg_records::ranges::RegistryRange;
+use reg_records::registries::Registry;
+use sqlite::{Alter, Connection, Transaction};
+use std::alloc::{AllocError, Global};
+
+/// The names of all registries, in order.
+pub fn names<S: Alter>(alloc: Global, conn: &mut Connection<S>) -> Result<Rows<Name>, Fault>
+    requires { IsKeeping (state S.Store conn.old) }
+    ensures { Looks (state S.Store conn.old) (state S.Store conn.new) result
+        (λ w names. names ≡ keys w.registries) }
+{
+    let registries = all::<S, Registry>(
+        alloc,
+        conn,
+        "SELECT name, max FROM registries ORDER BY name",
+        &[],
+    )?;
+    Ok(Rows::from_vec(names_of(alloc, registries.as_slice())?))
+}
+
+/// The ranges of a registry, with its largest value. Ranges that are no partition of its values
+/// are a fault of the store.
+pub fn ranges<S: Alter>(
+    alloc: Global,
+    conn: &mut Connection<S>,
+    name: &Name,
+) -> Result<Option<RangeTable>, Fault>
+    requires { IsKeeping (state S.Store conn.old) }
+    ensures { Looks (state S.Store conn.old) (state S.Store conn.new) result
+        (λ w table. table ≡ get w.registries name.now) }
+{
+    let Some(max) = max(alloc, conn, name)? else {
+        return Ok(None);
+    };
+    let ranges = ranges_of(alloc, conn, name)?;
+    match RangeTable::make(max, ranges) {
+        Ok(table) => Ok(Some(table)),
+        Err(_) => Err(Fault::Store),
+    }
+}
+
+/// Adds a registry with its ranges, where there is none of the name.
+pub fn add_registry<S: Alter>(
+    tx: &mut Transaction<'_, S>,
+    name: &Name,
+    table: &RangeTable,
+) -> Result<(), Fault>
+    ensures same_reference { tx.new.conn.ghost_name ≡ tx.old.conn.ghost_name }
+    ensures steps { Steps (state S.Store tx.old.conn.now) (state S.Store tx.new.conn.now) result
+        (λ (w : World). get w.registries name.now ≡ None)
+        (λ (w : World). record w { registries = insert w.registries name.now table.now }) }
+{
+    add_name(tx, name, table.max())?;
+    let ranges = table.ranges();
+    for range in ranges {
+        add_range(tx, name, range)?;
+    }
+    Ok(())
+}
+
+/// Adds a registry that has no ranges yet, where there is none of the name.
+fn add_name<S: Alter>(tx: &mut Transaction<'_, S>, name: &Name, max: u32) -> Result<(), Fault>
+    ensures same_reference { tx.new.conn.ghost_name ≡ tx.old.conn.ghost_name }
+    ensures steps { Steps (state S.Store tx.old.conn.now) (state S.Store tx.new.conn.now) result
+        (λ (w : World). get w.registries name.now ≡ None)
+        (λ (w : World). record w {
+          registries = insert w.registries name.now (record { max = max; ranges = [] });
+        }) }
+{
+    let registry = Registry { name: *name, max };
+    registry.formed();
+    write(
+        tx,
+        "INSERT INTO registries (name, max) VALUES (?1, ?2)",
+        &registry.values(),
+    )?;
+    Ok(())
+}
+
+/// Adds a range to a registry whose ranges all begin below it.
+fn add_range<S: Alter>(tx: &mut Transaction<'_, S>, name: &Name, range: &Range) -> Result<(), Fault>
+    ensures same_reference { tx.new.conn.ghost_name ≡ tx.old.conn.ghost_name }
+    ensures steps { Steps (state S.Store tx.old.conn.now) (state S.Store tx.new.conn.now) result
+        (λ (w : World). CanFollow w.registries name.now range.now)
+        (λ (w : World). record w {
+          registries = update w.registries name.now (with_range range.now);
+        }) }
+{
+    let row = RegistryRange {
+        registry: *name,
+        range: range.copy()?,
+    };
+    row.formed();
+    write(
+        tx,
+        "INSERT INTO ranges (registry, lo, hi, treatment, note) VALUES (?1, ?2, ?3, ?4, ?5)",
+        &row.values(),
+    )?;
+    Ok(())
+}
+
+/// The largest value of a registry.
+fn max<S: Alter>(alloc: Global, conn: &mut Connection<S>, name: &Name) -> Result<Option<u32>, Fault>
+    requires { IsKeeping (state S.Store conn.old) }
+    ensures { Looks (state S.Store conn.old) (state S.Store conn.new) result
+        (λ w max. max ≡ option_map (λ (t : Table). t.max) (get w.registries name.now)) }
+{
+    let registry = one::<S, Registry>(
+        alloc,
+        conn,
+        "SELECT name, max FROM registries WHERE name = ?1",
+        &[name_value(name)],
+    )?;
+    Ok(registry.map(|registry| registry.max))
+}
+
+/// The ranges of a registry, in order.
+fn ranges_of<S: Alter>(
+    alloc: Global,
+    conn: &mut Connection<S>,
+    name: &Name,
+) -> Result<Vec<Range>, Fault>
+    requires { IsKeeping (state S.Store conn.old) }
+    ensures { Looks (state S.Store conn.old) (state S.Store conn.new) result
+        (λ w ranges. (t : Table) → get w.registries name.now ≡ Some t
+        → ranges.items ≡ t.ranges) }
+{
+    let rows = all::<S, RegistryRange>(
+        alloc,
+        conn,
+        "SELECT registry, lo, hi, treatment, note FROM ranges WHERE registry = ?1 ORDER BY lo",
+        &[name_value(name)],
+    )?;
+    Ok(without_registry(alloc, rows)?)
+}
+
+/// The names of registries.
+fn names_of(alloc: Global, registries: &[Registry]) -> Result<Vec<Name>, AllocError>
+    ensures { IfOk result (λ names. names.items ≡ map (λ r. r.name) registries.now) }
+{
+    let mut names = Vec::new(alloc);
+    for registry in registries {
+        names.push(registry.name)?;
+    }
+    Ok(names)
+}
+
+/// The ranges without the name of their registry.
+fn without_registry(alloc: Global, rows: Vec<RegistryRange>) -> Result<Vec<Range>, AllocError>
+    ensures { IfOk result (λ ranges. ranges.items ≡ map (λ row. row.range) rows.items) }
+{
+    let mut ranges = Vec::new(alloc);
+    for row in rows {
+        ranges.push(row.range)?;
+    }
+    Ok(ranges)
+}

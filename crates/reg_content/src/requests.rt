@@ -1,0 +1,168 @@
+//! Requests in their table.
+ghost use Rattle.std.specs.Prelude.{◌≡◌, ◌∷◌, true, Some, None, option_map, string_bytes};
+ghost use Rattle.std.specs.FinMap.{get, insert};
+ghost use Rattle.sqlite.specs.Held.{state};
+ghost use Rattle.sqlite.specs.Held.{state as store_state};
+ghost use Rattle.sqlite.specs.Values.{bound};
+ghost use Rattle.sqlite.specs.declared.types.Value.TheVariants.{Text};
+ghost use Rattle.reg_core.specs.Request.{case_of, request_row, request_rows};
+ghost use Rattle.reg_core.specs.View.{requests_of};
+ghost use Rattle.reg_core.specs.WellKept.{has_request_form};
+ghost use Rattle.reg_core.specs.World.{World, pending, with_state};
+ghost use Rattle.reg_core.specs.declared.request.Case.{Case};
+ghost use Rattle.reg_core.specs.declared.request.State.TheVariants.{Pending};
+ghost use Rattle.reg_records.specs.Requests.Forms.{gives_its_kind};
+ghost use Rattle.reg_records.specs.Requests.Values.{given_text, state_values};
+ghost use Rattle.reg_content.specs.Calls.{IsKeeping, Looks, Steps};
+
+use crate::select::{self, one};
+use crate::write::write;
+use reg_core::request::{Request, State};
+use reg_core::rows::Rows;
+use reg_core::text::{Account, Ref};
+use reg_keeper::keeper::Fault;
+use reg_ranges::formed::Formed;
+use reg_records::column::name_value;
+use reg_records::requests::values::{given_text, request_values, state_values};
+use sqlite::types::ValueRef;
+use sqlite::{Alter, Connection, Transaction};
+use std::alloc::Global;
+
+/// The request of an account under a reference.
+pub fn own_one<S: Alter>(
+    alloc: Global,
+    conn: &mut Connection<S>,
+    account: &Account,
+    reference: &Ref,
+) -> Result<Option<Request>, Fault>
+    requires { IsKeeping (state S.Store conn.old) }
+    ensures { Looks (state S.Store conn.old) (state S.Store conn.new) result
+        (λ w row. row ≡ option_map (request_row (account.now, reference.now))
+        (get w.requests (account.now, reference.now))) }
+{
+    one::<S, Request>(
+        alloc,
+        conn,
+        "SELECT account, reference, kind, registry, value, least, label, contact, specification, rfc_number, rfc_stream, rfc_track, minute, draft, stable, interest, chair, director, will_be_rfc, size, organization, address, state, given, reason FROM requests WHERE account = ?1 AND reference = ?2",
+        &[name_value(account), name_value(reference)],
+    )
+}
+
+/// All requests of an account, by reference.
+pub fn own<S: Alter>(
+    alloc: Global,
+    conn: &mut Connection<S>,
+    account: &Account,
+) -> Result<Rows<Request>, Fault>
+    requires { IsKeeping (state S.Store conn.old) }
+    ensures { Looks (state S.Store conn.old) (state S.Store conn.new) result
+        (λ w rows. rows ≡ request_rows (requests_of account.now w)) }
+{
+    let requests = select::all::<S, Request>(
+        alloc,
+        conn,
+        "SELECT account, reference, kind, registry, value, least, label, contact, specification, \
+         rfc_number, rfc_stream, rfc_track, minute, draft, stable, interest, chair, director, \
+         will_be_rfc, size, organization, address, state, given, reason FROM requests \
+         WHERE account = ?1 ORDER BY reference",
+        &[name_value(account)],
+    )?;
+    Ok(Rows::from_vec(requests))
+}
+
+/// All requests, by account and then by reference.
+pub fn all<S: Alter>(alloc: Global, conn: &mut Connection<S>) -> Result<Rows<Request>, Fault>
+    requires { IsKeeping (state S.Store conn.old) }
+    ensures { Looks (state S.Store conn.old) (state S.Store conn.new) result
+        (λ w rows. rows ≡ request_rows w.requests) }
+{
+    let requests = select::all::<S, Request>(
+        alloc,
+        conn,
+        "SELECT account, reference, kind, registry, value, least, label, contact, specification, \
+         rfc_number, rfc_stream, rfc_track, minute, draft, stable, interest, chair, director, \
+         will_be_rfc, size, organization, address, state, given, reason FROM requests \
+         ORDER BY account, reference",
+        &[],
+    )?;
+    Ok(Rows::from_vec(requests))
+}
+
+/// Adds a pending request at a name that has none.
+pub fn add_request<S: Alter>(tx: &mut Transaction<'_, S>, request: &Request) -> Result<(), Fault>
+    requires { request.now.state ≡ Pending }
+    ensures same_reference { tx.new.conn.ghost_name ≡ tx.old.conn.ghost_name }
+    ensures steps { Steps (state S.Store tx.old.conn.now) (state S.Store tx.new.conn.now) result
+        (λ (w : World). get w.requests (request.now.account, request.now.reference) ≡ None)
+        (λ (w : World). record w {
+          requests = insert w.requests (request.now.account, request.now.reference)
+              (pending request.now.ask);
+        }) }
+{
+    formed(request);
+    write(
+        tx,
+        "INSERT INTO requests (account, reference, kind, registry, value, least, label, contact, specification, rfc_number, rfc_stream, rfc_track, minute, draft, stable, interest, chair, director, will_be_rfc, size, organization, address, state, given, reason) VALUES (?1, ?2, ?3, ?4, ?5, ?6, ?7, ?8, ?9, ?10, ?11, ?12, ?13, ?14, ?15, ?16, ?17, ?18, ?19, ?20, ?21, ?22, ?23, ?24, ?25)",
+        &request_values(request, &None),
+    )?;
+    Ok(())
+}
+
+/// Puts a request that is there in another state. What is given is what its ask is for.
+pub fn set_state<S: Alter>(
+    alloc: Global,
+    tx: &mut Transaction<'_, S>,
+    account: &Account,
+    reference: &Ref,
+    state: &State,
+) -> Result<(), Fault>
+    ensures same_reference { tx.new.conn.ghost_name ≡ tx.old.conn.ghost_name }
+    ensures steps { Steps (store_state S.Store tx.old.conn.now)
+        (store_state S.Store tx.new.conn.now) result
+        (λ (w : World). (case : Case)
+        × (get w.requests (account.now, reference.now) ≡ Some case)
+        × (gives_its_kind case.ask state.now ≡ true))
+        (λ (w : World). with_state w (account.now, reference.now) state.now) }
+{
+    state.formed();
+    let given = given_text(alloc, state)?;
+    write(
+        tx,
+        "UPDATE requests SET state = ?3, given = ?4, reason = ?5 \
+         WHERE account = ?1 AND reference = ?2",
+        &named_state(account, reference, state, &given),
+    )?;
+    Ok(())
+}
+
+/// The name of a request, and the columns of its new state. The last argument is what `given_text`
+/// makes of the state.
+fn named_state<'a>(
+    account: &'a Account,
+    reference: &'a Ref,
+    state: &'a State,
+    given: &'a Option<String>,
+) -> [ValueRef<'a>; 5]
+    requires { option_map string_bytes given.now ≡ given_text state.now }
+    ensures { bound result ≡ Text account.now ∷ Text reference.now ∷ state_values state.now }
+{
+    let [state, given, reason] = state_values(state, given);
+    [
+        name_value(account),
+        name_value(reference),
+        state,
+        given,
+        reason,
+    ]
+}
+
+// A request has its form.
+fn formed(request: &Request)
+    ensures { has_request_form (request.now.account, request.now.reference)
+        (case_of request.now) ≡ true }
+{
+    request.account.formed();
+    request.reference.formed();
+    request.ask.formed();
+    request.state.formed();
+}
