@@ -26,6 +26,7 @@ use Rattle.reg_tables.specs.Schema.{pool_table, blocks_table, office_schema}
 use Rattle.reg_tables.specs.Making.{Creates, IsBlank, unplaced, no_schema, schema_1, schema_2}
 use Rattle.reg_tables.specs.Making.{schema_3, schema_4, schema_5, schema_6, schema_7}
 use Rattle.reg_tables.specs.Making.{schema_8, schema_9, version_row, IsFounded}
+use Rattle.reg_tables.specs.Editing.{IsOffice}
 use Rattle.reg_tables.specs.Inserting.{AddedRow}
 use Rattle.reg_tables.proofs.InsertLemmas.{went, same_value, apart_if, unindexed}
 
@@ -195,9 +196,9 @@ module _ (old new : Database) (added : AddedRow office_table.tree version_row ol
       (same ∙ empty.0, others_empty more both.1 empty.1)
 
   -- the row of the version comes to tables that are all empty
-  pub founded : IsBlank office_schema old → IsFounded new
-  founded blank = record {
-    has = added.schema ∙ blank.has;
+  pub founded : IsOffice new → IsBlank office_schema old → IsFounded new
+  founded office blank = record {
+    office = office;
     version = record {
       row = added.id ∷ version_row;
       only = one_permutation (added.id ∷ version_row) (new.trees office_table.tree)

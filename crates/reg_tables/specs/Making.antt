@@ -14,6 +14,7 @@ use Rattle.sqlite.specs.Listing.{understood}
 use Rattle.sqlite.specs.Given.{IsPlain}
 use Rattle.sqlite.specs.Effect.{Database}
 use Rattle.sqlite.proofs.Callers.{command_of, statement_of}
+use Rattle.reg_tables.specs.Editing.{IsOffice}
 use Rattle.reg_tables.specs.Schema.{office_table, caps_table, registries_table, ranges_table}
 use Rattle.reg_tables.specs.Schema.{entries_table, requests_table, queue_table, advice_table}
 use Rattle.reg_tables.specs.Schema.{pool_table, office_schema}
@@ -78,6 +79,6 @@ pub record IsVersioned (trees : Trees) : Type 0 where
 
 -- the store has the tables of an office, and holds no more than their version
 pub record IsFounded (db : Database) : Type 0 where
-  pub has : db.schema ≡ office_schema
+  pub office : IsOffice db
   pub version : IsVersioned db.trees
   pub empty : AllByRecursion (λ t. db.trees t.tree ≡ []) (drop 1 office_schema.tables)

@@ -8,6 +8,7 @@ ghost use Rattle.sqlite.specs.Schema.{Schema as SqlSchema};
 ghost use Rattle.sqlite_catalog.specs.Change.{created};
 ghost use Rattle.reg_tables.specs.Schema.{office_schema, office_table};
 ghost use Rattle.reg_tables.specs.Connection.{Holds, IsAtRest};
+ghost use Rattle.reg_tables.specs.Editing.{IsOffice};
 ghost use Rattle.reg_tables.specs.Inside.{GoesInside};
 ghost use Rattle.reg_tables.specs.Making.{Creates, IsBlank, IsFounded};
 ghost use Rattle.reg_tables.specs.Making.{no_schema, schema_5, version_row};
@@ -134,9 +135,10 @@ fn add_version<S: Alter>(tx: &mut Transaction<'_, S>) -> Result<(), Error>
     ensures inside { GoesInside (state S.Store tx.old.conn.now)
         (state S.Store tx.new.conn.now) result }
     ensures added { HasCleanDisk (state S.Store tx.new.conn.now)
-        → OnOk result ((state S.Store tx.old.conn.now).now.schema ≡ office_schema
+        → OnOk result (IsBlank office_schema (state S.Store tx.old.conn.now).now
         → AddedRow office_table.tree version_row
-        (state S.Store tx.old.conn.now).now (state S.Store tx.new.conn.now).now) }
+        (state S.Store tx.old.conn.now).now (state S.Store tx.new.conn.now).now
+        × IsOffice (state S.Store tx.new.conn.now).now) }
 {
     run(
         tx,

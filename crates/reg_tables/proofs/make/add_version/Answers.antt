@@ -1,10 +1,22 @@
-use Rattle.std.proofs.Common.{pos}
+use Rattle.std.proofs.Common.{pos, ◌∙◌}
 use Rattle.sqlite.specs.Held.{state}
+use Rattle.reg_tables.proofs.EditLemmas.Inserting.{tables_after_insert}
+use Rattle.reg_tables.proofs.EditLemmas.Tables.{tables_if_empty}
 use Rattle.reg_tables.proofs.InsertLemmas.{adds, version_adds}
 use Rattle.reg_tables.proofs.make.add_version.Goals as goal
 
 pub returns-clause-added : goal.returns-clause-added
-returns-clause-added g c clean has =
+returns-clause-added g c clean blank =
     let old = state g.S.Store c.args.tx.now.conn.now in
     let new = state g.S.Store c.run.new.tx.conn.now in
-    adds _ _ _ _ _ (version_adds (pos 1)) old new _ has (c.in_ok-run.ensures.ran clean)
+    let ran = c.in_ok-run.ensures.ran clean in
+    let a = version_adds (pos 1) in
+    let row = adds _ _ _ _ _ a old new _ blank.has ran in (
+      row,
+      record {
+        schema = row.schema ∙ blank.has;
+        sound = row.sound;
+        tables = tables_after_insert _ _ _ _ _ old new _ a.slot a.is a.plain a.counts blank.has
+            (tables_if_empty old.now.trees blank.empty) ran;
+      },
+    )

@@ -11,4 +11,4 @@ returns-clause-made g c clean =
     let was_clean : HasCleanDisk mid = omega (arith, c.add_version.ensures.inside.clean) in
     on_ok c.add_version.result (λ added blank.
     let empty = c.in_ok-make_all.ensures.made was_clean blank in
-    founded mid.now new.now (added empty.has) empty) (c.add_version.ensures.added clean)
+    founded mid.now new.now (added empty).0 (added empty).1 empty) (c.add_version.ensures.added clean)
