@@ -39,3 +39,4 @@ pub mod FedParts
 pub mod RowidStatements
 pub mod RowidLemmas
 pub mod OpenLemmas
+pub mod QueueRows

@@ -1,6 +1,7 @@
 -- A call that only looks at the tables leaves an office's rows.
 use Rattle.std.proofs.Common.{◌≡◌, sym, subst, refl, Option, Some, None, option_to_list, slice_get, ap, Ok}
-use Rattle.std.specs.Prelude.{Result, IfOk}
+use Rattle.std.specs.Prelude.{Result, IfOk, IsErr}
+use Rattle.std.proofs.lemmas.Result.{IfOk-from_err, IfOk-weaker}
 use Rattle.sqlite.specs.State.{State}
 use Rattle.reg_core.specs.World.{World}
 use Rattle.reg_tables.specs.Connection.{Endures, Holds, IsIdle, Stays}
@@ -42,4 +43,32 @@ looks_then {a = a} {b = b} {c = c} {y = y} {G = G} first second joins = record {
       let held = second.stays.held h in
       let same : world_in b ≡ world_in a = ap content_of (first.stays.same held) in
       joins (world_in a) (first.value held) (subst (λ w. G w y) same (second.value h));
+}
+
+-- and so does a call after one that looks
+pub looks_before : {T U E : Type 0} {a b c : State} {x : T} {result : Result U E}
+    {F : World → T → Type 0} {G H : World → U → Type 0}
+    → Looks {E = E} a b (Ok x) F → Looks b c result G
+    → ((w : World) (y : U) → F w x → G w y → H w y) → Looks a c result H
+looks_before {a = a} {b = b} {c = c} {result = result} {G = G} {H = H} first second joins = record {
+  keeping = second.keeping;
+  endures = endures_then a b c first.endures second.endures;
+  stays = stays_then a b c first.stays second.stays;
+  value = λ h.
+      let held = second.stays.held h in
+      let same : world_in b ≡ world_in a = ap content_of (first.stays.same held) in
+      IfOk-weaker result (G (world_in a)) (H (world_in a))
+      (λ y. joins (world_in a) y (first.value held))
+      (subst (λ w. IfOk result (G w)) same (second.value h));
+}
+
+-- and where the second was given up, nothing is told
+pub looks_failed : {T U V E : Type 0} {a b c : State} {first : Result T E} {second : Result U E}
+    {result : Result V E} {F : World → T → Type 0} {G : World → U → Type 0} {H : World → V → Type 0}
+    → Looks a b first F → Looks b c second G → IsErr result → Looks a c result H
+looks_failed {a = a} {b = b} {c = c} {result = result} {H = H} before after failed = record {
+  keeping = after.keeping;
+  endures = endures_then a b c before.endures after.endures;
+  stays = stays_then a b c before.stays after.stays;
+  value = λ h. IfOk-from_err result (H (world_in a)) failed;
 }

@@ -1,26 +1,26 @@
 //! Requests with what experts say of them.
-ghost use Rattle.std.specs.Prelude.{◌≡◌, Option, option_and_then, option_map};
+ghost use Rattle.std.specs.Prelude.{◌≡◌, ◌++◌, OnOk, option_map, option_to_list};
 ghost use Rattle.std.specs.FinMap.{get};
 ghost use Rattle.sqlite.specs.Held.{state};
 ghost use Rattle.reg_core.specs.File.{file as file_of};
-ghost use Rattle.reg_core.specs.Maps.{only_if};
-ghost use Rattle.reg_core.specs.Queue.{queue_row};
-ghost use Rattle.reg_core.specs.Request.{request_row};
+ghost use Rattle.reg_core.specs.Queue.{queue_row, queue_rows};
+ghost use Rattle.reg_core.specs.Request.{case_of};
 ghost use Rattle.reg_core.specs.View.{as_queued, queue_of};
-ghost use Rattle.reg_core.specs.declared.request.Case.{Case};
 ghost use Rattle.reg_content.specs.Calls.{IsKeeping, Looks};
+ghost use Rattle.reg_content.specs.Seats.{assigned_to};
 
 use crate::advice::{advice, opinions};
-use crate::queue::{experts, is_queued};
+use crate::queue::{experts, is_queued, seats};
 use crate::requests::own_one;
 use reg_core::advice::Advice;
 use reg_core::file::File;
 use reg_core::queue::QueueRow;
 use reg_core::request::Request;
+use reg_core::rows::Rows;
 use reg_core::text::{Account, Ref};
 use reg_keeper::keeper::Fault;
 use sqlite::{Alter, Connection};
-use std::alloc::Global;
+use std::alloc::{AllocError, Global};
 
 /// The request of an account under a reference, with its experts and all advice on it, by expert.
 pub fn file<S: Alter>(
@@ -46,6 +46,26 @@ pub fn file<S: Alter>(
     }))
 }
 
+/// All requests that are assigned to an expert, with the expert's own advice, by account and then
+/// by reference.
+pub fn queue<S: Alter>(
+    alloc: Global,
+    conn: &mut Connection<S>,
+    expert: &Account,
+) -> Result<Rows<QueueRow>, Fault>
+    requires { IsKeeping (state S.Store conn.old) }
+    ensures { Looks (state S.Store conn.old) (state S.Store conn.new) result
+        (λ w rows. rows ≡ queue_rows (queue_of expert.now w)) }
+{
+    let seats = seats(alloc, conn, expert)?;
+    let mut rows = Vec::new(alloc);
+    for seat in seats.as_slice() {
+        let row = assigned(alloc, conn, expert, &seat.account, &seat.reference)?;
+        add(&mut rows, row)?;
+    }
+    Ok(Rows::from_vec(rows))
+}
+
 /// The request of an account under a reference, with the expert's own advice, if it is assigned to
 /// the expert.
 pub fn queue_one<S: Alter>(
@@ -60,33 +80,51 @@ pub fn queue_one<S: Alter>(
         (λ w row. row ≡ option_map (queue_row (account.now, reference.now))
         (get (queue_of expert.now w) (account.now, reference.now))) }
 {
-    let is_queued = is_queued(alloc, conn, account, reference, expert)?;
+    if !is_queued(alloc, conn, account, reference, expert)? {
+        return Ok(None);
+    }
+    assigned(alloc, conn, expert, account, reference)
+}
+
+/// The request of an account under a reference, if there is one, as an expert sees it to whom it is
+/// assigned.
+fn assigned<S: Alter>(
+    alloc: Global,
+    conn: &mut Connection<S>,
+    expert: &Account,
+    account: &Account,
+    reference: &Ref,
+) -> Result<Option<QueueRow>, Fault>
+    requires { IsKeeping (state S.Store conn.old) }
+    ensures { Looks (state S.Store conn.old) (state S.Store conn.new) result
+        (λ w row. row ≡ option_map (queue_row (account.now, reference.now))
+        (assigned_to expert.now w (account.now, reference.now))) }
+{
     let advice = advice(alloc, conn, account, reference, expert)?;
     let request = own_one(alloc, conn, account, reference)?;
-    Ok(queued(account, reference, is_queued, advice, request))
+    Ok(request.map(|request| queued(request, advice)))
 }
 
 // A request that is assigned, as its expert sees it.
-fn queued(
-    account: &Account,
-    reference: &Ref,
-    is_queued: bool,
-    advice: Option<Advice>,
-    request: Option<Request>,
-) -> Option<QueueRow>
-    ensures { (case : Option Case)
-        → request ≡ option_map (request_row (account.now, reference.now)) case
-        → result ≡ option_map (queue_row (account.now, reference.now))
-        (option_and_then (λ case. only_if is_queued (as_queued advice case)) case) }
+fn queued(request: Request, advice: Option<Advice>) -> QueueRow
+    ensures { result ≡ queue_row (request.account, request.reference)
+        (as_queued advice (case_of request)) }
 {
-    match request {
-        Some(request) if is_queued => Some(QueueRow {
-            account: *account,
-            reference: *reference,
-            word: request.state.word(),
-            ask: request.ask,
-            advice,
-        }),
-        _ => None,
+    QueueRow {
+        account: request.account,
+        reference: request.reference,
+        word: request.state.word(),
+        ask: request.ask,
+        advice,
     }
+}
+
+// Puts a row after the others, if there is one.
+fn add(rows: &mut Vec<QueueRow>, row: Option<QueueRow>) -> Result<(), AllocError>
+    ensures { OnOk result (rows.new.items ≡ rows.old.items ++ option_to_list row) }
+{
+    if let Some(row) = row {
+        rows.push(row)?;
+    }
+    Ok(())
 }
