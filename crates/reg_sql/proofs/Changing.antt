@@ -1,0 +1,40 @@
+-- What is free, as a change leaves it.
+use Rattle.std.proofs.Common.{◌≡◌, ℕ, List, refl}
+use Rattle.std.specs.Prelude.{Result, Ok, Err, IsTrue, OnOk, is_ok}
+use Rattle.reg_core.specs.Holding.{with_mark}
+use Rattle.reg_core.specs.World.{World, applied}
+use Rattle.reg_core.specs.declared.change.Change.{Change}
+use Rattle.reg_core.specs.declared.change.Change.TheVariants.{AddPool, Advise, Assign, Close, Define, GiveBlock, GiveValue, Grant, Revoke, SetPrivate, Submit}
+use Rattle.reg_core.specs.declared.entry.Entry.{Entry}
+use Rattle.reg_core.specs.declared.holding.Holding.{Holding}
+use Rattle.reg_vacancies.specs.declared.vacancies.Vacancies.{Vacancies}
+use Rattle.reg_vacancies.proofs.Carrying.{holders_are_changed}
+use Rattle.reg_sql.specs.Keeping.{AreVacanciesOf}
+
+-- what a call gives that went through
+pub went : {T E P : Type 0} (result : Result T E) → OnOk result P → IsTrue (is_ok result) → P
+went (Ok x) gives is = gives
+went (Err e) gives is = absurd (cc)
+
+-- a change that adds no prefix and gives nothing leaves what is free
+pub left_free : (w : World) (vacancies : Vacancies) (change : Change)
+    → ((prefix : ℕ) → change ≡ AddPool prefix → ⊥)
+    → ((account reference : List ℕ) (entry : Entry)
+    → change ≡ GiveValue account reference entry → ⊥)
+    → ((account reference : List ℕ) (holding : Holding)
+    → change ≡ GiveBlock account reference holding → ⊥)
+    → AreVacanciesOf w vacancies → AreVacanciesOf (applied w change) vacancies
+left_free w vacancies (Grant digest cap) pool value block are = are
+left_free w vacancies (Revoke digest) pool value block are = are
+left_free w vacancies (Define name table) pool value block are = are
+left_free w vacancies (AddPool prefix) pool value block are = absurd (pool prefix refl)
+left_free w vacancies (Submit account reference ask) pool value block are = are
+left_free w vacancies (Close account reference state) pool value block are = are
+left_free w vacancies (Assign account reference expert) pool value block are = are
+left_free w vacancies (Advise account reference expert advice) pool value block are = are
+left_free w vacancies (GiveValue account reference entry) pool value block are =
+    absurd (value account reference entry refl)
+left_free w vacancies (GiveBlock account reference holding) pool value block are =
+    absurd (block account reference holding refl)
+left_free w vacancies (SetPrivate mark private) pool value block are =
+    holders_are_changed vacancies w.entries w.pool w.blocks are mark (with_mark private)

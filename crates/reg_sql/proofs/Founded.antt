@@ -1,0 +1,119 @@
+-- The tables that an office is founded in hold the empty office.
+use Rattle.std.proofs.Common.{◌≡◌, List, [], refl, sym, ap, subst, ◌∙◌}
+use Rattle.std.specs.Prelude.{Option, Some, None, IsSome, is_some, option_and_then}
+use Rattle.std.specs.declared.cmp.Ordering.{Ordering}
+use Rattle.std.specs.List.{IsDistinct}
+use Rattle.std.specs.FinMap.{empty, get-empty}
+use Rattle.sqlite.specs.Effect.{Database}
+use Rattle.sqlite.specs.Order.{Row}
+use Rattle.reg_core.specs.Maps.{select}
+use Rattle.sqlite.specs.State.{State}
+use Rattle.reg_core.specs.WellKept.{WellKept}
+use Rattle.reg_core.specs.World.{empty_world, place_cmp}
+use Rattle.reg_core.proofs.Keeping.RunsKeepWell.{first_worlds_kept}
+use Rattle.reg_core.proofs.MapLaws.{IsKeyOrder, get-select, same_at, text_keys}
+use Rattle.reg_vacancies.specs.Vacancies.{AreVacancies}
+use Rattle.reg_vacancies.specs.declared.vacancies.Vacancies.{Vacancies}
+use Rattle.reg_tables.specs.Connection.{Holds, IsAtRest}
+use Rattle.reg_tables.specs.Making.{IsBlank, IsFounded, no_schema}
+use Rattle.reg_content.specs.Content.{AreKept, IsStored, IsVersion, content, content_of, registry_table}
+use Rattle.reg_content.specs.Tables.{Tables, tables_in}
+use Rattle.reg_sql.specs.Keeping.{AreVacanciesOf, KeepsOffice}
+use Rattle.reg_sql.specs.Opening.{HasNoTables}
+
+-- tables that are empty but for the version
+abbrev bare : List Row → Tables
+bare rows = record {
+  office = rows;
+  caps = [];
+  registries = [];
+  ranges = [];
+  entries = [];
+  requests = [];
+  queue = [];
+  advice = [];
+  pool = [];
+  blocks = [];
+}
+
+are_bare : (db : Database) → IsFounded db → tables_in db.trees ≡ bare (tables_in db.trees).office
+are_bare db it =
+    let e = it.empty in
+    λ i. record {
+      office = (tables_in db.trees).office;
+      caps = e.0 i;
+      registries = e.1.0 i;
+      ranges = e.1.1.0 i;
+      entries = e.1.1.1.0 i;
+      requests = e.1.1.1.1.0 i;
+      queue = e.1.1.1.1.1.0 i;
+      advice = e.1.1.1.1.1.1.0 i;
+      pool = e.1.1.1.1.1.1.1.0 i;
+      blocks = e.1.1.1.1.1.1.1.1.0 i;
+    }
+
+select-empty : {K X Y : Type 0} {R : K → K → Ordering} (o : IsKeyOrder R) (f : K → X → Option Y)
+    → select {R = R} f empty ≡ empty
+select-empty {R = R} o f = same_at o _ _ (λ q.
+    get-select o f empty q
+    ∙ ap (option_and_then (f q)) (get-empty R q)
+    ∙ sym (get-empty R q))
+
+no_range : {P : Type 0} {A : Type 0} (o : Option A) → o ≡ None → IsSome o → P
+no_range o none some = let gone = ap is_some none in absurd (cc)
+
+bare_kept : (rows : List Row) → IsVersion 1 rows → AreKept (bare rows)
+unfolding IsDistinct
+bare_kept rows version = record {
+  version = version;
+  caps = record { reads = tt; distinct = tt };
+  registries = record { reads = tt; distinct = tt };
+  ranges = record { reads = tt; distinct = tt };
+  entries = record { reads = tt; distinct = tt };
+  requests = record { reads = tt; distinct = tt };
+  queue = record { reads = tt; distinct = tt };
+  advice = record { reads = tt; distinct = tt };
+  pool = record { reads = tt; distinct = tt };
+  blocks = record { reads = tt; distinct = tt };
+  owned = λ place some. no_range _ (get-empty place_cmp place) some;
+}
+
+bare_content : (rows : List Row) → content (bare rows) ≡ empty_world
+bare_content rows =
+    ap (λ registries. record empty_world { registries = registries })
+    (select-empty text_keys (λ name max. Some (registry_table empty name max)))
+
+first_version : (db : Database) → IsFounded db → IsVersion 1 (tables_in db.trees).office
+first_version db it = (it.version.row, it.version.only, rw it.version.says refl)
+
+founded_kept : (db : Database) → IsFounded db → IsStored db
+founded_kept db it = record {
+  office = it.office;
+  kept = subst AreKept (sym (are_bare db it)) (bare_kept _ (first_version db it));
+}
+
+-- it holds the empty office
+pub founded_empty : (db : Database) → IsFounded db → content_of db ≡ empty_world
+founded_empty db it = ap content (are_bare db it) ∙ bare_content (tables_in db.trees).office
+
+pub founded_stored : (db : Database) → IsFounded db → IsStored db
+founded_stored = founded_kept
+
+-- an office keeps to it
+pub keeps_founded : (s : State) → IsAtRest s → (Holds s → IsFounded s.now) → (v : Vacancies)
+    → AreVacancies v empty empty empty → KeepsOffice (Some v) s
+keeps_founded s rest founded v are = record {
+  keeping = record {
+    idle = record {
+      autocommit = rest.autocommit;
+      settled = λ h. record { schema = (founded h).office.schema; committed = rest.settled h };
+    };
+    stored = λ h. founded_stored s.now (founded h);
+  };
+  kept = λ h. subst WellKept (sym (founded_empty s.now (founded h))) first_worlds_kept.0;
+  follows = λ h. subst (λ w. AreVacanciesOf w v) (sym (founded_empty s.now (founded h))) are;
+}
+
+-- a store without tables has none that are not empty
+pub blank : (db : Database) → HasNoTables db → IsBlank no_schema db
+blank db none = record { has = none; empty = tt }

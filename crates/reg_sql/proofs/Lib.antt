@@ -1,0 +1,5 @@
+mod Changing
+mod Founded
+mod Giving
+mod ListedRows
+mod Reading

@@ -1,0 +1,34 @@
+-- What a keeper over tables has beside its connection.
+use Rattle.std.specs.Prelude.{◌≡◌, Option, IfSome}
+use Rattle.sqlite.specs.State.{State, HasCleanDisk}
+use Rattle.reg_core.specs.WellKept.{WellKept}
+use Rattle.reg_core.specs.World.{World}
+use Rattle.reg_vacancies.specs.Vacancies.{AreVacancies}
+use Rattle.reg_vacancies.specs.declared.vacancies.Vacancies.{Vacancies}
+use Rattle.reg_tables.specs.Connection.{Holds}
+use Rattle.reg_content.specs.Calls.{IsKeeping}
+use Rattle.reg_content.specs.Content.{world_in}
+
+-- they are the vacancies of the world's entries, pool and blocks
+abbrev pub AreVacanciesOf : World → Vacancies → Type 0
+AreVacanciesOf w vacancies = AreVacancies vacancies w.entries w.pool w.blocks
+
+-- so they are, where they are there
+abbrev pub MayBeOf : World → Option Vacancies → Type 0
+MayBeOf w vacancies = IfSome vacancies (AreVacanciesOf w)
+
+-- the disk has returned what was written, and did not fail
+pub record IsHonest (s : State) : Type 0 where
+  pub clean : HasCleanDisk s
+  pub unfailed : s.faults ≡ 0
+
+-- the rows are an office's, and what stands beside them is made from them
+pub record IsFollowed (vacancies : Option Vacancies) (s : State) : Type 0 where
+  pub keeping : IsKeeping s
+  pub follows : Holds s → MayBeOf (world_in s) vacancies
+
+-- the rows are those of an office that is well kept, and what stands beside them is made from them
+pub record KeepsOffice (vacancies : Option Vacancies) (s : State) : Type 0 where
+  pub keeping : IsKeeping s
+  pub kept : Holds s → WellKept (world_in s)
+  pub follows : Holds s → MayBeOf (world_in s) vacancies

@@ -1,0 +1,3 @@
+pub mod Keeping
+pub mod Listed
+pub mod Opening

@@ -1,0 +1,65 @@
+-- What an opening finds in a store, and what it leaves of it.
+use Rattle.std.specs.Prelude.{◌≡◌, ◌≢◌, ◌⊎◌, ℤ, pos, Bool, true, false, Result, IfOk, IfErr, IsTrue, Some}
+use Rattle.sqlite.specs.Effect.{Database, IsDatabase}
+use Rattle.sqlite.specs.Files.{AreFoundIn, HoldsDatabase}
+use Rattle.sqlite.specs.Tree.{Trees}
+use Rattle.sqlite_wal.specs.Recovery.{Image}
+use Rattle.sqlite.specs.State.{State}
+use Rattle.sqlite.specs.declared.error.Error.{Error}
+use Rattle.sqlite.specs.declared.error.Error.TheVariants.{SqliteFailure}
+use Rattle.sqlite.specs.declared.error.ErrorCode.TheVariants.{NotADatabase, DatabaseCorrupt, OutOfMemory, CannotOpen, DatabaseBusy}
+use Rattle.reg_core.specs.World.{World, empty_world}
+use Rattle.reg_keeper.specs.declared.keeper.Fault.TheVariants.{Memory, Store}
+use Rattle.reg_vacancies.specs.declared.vacancies.Vacancies.{Vacancies}
+use Rattle.reg_tables.specs.Connection.{Holds}
+use Rattle.reg_tables.specs.Making.{no_schema}
+use Rattle.reg_content.specs.Content.{content_of, world_in}
+use Rattle.reg_content.specs.Opening.{IsOfVersion, IsOurs}
+use Rattle.reg_sql.specs.Keeping.{IsHonest, KeepsOffice}
+use Rattle.reg_sql.specs.declared.open.OpenFault.{OpenFault}
+use Rattle.reg_sql.specs.declared.open.OpenFault.TheVariants.{Version, NotOurs, Fault}
+
+-- the store has no tables
+abbrev pub HasNoTables : Database → Type 0
+HasNoTables db = db.schema ≡ no_schema
+
+-- a database that is found in files that hold this, where it is one
+pub record IsFoundIn (image : Image) (db : Database) : Type 0 where
+  pub holds : (trees : Trees) → HoldsDatabase image trees → db.trees ≡ trees
+  pub reads : AreFoundIn image db.trees
+  pub sound : IsDatabase db
+
+-- the office that the tables hold; or, where a new one is wanted and there are no tables, the empty
+-- one
+abbrev pub IsOpened : Bool → Database → World → Type 0
+IsOpened fresh db w =
+    (IsOurs db × (w ≡ content_of db))
+    ⊎ ((fresh ≡ true) × HasNoTables db × (w ≡ empty_world))
+
+-- why it is refused
+abbrev pub IsRefused : Bool → Database → OpenFault → Type 0
+IsRefused fresh db (Version n) = IsOfVersion n db × (n ≢ pos 1)
+IsRefused fresh db NotOurs =
+    (¬ IsOurs db) × ((n : ℤ) → IsOfVersion n db → n ≡ pos 1)
+    × (fresh ≡ true → ¬ HasNoTables db)
+IsRefused fresh db (Fault fault) = Unit {0}
+
+-- A call that takes a store over, or leaves it as it was.
+pub record TakesOver (fresh : Bool) (old new : State) (result : Result Vacancies OpenFault)
+    : Type 0 where
+  pub held : Holds new → Holds old
+  pub keeps : IfOk result (λ vacancies. KeepsOffice (Some vacancies) new)
+  pub opened : Holds new → IfOk result (λ vacancies. IsOpened fresh old.now (world_in new))
+  pub live : IsHonest new → IsTrue old.is_open → IfOk result (λ vacancies. IsTrue new.is_open)
+  pub refused : old.in_transaction ≡ false → Holds new → IfErr result (IsRefused fresh old.now)
+  pub unchanged : Holds new → IfErr result (λ fault. new.now ≡ old.now)
+
+-- what an error of an opened file is to an office: it is none of an office's, but where there was
+-- no memory, or the disk failed, or it is too big
+abbrev pub refusal_of : Error → OpenFault
+refusal_of (SqliteFailure OutOfMemory) = Fault Memory
+refusal_of (SqliteFailure NotADatabase) = NotOurs
+refusal_of (SqliteFailure DatabaseCorrupt) = NotOurs
+refusal_of (SqliteFailure CannotOpen) = NotOurs
+refusal_of (SqliteFailure DatabaseBusy) = NotOurs
+refusal_of _ = Fault Store

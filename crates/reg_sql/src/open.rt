@@ -1,0 +1,184 @@
+//! Stores that an office is opened from.
+ghost use Rattle.std.specs.Prelude.{◌≡◌, false, IfErr, IfOk, IsTrue, Some};
+ghost use Rattle.sqlite.specs.Effect.{Database};
+ghost use Rattle.sqlite.specs.Files.{file_state};
+ghost use Rattle.sqlite.specs.Held.{state};
+ghost use Rattle.sqlite.specs.State.{HasCleanDisk};
+ghost use Rattle.sqlite.specs.Steps.{over_memory};
+ghost use Rattle.sqlite_wal.specs.Files.{image_at};
+ghost use Rattle.reg_core.specs.World.{empty_world};
+ghost use Rattle.reg_keeper.specs.declared.keeper.Fault.{Fault as KeeperFault};
+ghost use Rattle.reg_tables.specs.Connection.{Holds, IsAtRest, Tells};
+ghost use Rattle.reg_tables.specs.Making.{no_schema};
+ghost use Rattle.reg_content.specs.Content.{world_in};
+ghost use Rattle.reg_sql.specs.Keeping.{IsHonest, KeepsOffice};
+ghost use Rattle.reg_sql.specs.Opening.{HasNoTables, IsFoundIn, IsOpened, IsRefused, TakesOver};
+ghost use Rattle.reg_sql.specs.Opening.{refusal_of};
+ghost use Rattle.reg_sql.specs.declared.open.OpenFault.TheVariants as refusals;
+
+use crate::keeper::SqlKeeper;
+use crate::vacancies::read_vacancies;
+use reg_content::open::{Verdict, check};
+use reg_content::write::fault;
+use reg_keeper::keeper::Fault;
+use reg_tables::make::make_office;
+use reg_vacancies::vacancies::Vacancies;
+use sqlite::{Alter, Connection, Error, ErrorCode, FileFrom, FileStore, MemStore, Start};
+use sqlite_schema::schema::Schema;
+use std::alloc::{AllocError, Global};
+
+/// Why no office is opened. The store is as it was.
+#[derive(Clone, Copy, Debug, PartialEq, Eq)]
+pub enum OpenFault {
+    /// The tables are an office's, of this version and not of the first.
+    Version(i64),
+    /// Anything else than an office's tables with rows of a well kept office in them.
+    NotOurs,
+    /// There was no memory, or the store could not be read or written.
+    Fault(Fault),
+}
+
+impl From<Fault> for OpenFault {
+    ghost use Rattle.std.specs.Prelude.{◌≡◌};
+    ghost use Rattle.reg_sql.specs.declared.open.OpenFault.TheVariants as refusals;
+
+    ghost from_gives = { λ given refusal. refusal ≡ refusals.Fault given };
+
+    fn from(fault: Fault) -> OpenFault {
+        OpenFault::Fault(fault)
+    }
+}
+
+impl<S: Alter> SqlKeeper<S> {
+    /// Takes over the store of a connection. A `fresh` office is founded where the store has no
+    /// tables; else the store must be an office's whose content is well kept, and each row is read
+    /// once. A connection inside a transaction is not ours. Where it is refused the connection
+    /// comes back, and nothing was changed.
+    pub fn adopt(
+        alloc: Global,
+        mut conn: Connection<S>,
+        fresh: bool,
+    ) -> Result<SqlKeeper<S>, (OpenFault, Connection<S>)>
+        ensures opened { IfOk result (λ keeper. Holds (state S.Store keeper.tables)
+            → Holds (state S.Store conn)
+            × IsOpened fresh (state S.Store conn).now (world_in (state S.Store keeper.tables))) }
+        ensures live { IfOk result (λ keeper. IsHonest (state S.Store keeper.tables)
+            → IsTrue (state S.Store conn).is_open → Holds (state S.Store keeper.tables)) }
+        ensures refused { IfErr result (λ refusal. (state S.Store conn).in_transaction ≡ false
+            → Holds (state S.Store refusal.1)
+            → IsRefused fresh (state S.Store conn).now refusal.0) }
+        ensures unchanged { IfErr result (λ refusal. Holds (state S.Store refusal.1)
+            → Holds (state S.Store conn)
+            × ((state S.Store refusal.1).now ≡ (state S.Store conn).now)) }
+    {
+        match take_over(alloc, &mut conn, fresh) {
+            Ok(vacancies) => Ok(SqlKeeper::new(alloc, conn, vacancies)),
+            Err(fault) => Err((fault, conn)),
+        }
+    }
+}
+
+/// Founds an office where one is wanted, or finds the one that is there, and what is free in it.
+fn take_over<S: Alter>(
+    alloc: Global,
+    conn: &mut Connection<S>,
+    fresh: bool,
+) -> Result<Vacancies, OpenFault>
+    ensures { TakesOver fresh (state S.Store conn.old) (state S.Store conn.new) result }
+{
+    if !conn.is_autocommit() {
+        return Err(OpenFault::NotOurs);
+    }
+    if fresh && has_no_tables(conn.schema()) {
+        return found(alloc, conn);
+    }
+    match check(alloc, conn)? {
+        Verdict::Ours => Ok(read_vacancies(alloc, conn)?),
+        Verdict::OtherVersion(version) => Err(OpenFault::Version(version)),
+        Verdict::NotOurs => Err(OpenFault::NotOurs),
+    }
+}
+
+/// Founds an office in a store without tables.
+fn found<S: Alter>(alloc: Global, conn: &mut Connection<S>) -> Result<Vacancies, OpenFault>
+    requires rest { IsAtRest (state S.Store conn.old) }
+    requires blank { Holds (state S.Store conn.old) → HasNoTables (state S.Store conn.old).now }
+    ensures held { Holds (state S.Store conn.new) → Holds (state S.Store conn.old) }
+    ensures keeps { IfOk result (λ vacancies.
+        KeepsOffice (Some vacancies) (state S.Store conn.new)) }
+    ensures empty { Holds (state S.Store conn.new)
+        → IfOk result (λ vacancies. world_in (state S.Store conn.new) ≡ empty_world) }
+    ensures live { HasCleanDisk (state S.Store conn.new)
+        → IfOk result (λ vacancies. IsTrue (state S.Store conn.new).is_open) }
+    ensures fault { IfErr result (λ refusal. (given : KeeperFault) × (refusal ≡ refusals.Fault given)) }
+    ensures unchanged { Holds (state S.Store conn.new)
+        → IfErr result (λ refusal. (state S.Store conn.new).now ≡ (state S.Store conn.old).now) }
+{
+    match make_office(conn) {
+        Ok(()) => Ok(Vacancies::new(alloc)),
+        Err(error) => Err(OpenFault::Fault(fault(&error))),
+    }
+}
+
+/// Whether a schema has nothing in it.
+fn has_no_tables(schema: &Schema) -> bool
+    ensures { Tells result (schema.now ≡ no_schema) }
+{
+    schema.tables.is_empty() && schema.indexes.is_empty() && schema.views.is_empty()
+}
+
+/// The empty office in a store in memory.
+pub fn in_memory(alloc: Global) -> Result<SqlKeeper<MemStore>, OpenFault>
+    ensures empty { IfOk result (λ keeper. Holds (state over_memory keeper.tables)
+        × (world_in (state over_memory keeper.tables) ≡ empty_world)) }
+    ensures fault { IfErr result (λ refusal. (given : KeeperFault) × (refusal ≡ refusals.Fault given)) }
+{
+    let mut conn = Connection::open_in_memory(alloc).map_err(Fault::from)?;
+    let vacancies = found(alloc, &mut conn)?;
+    Ok(SqlKeeper::new(alloc, conn, vacancies))
+}
+
+/// The office in the files at a path, where `start` says what they hold. A `fresh` one is founded
+/// where there is no file, or one without tables; else an absent file is not ours, and may be left
+/// there empty. Nor is one ours that cannot be opened, or is none of SQLite's.
+pub fn from_path<T: Start>(
+    rt: &HostRuntime,
+    path: &str,
+    fresh: bool,
+    start: T,
+) -> Result<SqlKeeper<FileStore<FileFrom<T>>>, OpenFault>
+    ensures { IfOk result (λ keeper. Holds (file_state keeper.tables)
+        → (found : Database) × IsFoundIn (image_at T.Start) found
+        × IsOpened fresh found (world_in (file_state keeper.tables))) }
+{
+    let conn = match Connection::open_from(rt, path, false, start) {
+        Ok(conn) => conn,
+        Err((error, left)) => {
+            drop(left);
+            return Err(refusal(&error));
+        }
+    };
+    match SqlKeeper::adopt(rt.alloc(), conn, fresh) {
+        Ok(keeper) => Ok(keeper),
+        Err((fault, conn)) => {
+            drop(conn);
+            Err(fault)
+        }
+    }
+}
+
+/// What an error of an opened file is to an office.
+fn refusal(error: &Error) -> OpenFault
+    ensures { result ≡ refusal_of error.now }
+{
+    match error {
+        Error::SqliteFailure(ErrorCode::OutOfMemory) => OpenFault::Fault(Fault::Memory),
+        Error::SqliteFailure(
+            ErrorCode::NotADatabase
+            | ErrorCode::DatabaseCorrupt
+            | ErrorCode::CannotOpen
+            | ErrorCode::DatabaseBusy,
+        ) => OpenFault::NotOurs,
+        _ => OpenFault::Fault(Fault::Store),
+    }
+}
