@@ -1,11 +1,23 @@
 //! Why a job was not done.
 use reg_keeper::keeper::Fault;
 use reg_office::FoundFault;
+use reg_sql::open::OpenFault;
 use reg_wire::wire_fault::WireFault;
+use std::alloc::AllocError;
 use std::fmt;
 use std::fmt::{Display, Formatter, Write};
 
 /// Why a job was not done.
+#[derive(Debug, Drop)]
+pub enum Undone {
+    /// It met a fault.
+    Fault(JobFailure),
+    /// The office refused the command, or the words of the job spell none. This is the status and
+    /// the body of the answer, with a space between.
+    Refused(Vec<u8>),
+}
+
+/// A fault that a job met.
 #[derive(Clone, Copy, Debug, PartialEq, Eq)]
 pub enum JobFailure {
     /// There was no memory.
@@ -16,42 +28,90 @@ pub enum JobFailure {
     Read,
     /// Output could not be written.
     Write,
+    /// The file has no office, or one that is not well kept.
+    NotOurs,
+    /// The file has an office of this other version.
+    Version(i64),
     /// The clerk's token is ill formed.
     Token,
     /// The clerk's token has another capability.
     Exists,
+    /// The port cannot be listened on.
+    Port,
+    /// The range file has more than 65,536 bytes.
+    Large,
 }
 
-impl From<FoundFault> for JobFailure {
-    fn from(fault: FoundFault) -> JobFailure {
-        match fault {
-            FoundFault::Token => JobFailure::Token,
-            FoundFault::Exists => JobFailure::Exists,
-            FoundFault::Fault(Fault::Memory) => JobFailure::Memory,
-            FoundFault::Fault(Fault::Store) => JobFailure::Store,
-        }
+impl From<JobFailure> for Undone {
+    fn from(failure: JobFailure) -> Undone {
+        Undone::Fault(failure)
     }
 }
 
-impl From<WireFault> for JobFailure {
-    fn from(fault: WireFault) -> JobFailure {
-        match fault {
+impl From<AllocError> for Undone {
+    fn from(_error: AllocError) -> Undone {
+        Undone::Fault(JobFailure::Memory)
+    }
+}
+
+impl From<Fault> for Undone {
+    fn from(fault: Fault) -> Undone {
+        Undone::Fault(JobFailure::from(fault))
+    }
+}
+
+impl From<OpenFault> for Undone {
+    fn from(fault: OpenFault) -> Undone {
+        Undone::Fault(match fault {
+            OpenFault::Version(version) => JobFailure::Version(version),
+            OpenFault::NotOurs => JobFailure::NotOurs,
+            OpenFault::Fault(fault) => JobFailure::from(fault),
+        })
+    }
+}
+
+impl From<FoundFault> for Undone {
+    fn from(fault: FoundFault) -> Undone {
+        Undone::Fault(match fault {
+            FoundFault::Token => JobFailure::Token,
+            FoundFault::Exists => JobFailure::Exists,
+            FoundFault::Fault(fault) => JobFailure::from(fault),
+        })
+    }
+}
+
+impl From<WireFault> for Undone {
+    fn from(fault: WireFault) -> Undone {
+        Undone::Fault(match fault {
             WireFault::Read | WireFault::TooManyReads => JobFailure::Read,
             WireFault::Write(_) => JobFailure::Write,
             WireFault::Memory => JobFailure::Memory,
+        })
+    }
+}
+
+impl From<Fault> for JobFailure {
+    fn from(fault: Fault) -> JobFailure {
+        match fault {
+            Fault::Memory => JobFailure::Memory,
+            Fault::Store => JobFailure::Store,
         }
     }
 }
 
 impl Display for JobFailure {
     fn fmt<W: Write>(&self, f: &mut Formatter<W>) -> fmt::Result {
-        f.write_str(match self {
-            JobFailure::Memory => "memory",
-            JobFailure::Store => "store",
-            JobFailure::Read => "read",
-            JobFailure::Write => "write",
-            JobFailure::Token => "token",
-            JobFailure::Exists => "exists",
-        })
+        match self {
+            JobFailure::Memory => f.write_str("memory"),
+            JobFailure::Store => f.write_str("store"),
+            JobFailure::Read => f.write_str("read"),
+            JobFailure::Write => f.write_str("write"),
+            JobFailure::NotOurs => f.write_str("not ours"),
+            JobFailure::Version(version) => write!(f, "version {version}"),
+            JobFailure::Token => f.write_str("token"),
+            JobFailure::Exists => f.write_str("exists"),
+            JobFailure::Port => f.write_str("port"),
+            JobFailure::Large => f.write_str("large"),
+        }
     }
 }

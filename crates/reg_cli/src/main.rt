@@ -1,16 +1,18 @@
 //! The office of an assignment authority as a program.
 #![tactic(auto)]
 
-mod command_line;
+mod desk;
 mod faults;
-mod jobs;
 mod performing;
+mod range_file;
+mod serving;
+mod stored;
 #[cfg(test)]
 mod tests;
 
-use crate::command_line::job;
-use crate::jobs::{Job, JobFault};
 use crate::performing::{perform, refuse};
+use reg_jobs::command_line::job;
+use reg_jobs::jobs::{Job, JobFault};
 use std::process::ExitCode;
 use std::{env, io};
 

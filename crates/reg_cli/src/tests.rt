@@ -1,6 +1,8 @@
 //! What no clause says: that the program does its jobs, to the byte.
-use crate::jobs::Job;
-use crate::performing::perform;
+use crate::performing::{found_and_run, perform};
+use reg_jobs::jobs::Job;
+use reg_office::Office;
+use reg_sql::open::in_memory;
 use std::test::Fail;
 
 mod approvals;
@@ -14,7 +16,9 @@ mod early;
 mod early_asks;
 mod experts;
 mod failing_keeper;
+mod file_jobs;
 mod floods;
+mod outcomes;
 mod policies;
 mod pool;
 mod refusals;
@@ -33,7 +37,12 @@ struct Given {
     errors: Vec<u8>,
 }
 
-fn script<R: AllocGlobal>(rt: &R, clerk: &str, input: &[u8]) -> Result<Given, Fail> {
+// A test fails at this, where it does not hold.
+fn ensure(holds: bool, what: &str) -> Result<(), Fail> {
+    if holds { Ok(()) } else { Err(what.into()) }
+}
+
+fn script(rt: &HostRuntime, clerk: &str, input: &[u8]) -> Result<Given, Fail> {
     let alloc = rt.alloc();
     let clerk = String::from_str(alloc, clerk)?;
     let mut output = Vec::new(alloc);
@@ -46,4 +55,21 @@ fn script<R: AllocGlobal>(rt: &R, clerk: &str, input: &[u8]) -> Result<Given, Fa
         output,
         errors,
     })
+}
+
+// What the lines of a script are answered over tables in memory.
+fn answers_over_tables(rt: &HostRuntime, clerk: &str, input: &[u8]) -> Result<Vec<u8>, Fail> {
+    let alloc = rt.alloc();
+    let Ok(keeper) = in_memory(alloc) else {
+        return Err("no office in tables".into());
+    };
+    let mut office = Office::new(alloc, keeper);
+    let mut output = Vec::new(alloc);
+    let mut reader = input;
+    let done = found_and_run(alloc, &mut office, clerk, &mut reader, &mut output);
+    drop(office);
+    if done.is_err() {
+        return Err("not run".into());
+    }
+    Ok(output)
 }

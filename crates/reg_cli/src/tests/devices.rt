@@ -1,7 +1,7 @@
 //! Readers that fail before a byte, and writers that fail after one.
 use super::CLERK;
-use crate::jobs::Job;
 use crate::performing::perform;
+use reg_jobs::jobs::Job;
 use std::alloc::{AllocError, Global};
 use std::io;
 use std::io::{Read, Write};

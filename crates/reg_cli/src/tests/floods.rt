@@ -1,8 +1,7 @@
 //! Other people's requests that are given nothing leave no trace in what an applicant is answered.
 use super::registers::{GRANTS, REGISTRIES};
 use super::transcript::sent;
-use super::{CLERK, script};
-use std::process::Abort;
+use super::{CLERK, ensure, script};
 use std::test::Fail;
 
 /// What alice asks for, is given, and then sees.
@@ -45,7 +44,7 @@ const KEPT: &str = r#"200 []
 
 // What is answered to the registers' lines and then to alice's, with so many of bob's submissions
 // before each.
-fn answered<R: Abort + AllocGlobal>(rt: &R, first: &str, flood: usize) -> Result<Answers, Fail> {
+fn answered(rt: &HostRuntime, first: &str, flood: usize) -> Result<Answers, Fail> {
     let mut input = sent(rt, &[GRANTS, REGISTRIES])?;
     input.push_str(first)?;
     for (round, line) in LINES.iter().enumerate() {
@@ -54,7 +53,7 @@ fn answered<R: Abort + AllocGlobal>(rt: &R, first: &str, flood: usize) -> Result
         input.push('\n')?;
     }
     let given = script(rt, CLERK, input.as_bytes())?;
-    assert_eq!(rt; given.status, 0);
+    ensure(given.status == 0, "a script over lists")?;
     apart(rt, &given.output)
 }
 
@@ -77,7 +76,7 @@ fn put_flood<R: AllocGlobal>(
 
 const ASK: &str = r#"{"contact":"c","kind":"code","label":"Hidden","registry":"flags","value":66}"#;
 
-fn apart<R: Abort + AllocGlobal>(rt: &R, output: &[u8]) -> Result<Answers, Fail> {
+fn apart(rt: &HostRuntime, output: &[u8]) -> Result<Answers, Fail> {
     let (mut made, mut shown) = (0, 0);
     let mut kept = String::new(rt.alloc());
     for line in std::str::from_utf8(output)?.lines() {
@@ -87,7 +86,7 @@ fn apart<R: Abort + AllocGlobal>(rt: &R, output: &[u8]) -> Result<Answers, Fail>
         } else if line.starts_with("201 ") {
             made = usize::saturating_add(made, 1);
         } else {
-            assert!(rt; line.starts_with("200 "));
+            ensure(line.starts_with("200 "), line)?;
             shown = usize::saturating_add(shown, 1);
         }
     }

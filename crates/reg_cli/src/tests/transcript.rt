@@ -1,19 +1,26 @@
 //! Transcripts: what is sent to the program, and what it answers.
-use super::{CLERK, script};
+use super::{CLERK, answers_over_tables, ensure, script};
 use std::alloc::AllocError;
-use std::process::Abort;
 use std::test::Fail;
 
-/// Sends the lines that begin with `> `, of all these transcripts in order, to a new office, and
-/// compares its answers, to the byte, with the lines that begin with `< `. A TAB is written as `|`.
-pub fn assert_answered<R: Abort + AllocGlobal>(rt: &R, transcripts: &[&str]) -> Result<(), Fail> {
+/// Sends the lines that begin with `> `, of all these transcripts in order, to a new office, once in
+/// lists and once in tables, and compares its answers, to the byte, with the lines that begin with
+/// `< `. A TAB is written as `|`.
+pub fn assert_answered(rt: &HostRuntime, transcripts: &[&str]) -> Result<(), Fail> {
     let input = sent(rt, transcripts)?;
     let output = marked(rt, transcripts, "< ")?;
     let given = script(rt, CLERK, input.as_bytes())?;
-    assert_eq!(rt; given.status, 0);
-    assert_eq!(rt; given.output.as_slice(), output.as_str().as_bytes());
-    assert!(rt; given.errors.is_empty());
-    Ok(())
+    ensure(given.status == 0, "the status over lists")?;
+    ensure(
+        given.output.as_slice() == output.as_str().as_bytes(),
+        "the answers over lists",
+    )?;
+    ensure(given.errors.is_empty(), "what is said of errors over lists")?;
+    let over_tables = answers_over_tables(rt, CLERK, input.as_bytes())?;
+    ensure(
+        over_tables.as_slice() == output.as_str().as_bytes(),
+        "the answers over tables",
+    )
 }
 
 /// The lines that these transcripts send.

@@ -1,0 +1,201 @@
+//! The jobs over an office that stays open.
+use super::CLERK;
+use crate::desk::{define_in, definition, list_in, listing};
+use crate::faults::{JobFailure, Undone};
+use crate::performing::found_in;
+use crate::serving::serve_in;
+use reg_jobs::jobs::Definition;
+use reg_office::Office;
+use reg_store::lists::ListKeeper;
+use std::alloc::{AllocError, Global};
+use std::io;
+use std::io::{Read, Write};
+use std::net::{Ipv4Addr, Net, Shutdown, SocketAddr, TcpListener, TcpStream};
+use std::process::Abort;
+use std::test::Fail;
+use std::time::Clock;
+
+const MOMENT: u64 = 1_700_000_000;
+
+const RANGES: &[u8] =
+    b"lo,hi,treatment,note\n0,99,first-come-first-served,\n100,255,reserved,kept for later\n";
+
+const LISTING: &str =
+    "Value,Description,Status,Policy,First,Expires,Assignee\n0-99,,Unassigned,first-come-first-served,,,\n100-255,kept for later,Reserved,,,,\n";
+
+// An order to define the registry `codes`.
+fn order<R: AllocGlobal>(rt: &R) -> Result<Definition, AllocError> {
+    let alloc = rt.alloc();
+    Ok(Definition {
+        file: String::from_str(alloc, "o.db")?,
+        name: String::from_str(alloc, "codes")?,
+        max: String::from_str(alloc, "255")?,
+        ranges: String::from_str(alloc, "r.csv")?,
+        clerk: String::from_str(alloc, CLERK)?,
+    })
+}
+
+// What a definition of these ranges prints, or why it does not.
+fn defined<R: AllocGlobal>(
+    rt: &R,
+    office: &mut Office<ListKeeper>,
+    ranges: &[u8],
+) -> Result<Vec<u8>, Undone> {
+    let alloc = rt.alloc();
+    let order = order(rt)?;
+    let command = definition(alloc, &order, ranges)?;
+    let mut output = Vec::new(alloc);
+    define_in(alloc, office, MOMENT, CLERK, &command, &mut output)?;
+    Ok(output)
+}
+
+// What a listing of the registry `codes` prints.
+fn listed<R: AllocGlobal>(rt: &R, office: &mut Office<ListKeeper>) -> Result<Vec<u8>, Undone> {
+    let alloc = rt.alloc();
+    let name = String::from_str(alloc, "codes")?;
+    let command = listing(alloc, &Some(name))?;
+    let mut output = Vec::new(alloc);
+    list_in(alloc, office, MOMENT, &command, &mut output)?;
+    Ok(output)
+}
+
+fn assert_jobs<R: Abort + AllocGlobal>(
+    rt: &R,
+    office: &mut Office<ListKeeper>,
+) -> Result<(), Fail> {
+    for _ in 0..2 {
+        let mut output = Vec::new(rt.alloc());
+        assert!(rt; found_in(office, CLERK, &mut output).is_ok());
+        assert_eq!(rt; output.as_slice(), b"ready\n".as_slice());
+    }
+    for _ in 0..2 {
+        let Ok(printed) = defined(rt, office, RANGES) else {
+            return Err("not defined".into());
+        };
+        assert_eq!(rt;
+            printed.as_slice(),
+            b"200 {\"defined\":\"codes\"}\n".as_slice()
+        );
+        let Ok(printed) = listed(rt, office) else {
+            return Err("not listed".into());
+        };
+        assert_eq!(rt; printed.as_slice(), LISTING.as_bytes());
+    }
+    let other = b"lo,hi,treatment,note\n0,255,reserved,\n";
+    let Err(Undone::Refused(line)) = defined(rt, office, other) else {
+        return Err("not refused".into());
+    };
+    assert_eq!(rt; line.as_slice(), b"409 {\"error\":\"exists\"}".as_slice());
+    Ok(())
+}
+
+#[test]
+fn jobs_of_an_office(rt: HostRuntime) -> Result<(), Fail> {
+    let mut office = Office::new(rt.alloc(), ListKeeper::new(rt.alloc()));
+    let done = assert_jobs(&rt, &mut office);
+    drop(office);
+    done
+}
+
+/// A standard output that, as soon as something is printed, asks for the registries on a port.
+#[derive(Drop)]
+struct Asking<'a, R: Net<Listener = TcpListener, Stream = TcpStream>> {
+    rt: &'a R,
+    alloc: Global,
+    address: SocketAddr,
+    printed: Vec<u8>,
+    stream: Option<TcpStream>,
+}
+
+impl<R: Net<Listener = TcpListener, Stream = TcpStream>> Asking<'_, R> {
+    fn ask(&mut self) -> io::Result<()> {
+        let mut stream = TcpStream::connect(self.rt, self.address)?;
+        stream.write_all(b"GET /registries HTTP/1.1\r\n\r\n")?;
+        stream.shutdown(Shutdown::Write)?;
+        self.stream = Some(stream);
+        Ok(())
+    }
+
+    // What was answered.
+    fn heard(&mut self) -> Result<Vec<u8>, Fail> {
+        let mut bytes = Vec::new(self.alloc);
+        match &mut self.stream {
+            Some(stream) => stream.read_to_end(&mut bytes)?,
+            None => return Err("nothing was printed".into()),
+        };
+        Ok(bytes)
+    }
+}
+
+impl<R: Net<Listener = TcpListener, Stream = TcpStream>> Write for Asking<'_, R> {
+    fn write(&mut self, buf: &[u8]) -> io::Result<usize> {
+        if self.stream.is_none() {
+            self.ask()?;
+        }
+        self.printed.extend_from_slice(buf)?;
+        Ok(buf.len())
+    }
+
+    fn flush(&mut self) -> io::Result<()> {
+        Ok(())
+    }
+}
+
+// A port of loopback that nobody listens on.
+fn free_port<R: Net<Listener = TcpListener, Stream = TcpStream>>(rt: &R) -> Result<u16, Fail> {
+    let listener = TcpListener::bind(rt, SocketAddr::from((Ipv4Addr::LOCALHOST, 0)))?;
+    let port = listener.local_addr()?.port();
+    drop(listener);
+    Ok(port)
+}
+
+fn assert_served<R>(rt: &R, office: &mut Office<ListKeeper>) -> Result<(), Fail>
+where
+    R: Abort + AllocGlobal + Clock + Net<Listener = TcpListener, Stream = TcpStream>,
+{
+    let port = free_port(rt)?;
+    let mut output = Asking {
+        rt,
+        alloc: rt.alloc(),
+        address: SocketAddr::from((Ipv4Addr::LOCALHOST, port)),
+        printed: Vec::new(rt.alloc()),
+        stream: None,
+    };
+    let done = serve_in(rt, office, port, 1, &mut output);
+    let line = format!(in rt.alloc(); "listening on 127.0.0.1:{port}\n")?;
+    assert!(rt; done.is_ok());
+    assert_eq!(rt; output.printed.as_slice(), line.as_bytes());
+    assert!(rt; output.heard()?.ends_with(b"\r\n\r\n[]"));
+    Ok(())
+}
+
+#[test]
+fn an_office_is_served(rt: HostRuntime) -> Result<(), Fail> {
+    let mut office = Office::new(rt.alloc(), ListKeeper::new(rt.alloc()));
+    let done = assert_served(&rt, &mut office);
+    drop(office);
+    done
+}
+
+// A port that is listened on already.
+fn assert_port<R>(rt: &R, office: &mut Office<ListKeeper>) -> Result<(), Fail>
+where
+    R: Abort + AllocGlobal + Clock + Net<Listener = TcpListener, Stream = TcpStream>,
+{
+    let listener = TcpListener::bind(rt, SocketAddr::from((Ipv4Addr::LOCALHOST, 0)))?;
+    let port = listener.local_addr()?.port();
+    let mut output = Vec::new(rt.alloc());
+    let done = serve_in(rt, office, port, 1, &mut output);
+    drop(listener);
+    assert!(rt; matches!(done, Err(Undone::Fault(JobFailure::Port))));
+    assert!(rt; output.is_empty());
+    Ok(())
+}
+
+#[test]
+fn a_port_that_is_taken(rt: HostRuntime) -> Result<(), Fail> {
+    let mut office = Office::new(rt.alloc(), ListKeeper::new(rt.alloc()));
+    let done = assert_port(&rt, &mut office);
+    drop(office);
+    done
+}

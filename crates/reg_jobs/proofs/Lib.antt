@@ -1,0 +1,5 @@
+mod ReadNumbers
+mod Stops
+mod Taken
+mod Uses
+mod Walks

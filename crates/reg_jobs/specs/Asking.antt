@@ -1,0 +1,96 @@
+-- What the words of a command line ask for, as the library `clap` reads them.
+use Rattle.std.specs.Prelude.{◌≡◌, ◌⊎◌, ◌≤◌, ⊤, ℕ, [], List, Some, None, codes, option_map, pos}
+use Rattle.std.specs.String.{string_bytes}
+use Rattle.std.specs.Str.Parse.{IsNumeral, digits_value, without_leading_plus}
+use Rattle.clap.specs.Words.{IsAmong, IsSignedIn, Row, Text, fault_of, first_of, one_of, subcommand_of, without_minus}
+use Rattle.clap.specs.declared.error.kind.ErrorKind.{ErrorKind}
+use Rattle.clap.specs.declared.error.kind.ErrorKind.TheVariants.{DisplayHelp}
+use Rattle.reg_jobs.specs.CommandLine.{office_app}
+use Rattle.reg_jobs.specs.declared.jobs.Job.{Job}
+use Rattle.reg_jobs.specs.declared.jobs.Job.TheVariants.{Script, Init, Serve, Define, Listing, Help}
+
+-- the value of an argument is this text
+abbrev pub IsTextOf : Text → List Row → Text → Type 0
+IsTextOf id rows text = first_of id rows ≡ Some text
+
+-- the value of an argument is this number, in decimal
+abbrev pub IsNumberOf : Text → List Row → ℕ → Type 0
+IsNumberOf id rows number = (text : Text) × (one_of id rows ≡ Some text)
+    × IsNumeral 10 (without_leading_plus text)
+    × (digits_value 10 (without_leading_plus text) ≡ number)
+
+-- how many connections are served: as many as is said, or the most
+abbrev pub IsCountOf : List Row → ℕ → Type 0
+IsCountOf rows count = ((first_of (codes "connections") rows ≡ None) × (count ≡ 1000000))
+    ⊎ IsNumberOf (codes "connections") rows count
+
+-- the job of this name, with the values of its arguments
+abbrev pub IsJobOf : Text → List Row → Job → Type 0
+IsJobOf name rows (Script clerk) =
+    (name ≡ codes "script") × IsTextOf (codes "clerk") rows (string_bytes clerk)
+IsJobOf name rows (Init file clerk) =
+    (name ≡ codes "init") × IsTextOf (codes "FILE") rows (string_bytes file)
+    × IsTextOf (codes "clerk") rows (string_bytes clerk)
+IsJobOf name rows (Serve file port connections) =
+    (name ≡ codes "serve") × IsTextOf (codes "FILE") rows (string_bytes file)
+    × IsNumberOf (codes "port") rows port
+    × IsCountOf rows connections
+IsJobOf name rows (Define order) =
+    (name ≡ codes "define") × IsTextOf (codes "FILE") rows (string_bytes order.file)
+    × IsTextOf (codes "NAME") rows (string_bytes order.name)
+    × IsTextOf (codes "MAX") rows (string_bytes order.max)
+    × IsTextOf (codes "CSV") rows (string_bytes order.ranges)
+    × IsTextOf (codes "clerk") rows (string_bytes order.clerk)
+IsJobOf name rows (Listing file registry) =
+    (name ≡ codes "listing") × IsTextOf (codes "FILE") rows (string_bytes file)
+    × (first_of (codes "registry") rows ≡ option_map string_bytes registry)
+IsJobOf name rows (Help text) = ⊥
+
+abbrev pub IsHelp : Job → Type 0
+IsHelp (Help text) = ⊤
+IsHelp _ = ⊥
+
+abbrev pub IsFromOneTo : ℕ → ℕ → Type 0
+IsFromOneTo most number = (1 ≤ number) × (number ≤ most)
+
+-- where the job serves, the port and the count of connections are in their ranges
+abbrev pub IsInRange : Job → Type 0
+IsInRange (Serve file port connections) =
+    IsFromOneTo 65535 port × IsFromOneTo 1000000 connections
+IsInRange _ = ⊤
+
+-- the argument has a value
+abbrev pub HasText : Text → List Row → Type 0
+HasText id rows = (text : Text) × IsTextOf id rows text
+
+-- the argument has a value, which is a number from 1 to the most
+abbrev pub HasNumber : Text → ℕ → List Row → Type 0
+HasNumber id most rows = (text : Text) × (one_of id rows ≡ Some (without_minus text))
+    × IsSignedIn (pos 1) (pos most) text
+
+-- the argument has no value, or such a number
+abbrev pub MayHaveNumber : Text → ℕ → List Row → Type 0
+MayHaveNumber id most rows = (first_of id rows ≡ None) ⊎ HasNumber id most rows
+
+-- there is a job of this name, and the values that it needs are there
+abbrev pub HasJob : Text → List Row → Type 0
+HasJob name rows = ((name ≡ codes "script") × HasText (codes "clerk") rows)
+    ⊎ (((name ≡ codes "init") × HasText (codes "FILE") rows × HasText (codes "clerk") rows)
+    ⊎ (((name ≡ codes "serve") × HasText (codes "FILE") rows
+    × HasNumber (codes "port") 65535 rows
+    × MayHaveNumber (codes "connections") 1000000 rows)
+    ⊎ (((name ≡ codes "define") × HasText (codes "FILE") rows × HasText (codes "NAME") rows
+    × HasText (codes "MAX") rows × HasText (codes "CSV") rows × HasText (codes "clerk") rows)
+    ⊎ ((name ≡ codes "listing") × HasText (codes "FILE") rows))))
+
+-- the words are taken, name a job, and it is this one; or they ask for help, and that is printed
+abbrev pub IsAsked : List Text → Job → Type 0
+IsAsked words job =
+    ((met : Text × List Row) × (subcommand_of office_app words ≡ Some met)
+    × IsJobOf met.0 met.1 job × IsInRange job × (fault_of office_app words ≡ []))
+    ⊎ (IsHelp job × IsAmong DisplayHelp (fault_of office_app words))
+
+-- the words are refused, by a fault other than that they ask for help
+abbrev pub IsRefused : List Text → Type 0
+IsRefused words =
+    (fault : ErrorKind) × IsAmong fault (fault_of office_app words) × (fault ≡ DisplayHelp → ⊥)

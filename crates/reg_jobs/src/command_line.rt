@@ -1,0 +1,178 @@
+//! The command line.
+ghost use Rattle.std.specs.Prelude.{◌≡◌, IfErr, IfOk, List, MatchResult, Some, codes, map, option_map};
+ghost use Rattle.std.specs.String.{string_bytes};
+ghost use Rattle.clap.specs.Words.{Row, Text, first_of, found_of, kind_of, rows_of, subcommand_rows_of};
+ghost use Rattle.clap.specs.declared.error.kind.ErrorKind.TheVariants.{DisplayHelp, OutOfMemory};
+ghost use Rattle.reg_jobs.specs.Asking.{HasJob, HasNumber, HasText, IsAsked, IsCountOf, IsFromOneTo, IsHelp, IsInRange, IsJobOf, IsNumberOf, IsRefused, IsTextOf, MayHaveNumber};
+ghost use Rattle.reg_jobs.specs.declared.jobs.JobFault.TheVariants.{Line, Memory};
+
+use crate::definition::{MOST_CONNECTIONS, office};
+use crate::jobs::{Definition, Job, JobFault};
+use clap::error::ErrorKind;
+use clap::{ArgMatches, Error};
+use std::alloc::{AllocError, Global};
+
+/// The job that the words of a command line ask for, the program's own name first. `Line` where
+/// they are no command line of the program.
+pub fn job(alloc: Global, words: &[&str]) -> Result<Job, JobFault>
+    ensures asked { IfOk result (IsAsked (map (λ word. word.now) words.now)) }
+    ensures line { IfErr result (λ fault. fault ≡ Line
+        → IsRefused (map (λ word. word.now) words.now)) }
+{
+    match office(alloc)?.try_get_matches_from(words) {
+        Ok(matches) => {
+            let job = job_of(alloc, &matches);
+            drop(matches);
+            job
+        }
+        Err(error) => help_of(alloc, &error),
+    }
+}
+
+// The job where the words were not taken: that help is printed, where they ask for it.
+fn help_of(alloc: Global, error: &Error) -> Result<Job, JobFault>
+    ensures help { IfOk result (λ job. IsHelp job × (kind_of error.now ≡ DisplayHelp)) }
+    ensures memory { IfErr result (λ fault. kind_of error.now ≡ OutOfMemory → fault ≡ Memory) }
+    ensures line { IfErr result (λ fault. fault ≡ Line → kind_of error.now ≡ DisplayHelp → ⊥) }
+{
+    match error.kind() {
+        ErrorKind::DisplayHelp => Ok(Job::Help {
+            text: format!(in alloc; "{error}")?,
+        }),
+        ErrorKind::OutOfMemory => Err(JobFault::Memory),
+        _ => Err(JobFault::Line),
+    }
+}
+
+// The job that a command line says.
+fn job_of(alloc: Global, matches: &ArgMatches) -> Result<Job, JobFault>
+    ensures said { IfOk result (λ job. (met : Text × List Row)
+        × (subcommand_rows_of matches.now ≡ Some met) × IsJobOf met.0 met.1 job) }
+    ensures given { (met : Text × List Row) → subcommand_rows_of matches.now ≡ Some met
+        → HasJob met.0 met.1 → MatchResult result IsInRange (λ fault. fault ≡ Memory) }
+{
+    let Some((name, inner)) = matches.subcommand() else {
+        return Err(JobFault::Line);
+    };
+    match name {
+        "script" => script_of(alloc, inner),
+        "init" => init_of(alloc, inner),
+        "serve" => serve_of(alloc, inner),
+        "define" => define_of(alloc, inner),
+        "listing" => listing_of(alloc, inner),
+        _ => Err(JobFault::Line),
+    }
+}
+
+fn script_of(alloc: Global, matches: &ArgMatches) -> Result<Job, JobFault>
+    ensures said { IfOk result (IsJobOf (codes "script") (rows_of (found_of matches.now))) }
+    ensures given { HasText (codes "clerk") (rows_of (found_of matches.now))
+        → MatchResult result IsInRange (λ fault. fault ≡ Memory) }
+{
+    Ok(Job::Script {
+        clerk: text(alloc, matches, "clerk")?,
+    })
+}
+
+fn init_of(alloc: Global, matches: &ArgMatches) -> Result<Job, JobFault>
+    ensures said { IfOk result (IsJobOf (codes "init") (rows_of (found_of matches.now))) }
+    ensures given { HasText (codes "FILE") (rows_of (found_of matches.now))
+        → HasText (codes "clerk") (rows_of (found_of matches.now))
+        → MatchResult result IsInRange (λ fault. fault ≡ Memory) }
+{
+    Ok(Job::Init {
+        file: text(alloc, matches, "FILE")?,
+        clerk: text(alloc, matches, "clerk")?,
+    })
+}
+
+fn serve_of(alloc: Global, matches: &ArgMatches) -> Result<Job, JobFault>
+    ensures said { IfOk result (IsJobOf (codes "serve") (rows_of (found_of matches.now))) }
+    ensures given { HasText (codes "FILE") (rows_of (found_of matches.now))
+        → HasNumber (codes "port") 65535 (rows_of (found_of matches.now))
+        → MayHaveNumber (codes "connections") 1000000 (rows_of (found_of matches.now))
+        → MatchResult result IsInRange (λ fault. fault ≡ Memory) }
+{
+    Ok(Job::Serve {
+        file: text(alloc, matches, "FILE")?,
+        port: port(matches)?,
+        connections: connections(matches)?,
+    })
+}
+
+fn port(matches: &ArgMatches) -> Result<u16, JobFault>
+    ensures said { IfOk result (IsNumberOf (codes "port") (rows_of (found_of matches.now))) }
+    ensures given { HasNumber (codes "port") 65535 (rows_of (found_of matches.now))
+        → MatchResult result (IsFromOneTo 65535) (λ fault. fault ≡ Memory) }
+{
+    matches.get_one::<u16>("port").ok_or(JobFault::Line)
+}
+
+// How many connections are served: as many as is said, or the most.
+fn connections(matches: &ArgMatches) -> Result<u32, JobFault>
+    ensures said { IfOk result (IsCountOf (rows_of (found_of matches.now))) }
+    ensures given { MayHaveNumber (codes "connections") 1000000 (rows_of (found_of matches.now))
+        → MatchResult result (IsFromOneTo 1000000) (λ fault. fault ≡ Memory) }
+{
+    match matches.get_str("connections") {
+        Some(_) => said_connections(matches),
+        None => Ok(MOST_CONNECTIONS),
+    }
+}
+
+fn said_connections(matches: &ArgMatches) -> Result<u32, JobFault>
+    ensures said { IfOk result (IsNumberOf (codes "connections") (rows_of (found_of matches.now))) }
+    ensures given { HasNumber (codes "connections") 1000000 (rows_of (found_of matches.now))
+        → MatchResult result (IsFromOneTo 1000000) (λ fault. fault ≡ Memory) }
+{
+    matches.get_one::<u32>("connections").ok_or(JobFault::Line)
+}
+
+fn define_of(alloc: Global, matches: &ArgMatches) -> Result<Job, JobFault>
+    ensures said { IfOk result (IsJobOf (codes "define") (rows_of (found_of matches.now))) }
+    ensures given { HasText (codes "FILE") (rows_of (found_of matches.now))
+        → HasText (codes "NAME") (rows_of (found_of matches.now))
+        → HasText (codes "MAX") (rows_of (found_of matches.now))
+        → HasText (codes "CSV") (rows_of (found_of matches.now))
+        → HasText (codes "clerk") (rows_of (found_of matches.now))
+        → MatchResult result IsInRange (λ fault. fault ≡ Memory) }
+{
+    Ok(Job::Define(Definition {
+        file: text(alloc, matches, "FILE")?,
+        name: text(alloc, matches, "NAME")?,
+        max: text(alloc, matches, "MAX")?,
+        ranges: text(alloc, matches, "CSV")?,
+        clerk: text(alloc, matches, "clerk")?,
+    }))
+}
+
+fn listing_of(alloc: Global, matches: &ArgMatches) -> Result<Job, JobFault>
+    ensures said { IfOk result (IsJobOf (codes "listing") (rows_of (found_of matches.now))) }
+    ensures given { HasText (codes "FILE") (rows_of (found_of matches.now))
+        → MatchResult result IsInRange (λ fault. fault ≡ Memory) }
+{
+    Ok(Job::Listing {
+        file: text(alloc, matches, "FILE")?,
+        registry: registry(alloc, matches)?,
+    })
+}
+
+// The registry that is listed, if one is said.
+fn registry(alloc: Global, matches: &ArgMatches) -> Result<Option<String>, AllocError>
+    ensures { IfOk result (λ name. first_of (codes "registry") (rows_of (found_of matches.now))
+        ≡ option_map string_bytes name) }
+{
+    match matches.get_str("registry") {
+        Some(name) => Ok(Some(String::from_str(alloc, name)?)),
+        None => Ok(None),
+    }
+}
+
+// The value of an argument that has to be there.
+fn text(alloc: Global, matches: &ArgMatches, id: &str) -> Result<String, JobFault>
+    ensures said { IfOk result (λ text. IsTextOf id.now (rows_of (found_of matches.now)) (string_bytes text)) }
+    ensures given { HasText id.now (rows_of (found_of matches.now)) → IfErr result (λ fault. fault ≡ Memory) }
+{
+    let text = matches.get_str(id).ok_or(JobFault::Line)?;
+    Ok(String::from_str(alloc, text)?)
+}

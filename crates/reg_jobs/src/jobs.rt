@@ -1,0 +1,99 @@
+//! What the program is asked to do.
+use std::alloc::{AllocError, AllocFailed};
+use std::io;
+
+/// What the program is asked to do.
+#[derive(Drop)]
+pub enum Job {
+    /// Founds an office in memory, and answers the lines of standard input on standard output.
+    Script {
+        /// The first clerk's token.
+        clerk: String,
+    },
+    /// Founds an office in a file, or finds the one that is there.
+    Init {
+        /// The path of the office's file.
+        file: String,
+        /// The first clerk's token.
+        clerk: String,
+    },
+    /// Serves the office in a file over HTTP on loopback, one connection after the other.
+    Serve {
+        /// The path of the office's file.
+        file: String,
+        /// The port, from 1.
+        port: u16,
+        /// How many connections are served, from 1 to 1,000,000.
+        connections: u32,
+    },
+    /// Defines a registry from a range file, in the office in a file.
+    Define(Definition),
+    /// Prints a listing of the office in a file.
+    Listing {
+        /// The path of the office's file.
+        file: String,
+        /// The registry that is listed; without one, the blocks are.
+        registry: Option<String>,
+    },
+    /// Prints how the program, or one of its jobs, is used.
+    Help {
+        /// What is printed.
+        text: String,
+    },
+}
+
+/// How a registry is defined.
+#[derive(Drop)]
+pub struct Definition {
+    /// The path of the office's file.
+    pub file: String,
+    /// The registry's name.
+    pub name: String,
+    /// The registry's largest value, in decimal.
+    pub max: String,
+    /// The path of the range file.
+    pub ranges: String,
+    /// A clerk's token.
+    pub clerk: String,
+}
+
+/// Why there is no job.
+#[derive(Clone, Copy, Debug, PartialEq, Eq)]
+pub enum JobFault {
+    /// The words are no command line of the program.
+    Line,
+    /// There was no memory.
+    Memory,
+}
+
+impl From<AllocError> for JobFault {
+    ghost use Rattle.std.specs.Prelude.{◌≡◌};
+    ghost use Rattle.reg_jobs.specs.declared.jobs.JobFault.TheVariants.{Memory};
+
+    ghost from_gives = { λ _ fault. fault ≡ Memory };
+
+    fn from(_error: AllocError) -> JobFault {
+        JobFault::Memory
+    }
+}
+
+impl<T: Drop> From<AllocFailed<T>> for JobFault {
+    ghost use Rattle.std.specs.Prelude.{◌≡◌};
+    ghost use Rattle.reg_jobs.specs.declared.jobs.JobFault.TheVariants.{Memory};
+
+    ghost from_gives = { λ _ fault. fault ≡ Memory };
+
+    fn from(_failed: AllocFailed<T>) -> JobFault {
+        JobFault::Memory
+    }
+}
+
+// Arguments that cannot be had: one of them is no text (UTF-8), or there was no memory.
+impl From<io::Error> for JobFault {
+    fn from(error: io::Error) -> JobFault {
+        match error.kind() {
+            io::ErrorKind::OutOfMemory => JobFault::Memory,
+            _ => JobFault::Line,
+        }
+    }
+}

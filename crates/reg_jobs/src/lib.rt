@@ -1,0 +1,6 @@
+//! The jobs of the program, and the words of a command line that ask for them.
+#![tactic(auto)]
+
+pub mod command_line;
+mod definition;
+pub mod jobs;
