@@ -1,7 +1,6 @@
-//! Tests of requests and answers over HTTP, which the program does not serve yet: to the byte, over
-//! readers and writers that give and take little and fail, over loopback, and beside the lines of
-//! a script. They stand in a crate of their own because the gate proves a crate that has tests a
-//! second time, whole, together with them.
+//! Tests of requests and answers over HTTP: to the byte, over readers and writers that give and take
+//! little and fail, over loopback, and beside the lines of a script. They stand in a crate of their
+//! own because the gate proves a crate that has tests a second time, whole, together with them.
 #![tactic(auto)]
 
 #[cfg(test)]
@@ -24,6 +23,8 @@ mod heads;
 mod listening;
 #[cfg(test)]
 mod messages;
+#[cfg(test)]
+mod offices;
 #[cfg(test)]
 mod rows;
 #[cfg(test)]

@@ -3,6 +3,7 @@ use crate::messages::request;
 use reg_http::listener::{Connections, serve_listener};
 use reg_http::serving::serve_one;
 use reg_http::wire_fault::WireFault;
+use reg_keeper::keeper::Keeper;
 use reg_office::Office;
 use reg_parse::route::Routes;
 use reg_store::lists::ListKeeper;
@@ -32,20 +33,17 @@ pub struct Answered {
     pub bytes: Vec<u8>,
 }
 
-/// An office in memory, with its router.
+/// An office, in memory where nothing else is said, with its router.
 #[derive(Drop)]
-pub struct Served {
-    office: Office<ListKeeper>,
+pub struct Served<K = ListKeeper> {
+    office: Office<K>,
     routes: Routes,
 }
 
 impl Served {
     /// An office that is founded, and nothing else.
     pub fn founded(alloc: Global) -> Result<Served, Fail> {
-        let routes = Routes::new(alloc)?;
-        let mut office = Office::new(alloc, ListKeeper::new(alloc));
-        office.found(CLERK.as_bytes())?;
-        Ok(Served { office, routes })
+        Served::over(alloc, ListKeeper::new(alloc))
     }
 
     /// An office with an applicant, alice, and a registry, `flags`.
@@ -63,6 +61,16 @@ impl Served {
         let define = request(alloc, "PUT", path, Some(CLERK), RANGES)?;
         assert_eq!(rt; self.asked(alloc, define.as_slice())?.status, Ok(200));
         Ok(())
+    }
+}
+
+impl<K: Keeper + Drop> Served<K> {
+    /// An office over this keeper that is founded.
+    pub fn over(alloc: Global, keeper: K) -> Result<Served<K>, Fail> {
+        let routes = Routes::new(alloc)?;
+        let mut office = Office::new(alloc, keeper);
+        office.found(CLERK.as_bytes())?;
+        Ok(Served { office, routes })
     }
 
     /// Sends bytes, and gives what came back.

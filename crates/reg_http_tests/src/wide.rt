@@ -1,7 +1,7 @@
 //! A registry of 64 ranges that are all of 32 bits, and asks in it with texts of full length.
 use crate::asked::Asked;
-use crate::carriers::Both;
 use crate::generated::{ALICE, EXPERT};
+use crate::offices::Offices;
 use crate::sequence::{FULL, text_of};
 use crate::served::CLERK;
 use std::alloc::{AllocError, Global};
@@ -88,7 +88,7 @@ fn advice(alloc: Global) -> Result<String, AllocError> {
 // where single values are assigned.
 fn assert_ask<R: Abort + AllocGlobal>(
     rt: &R,
-    both: &mut Both,
+    offices: &mut Offices,
     name: &str,
     member: &str,
     is_assigned: bool,
@@ -98,71 +98,71 @@ fn assert_ask<R: Abort + AllocGlobal>(
     let own = format!(in alloc; "/requests/{name}")?;
     let body = ask(alloc, member)?;
     let submission = asked(alloc, "PUT", own.as_str(), Some(ALICE), body.as_str())?;
-    assert_eq!(rt; both.assert_alike(rt, &submission)?, made);
+    assert_eq!(rt; offices.assert_alike(rt, &submission)?, made);
     let path = format!(in alloc; "/desk/experts/alice/{name}/xan")?;
     let assignment = asked(alloc, "PUT", path.as_str(), Some(CLERK), "")?;
-    assert_eq!(rt; both.assert_alike(rt, &assignment)?, done);
+    assert_eq!(rt; offices.assert_alike(rt, &assignment)?, done);
     let path = format!(in alloc; "/queue/alice/{name}")?;
     let body = advice(alloc)?;
     let review = asked(alloc, "PUT", path.as_str(), Some(EXPERT), body.as_str())?;
-    assert_eq!(rt; both.assert_alike(rt, &review)?, done);
+    assert_eq!(rt; offices.assert_alike(rt, &review)?, done);
     let path = format!(in alloc; "/desk/approve/alice/{name}")?;
     let approval = asked(alloc, "PUT", path.as_str(), Some(CLERK), "")?;
-    assert_eq!(rt; both.assert_alike(rt, &approval)?, done);
+    assert_eq!(rt; offices.assert_alike(rt, &approval)?, done);
     let look = asked(alloc, "GET", own.as_str(), Some(ALICE), "")?;
-    assert_eq!(rt; both.assert_alike(rt, &look)?, done);
+    assert_eq!(rt; offices.assert_alike(rt, &look)?, done);
     Ok(())
 }
 
 fn assert_value<R: Abort + AllocGlobal>(
     rt: &R,
-    both: &mut Both,
+    offices: &mut Offices,
     value: u64,
     is_assigned: bool,
 ) -> Result<(), Fail> {
     let name = format!(in rt.alloc(); "v-{value}")?;
     let member = format!(in rt.alloc(); "\"value\":{value}")?;
-    assert_ask(rt, both, name.as_str(), member.as_str(), is_assigned)
+    assert_ask(rt, offices, name.as_str(), member.as_str(), is_assigned)
 }
 
 // Asks for both ends of each range.
-fn assert_ends<R: Abort + AllocGlobal>(rt: &R, both: &mut Both) -> Result<(), Fail> {
+fn assert_ends<R: Abort + AllocGlobal>(rt: &R, offices: &mut Offices) -> Result<(), Fail> {
     for place in 0..RANGES {
         let (_, is_assigned) = treatment(place);
         let lo = place as u64 * WIDTH;
-        assert_value(rt, both, lo, is_assigned)?;
-        assert_value(rt, both, lo + (WIDTH - 1), is_assigned)?;
+        assert_value(rt, offices, lo, is_assigned)?;
+        assert_value(rt, offices, lo + (WIDTH - 1), is_assigned)?;
     }
     Ok(())
 }
 
 // Asks for the least value under each policy.
-fn assert_leasts<R: Abort + AllocGlobal>(rt: &R, both: &mut Both) -> Result<(), Fail> {
+fn assert_leasts<R: Abort + AllocGlobal>(rt: &R, offices: &mut Offices) -> Result<(), Fail> {
     for (word, is_assigned) in TREATMENTS {
         if word != "reserved" {
             let member = format!(in rt.alloc(); "\"least\":\"{word}\"")?;
-            assert_ask(rt, both, word, member.as_str(), is_assigned)?;
+            assert_ask(rt, offices, word, member.as_str(), is_assigned)?;
         }
     }
     Ok(())
 }
 
-fn assert_looks<R: Abort + AllocGlobal>(rt: &R, both: &mut Both) -> Result<(), Fail> {
+fn assert_looks<R: Abort + AllocGlobal>(rt: &R, offices: &mut Offices) -> Result<(), Fail> {
     for (path, token) in LOOKS {
         let look = asked(rt.alloc(), "GET", path, token, "")?;
-        assert_eq!(rt; both.assert_alike(rt, &look)?, 200);
+        assert_eq!(rt; offices.assert_alike(rt, &look)?, 200);
     }
     Ok(())
 }
 
-/// Defines the registry in both offices, asks for both ends of each range and for the least value
+/// Defines the registry in all offices, asks for both ends of each range and for the least value
 /// under each policy, and looks at it all.
-pub fn assert_wide<R: Abort + AllocGlobal>(rt: &R, both: &mut Both) -> Result<(), Fail> {
+pub fn assert_wide<R: Abort + AllocGlobal>(rt: &R, offices: &mut Offices) -> Result<(), Fail> {
     let file = range_file(rt.alloc())?;
     let path = "/desk/registries/wide/4294967295";
     let define = asked(rt.alloc(), "PUT", path, Some(CLERK), file.as_str())?;
-    assert_eq!(rt; both.assert_alike(rt, &define)?, 200);
-    assert_ends(rt, both)?;
-    assert_leasts(rt, both)?;
-    assert_looks(rt, both)
+    assert_eq!(rt; offices.assert_alike(rt, &define)?, 200);
+    assert_ends(rt, offices)?;
+    assert_leasts(rt, offices)?;
+    assert_looks(rt, offices)
 }

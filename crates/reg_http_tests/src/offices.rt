@@ -1,0 +1,107 @@
+//! Offices in memory and in tables, asked by lines of a script and over HTTP.
+use crate::asked::Asked;
+use crate::served::{CLERK, Served};
+use reg_keeper::keeper::Keeper;
+use reg_office::Office;
+use reg_sql::keeper::SqlKeeper;
+use reg_sql::open::in_memory;
+use reg_store::lists::ListKeeper;
+use reg_wire::script::run;
+use sqlite::MemStore;
+use std::alloc::{AllocError, Global};
+use std::process::Abort;
+use std::test::Fail;
+
+/// An answer: its status, and the line of a script that gives it.
+#[derive(Drop)]
+struct Told {
+    status: u16,
+    line: Vec<u8>,
+}
+
+/// Two offices of one kind: one that is asked by lines, and one that is asked over HTTP.
+#[derive(Drop)]
+struct Both<K> {
+    office: Office<K>,
+    served: Served<K>,
+}
+
+impl<K: Keeper + Drop> Both<K> {
+    fn founded(alloc: Global, first: K, second: K) -> Result<Both<K>, Fail> {
+        let mut office = Office::new(alloc, first);
+        office.found(CLERK.as_bytes())?;
+        let served = Served::over(alloc, second)?;
+        Ok(Both { office, served })
+    }
+
+    // Asks both, and gives the answer, which is the same to the byte, and not for want of storage.
+    fn assert_alike<R: Abort + AllocGlobal>(
+        &mut self,
+        rt: &R,
+        asked: &Asked,
+    ) -> Result<Told, Fail> {
+        let alloc = rt.alloc();
+        let told = self.told(alloc, asked.line(alloc)?.as_bytes())?;
+        let given = self.served.asked(alloc, asked.bytes(alloc)?.as_slice())?;
+        let status = given.status?;
+        let line = as_line(alloc, status, given.bytes.as_slice())?;
+        assert_eq!(rt; line.as_slice(), told.as_slice());
+        assert!(rt; !line.ends_with(b"{\"error\":\"storage\"}\n"));
+        Ok(Told { status, line })
+    }
+
+    // What the office that is asked by lines answers.
+    fn told(&mut self, alloc: Global, line: &[u8]) -> Result<Vec<u8>, Fail> {
+        let mut reader = line;
+        let mut answer = Vec::new(alloc);
+        run(alloc, &mut self.office, &mut reader, &mut answer)?;
+        Ok(answer)
+    }
+}
+
+// An answer over HTTP as the line of a script that answers the same: the status, and the body with
+// a TAB for each line feed.
+fn as_line(alloc: Global, status: u16, bytes: &[u8]) -> Result<Vec<u8>, AllocError> {
+    let mut line = format!(in alloc; "{status} ")?.into_bytes();
+    let mut ends = 0u8;
+    for byte in bytes {
+        if ends >= 4 {
+            line.push(if *byte == b'\n' { b'\t' } else { *byte })?;
+        } else if *byte == b'\r' || *byte == b'\n' {
+            ends += 1;
+        } else {
+            ends = 0;
+        }
+    }
+    line.push(b'\n')?;
+    Ok(line)
+}
+
+/// Four offices: two in memory and two in tables, and of each kind one that is asked by lines, and
+/// one that is asked over HTTP.
+#[derive(Drop)]
+pub struct Offices {
+    lists: Both<ListKeeper>,
+    tables: Both<SqlKeeper<MemStore>>,
+}
+
+impl Offices {
+    /// Offices that are founded, and nothing else.
+    pub fn founded(alloc: Global) -> Result<Offices, Fail> {
+        let lists = Both::founded(alloc, ListKeeper::new(alloc), ListKeeper::new(alloc))?;
+        let tables = Both::founded(alloc, in_memory(alloc)?, in_memory(alloc)?)?;
+        Ok(Offices { lists, tables })
+    }
+
+    /// Asks all four, and gives the status of the answer, which is the same to the byte.
+    pub fn assert_alike<R: Abort + AllocGlobal>(
+        &mut self,
+        rt: &R,
+        asked: &Asked,
+    ) -> Result<u16, Fail> {
+        let first = self.lists.assert_alike(rt, asked)?;
+        let second = self.tables.assert_alike(rt, asked)?;
+        assert_eq!(rt; second.line.as_slice(), first.line.as_slice());
+        Ok(first.status)
+    }
+}
