@@ -111,8 +111,8 @@ pub fn change_advice<S: Alter>(
     formed(account, reference, expert, advice);
     write(
         tx,
-        "UPDATE advice SET verdict = ?4, text = ?5 \
-         WHERE account = ?1 AND reference = ?2 AND expert = ?3",
+        "UPDATE advice SET verdict = ?4, text = ?5 WHERE account = ?1 \
+         AND reference = ?2 AND expert = ?3",
         &values(account, reference, expert, advice),
     )?;
     Ok(())

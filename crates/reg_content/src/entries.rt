@@ -128,8 +128,8 @@ pub fn change_entry<S: Alter>(tx: &mut Transaction<'_, S>, entry: &Entry) -> Res
     formed(entry);
     write(
         tx,
-        "UPDATE entries SET label = ?3, assignee = ?4, first = ?5, expires = ?6, renewed = ?7 \
-         WHERE registry = ?1 AND value = ?2",
+        "UPDATE entries SET label = ?3, assignee = ?4, first = ?5, expires = ?6, renewed = ?7 WHERE \
+         registry = ?1 AND value = ?2",
         &entry_values(entry),
     )?;
     Ok(())
