@@ -1,22 +1,16 @@
 -- Parts of an office that are fed to an audit one after the other.
-use Rattle.std.proofs.Common.{◌≡◌, Bool, true, false, subst, ◌∙◌}
+use Rattle.std.proofs.Common.{◌≡◌, Bool, true, false, subst}
 use Rattle.std.specs.Prelude.{Result, Ok, IfOk}
 use Rattle.std.proofs.lemmas.Result.{IfOk-weaker}
 use Rattle.sqlite.specs.Effect.{Database}
 use Rattle.sqlite.specs.State.{State}
 use Rattle.reg_core.specs.World.{World}
 use Rattle.reg_audit.specs.declared.audit.Audit.{Audit}
-use Rattle.reg_tables.specs.Connection.{Stays}
 use Rattle.reg_tables.proofs.Enduring.{endures_then}
+use Rattle.reg_tables.proofs.RestLemmas.{stays_then}
 use Rattle.reg_content.specs.Content.{content_of, world_in}
 use Rattle.reg_content.specs.Feeding.{FeedsPart, FeedsTable, TellsTable}
 use Rattle.reg_content.specs.Tables.{Tables, tables_in}
-
-pub stays_then : (a b c : State) → Stays a b → Stays b c → Stays a c
-stays_then a b c p q = record {
-  held = λ h. p.held (q.held h);
-  same = λ h. q.same h ∙ p.same (q.held h);
-}
 
 -- a part, and what comes after it
 module _ (F G : World → Type 0) (H I : Tables → Type 0) (f g : Tables → World → World)

@@ -29,11 +29,11 @@ use Rattle.reg_content.proofs.RowMaps.Loads as rows
 
 -- the rows that a query of a whole table shows are those that are stored
 pub all_shown : (n : ℕ) (sql : List ℕ) (t : ℕ) (order : List (Term × Key)) (old new : State)
-    (shown : List SqlRow) → Selects sql t [] (columns_of n) order → IsIdle old → Holds old
+    (shown : List SqlRow) → Selects sql t [] (columns_of n) order → Holds old
     → Shown sql [] old new shown → IsPermutation (map (stored n) (old.now.trees t)) shown
-all_shown n sql t order old new shown selects idle holds answer =
-    let schema = (idle.settled holds).schema in
-    let found = selected sql t [] (columns_of n) order [] old new shown selects schema answer in
+all_shown n sql t order old new shown selects holds answer =
+    let found =
+    selected sql t [] (columns_of n) order [] old new shown selects holds.tables answer in
     let same : shows (columns_of n) [] ≡ stored n = λ i r. shows_columns n [] r i in
     let whole = filter_true (old.now.trees t) in
     subst (λ f. IsPermutation (map f (old.now.trees t)) shown) same
@@ -158,13 +158,12 @@ module _ {T K X : Type 0} {R : K → K → Ordering} (o : IsKeyOrder R) (pair : 
     pub feeds_part : {E : Type 0} (sql : List ℕ) (t : ℕ) (order : List (Term × Key))
         (part_of : Tables → List SqlRow) (old new : State) (before after : Audit)
         (result : Result Bool E) → Selects sql t [] (columns_of n) order
-        → ((trees : Trees) → part_of (tables_in trees) ≡ trees t) → IsIdle old → IsIdle new
-        → Endures old new → Stays old new
+        → ((trees : Trees) → part_of (tables_in trees) ≡ trees t) → IsIdle new → Endures old new → Stays old new
         → (Holds new → IfOk result (λ k. (shown : List SqlRow) × Shown sql [] old new shown
         × IsFed read row shown before after k))
         → FeedsPart Before (λ tables. IsTable R reader (part_of tables))
         (λ tables w. put w (held_in reader (part_of tables))) old new before after result
-    feeds_part sql t order part_of old new before after result selects same idle now endures stays
+    feeds_part sql t order part_of old new before after result selects same now endures stays
         rows = record {
           idle = now;
           endures = endures;
@@ -182,7 +181,7 @@ module _ {T K X : Type 0} {R : K → K → Ordering} (o : IsKeyOrder R) (pair : 
             (λ w. put w (held_in reader table)) (world_in old) before after k)
             (sym (same old.now.trees))
             (told (world_in old) before after (old.now.trees t) was.0 k
-            (all_shown n sql t order old new was.0 selects idle (stays.held h) was.1) was.2)
+            (all_shown n sql t order old new was.0 selects (stays.held h) was.1) was.2)
         each (Err e) was h = tt
 
 -- a key that is not in a set has no value there

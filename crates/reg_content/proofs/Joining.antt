@@ -14,6 +14,7 @@ steps_as {a = a} {result = result} it meets = record {
   endures = it.endures;
   kept = it.kept;
   went = it.went;
+  tables = it.tables;
   turns = λ clean. on_ok result (λ turns stored fits.
       let both = meets (content_of a.now) fits in
       let done = turns stored both.0 in

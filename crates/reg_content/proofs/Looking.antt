@@ -6,7 +6,7 @@ use Rattle.sqlite.specs.State.{State}
 use Rattle.reg_core.specs.World.{World}
 use Rattle.reg_tables.specs.Connection.{Endures, Holds, IsIdle, Stays}
 use Rattle.reg_content.specs.Calls.{IsKeeping, Looks}
-use Rattle.reg_tables.proofs.Enduring.{endures_then}
+use Rattle.reg_tables.proofs.Enduring.{endures_then, holds_then, stays_on}
 use Rattle.reg_tables.proofs.RestLemmas.{stays_then}
 use Rattle.reg_content.specs.Content.{IsStored, content_of, world_in}
 
@@ -23,6 +23,7 @@ looks {old = old} {new = new} keeping idle endures stays value = record {
   keeping = keeps_on old new keeping idle stays;
   endures = endures;
   stays = stays;
+  on = stays_on old new endures stays;
   value = value;
 }
 
@@ -39,6 +40,7 @@ looks_then {a = a} {b = b} {c = c} {y = y} {G = G} first second joins = record {
   keeping = second.keeping;
   endures = endures_then a b c first.endures second.endures;
   stays = stays_then a b c first.stays second.stays;
+  on = holds_then a b c second.endures first.on second.on;
   value = λ h.
       let held = second.stays.held h in
       let same : world_in b ≡ world_in a = ap content_of (first.stays.same held) in
@@ -54,6 +56,7 @@ looks_before {a = a} {b = b} {c = c} {result = result} {G = G} {H = H} first sec
   keeping = second.keeping;
   endures = endures_then a b c first.endures second.endures;
   stays = stays_then a b c first.stays second.stays;
+  on = holds_then a b c second.endures first.on second.on;
   value = λ h.
       let held = second.stays.held h in
       let same : world_in b ≡ world_in a = ap content_of (first.stays.same held) in
@@ -70,5 +73,6 @@ looks_failed {a = a} {b = b} {c = c} {result = result} {H = H} before after fail
   keeping = after.keeping;
   endures = endures_then a b c before.endures after.endures;
   stays = stays_then a b c before.stays after.stays;
+  on = holds_then a b c after.endures before.on after.on;
   value = λ h. IfOk-from_err result (H (world_in a)) failed;
 }

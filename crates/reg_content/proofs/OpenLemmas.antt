@@ -1,7 +1,7 @@
 -- What the version and the rows of tables tell of a store.
 use Rattle.std.proofs.Common.{◌≡◌, ℤ, pos, Bool, List, [], ◌∷◌, map, length, refl, sym, ap, subst, ◌∙◌, arith}
 use Rattle.std.proofs.Common.{IsPermutation, Some, IsSome, is_some}
-use Rattle.std.specs.Prelude.{◌↔◌, IsTrue}
+use Rattle.std.specs.Prelude.{◌↔◌, IfOk, IsTrue, Ok, Err, Result}
 use Rattle.std.specs.List.{AllByRecursion}
 use Rattle.std.proofs.lemmas.List.{length-map}
 use Rattle.std.proofs.lemmas.List.Sorted.{IsPermutation-sym, length_permutation}
@@ -13,13 +13,18 @@ use Rattle.reg_audit.specs.declared.audit.Audit.{Audit}
 use Rattle.reg_core.specs.WellKept.{WellKept}
 use Rattle.reg_core.specs.World.{World, empty_world}
 use Rattle.reg_records.specs.Office.{version_in}
-use Rattle.reg_tables.specs.Connection.{Holds, IsAtRest, IsIdle, Tells}
+use Rattle.reg_tables.specs.Connection.{Holds, Stays, Tells, Works}
 use Rattle.reg_tables.specs.Editing.{AreTables}
+use Rattle.reg_tables.specs.Having.{FindsTables}
+use Rattle.reg_tables.specs.Schema.{office_schema}
 use Rattle.reg_tables.specs.Selecting.{stored}
 use Rattle.reg_content.specs.Content.{content, content_of}
 use Rattle.reg_content.specs.Feeding.{FeedsTable}
 use Rattle.reg_content.specs.Loading.{ReadAs}
-use Rattle.reg_content.specs.Opening.{HasVersion, IsOurs, IsVersionOf, only}
+use Rattle.reg_content.specs.Opening.{Decides, HasVersion, IsFoundAs, IsOurs, IsVerdict, IsVersionOf}
+use Rattle.reg_content.specs.Opening.{Judges, only}
+use Rattle.reg_content.specs.declared.open.Verdict.{Verdict}
+use Rattle.reg_content.specs.declared.open.Verdict.TheVariants.{NotOurs, OtherVersion, Ours}
 use Rattle.reg_content.specs.Partitions.{AreRegistries}
 use Rattle.reg_content.specs.Parts.{AreParts, IsBlank, with_parts}
 use Rattle.reg_content.specs.Tables.{Tables, tables_in}
@@ -107,20 +112,14 @@ rows_tell t old new r audits feeds says tells = record {
 
 -- ---- The store
 
-pub at_rest : (s : State) → IsIdle s → IsAtRest s
-at_rest s idle = record {
-  autocommit = idle.autocommit;
-  settled = λ h. (idle.settled h).committed;
-}
-
-pub is_ours : (s : State) → IsIdle s → IsLive s → Holds s → AreTables s.now.trees
+pub is_ours : (s : State) → IsLive s → Holds s → AreTables s.now.trees
     → HasVersion (pos 1) (tables_in s.now.trees).office → AreParts (tables_in s.now.trees)
     → WellKept (content_of s.now) → IsOurs s.now
-is_ours s idle live h keyed version parts kept = (
+is_ours s live h keyed version parts kept = (
   record {
     office = record {
-      schema = (idle.settled h).schema;
-      sound = (live h.is_open).0;
+      schema = h.tables;
+      sound = (live h.works.is_open).0;
       tables = keyed;
     };
     kept = record {
@@ -148,3 +147,42 @@ ours_parts db ours =
       ((t.caps, (registries, t.entries)), ((t.pool, (t.blocks, t.requests)), (t.queue, t.advice))),
       ours.1,
     )
+
+-- ---- Whatever tables there are
+
+module _ (old new : State) (stays : Stays old new) where
+  -- where its tables are the office's and no others
+  holds_at : Works new → old.now.schema ≡ office_schema → Holds new
+  holds_at works is = record {
+    works = works;
+    tables = ap (λ (db : Database). db.schema) (stays.unchanged works) ∙ is;
+  }
+
+  found_as : (v : Verdict) → FindsTables old.now.schema → (Holds new → IsVerdict old.now v)
+      → Works new → IsFoundAs old.now v
+  found_as Ours has verdict works = (has, λ is. verdict (holds_at works is))
+  found_as (OtherVersion n) has verdict works = (has, λ is. verdict (holds_at works is))
+  found_as NotOurs has verdict works = (
+    λ ours. (verdict (holds_at works ours.0.office.schema)).0 ours,
+    λ n is. (verdict (holds_at works is.0)).1 n is,
+  )
+
+  each_found : {E : Type 0} (result : Result Verdict E) → FindsTables old.now.schema
+      → (Holds new → IfOk result (IsVerdict old.now)) → Works new
+      → IfOk result (IsFoundAs old.now)
+  each_found (Ok v) has verdict works = found_as v has verdict works
+  each_found (Err e) has verdict works = tt
+
+-- what is told of an office's tables is so of those that have others beside them
+pub decides : {E : Type 0} (old new : State) (result : Result Verdict E)
+    → FindsTables old.now.schema → Judges old new result → Decides old new result
+decides old new result has judges = record {
+  rest = judges.rest;
+  endures = judges.endures;
+  stays = judges.stays;
+  verdict = each_found old new judges.stays result has judges.verdict;
+}
+
+-- a store without them is none of an office's
+pub found_none : (db : Database) → ¬ (db.schema ≡ office_schema) → IsFoundAs db NotOurs
+found_none db not = (λ ours. absurd (not ours.0.office.schema), λ n is. absurd (not is.0))

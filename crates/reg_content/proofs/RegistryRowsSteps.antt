@@ -42,6 +42,7 @@ module _ {T U E : Type 0} {a b c : State} {x : T} {F G : World → Type 0} {f g 
           committed = two.committed ∙ one.committed;
           live = two.live;
         };
+    tables = λ clean. second.tables clean ∙ first.tables (second.endures.clean clean);
     turns = λ clean stored fits.
         let one = first.turns (second.endures.clean clean) stored fits in
         let both = joins _ fits in

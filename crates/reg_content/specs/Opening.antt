@@ -5,7 +5,8 @@ use Rattle.sqlite.specs.Order.{Row}
 use Rattle.sqlite.specs.State.{State}
 use Rattle.reg_core.specs.WellKept.{WellKept}
 use Rattle.reg_records.specs.Office.{version_in}
-use Rattle.reg_tables.specs.Connection.{Endures, Holds, IsAtRest, Stays}
+use Rattle.reg_tables.specs.Connection.{Endures, Holds, IsIdle, Stays, Works}
+use Rattle.reg_tables.specs.Having.{FindsTables}
 use Rattle.reg_tables.specs.Schema.{office_schema}
 use Rattle.reg_tables.specs.Selecting.{stored}
 use Rattle.reg_content.specs.Content.{IsStored, content_of}
@@ -42,9 +43,25 @@ IsVerdict db Ours = IsOurs db
 IsVerdict db (OtherVersion n) = IsOfVersion n db × (n ≢ pos 1)
 IsVerdict db NotOurs = (¬ IsOurs db) × ((n : ℤ) → IsOfVersion n db → n ≡ pos 1)
 
--- A call that tells what a store is. The store stays as it was.
+-- A call that tells what a store is whose tables are the office's and no others. The store stays
+-- as it was.
 pub record Judges {E : Type 0} (old new : State) (result : Result Verdict E) : Type 0 where
-  pub rest : IsAtRest new
+  pub rest : IsIdle new
   pub endures : Endures old new
   pub stays : Stays old new
   pub verdict : Holds new → IfOk result (IsVerdict old.now)
+
+-- The same of any store. Where it is not refused as none of an office's, an office's tables are
+-- there, and where there are no others, their rows are what is told.
+abbrev pub IsFoundAs : Database → Verdict → Type 0
+IsFoundAs db Ours = FindsTables db.schema × (db.schema ≡ office_schema → IsVerdict db Ours)
+IsFoundAs db (OtherVersion n) =
+    FindsTables db.schema × (db.schema ≡ office_schema → IsVerdict db (OtherVersion n))
+IsFoundAs db NotOurs = IsVerdict db NotOurs
+
+-- A call that tells what a store is, whatever tables it has. The store stays as it was.
+pub record Decides {E : Type 0} (old new : State) (result : Result Verdict E) : Type 0 where
+  pub rest : IsIdle new
+  pub endures : Endures old new
+  pub stays : Stays old new
+  pub verdict : Works new → IfOk result (IsFoundAs old.now)

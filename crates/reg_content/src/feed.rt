@@ -1,12 +1,10 @@
 //! The rows of a table, fed to an audit.
 ghost use Rattle.std.specs.Prelude.{◌≡◌, [], IfOk, map};
-ghost use Rattle.sqlite.specs.Given.{IsPlain};
 ghost use Rattle.sqlite.specs.Held.{state};
-ghost use Rattle.sqlite.specs.Listing.{understood};
 ghost use Rattle.sqlite.specs.State.{Shown};
 ghost use Rattle.reg_audit.specs.declared.row.Row.{Row as AuditRow};
 ghost use Rattle.reg_tables.specs.Connection.{Endures, Holds, IsIdle, Stays};
-ghost use Rattle.reg_tables.specs.Schema.{office_schema};
+ghost use Rattle.reg_tables.specs.Kinds.{IsQuery};
 ghost use Rattle.reg_content.specs.Feeding.{FeedsRows, IsFed};
 
 use crate::read::load;
@@ -45,7 +43,7 @@ pub fn feed_table<S: Alter, T: Record + Fed>(
     sql: &str,
 ) -> Result<bool, Fault>
     requires idle { IsIdle (state S.Store conn.old) }
-    requires plain { IsPlain (understood office_schema sql.now) }
+    requires plain { IsQuery sql.now }
     ensures idle { IsIdle (state S.Store conn.new) }
     ensures stays { Stays (state S.Store conn.old) (state S.Store conn.new) }
     ensures endures { Endures (state S.Store conn.old) (state S.Store conn.new) }

@@ -3,10 +3,10 @@ ghost use Rattle.std.specs.Prelude.{◌≡◌, IfOk};
 ghost use Rattle.sqlite.specs.Held.{state};
 ghost use Rattle.sqlite.specs.State.{IsLive};
 ghost use Rattle.reg_core.specs.WellKept.{WellKept};
-ghost use Rattle.reg_tables.specs.Connection.{Endures, Holds, IsAtRest, IsIdle, Stays, Tells};
+ghost use Rattle.reg_tables.specs.Connection.{Endures, Holds, IsIdle, Stays, Tells};
 ghost use Rattle.reg_tables.specs.Editing.{AreTables};
 ghost use Rattle.reg_content.specs.Content.{world_in};
-ghost use Rattle.reg_content.specs.Opening.{IsVersionOf, Judges, only};
+ghost use Rattle.reg_content.specs.Opening.{Decides, IsVersionOf, Judges, only};
 ghost use Rattle.reg_content.specs.Parts.{AreParts};
 ghost use Rattle.reg_content.specs.Tables.{tables_in};
 
@@ -17,7 +17,7 @@ use crate::write::fault;
 use reg_audit::audit::Audit;
 use reg_keeper::keeper::Fault;
 use reg_records::office::Version;
-use reg_tables::schema::is_office;
+use reg_tables::schema::has_tables;
 use sqlite::{Alter, Connection};
 use std::alloc::Global;
 
@@ -35,12 +35,13 @@ pub enum Verdict {
     NotOurs,
 }
 
-/// Tells what a store is. Rows that the store does not give in their order are a fault of it.
+/// Tells what a store is. The tables of an office are looked for by their names, and those beside
+/// them are not looked at. Rows that the store does not give in their order are a fault of it.
 pub fn check<S: Alter>(alloc: Global, conn: &mut Connection<S>) -> Result<Verdict, Fault>
-    requires { IsAtRest (state S.Store conn.old) }
-    ensures { Judges (state S.Store conn.old) (state S.Store conn.new) result }
+    requires { IsIdle (state S.Store conn.old) }
+    ensures { Decides (state S.Store conn.old) (state S.Store conn.new) result }
 {
-    match is_office(alloc, conn.schema()) {
+    match has_tables(alloc, conn.schema()) {
         Ok(true) => check_office(alloc, conn),
         Ok(false) => Ok(Verdict::NotOurs),
         Err(error) => Err(fault(&error)),

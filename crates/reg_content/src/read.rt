@@ -1,13 +1,11 @@
 //! The rows of a query as values.
 ghost use Rattle.std.specs.Prelude.{◌≡◌, ◌⊎◌, ◌++◌, false, [], ◌∷◌, IfOk};
-ghost use Rattle.sqlite.specs.Given.{IsPlain};
 ghost use Rattle.sqlite.specs.Held.{state};
-ghost use Rattle.sqlite.specs.Listing.{understood};
 ghost use Rattle.sqlite.specs.State.{HasCleanDisk, IsUnchanged, IsRolledBack, Shown};
 ghost use Rattle.sqlite.specs.Values.{bound};
 ghost use Rattle.reg_tables.specs.Connection.{Endures, Holds, IsIdle, Stays};
+ghost use Rattle.reg_tables.specs.Kinds.{IsQuery};
 ghost use Rattle.reg_tables.specs.Lasting.{Lasts};
-ghost use Rattle.reg_tables.specs.Schema.{office_schema};
 ghost use Rattle.reg_content.specs.Reading.{AreRead};
 
 use crate::write::fault;
@@ -46,7 +44,7 @@ fn read_rows<S: Alter, T: Record>(
     params: &[ValueRef<'_>],
 ) -> Result<Option<Vec<T>>, Error>
     requires idle { IsIdle (state S.Store conn.old) }
-    requires plain { IsPlain (understood office_schema sql.now) }
+    requires plain { IsQuery sql.now }
     ensures mode { (state S.Store conn.new).in_transaction ≡ false }
     ensures lasts { Lasts (state S.Store conn.old) (state S.Store conn.new) }
     ensures rests { HasCleanDisk (state S.Store conn.new)
@@ -76,7 +74,7 @@ pub fn load<S: Alter, T: Record>(
     params: &[ValueRef<'_>],
 ) -> Result<Option<Vec<T>>, Fault>
     requires idle { IsIdle (state S.Store conn.old) }
-    requires plain { IsPlain (understood office_schema sql.now) }
+    requires plain { IsQuery sql.now }
     ensures idle { IsIdle (state S.Store conn.new) }
     ensures stays { Stays (state S.Store conn.old) (state S.Store conn.new) }
     ensures endures { Endures (state S.Store conn.old) (state S.Store conn.new) }

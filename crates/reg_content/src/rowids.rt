@@ -1,14 +1,12 @@
 //! The rowids of the rows of the tables.
 ghost use Rattle.std.specs.Prelude.{◌≡◌, ℕ, List, [], IfOk};
 ghost use Rattle.std.specs.Ordering.{int_cmp};
-ghost use Rattle.sqlite.specs.Given.{IsPlain};
 ghost use Rattle.sqlite.specs.Held.{state};
-ghost use Rattle.sqlite.specs.Listing.{understood};
 ghost use Rattle.sqlite.specs.Term.{Term};
 ghost use Rattle.sqlite_value.specs.declared.keys.Key.{Key};
 ghost use Rattle.reg_tables.specs.Connection.{Endures, Holds, IsIdle, Stays};
 ghost use Rattle.reg_tables.specs.Editing.{AreKeyed, AreTables};
-ghost use Rattle.reg_tables.specs.Schema.{office_schema};
+ghost use Rattle.reg_tables.specs.Kinds.{IsQuery};
 ghost use Rattle.reg_content.specs.Rowids.{AreFirstKeyed, AreLastKeyed, SelectsRowids, rowid_in};
 
 use crate::select::all;
@@ -64,7 +62,7 @@ impl Rowid {
 /// of the store.
 fn check_table<S: Alter>(alloc: Global, conn: &mut Connection<S>, sql: &str) -> Result<(), Fault>
     requires idle { IsIdle (state S.Store conn.old) }
-    requires plain { IsPlain (understood office_schema sql.now) }
+    requires plain { IsQuery sql.now }
     ensures idle { IsIdle (state S.Store conn.new) }
     ensures endures { Endures (state S.Store conn.old) (state S.Store conn.new) }
     ensures stays { Stays (state S.Store conn.old) (state S.Store conn.new) }

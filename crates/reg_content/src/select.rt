@@ -1,12 +1,10 @@
 //! Queries over the tables of an office.
 ghost use Rattle.std.specs.Prelude.{◌≡◌, IfOk, IsTrue, option_to_list};
-ghost use Rattle.sqlite.specs.Given.{IsPlain};
 ghost use Rattle.sqlite.specs.Held.{state};
-ghost use Rattle.sqlite.specs.Listing.{understood};
 ghost use Rattle.sqlite.specs.State.{Shown};
 ghost use Rattle.sqlite.specs.Values.{bound};
 ghost use Rattle.reg_tables.specs.Connection.{Endures, Holds, IsIdle, Stays};
-ghost use Rattle.reg_tables.specs.Schema.{office_schema};
+ghost use Rattle.reg_tables.specs.Kinds.{IsQuery};
 ghost use Rattle.reg_content.specs.Loading.{IsAscending, ReadAs};
 
 use crate::read::load;
@@ -26,7 +24,7 @@ pub fn one<S: Alter, T: Record>(
     params: &[ValueRef<'_>],
 ) -> Result<Option<T>, Fault>
     requires idle { IsIdle (state S.Store conn.old) }
-    requires plain { IsPlain (understood office_schema sql.now) }
+    requires plain { IsQuery sql.now }
     ensures idle { IsIdle (state S.Store conn.new) }
     ensures endures { Endures (state S.Store conn.old) (state S.Store conn.new) }
     ensures stays { Stays (state S.Store conn.old) (state S.Store conn.new) }
@@ -54,7 +52,7 @@ pub fn all<S: Alter, T: Keyed>(
     params: &[ValueRef<'_>],
 ) -> Result<Vec<T>, Fault>
     requires idle { IsIdle (state S.Store conn.old) }
-    requires plain { IsPlain (understood office_schema sql.now) }
+    requires plain { IsQuery sql.now }
     ensures idle { IsIdle (state S.Store conn.new) }
     ensures endures { Endures (state S.Store conn.old) (state S.Store conn.new) }
     ensures stays { Stays (state S.Store conn.old) (state S.Store conn.new) }

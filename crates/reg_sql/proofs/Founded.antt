@@ -14,8 +14,11 @@ use Rattle.reg_core.proofs.Keeping.RunsKeepWell.{first_worlds_kept}
 use Rattle.reg_core.proofs.MapLaws.{IsKeyOrder, get-select, same_at, text_keys}
 use Rattle.reg_vacancies.specs.Vacancies.{AreVacancies}
 use Rattle.reg_vacancies.specs.declared.vacancies.Vacancies.{Vacancies}
-use Rattle.reg_tables.specs.Connection.{Holds, IsAtRest}
+use Rattle.reg_tables.specs.Connection.{Holds, IsIdle}
+use Rattle.reg_tables.specs.Having.{Gains}
 use Rattle.reg_tables.specs.Making.{IsBlank, IsFounded, no_schema}
+use Rattle.reg_tables.specs.Schema.{office_schema}
+use Rattle.reg_tables.proofs.GrowLemmas.{none_before}
 use Rattle.reg_content.specs.Content.{AreKept, IsStored, IsVersion, content, content_of, registry_table}
 use Rattle.reg_content.specs.Tables.{Tables, tables_in}
 use Rattle.reg_sql.specs.Keeping.{AreVacanciesOf, KeepsOffice}
@@ -100,16 +103,10 @@ pub founded_stored : (db : Database) → IsFounded db → IsStored db
 founded_stored = founded_kept
 
 -- an office keeps to it
-pub keeps_founded : (s : State) → IsAtRest s → (Holds s → IsFounded s.now) → (v : Vacancies)
+pub keeps_founded : (s : State) → IsIdle s → (Holds s → IsFounded s.now) → (v : Vacancies)
     → AreVacancies v empty empty empty → KeepsOffice (Some v) s
-keeps_founded s rest founded v are = record {
-  keeping = record {
-    idle = record {
-      autocommit = rest.autocommit;
-      settled = λ h. record { schema = (founded h).office.schema; committed = rest.settled h };
-    };
-    stored = λ h. founded_stored s.now (founded h);
-  };
+keeps_founded s idle founded v are = record {
+  keeping = record { idle = idle; stored = λ h. founded_stored s.now (founded h) };
   kept = λ h. subst WellKept (sym (founded_empty s.now (founded h))) first_worlds_kept.0;
   follows = λ h. subst (λ w. AreVacanciesOf w v) (sym (founded_empty s.now (founded h))) are;
 }
@@ -117,3 +114,11 @@ keeps_founded s rest founded v are = record {
 -- a store without tables has none that are not empty
 pub blank : (db : Database) → HasNoTables db → IsBlank no_schema db
 blank db none = record { has = none; empty = tt }
+
+-- where the office's tables came and there are no others, there were none before
+pub founded_alone : (old new : State) → Gains office_schema.tables 10 11 old.now.schema new.now.schema
+    → (IsBlank no_schema old.now → IsFounded new.now) → Holds new
+    → HasNoTables old.now × IsFounded new.now
+founded_alone old new gained made h =
+    let none = none_before old.now.schema new.now.schema gained h.tables in
+    (none, made (blank old.now none))

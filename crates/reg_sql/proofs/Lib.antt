@@ -3,3 +3,4 @@ mod Founded
 mod Giving
 mod ListedRows
 mod Reading
+mod Taking

@@ -19,7 +19,7 @@ use Rattle.reg_vacancies.specs.Values.{Entries}
 use Rattle.reg_vacancies.specs.declared.vacancies.Vacancies.{Vacancies}
 use Rattle.reg_vacancies.proofs.Carrying.{keys_decide}
 use Rattle.reg_tables.specs.Connection.{Holds}
-use Rattle.reg_tables.proofs.Enduring.{endures_then}
+use Rattle.reg_tables.proofs.Enduring.{endures_then, holds_then}
 use Rattle.reg_tables.proofs.RestLemmas.{stays_then}
 use Rattle.reg_content.specs.Calls.{Looks}
 use Rattle.reg_content.specs.Content.{content_of, world_in}
@@ -37,6 +37,7 @@ looks_next {a = a} {b = b} {c = c} {second = second} {Gives = Gives} one two = r
   keeping = two.keeping;
   endures = endures_then a b c one.endures two.endures;
   stays = stays_then a b c one.stays two.stays;
+  on = holds_then a b c two.endures one.on two.on;
   value = λ h. subst (λ db. IfOk second (Gives (content_of db)))
       (one.stays.same (two.stays.held h)) (two.value h);
 }
@@ -50,6 +51,7 @@ looks_so one value = record {
   keeping = one.keeping;
   endures = one.endures;
   stays = one.stays;
+  on = one.on;
   value = value;
 }
 

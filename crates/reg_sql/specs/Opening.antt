@@ -11,8 +11,10 @@ use Rattle.sqlite.specs.declared.error.ErrorCode.TheVariants.{NotADatabase, Data
 use Rattle.reg_core.specs.World.{World, empty_world}
 use Rattle.reg_keeper.specs.declared.keeper.Fault.TheVariants.{Memory, Store}
 use Rattle.reg_vacancies.specs.declared.vacancies.Vacancies.{Vacancies}
-use Rattle.reg_tables.specs.Connection.{Holds}
+use Rattle.reg_tables.specs.Connection.{Holds, Works}
+use Rattle.reg_tables.specs.Having.{AreFree, HasTables}
 use Rattle.reg_tables.specs.Making.{no_schema}
+use Rattle.reg_tables.specs.Schema.{office_schema}
 use Rattle.reg_content.specs.Content.{content_of, world_in}
 use Rattle.reg_content.specs.Opening.{IsOfVersion, IsOurs}
 use Rattle.reg_sql.specs.Keeping.{IsHonest, KeepsOffice}
@@ -29,6 +31,10 @@ pub record IsFoundIn (image : Image) (db : Database) : Type 0 where
   pub reads : AreFoundIn image db.trees
   pub sound : IsDatabase db
 
+-- the tables of the store are an office's, or it has none
+abbrev pub StandsAlone : Database → Type 0
+StandsAlone db = (db.schema ≡ office_schema) ⊎ HasNoTables db
+
 -- the office that the tables hold; or, where a new one is wanted and there are no tables, the empty
 -- one
 abbrev pub IsOpened : Bool → Database → World → Type 0
@@ -36,23 +42,33 @@ IsOpened fresh db w =
     (IsOurs db × (w ≡ content_of db))
     ⊎ ((fresh ≡ true) × HasNoTables db × (w ≡ empty_world))
 
+-- The tables of an office are there, whatever stands beside them. They were there before, and
+-- nothing was changed; or a new office was wanted and none of their names was taken.
+pub record IsTakenOver (fresh : Bool) (old new : Database) : Type 0 where
+  pub has : HasTables new.schema
+  pub from : (new ≡ old) ⊎ ((fresh ≡ true) × AreFree old.schema)
+  pub alone : StandsAlone old → new.schema ≡ office_schema
+  pub was_alone : new.schema ≡ office_schema → StandsAlone old
+
 -- why it is refused
 abbrev pub IsRefused : Bool → Database → OpenFault → Type 0
-IsRefused fresh db (Version n) = IsOfVersion n db × (n ≢ pos 1)
+IsRefused fresh db (Version n) =
+    HasTables db.schema × (db.schema ≡ office_schema → IsOfVersion n db × (n ≢ pos 1))
 IsRefused fresh db NotOurs =
     (¬ IsOurs db) × ((n : ℤ) → IsOfVersion n db → n ≡ pos 1)
-    × (fresh ≡ true → ¬ HasNoTables db)
+    × (fresh ≡ true → ¬ AreFree db.schema)
 IsRefused fresh db (Fault fault) = Unit {0}
 
 -- A call that takes a store over, or leaves it as it was.
 pub record TakesOver (fresh : Bool) (old new : State) (result : Result Vacancies OpenFault)
     : Type 0 where
-  pub held : Holds new → Holds old
+  pub worked : Works new → Works old
   pub keeps : IfOk result (λ vacancies. KeepsOffice (Some vacancies) new)
+  pub taken : Works new → IfOk result (λ vacancies. IsTakenOver fresh old.now new.now)
   pub opened : Holds new → IfOk result (λ vacancies. IsOpened fresh old.now (world_in new))
   pub live : IsHonest new → IsTrue old.is_open → IfOk result (λ vacancies. IsTrue new.is_open)
-  pub refused : old.in_transaction ≡ false → Holds new → IfErr result (IsRefused fresh old.now)
-  pub unchanged : Holds new → IfErr result (λ fault. new.now ≡ old.now)
+  pub refused : old.in_transaction ≡ false → Works new → IfErr result (IsRefused fresh old.now)
+  pub unchanged : Works new → IfErr result (λ fault. new.now ≡ old.now)
 
 -- what an error of an opened file is to an office: it is none of an office's, but where there was
 -- no memory, or the disk failed, or it is too big

@@ -1,5 +1,5 @@
 //! Stores that an office is opened from.
-ghost use Rattle.std.specs.Prelude.{◌≡◌, false, IfErr, IfOk, IsTrue, Some};
+ghost use Rattle.std.specs.Prelude.{◌≡◌, true, false, IfErr, IfOk, IsTrue, Some};
 ghost use Rattle.sqlite.specs.Effect.{Database};
 ghost use Rattle.sqlite.specs.Files.{file_state};
 ghost use Rattle.sqlite.specs.Held.{state};
@@ -8,12 +8,13 @@ ghost use Rattle.sqlite.specs.Steps.{over_memory};
 ghost use Rattle.sqlite_wal.specs.Files.{image_at};
 ghost use Rattle.reg_core.specs.World.{empty_world};
 ghost use Rattle.reg_keeper.specs.declared.keeper.Fault.{Fault as KeeperFault};
-ghost use Rattle.reg_tables.specs.Connection.{Holds, IsAtRest, Tells};
-ghost use Rattle.reg_tables.specs.Making.{no_schema};
+ghost use Rattle.reg_tables.specs.Connection.{Holds, IsIdle, Tells, Works};
+ghost use Rattle.reg_tables.specs.Having.{AreFree, HasTables};
+ghost use Rattle.reg_tables.specs.Schema.{office_schema};
 ghost use Rattle.reg_content.specs.Content.{world_in};
 ghost use Rattle.reg_sql.specs.Keeping.{IsHonest, KeepsOffice};
-ghost use Rattle.reg_sql.specs.Opening.{HasNoTables, IsFoundIn, IsOpened, IsRefused, TakesOver};
-ghost use Rattle.reg_sql.specs.Opening.{refusal_of};
+ghost use Rattle.reg_sql.specs.Opening.{HasNoTables, IsFoundIn, IsOpened, IsRefused, IsTakenOver};
+ghost use Rattle.reg_sql.specs.Opening.{StandsAlone, TakesOver, refusal_of};
 ghost use Rattle.reg_sql.specs.declared.open.OpenFault.TheVariants as refusals;
 
 use crate::keeper::SqlKeeper;
@@ -22,9 +23,9 @@ use reg_content::open::{Verdict, check};
 use reg_content::write::fault;
 use reg_keeper::keeper::Fault;
 use reg_tables::make::make_office;
+use reg_tables::schema::has_room;
 use reg_vacancies::vacancies::Vacancies;
 use sqlite::{Alter, Connection, Error, ErrorCode, FileFrom, FileStore, MemStore, Start};
-use sqlite_schema::schema::Schema;
 use std::alloc::{AllocError, Global};
 
 /// Why no office is opened. The store is as it was.
@@ -50,25 +51,30 @@ impl From<Fault> for OpenFault {
 }
 
 impl<S: Alter> SqlKeeper<S> {
-    /// Takes over the store of a connection. A `fresh` office is founded where the store has no
-    /// tables; else the store must be an office's whose content is well kept, and each row is read
-    /// once. A connection inside a transaction is not ours. Where it is refused the connection
-    /// comes back, and nothing was changed.
+    /// Takes over the store of a connection. A `fresh` office is founded where no name of its tables
+    /// is taken; else the store must have the tables of an office whose content is well kept, and
+    /// each row is read once. Other tables may stand beside them, and are not looked at. A
+    /// connection inside a transaction is not ours. Where it is refused the connection comes back,
+    /// and nothing was changed.
     pub fn adopt(
         alloc: Global,
         mut conn: Connection<S>,
         fresh: bool,
     ) -> Result<SqlKeeper<S>, (OpenFault, Connection<S>)>
         ensures opened { IfOk result (λ keeper. Holds (state S.Store keeper.tables)
-            → Holds (state S.Store conn)
+            → Works (state S.Store conn)
             × IsOpened fresh (state S.Store conn).now (world_in (state S.Store keeper.tables))) }
+        ensures taken { IfOk result (λ keeper. Works (state S.Store keeper.tables)
+            → Works (state S.Store conn)
+            × IsTakenOver fresh (state S.Store conn).now (state S.Store keeper.tables).now) }
         ensures live { IfOk result (λ keeper. IsHonest (state S.Store keeper.tables)
-            → IsTrue (state S.Store conn).is_open → Holds (state S.Store keeper.tables)) }
+            → IsTrue (state S.Store conn).is_open → StandsAlone (state S.Store conn).now
+            → Holds (state S.Store keeper.tables)) }
         ensures refused { IfErr result (λ refusal. (state S.Store conn).in_transaction ≡ false
-            → Holds (state S.Store refusal.1)
+            → Works (state S.Store refusal.1)
             → IsRefused fresh (state S.Store conn).now refusal.0) }
-        ensures unchanged { IfErr result (λ refusal. Holds (state S.Store refusal.1)
-            → Holds (state S.Store conn)
+        ensures unchanged { IfErr result (λ refusal. Works (state S.Store refusal.1)
+            → Works (state S.Store conn)
             × ((state S.Store refusal.1).now ≡ (state S.Store conn).now)) }
     {
         match take_over(alloc, &mut conn, fresh) {
@@ -89,7 +95,7 @@ fn take_over<S: Alter>(
     if !conn.is_autocommit() {
         return Err(OpenFault::NotOurs);
     }
-    if fresh && has_no_tables(conn.schema()) {
+    if is_to_found(alloc, conn, fresh)? {
         return found(alloc, conn);
     }
     match check(alloc, conn)? {
@@ -99,32 +105,44 @@ fn take_over<S: Alter>(
     }
 }
 
-/// Founds an office in a store without tables.
+/// Whether a new office is wanted, and no name of its tables is taken.
+fn is_to_found<S: Alter>(alloc: Global, conn: &Connection<S>, fresh: bool) -> Result<bool, Fault>
+    ensures { IfOk result (λ b. Tells b
+        ((fresh ≡ true) × AreFree (state S.Store conn.now).now.schema)) }
+{
+    if !fresh {
+        return Ok(false);
+    }
+    match has_room(alloc, conn.schema()) {
+        Ok(has) => Ok(has),
+        Err(error) => Err(fault(&error)),
+    }
+}
+
+/// Founds an office beside what stands in a store.
 fn found<S: Alter>(alloc: Global, conn: &mut Connection<S>) -> Result<Vacancies, OpenFault>
-    requires rest { IsAtRest (state S.Store conn.old) }
-    requires blank { Holds (state S.Store conn.old) → HasNoTables (state S.Store conn.old).now }
-    ensures held { Holds (state S.Store conn.new) → Holds (state S.Store conn.old) }
+    requires { IsIdle (state S.Store conn.old) }
+    ensures worked { Works (state S.Store conn.new) → Works (state S.Store conn.old) }
     ensures keeps { IfOk result (λ vacancies.
         KeepsOffice (Some vacancies) (state S.Store conn.new)) }
+    ensures has { Works (state S.Store conn.new)
+        → IfOk result (λ vacancies. HasTables (state S.Store conn.new).now.schema) }
+    ensures alone { Works (state S.Store conn.new)
+        → IfOk result (λ vacancies. HasNoTables (state S.Store conn.old).now
+        → (state S.Store conn.new).now.schema ≡ office_schema) }
     ensures empty { Holds (state S.Store conn.new)
-        → IfOk result (λ vacancies. world_in (state S.Store conn.new) ≡ empty_world) }
+        → IfOk result (λ vacancies. HasNoTables (state S.Store conn.old).now
+        × (world_in (state S.Store conn.new) ≡ empty_world)) }
     ensures live { HasCleanDisk (state S.Store conn.new)
         → IfOk result (λ vacancies. IsTrue (state S.Store conn.new).is_open) }
     ensures fault { IfErr result (λ refusal. (given : KeeperFault) × (refusal ≡ refusals.Fault given)) }
-    ensures unchanged { Holds (state S.Store conn.new)
+    ensures unchanged { Works (state S.Store conn.new)
         → IfErr result (λ refusal. (state S.Store conn.new).now ≡ (state S.Store conn.old).now) }
 {
     match make_office(conn) {
         Ok(()) => Ok(Vacancies::new(alloc)),
         Err(error) => Err(OpenFault::Fault(fault(&error))),
     }
-}
-
-/// Whether a schema has nothing in it.
-fn has_no_tables(schema: &Schema) -> bool
-    ensures { Tells result (schema.now ≡ no_schema) }
-{
-    schema.tables.is_empty() && schema.indexes.is_empty() && schema.views.is_empty()
 }
 
 /// The empty office in a store in memory.
@@ -139,8 +157,9 @@ pub fn in_memory(alloc: Global) -> Result<SqlKeeper<MemStore>, OpenFault>
 }
 
 /// The office in the files at a path, where `start` says what they hold. A `fresh` one is founded
-/// where there is no file, or one without tables; else an absent file is not ours, and may be left
-/// there empty. Nor is one ours that cannot be opened, or is none of SQLite's.
+/// where there is no file, or one in which no name of its tables is taken; else an absent file is
+/// not ours, and may be left there empty. Nor is one ours that cannot be opened, or is none of
+/// SQLite's.
 pub fn from_path<T: Start>(
     rt: &HostRuntime,
     path: &str,

@@ -230,7 +230,7 @@ module _ (limit : Option ℕ) (table : Table) (params : Row) (db : Trees)
             (entered counter.0 edit done numbered),
       )
 
-concluded : (it : Task) (mode : Mode) (done : Written) (tally : Tally) (after : Database)
+pub concluded : (it : Task) (mode : Mode) (done : Written) (tally : Tally) (after : Database)
     → Concludes it mode None done (Ok (tally, after))
     → after ≡ record { schema = it.schema; trees = done.trees }
 concluded it mode done tally after h =

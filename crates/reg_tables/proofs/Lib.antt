@@ -7,5 +7,10 @@ pub mod ValueLemmas
 pub mod RestLemmas
 pub mod Statements
 pub mod EditLemmas
+pub mod KindLemmas
+pub mod GrowLemmas
+pub mod HavingLemmas
+pub mod DefineTexts
+pub mod WriteTexts
 pub mod SchemaLemmas
 pub mod EditStatements

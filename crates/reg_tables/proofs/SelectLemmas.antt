@@ -1,7 +1,7 @@
 -- What the rows of a SELECT over one table are.
-use Rattle.std.specs.Prelude.{unwrap_or}
+use Rattle.std.specs.Prelude.{IfOk, unwrap_or}
 use Rattle.std.proofs.Common.{◌≡◌, ℕ, ◌^◌, nat_le, List, [], ◌∷◌, ◌++◌}
-use Rattle.std.proofs.Common.{map, filter, true, false, cond, None, refl, sym, ap, subst, ◌∙◌}
+use Rattle.std.proofs.Common.{map, filter, true, false, cond, None, Ok, Err, Result, refl, sym, ap, subst, ◌∙◌}
 use Rattle.std.specs.List.{flat_map, range_with_len}
 use Rattle.std.specs.List.Sorted.{IsPermutation}
 use Rattle.std.proofs.lemmas.List.Sorted.{IsPermutation-map}
@@ -13,10 +13,13 @@ use Rattle.sqlite.specs.Query.{Query, IsAnswer, output, Output}
 use Rattle.sqlite.specs.Program.{overlay}
 use Rattle.sqlite.specs.Command.TheVariants.{Select}
 use Rattle.sqlite.specs.State.{State, Shown}
-use Rattle.sqlite.proofs.Callers.{reads_as}
+use Rattle.sqlite.proofs.Callers.{IsPlain, command_of, reads_as}
+use Rattle.sqlite_resolve.specs.declared.compiled.Compiled.{Compiled}
+use Rattle.sqlite_resolve.specs.declared.error.CompileError.{CompileError}
 use Rattle.sqlite_schema.specs.declared.program.Program.{Program}
 use Rattle.sqlite_value.specs.declared.keys.Key.{Key}
 use Rattle.reg_tables.specs.Schema.{office_schema}
+use Rattle.reg_tables.proofs.KindLemmas.{IsPlainly, understood_query}
 use Rattle.reg_tables.specs.Selecting.{select_from, passes, shows, Selects, columns_of, stored}
 
 module _ (t : ℕ) (tests project : List Term) (order : List (Term × Key)) (params : Row) where
@@ -60,6 +63,11 @@ as_kept db t = elim (nat_le (2 ^ 31) t) as (λ b. unwrap_or (cond b None None) (
   | false ↦ refl
 ]
 
+plain_query : (r : Result Compiled CompileError) (program : Program) (names : List (List ℕ))
+    → IfOk r IsPlainly → command_of r ≡ Select program names → IsPlain r
+plain_query (Ok c) program names plain is = plain
+plain_query (Err e) program names plain is = absurd (cc)
+
 -- the rows of a query are what is shown of the rows that pass, in some order
 pub selected : (sql : List ℕ) (t : ℕ) (tests project : List Term) (order : List (Term × Key))
     (params : Row) (old new : State) (rows : List Row) → Selects sql t tests project order
@@ -70,7 +78,8 @@ selected sql t tests project order params old new rows s has h =
     let program : Program =
     record { lets = []; body = select_from t tests project order } in
     let read = reads_as sql params old new office_schema has (Select program s.names) s.is
-    s.plain s.unlisted rows h in
+    (plain_query _ program s.names (understood_query sql s.plain office_schema) s.is)
+    s.unlisted rows h in
     subst (λ xs. IsPermutation (map (shows project params) (filter (passes tests params) xs)) rows)
     (as_kept old.now.trees t)
     (answer_rows t tests project order params (overlay old.now.trees []) rows (read.answer Null))

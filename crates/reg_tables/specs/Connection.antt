@@ -4,35 +4,36 @@ use Rattle.sqlite.specs.State.{State, HasCleanDisk}
 use Rattle.reg_tables.specs.Schema.{office_schema}
 
 -- nothing else has written the store, it has returned what was written, and no fault has shut it
-pub record Holds (s : State) : Type 0 where
+pub record Works (s : State) : Type 0 where
   pub clean : HasCleanDisk s
   pub is_open : IsTrue s.is_open
 
--- the tables are the office's, and all that is seen was committed
-pub record IsSettled (s : State) : Type 0 where
-  pub schema : s.now.schema ≡ office_schema
-  pub committed : s.now ≡ s.committed
-
--- no transaction is open
-pub record IsIdle (s : State) : Type 0 where
-  pub autocommit : s.in_transaction ≡ false
-  pub settled : Holds s → IsSettled s
-
--- the tables are as they were, unless the store has failed for good
-pub record Stays (old new : State) : Type 0 where
-  pub held : Holds new → Holds old
-  pub same : Holds new → new.now ≡ old.now
+-- the store works, and its tables are the office's and no others
+pub record Holds (s : State) : Type 0 where
+  pub works : Works s
+  pub tables : s.now.schema ≡ office_schema
 
 -- no transaction is open, and what is seen is what was committed, whatever the tables are
-pub record IsAtRest (s : State) : Type 0 where
+pub record IsIdle (s : State) : Type 0 where
   pub autocommit : s.in_transaction ≡ false
-  pub settled : Holds s → s.now ≡ s.committed
+  pub settled : Works s → s.now ≡ s.committed
+
+-- the tables and their rows are as they were, unless the store has failed for good
+pub record Stays (old new : State) : Type 0 where
+  pub worked : Works new → Works old
+  pub unchanged : Works new → new.now ≡ old.now
+  pub held : Holds new → Holds old
+  pub same : Holds new → new.now ≡ old.now
 
 -- no doubt of the disk and no failure of it is forgotten, and only a failure of it shuts the store
 pub record Endures (old new : State) : Type 0 where
   pub clean : HasCleanDisk new → HasCleanDisk old
   pub faults : old.faults ≤ new.faults
   pub stays_open : HasCleanDisk new → new.faults ≡ 0 → IsTrue old.is_open → IsTrue new.is_open
+
+-- the premise goes on, for as long as the disk is sound
+abbrev pub HoldsOn : State → State → Type 0
+HoldsOn old new = HasCleanDisk new → new.faults ≡ 0 → Holds old → Holds new
 
 -- a statement inside a transaction went through
 pub record WentOn (old new : State) : Type 0 where

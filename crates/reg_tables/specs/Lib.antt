@@ -9,3 +9,5 @@ pub mod Texts
 pub mod Editing
 pub mod Bare
 pub mod Inside
+pub mod Kinds
+pub mod Having

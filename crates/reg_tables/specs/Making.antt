@@ -17,7 +17,7 @@ use Rattle.sqlite.proofs.Callers.{command_of, statement_of}
 use Rattle.reg_tables.specs.Editing.{IsOffice}
 use Rattle.reg_tables.specs.Schema.{office_table, caps_table, registries_table, ranges_table}
 use Rattle.reg_tables.specs.Schema.{entries_table, requests_table, queue_table, advice_table}
-use Rattle.reg_tables.specs.Schema.{pool_table, office_schema}
+use Rattle.reg_tables.specs.Schema.{pool_table, blocks_table, office_schema}
 
 -- under this schema the text makes this table
 pub record Creates (schema : Schema) (text : List ℕ) (table : Table) : Type 0 where
@@ -66,6 +66,13 @@ schema_8 = created schema_7 (unplaced advice_table)
 
 abbrev pub schema_9 : Schema
 schema_9 = created schema_8 (unplaced pool_table)
+
+-- the first five tables, and the other five
+abbrev pub first_tables : List Table
+first_tables = office_table ∷ caps_table ∷ registries_table ∷ ranges_table ∷ entries_table ∷ []
+
+abbrev pub second_tables : List Table
+second_tables = requests_table ∷ queue_table ∷ advice_table ∷ pool_table ∷ blocks_table ∷ []
 
 -- the columns of the row that says the version of the schema
 abbrev pub version_row : Row

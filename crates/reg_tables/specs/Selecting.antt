@@ -7,13 +7,13 @@ use Rattle.sqlite.specs.Order.{Row, column}
 use Rattle.sqlite.specs.Term.{Term, lit, col, op2, holds, eval_all}
 use Rattle.sqlite.specs.Query.{Query, inner, end}
 use Rattle.sqlite.specs.Command.TheVariants.{Select}
-use Rattle.sqlite.specs.Given.{IsPlain}
 use Rattle.sqlite.specs.Listing.{understood, reads_listing}
 use Rattle.sqlite.proofs.Callers.{command_of}
 use Rattle.sqlite_value.specs.Keys.{ascending}
 use Rattle.sqlite_value.specs.declared.keys.Key.{Key}
 use Rattle.sqlite_sql.specs.declared.ops.BinaryOp.TheVariants.{Compare}
 use Rattle.sqlite_sql.specs.declared.ops.CompareOp.TheVariants.{Eq}
+use Rattle.reg_tables.specs.Kinds.{IsQuery}
 use Rattle.reg_tables.specs.Schema.{office_schema}
 
 -- the query on the table in this tree, with these tests, columns and keys of its order
@@ -44,7 +44,7 @@ pub record Selects (sql : List ℕ) (t : ℕ) (tests project : List Term)
   pub names : List (List ℕ)
   pub is : command_of (understood office_schema sql)
       ≡ Select (record { lets = []; body = select_from t tests project order }) names
-  pub plain : IsPlain (understood office_schema sql)
+  pub plain : IsQuery sql
   pub unlisted : reads_listing office_schema sql ≡ false
 
 -- each of these columns equals a parameter: pairs of their places

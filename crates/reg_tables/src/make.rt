@@ -1,17 +1,20 @@
 //! The tables are made, all or none.
 
-ghost use Rattle.std.specs.Prelude.{◌≡◌, IsTrue, OnOk, OnErr};
+ghost use Rattle.std.specs.Prelude.{◌≡◌, [], ◌∷◌, true, length, IsTrue, OnOk, OnErr};
 ghost use Rattle.sqlite.specs.Held.{state};
 ghost use Rattle.sqlite.specs.State.{HasCleanDisk};
 ghost use Rattle.sqlite.specs.Table.{Table as SqlTable};
 ghost use Rattle.sqlite.specs.Schema.{Schema as SqlSchema};
 ghost use Rattle.sqlite_catalog.specs.Change.{created};
+ghost use Rattle.sqlite_schema.specs.Names.{same_name};
 ghost use Rattle.reg_tables.specs.Schema.{office_schema, office_table};
-ghost use Rattle.reg_tables.specs.Connection.{Holds, IsAtRest};
+ghost use Rattle.reg_tables.specs.Connection.{IsIdle, Works};
 ghost use Rattle.reg_tables.specs.Editing.{IsOffice};
+ghost use Rattle.reg_tables.specs.Having.{Defines, Gains};
 ghost use Rattle.reg_tables.specs.Inside.{GoesInside};
 ghost use Rattle.reg_tables.specs.Making.{Creates, IsBlank, IsFounded};
-ghost use Rattle.reg_tables.specs.Making.{no_schema, schema_5, version_row};
+ghost use Rattle.reg_tables.specs.Making.{first_tables, no_schema, schema_5, second_tables};
+ghost use Rattle.reg_tables.specs.Making.{unplaced, version_row};
 ghost use Rattle.reg_tables.specs.Inserting.{AddedRow};
 
 use crate::write::run;
@@ -30,6 +33,11 @@ fn make<S: Alter>(tx: &mut Transaction<'_, S>, text: &str) -> Result<(), Error>
         → OnOk result ((schema : SqlSchema) (table : SqlTable) → Creates schema text.now table
         → IsBlank schema (state S.Store tx.old.conn.now).now
         → IsBlank (created schema table) (state S.Store tx.new.conn.now).now) }
+    ensures gained { HasCleanDisk (state S.Store tx.new.conn.now)
+        → OnOk result ((table : SqlTable) → Defines text.now (unplaced table)
+        → same_name table.name table.name ≡ true
+        → Gains (table ∷ []) 1 (length table.uniques)
+        (state S.Store tx.old.conn.now).now.schema (state S.Store tx.new.conn.now).now.schema) }
 {
     run(tx, text, &[])?;
     Ok(())
@@ -43,6 +51,9 @@ fn make_first<S: Alter>(tx: &mut Transaction<'_, S>) -> Result<(), Error>
     ensures made { HasCleanDisk (state S.Store tx.new.conn.now)
         → OnOk result (IsBlank no_schema (state S.Store tx.old.conn.now).now
         → IsBlank schema_5 (state S.Store tx.new.conn.now).now) }
+    ensures gained { HasCleanDisk (state S.Store tx.new.conn.now)
+        → OnOk result (Gains first_tables 5 4 (state S.Store tx.old.conn.now).now.schema
+        (state S.Store tx.new.conn.now).now.schema) }
 {
     make(tx, "CREATE TABLE office (version INTEGER NOT NULL) STRICT")?;
     make(
@@ -78,6 +89,9 @@ fn make_second<S: Alter>(tx: &mut Transaction<'_, S>) -> Result<(), Error>
     ensures made { HasCleanDisk (state S.Store tx.new.conn.now)
         → OnOk result (IsBlank schema_5 (state S.Store tx.old.conn.now).now
         → IsBlank office_schema (state S.Store tx.new.conn.now).now) }
+    ensures gained { HasCleanDisk (state S.Store tx.new.conn.now)
+        → OnOk result (Gains second_tables 5 7 (state S.Store tx.old.conn.now).now.schema
+        (state S.Store tx.new.conn.now).now.schema) }
 {
     make(
         tx,
@@ -124,6 +138,9 @@ fn make_all<S: Alter>(tx: &mut Transaction<'_, S>) -> Result<(), Error>
     ensures made { HasCleanDisk (state S.Store tx.new.conn.now)
         → OnOk result (IsBlank no_schema (state S.Store tx.old.conn.now).now
         → IsBlank office_schema (state S.Store tx.new.conn.now).now) }
+    ensures gained { HasCleanDisk (state S.Store tx.new.conn.now)
+        → OnOk result (Gains office_schema.tables 10 11 (state S.Store tx.old.conn.now).now.schema
+        (state S.Store tx.new.conn.now).now.schema) }
 {
     make_first(tx)?;
     make_second(tx)
@@ -139,6 +156,9 @@ fn add_version<S: Alter>(tx: &mut Transaction<'_, S>) -> Result<(), Error>
         → AddedRow office_table.tree version_row
         (state S.Store tx.old.conn.now).now (state S.Store tx.new.conn.now).now
         × IsOffice (state S.Store tx.new.conn.now).now) }
+    ensures defined { HasCleanDisk (state S.Store tx.new.conn.now)
+        → OnOk result ((state S.Store tx.new.conn.now).now.schema
+        ≡ (state S.Store tx.old.conn.now).now.schema) }
 {
     run(
         tx,
@@ -156,6 +176,9 @@ fn make_and_mark<S: Alter>(tx: &mut Transaction<'_, S>) -> Result<(), Error>
     ensures made { HasCleanDisk (state S.Store tx.new.conn.now)
         → OnOk result (IsBlank no_schema (state S.Store tx.old.conn.now).now
         → IsFounded (state S.Store tx.new.conn.now).now) }
+    ensures gained { HasCleanDisk (state S.Store tx.new.conn.now)
+        → OnOk result (Gains office_schema.tables 10 11 (state S.Store tx.old.conn.now).now.schema
+        (state S.Store tx.new.conn.now).now.schema) }
 {
     make_all(tx)?;
     add_version(tx)
@@ -163,15 +186,15 @@ fn make_and_mark<S: Alter>(tx: &mut Transaction<'_, S>) -> Result<(), Error>
 
 /// Makes all tables, or none.
 pub fn make_tables<S: Alter>(conn: &mut Connection<S>) -> Result<(), Error>
-    requires { IsAtRest (state S.Store conn.old) }
-    ensures rest { IsAtRest (state S.Store conn.new) }
-    ensures held { Holds (state S.Store conn.new) → Holds (state S.Store conn.old) }
+    requires { IsIdle (state S.Store conn.old) }
+    ensures rest { IsIdle (state S.Store conn.new) }
+    ensures worked { Works (state S.Store conn.new) → Works (state S.Store conn.old) }
     ensures live { HasCleanDisk (state S.Store conn.new)
         → OnOk result (IsTrue (state S.Store conn.new).is_open) }
-    ensures made { Holds (state S.Store conn.new)
+    ensures made { Works (state S.Store conn.new)
         → OnOk result (IsBlank no_schema (state S.Store conn.old).now
         → IsBlank office_schema (state S.Store conn.new).now) }
-    ensures kept { Holds (state S.Store conn.new)
+    ensures kept { Works (state S.Store conn.new)
         → OnErr result ((state S.Store conn.new).now ≡ (state S.Store conn.old).now) }
 {
     let mut tx = conn.transaction();
@@ -181,15 +204,18 @@ pub fn make_tables<S: Alter>(conn: &mut Connection<S>) -> Result<(), Error>
 
 /// Makes all tables, with the row that says their version, or nothing.
 pub fn make_office<S: Alter>(conn: &mut Connection<S>) -> Result<(), Error>
-    requires { IsAtRest (state S.Store conn.old) }
-    ensures rest { IsAtRest (state S.Store conn.new) }
-    ensures held { Holds (state S.Store conn.new) → Holds (state S.Store conn.old) }
+    requires { IsIdle (state S.Store conn.old) }
+    ensures rest { IsIdle (state S.Store conn.new) }
+    ensures worked { Works (state S.Store conn.new) → Works (state S.Store conn.old) }
     ensures live { HasCleanDisk (state S.Store conn.new)
         → OnOk result (IsTrue (state S.Store conn.new).is_open) }
-    ensures made { Holds (state S.Store conn.new)
+    ensures made { Works (state S.Store conn.new)
         → OnOk result (IsBlank no_schema (state S.Store conn.old).now
         → IsFounded (state S.Store conn.new).now) }
-    ensures kept { Holds (state S.Store conn.new)
+    ensures gained { Works (state S.Store conn.new)
+        → OnOk result (Gains office_schema.tables 10 11 (state S.Store conn.old).now.schema
+        (state S.Store conn.new).now.schema) }
+    ensures kept { Works (state S.Store conn.new)
         → OnErr result ((state S.Store conn.new).now ≡ (state S.Store conn.old).now) }
 {
     let mut tx = conn.transaction();

@@ -3,6 +3,7 @@
 ghost use Rattle.std.specs.Prelude.{◌≡◌, IsTrue, []};
 ghost use Rattle.std.specs.List.{AllByRecursion};
 ghost use Rattle.reg_tables.specs.Bare.{IsBareColumn, IsBareTable, no_stamps};
+ghost use Rattle.reg_tables.specs.Making.{unplaced};
 
 use sqlite_items::Items;
 use sqlite_schema::code::Terms;
@@ -131,20 +132,27 @@ fn computes_nothing(table: &Table) -> bool
     is_empty(&table.checks) && table.computed.is_empty() && is_unstamped(&table.stamps)
 }
 
+/// Whether two tables are the same, whatever their trees are.
+pub fn same_definition(a: &Table, b: &Table) -> bool
+    ensures is { IsTrue result → unplaced a.now ≡ unplaced b.now }
+    ensures all { IsBareTable b.now → unplaced a.now ≡ unplaced b.now → IsTrue result }
+{
+    computes_nothing(a)
+        && computes_nothing(b)
+        && a.name.same(&b.name)
+        && a.columns.same(&b.columns)
+        && a.key == b.key
+        && a.primary.same(&b.primary)
+        && a.uniques.same(&b.uniques)
+        && a.orders.same(&b.orders)
+        && a.references.same(&b.references)
+        && a.is_counted == b.is_counted
+}
+
 impl Same for Table {
     ghost IsBare = { IsBareTable };
 
     fn same(&self, other: &Table) -> bool {
-        computes_nothing(self)
-            && computes_nothing(other)
-            && self.name.same(&other.name)
-            && self.tree == other.tree
-            && self.columns.same(&other.columns)
-            && self.key == other.key
-            && self.primary.same(&other.primary)
-            && self.uniques.same(&other.uniques)
-            && self.orders.same(&other.orders)
-            && self.references.same(&other.references)
-            && self.is_counted == other.is_counted
+        self.tree == other.tree && same_definition(self, other)
     }
 }

@@ -183,7 +183,7 @@ fn offices_that_are_none(rt: HostRuntime) -> Result<(), Fail> {
         "DELETE FROM office",
         "UPDATE caps SET account = ''",
         "INSERT INTO pool VALUES (65536)",
-        "CREATE TABLE cars (plate TEXT)",
+        "CREATE INDEX by_account ON caps (account)",
     ] {
         assert_tampered(&rt, "reg_cli_none.db", sql, "fault: not ours\n")?;
     }

@@ -1,6 +1,8 @@
 use Rattle.sqlite.specs.Held.{state}
 use Rattle.reg_records.specs.declared.advice.ExpertAdvice.{ExpertAdvice}
 use Rattle.reg_tables.proofs.InsertStatements.{adds_advice}
+use Rattle.reg_tables.proofs.KindLemmas.{written_schema}
+use Rattle.reg_tables.proofs.WriteTexts.{insert_advice_writes}
 use Rattle.reg_content.proofs.AdviceRows.{advice_added, advice_cast}
 use Rattle.reg_content.proofs.Writing.{added_row}
 use Rattle.reg_content.proofs.advice.add_advice.Goals as goal
@@ -13,6 +15,8 @@ returns-clause-steps g c =
       endures = c.write.ensures.endures;
       kept = c.write.ensures.kept;
       went = c.in_ok-write.ensures.went;
+      tables = λ clean.
+          written_schema _ _ old new _ insert_advice_writes (c.in_ok-write.ensures.ran clean);
       turns = λ clean stored none.
           let row : ExpertAdvice = record {
             account = c.args.account.now;

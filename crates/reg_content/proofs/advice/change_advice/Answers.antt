@@ -3,6 +3,8 @@ use Rattle.reg_core.specs.Advice.{verdict_word}
 use Rattle.reg_records.specs.declared.advice.ExpertAdvice.{ExpertAdvice}
 use Rattle.reg_tables.proofs.EditStatements.{advice_changed}
 use Rattle.reg_tables.proofs.EditLemmas.Tables.{office_after_change}
+use Rattle.reg_tables.proofs.KindLemmas.{written_schema}
+use Rattle.reg_tables.proofs.WriteTexts.{change_advice_writes}
 use Rattle.reg_content.proofs.AdviceRows.{advice_rewritten}
 use Rattle.reg_content.proofs.advice.change_advice.Goals as goal
 
@@ -14,6 +16,8 @@ returns-clause-steps g c =
       endures = c.write.ensures.endures;
       kept = c.write.ensures.kept;
       went = c.in_ok-write.ensures.went;
+      tables = λ clean.
+          written_schema _ _ old new _ change_advice_writes (c.in_ok-write.ensures.ran clean);
       turns = λ clean stored there.
           let row : ExpertAdvice = record {
             account = c.args.account.now;

@@ -11,7 +11,7 @@ pub returns-clause-table : goal.returns-clause-table
 returns-clause-table g c h =
     let old = state g.S.Store c.args.conn.now in
     let new = state g.S.Store c.all.new.conn in
-    let has = (c.requires.settled (c.all.ensures.stays.held h)).schema in
+    let has = (c.all.ensures.stays.held h).tables in
     IfOk-weaker c.all.result _ _ (λ all kept. kept.table)
     (all_listed old new c.all.result has c.all.ensures.ascending (c.all.ensures.rows h))
 
@@ -19,6 +19,6 @@ pub returns-clause-rows : goal.returns-clause-rows
 returns-clause-rows g c h =
     let old = state g.S.Store c.args.conn.now in
     let new = state g.S.Store c.all.new.conn in
-    let has = (c.requires.settled (c.all.ensures.stays.held h)).schema in
+    let has = (c.all.ensures.stays.held h).tables in
     IfOk-weaker c.all.result _ _ (λ all kept. kept.rows)
     (all_listed old new c.all.result has c.all.ensures.ascending (c.all.ensures.rows h))

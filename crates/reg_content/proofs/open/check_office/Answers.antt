@@ -1,13 +1,11 @@
 use Rattle.std.proofs.Common.{pos}
-use Rattle.sqlite.specs.Held.{state}
-use Rattle.reg_content.proofs.OpenLemmas.{at_rest}
 use Rattle.reg_content.proofs.open.check_office.Goals as goal
 
 pub returns-in-None : goal.returns-in-None
 returns-in-None g c =
     let found = c.in_ok-version.ensures in
     record {
-      rest = at_rest (state g.S.Store c.version.new.conn) found.idle;
+      rest = found.idle;
       endures = found.endures;
       stays = found.stays;
       verdict = λ h.

@@ -15,7 +15,7 @@ returns-in-Some-clause-version g c h =
     let loaded = c.in_ok-rows.ensures in
     let found = rw c.in-Some.is at (loaded.rows h) in
     let rows = (tables_in old.now.trees).office in
-    let shown = all_shown 1 _ 0 _ old new found.0 office_version c.requires (loaded.stays.held h)
+    let shown = all_shown 1 _ 0 _ old new found.0 office_version (loaded.stays.held h)
     found.1 in
     let read = version_read rows found.0 c.in-Some.rows.items shown found.2 in
     rw (c.only.ensures, c.as_slice.ensures.value) read
@@ -26,6 +26,6 @@ returns-in-None-clause-version g c h =
     let new = state g.S.Store c.load.new.conn in
     let loaded = c.in_ok-rows.ensures in
     let found = rw c.in-None.is at (loaded.rows h) in
-    let shown = all_shown 1 _ 0 _ old new found.0 office_version c.requires (loaded.stays.held h)
+    let shown = all_shown 1 _ 0 _ old new found.0 office_version (loaded.stays.held h)
     found.1 in
     version_unread (tables_in old.now.trees).office found.0 shown found.2

@@ -7,13 +7,13 @@ use Rattle.reg_records.specs.Ranges.{range_in}
 use Rattle.reg_records.specs.Registries.{registry_in}
 use Rattle.reg_tables.specs.Selecting.{stored}
 use Rattle.reg_tables.proofs.Enduring.{endures_then}
+use Rattle.reg_tables.proofs.RestLemmas.{stays_then}
 use Rattle.reg_tables.proofs.Statements.Ranges.{all_ranges}
 use Rattle.reg_tables.proofs.Statements.Registries.{all_registries}
 use Rattle.reg_content.specs.Content.{max_at, range_at}
 use Rattle.reg_content.specs.Tables.{tables_in}
 use Rattle.reg_content.proofs.FedRegistries.{registries_told}
 use Rattle.reg_content.proofs.FedTables.{all_shown, unread_table}
-use Rattle.reg_content.proofs.FedParts.{stays_then}
 use Rattle.reg_content.proofs.partitions.feed_registries.Goals as goal
 
 pub load-requires-clause-plain : goal.load-requires-clause-plain
@@ -32,7 +32,7 @@ returns-in_default g c =
       tells = λ h held kept.
           let found = rw c.in_default.is at (loaded.rows h) in
           unread_table (λ r. (r.name, r.max)) 2 registry_in (tables_in old.now.trees).registries found.0
-          (all_shown 2 _ 3 _ old new found.0 all_registries c.requires (loaded.stays.held h) found.1)
+          (all_shown 2 _ 3 _ old new found.0 all_registries (loaded.stays.held h) found.1)
           found.2 held.registries;
     }
 
@@ -54,7 +54,7 @@ returns-in_default-2 g c =
       tells = λ h held kept.
           let found = rw c.in_default-2.is at (second.rows h) in
           let still = first.stays.same (second.stays.held h) in
-          let shown = all_shown 5 _ 5 _ mid new found.0 all_ranges first.idle (second.stays.held h) found.1 in
+          let shown = all_shown 5 _ 5 _ mid new found.0 all_ranges (second.stays.held h) found.1 in
           unread_table (λ r. ((r.registry, r.range.lo), r.range)) 5 range_in (tables_in old.now.trees).ranges found.0
           (subst (λ (db : Database). IsPermutation (map (stored 5) (db.trees 5)) found.0) still shown)
           found.2 held.ranges;
@@ -76,8 +76,8 @@ returns g c =
           let found = rw c.in-Some.is at (first.rows before) in
           let places = rw c.in-Some-2.is at (second.rows h) in
           let still = first.stays.same before in
-          let moved = all_shown 2 _ 3 _ old mid found.0 all_registries c.requires (first.stays.held before) found.1 in
-          let along = all_shown 5 _ 5 _ mid new places.0 all_ranges first.idle before places.1 in
+          let moved = all_shown 2 _ 3 _ old mid found.0 all_registries (first.stays.held before) found.1 in
+          let along = all_shown 5 _ 5 _ mid new places.0 all_ranges before places.1 in
           let fed = rw (c.as_slice.ensures.value, c.as_slice-2.ensures.value) at c.feed_partitions.ensures in
           IfOk-weaker c.feed_partitions.result _ _ (λ k is.
           registries_told (tables_in old.now.trees) c.args.audit.now c.feed_partitions.new.audit

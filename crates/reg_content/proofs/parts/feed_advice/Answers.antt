@@ -32,4 +32,4 @@ returns g c =
     feeds_part seat_keys (λ x. (((x.account, x.reference), x.expert), x.advice)) (λ x. row.Advice x.account x.reference x.expert x.advice) (λ w. w.advice)
     (λ w m. record w { advice = m }) _ part 5 advice_in _ 14 _
     (λ t. t.advice) _ _ c.args.audit.now c.feed_table.new.audit _ all_advice (λ trees. refl)
-    c.requires fed.idle fed.endures fed.stays fed.rows
+    fed.idle fed.endures fed.stays fed.rows

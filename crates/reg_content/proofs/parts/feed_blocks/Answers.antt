@@ -33,4 +33,4 @@ returns g c =
     feeds_part block_keys (λ x. (x.block, holder_in x)) (row.Block) (λ w. w.blocks)
     (λ w m. record w { blocks = m }) _ part 6 holding_in _ 18 _
     (λ t. t.blocks) _ _ c.args.audit.now c.feed_table.new.audit _ all_blocks (λ trees. refl)
-    c.requires fed.idle fed.endures fed.stays fed.rows
+    fed.idle fed.endures fed.stays fed.rows

@@ -32,4 +32,4 @@ returns g c =
     feeds_part text_keys (λ x. (x.digest, x.cap)) (λ x. row.Cap x.digest x.cap) (λ w. w.caps)
     (λ w m. record w { caps = m }) _ part 4 grant_in _ 1 _
     (λ t. t.caps) _ _ c.args.audit.now c.feed_table.new.audit _ all_caps (λ trees. refl)
-    c.requires fed.idle fed.endures fed.stays fed.rows
+    fed.idle fed.endures fed.stays fed.rows

@@ -33,4 +33,4 @@ returns g c =
     feeds_part place_keys (λ x. ((x.registry, x.value), registration_in x)) (row.Entry) (λ w. w.entries)
     (λ w m. record w { entries = m }) _ part 7 entry_in _ 7 _
     (λ t. t.entries) _ _ c.args.audit.now c.feed_table.new.audit _ all_entries (λ trees. refl)
-    c.requires fed.idle fed.endures fed.stays fed.rows
+    fed.idle fed.endures fed.stays fed.rows

@@ -31,4 +31,4 @@ returns g c =
     feeds_part number_keys (λ x. (x, tt)) (row.Prefix) (λ w. w.pool)
     (λ w m. record w { pool = m }) _ part 1 prefix_in _ 16 _
     (λ t. t.pool) _ _ c.args.audit.now c.feed_table.new.audit _ all_pool (λ trees. refl)
-    c.requires fed.idle fed.endures fed.stays fed.rows
+    fed.idle fed.endures fed.stays fed.rows

@@ -32,4 +32,4 @@ returns g c =
     feeds_part seat_keys (λ x. (((x.account, x.reference), x.expert), tt)) (λ x. row.Assignment x.account x.reference x.expert) (λ w. w.queue)
     (λ w m. record w { queue = m }) _ part 3 seat_in _ 11 _
     (λ t. t.queue) _ _ c.args.audit.now c.feed_table.new.audit _ all_queue (λ trees. refl)
-    c.requires fed.idle fed.endures fed.stays fed.rows
+    fed.idle fed.endures fed.stays fed.rows

@@ -33,4 +33,4 @@ returns g c =
     feeds_part name_keys (λ x. ((x.account, x.reference), case_of x)) (row.Request) (λ w. w.requests)
     (λ w m. record w { requests = m }) _ part 25 request_in _ 9 _
     (λ t. t.requests) _ _ c.args.audit.now c.feed_table.new.audit _ all_requests (λ trees. refl)
-    c.requires fed.idle fed.endures fed.stays fed.rows
+    fed.idle fed.endures fed.stays fed.rows

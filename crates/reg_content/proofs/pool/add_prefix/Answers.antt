@@ -1,4 +1,6 @@
 use Rattle.sqlite.specs.Held.{state}
+use Rattle.reg_tables.proofs.KindLemmas.{written_schema}
+use Rattle.reg_tables.proofs.WriteTexts.{insert_pool_writes}
 use Rattle.reg_content.proofs.PoolRows.{prefix_added}
 use Rattle.reg_content.proofs.pool.add_prefix.Goals as goal
 
@@ -13,6 +15,8 @@ returns g c =
         endures = c.write.ensures.endures;
         kept = c.write.ensures.kept;
         went = c.in_ok-write.ensures.went;
+        tables = λ clean.
+            written_schema _ _ old new _ insert_pool_writes (c.in_ok-write.ensures.ran clean);
         turns = λ clean.
             let ran = rw (c.values.ensures, c.new-prefix.ensures)
             at c.in_ok-write.ensures.ran clean in

@@ -20,8 +20,8 @@ rows-init g c =
     let new = c.in_ok-rows.rows.conn.now in
     let made = c.in_ok-rows.ensures in
     let begun = λ (clean : HasCleanDisk (state g.S.Store new)).
-    begun_idle g.S.Store c.args.sql.now (bound c.args.params.now) old new c.requires.idle
-    (omega (arith, made.survives.clean, clean)) c.requires.plain (made.begun clean) in
+    begun_idle g.S.Store c.args.sql.now (bound c.args.params.now) old new c.requires.plain
+    (made.begun clean) in
     record {
       same_reference = refl;
       mode = made.mode c.requires.idle.autocommit;
@@ -60,13 +60,11 @@ returns-in_default-clause-rows g c clean =
     let late : HasCleanDisk (state g.S.Store later) = search rules in
     let early : HasCleanDisk (state g.S.Store now) =
     omega (arith, moved.survives.clean, late) in
-    let first : HasCleanDisk (state g.S.Store old) =
-    omega (arith, c.rows.invariant.lasts.clean, early) in
     let was = c.rows.invariant.given early in
     let shown = (rw (c.in_ok-row.was, c.in_default.is) at (moved.ok late)) c.args.sql.now
     (bound c.args.params.now) was.0 was.1 in
     let done = whole_answer g.S.Store c.args.sql.now (bound c.args.params.now)
     (λ rows. AreRead g.T.Record.of rows c.rows.all) old now later later was.0
-    c.requires.idle first c.requires.plain refl (c.rows.invariant.same early)
+    c.requires.plain refl (c.rows.invariant.same early)
     (rw c.in_ok-row.was at (moved.same late)) shown was.2 in
     search rules

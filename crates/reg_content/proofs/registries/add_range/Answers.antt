@@ -4,6 +4,8 @@ use Rattle.reg_ranges.specs.declared.range.Range.{Range}
 use Rattle.reg_core.specs.Maps.{update}
 use Rattle.reg_records.specs.declared.ranges.RegistryRange.{RegistryRange}
 use Rattle.reg_tables.proofs.InsertStatements.{adds_ranges}
+use Rattle.reg_tables.proofs.KindLemmas.{written_schema}
+use Rattle.reg_tables.proofs.WriteTexts.{insert_ranges_writes}
 use Rattle.reg_content.specs.Content.{IsStored, content_of}
 use Rattle.reg_content.specs.Registries.{CanFollow, with_range}
 use Rattle.reg_content.proofs.RegistryRowsAdded.{range_added, range_cast}
@@ -21,6 +23,8 @@ returns-clause-steps g c =
       endures = c.write.ensures.endures;
       kept = c.write.ensures.kept;
       went = c.in_ok-write.ensures.went;
+      tables = λ clean.
+          written_schema _ _ old new _ insert_ranges_writes (c.in_ok-write.ensures.ran clean);
       turns = λ clean stored follows.
           let row : RegistryRange = record { registry = name; range = copy } in
           let ran = rw c.values.ensures at c.in_ok-write.ensures.ran clean in

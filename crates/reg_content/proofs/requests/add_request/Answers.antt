@@ -1,4 +1,6 @@
 use Rattle.sqlite.specs.Held.{state}
+use Rattle.reg_tables.proofs.KindLemmas.{written_schema}
+use Rattle.reg_tables.proofs.WriteTexts.{insert_requests_writes}
 use Rattle.reg_content.proofs.RequestRowsWritten.{adds_request, pending_added}
 use Rattle.reg_content.proofs.Writing.{added_row}
 use Rattle.reg_content.proofs.requests.add_request.Goals as goal
@@ -12,6 +14,8 @@ returns-clause-steps g c =
       endures = c.write.ensures.endures;
       kept = c.write.ensures.kept;
       went = c.in_ok-write.ensures.went;
+      tables = λ clean.
+          written_schema _ _ old new _ insert_requests_writes (c.in_ok-write.ensures.ran clean);
       turns = λ clean stored none.
           let ran = (rw c.request_values.ensures at c.in_ok-write.ensures.ran clean) in
           let row = added_row old new _ (adds_request r.account r.reference r.ask r.state)

@@ -1,4 +1,6 @@
 use Rattle.sqlite.specs.Held.{state}
+use Rattle.reg_tables.proofs.KindLemmas.{written_schema}
+use Rattle.reg_tables.proofs.WriteTexts.{change_request_writes}
 use Rattle.reg_content.proofs.RequestRowsStated.{request_stated}
 use Rattle.reg_content.proofs.requests.set_state.Goals as goal
 
@@ -10,6 +12,8 @@ returns-clause-steps g c =
       endures = c.write.ensures.endures;
       kept = c.write.ensures.kept;
       went = c.in_ok-write.ensures.went;
+      tables = λ clean.
+          written_schema _ _ old new _ change_request_writes (c.in_ok-write.ensures.ran clean);
       turns = λ clean.
           let ran = rw c.named_state.ensures at c.in_ok-write.ensures.ran clean in
           request_stated c.args.account.now c.args.reference.now c.args.state.now c.formed.ensures

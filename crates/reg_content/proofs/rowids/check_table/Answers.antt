@@ -8,5 +8,5 @@ returns-clause-keyed g c h t order selects =
     let new = state g.S.Store c.all.new.conn in
     let found = c.in_ok-all.ensures.rows h in
     keyed_shown c.args.sql.now t order old new found.0 c.in_ok-all.field-0.items selects
-    (c.requires.idle.settled (c.all.ensures.stays.held h)).schema found.1 found.2
+    (c.all.ensures.stays.held h).tables found.1 found.2
     c.in_ok-all.ensures.ascending

@@ -1,14 +1,26 @@
 use Rattle.sqlite.specs.Held.{state}
-use Rattle.reg_sql.proofs.Founded.{blank, founded_empty, keeps_founded}
+use Rattle.reg_sql.proofs.Founded.{blank, founded_alone, founded_empty, keeps_founded}
 use Rattle.reg_sql.proofs.open.found.Goals as goal
 
 pub returns-in-Ok-clause-keeps : goal.returns-in-Ok-clause-keeps
 returns-in-Ok-clause-keeps g c =
-    keeps_founded (state g.S.Store c.make_office.new.conn) c.make_office.ensures.rest
-    (λ h. c.in-Ok.ensures.made h (blank _ (c.requires.blank (c.make_office.ensures.held h)))) _
-    c.new.ensures
+    let old = state g.S.Store c.args.conn.now in
+    let new = state g.S.Store c.make_office.new.conn in
+    let made = c.in-Ok.ensures in
+    keeps_founded new c.make_office.ensures.rest
+    (λ h. (founded_alone old new (made.gained h.works) (made.made h.works) h).1) _ c.new.ensures
+
+pub returns-in-Ok-clause-has : goal.returns-in-Ok-clause-has
+returns-in-Ok-clause-has g c works = (c.in-Ok.ensures.gained works).has
+
+pub returns-in-Ok-clause-alone : goal.returns-in-Ok-clause-alone
+returns-in-Ok-clause-alone g c works none =
+    (c.in-Ok.ensures.made works (blank _ none)).office.schema
 
 pub returns-in-Ok-clause-empty : goal.returns-in-Ok-clause-empty
 returns-in-Ok-clause-empty g c h =
-    founded_empty _
-    (c.in-Ok.ensures.made h (blank _ (c.requires.blank (c.make_office.ensures.held h))))
+    let old = state g.S.Store c.args.conn.now in
+    let new = state g.S.Store c.make_office.new.conn in
+    let made = c.in-Ok.ensures in
+    let both = founded_alone old new (made.gained h.works) (made.made h.works) h in
+    (both.0, founded_empty new.now both.1)

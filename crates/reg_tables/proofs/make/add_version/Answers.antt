@@ -3,6 +3,8 @@ use Rattle.sqlite.specs.Held.{state}
 use Rattle.reg_tables.proofs.EditLemmas.Inserting.{tables_after_insert}
 use Rattle.reg_tables.proofs.EditLemmas.Tables.{tables_if_empty}
 use Rattle.reg_tables.proofs.InsertLemmas.{adds, version_adds}
+use Rattle.reg_tables.proofs.KindLemmas.{written_schema}
+use Rattle.reg_tables.proofs.WriteTexts.{insert_version_writes}
 use Rattle.reg_tables.proofs.make.add_version.Goals as goal
 
 pub returns-clause-added : goal.returns-clause-added
@@ -20,3 +22,8 @@ returns-clause-added g c clean blank =
             (tables_if_empty old.now.trees blank.empty) ran;
       },
     )
+
+pub returns-clause-defined : goal.returns-clause-defined
+returns-clause-defined g c clean =
+    written_schema _ _ (state g.S.Store c.args.tx.now.conn.now)
+    (state g.S.Store c.run.new.tx.conn.now) _ insert_version_writes (c.in_ok-run.ensures.ran clean)

@@ -10,6 +10,7 @@ returns g c = record {
   keeping = search rules;
   endures = search rules;
   stays = search rules;
+  on = search rules;
   value = λ h.
       let w = world_in (state g.S.Store c.self.inside.conn) in
       let are : AreVacanciesOf w c.in_ok-vacancies.vacancies = search rules in

@@ -1,0 +1,339 @@
+-- What a statement of a kind is, whatever tables there are.
+use Rattle.std.proofs.Common.{◌≡◌, ℕ, Bool, true, false, if◌then◌else◌, List, [], length, ◌==◌, ◌+◌, ◌∙◌}
+use Rattle.std.proofs.Common.{Option, Some, None, Ok, Err, Result, refl, sym, ap, subst}
+use Rattle.std.proofs.Common.{inl, inr, slice_get}
+use Rattle.std.proofs.lemmas.Bool.{cases_Bool, eqb-true}
+use Rattle.sqlite.proofs.Callers.{through}
+use Rattle.sqlite.specs.Clock.{timed as timed_with}
+use Rattle.sqlite.specs.Does.{Tally, AtPlace, OnTable, OnRows, Concludes, Does}
+use Rattle.sqlite.specs.Does.{WritesRows as WrittenBy}
+use Rattle.sqlite.specs.Effect.{Database}
+use Rattle.sqlite.specs.Order.{Row}
+use Rattle.sqlite.specs.Rows.{Part, Task}
+use Rattle.sqlite.specs.State.{State, Executes, ExecutesIn, Runs, mode_of, shows_rows, text_of}
+use Rattle.sqlite.specs.declared.run.Mode.{Mode}
+use Rattle.reg_tables.proofs.InsertLemmas.{concluded}
+use Rattle.std.specs.Prelude.{IfOk}
+use Rattle.std.proofs.lemmas.List.{nil_from_length}
+use Rattle.sqlite_ast.specs.declared.Conflict.TheVariants as conflict
+use Rattle.sqlite_ast.specs.declared.Expr.{Expr}
+use Rattle.sqlite_ast.specs.declared.Rows.{Rows}
+use Rattle.sqlite_ast.specs.declared.Shown.{Shown}
+use Rattle.sqlite_ast.specs.declared.Statement.{Statement}
+use Rattle.sqlite_ast.specs.declared.Statement.TheVariants as written
+use Rattle.sqlite_ast.specs.declared.Upsert.{Upsert}
+use Rattle.sqlite_syntax.specs.declared.statement.Parsed.{Parsed}
+use Rattle.sqlite_schema.specs.declared.command.Command.{Command}
+use Rattle.sqlite_schema.specs.declared.command.Command.TheVariants.{Insert, InsertOr, Update, Delete}
+use Rattle.sqlite_schema.specs.declared.command.Conflict.{Conflict as Way}
+use Rattle.sqlite_schema.specs.declared.command.Conflict.TheVariants.{Abort, Ignore, Replace}
+use Rattle.sqlite_schema.specs.declared.command.Source.{Source}
+use Rattle.sqlite_schema.specs.declared.command.Returning.{Returning}
+use Rattle.sqlite_resolve.specs.Compile.{first, compiled, planned, meaning, command, returning}
+use Rattle.sqlite_resolve.specs.Compile.{timed, shows, insert, insert_or, insert_or_abort, update}
+use Rattle.sqlite_resolve.specs.Compile.{delete, with_command, on_table, target, new_rows, small}
+use Rattle.sqlite_resolve.specs.Body.{table_at}
+use Rattle.sqlite_resolve.specs.Given.{upserts}
+use Rattle.sqlite_resolve.specs.Program.{program}
+use Rattle.sqlite_resolve.specs.Write.{updated, deleted}
+use Rattle.sqlite_resolve.specs.Lowering.{Checked, and_then}
+use Rattle.sqlite_resolve.specs.Scope.{Name}
+use Rattle.sqlite_resolve.specs.declared.compiled.Compiled.{Compiled}
+use Rattle.sqlite_resolve.specs.declared.error.CompileError.{CompileError}
+use Rattle.sqlite_resolve.specs.declared.error.CompileError.TheVariants.{NoSuchTable}
+use Rattle.sqlite.specs.Listing.{understood, reads_listing, if_select, is_select}
+use Rattle.sqlite.specs.Listing.{listing_schema}
+use Rattle.sqlite.specs.Schema.{Schema}
+use Rattle.sqlite.specs.Table.{Table}
+use Rattle.reg_tables.specs.Kinds.{is_query, is_write, is_of_kind, is_timeless, IsQuery, WritesRows}
+
+-- what follows of each value follows of what is made of it
+pub if_then : {A B : Type 0} (P : B → Type 0) (r : Checked A) (f : A → Checked B)
+    → ((a : A) → IfOk (f a) P) → IfOk (and_then r f) P
+if_then P (Ok a) f all = all a
+if_then P (Err e) f all = tt
+
+selected : (P : Compiled → Type 0) (c : Compiled) (e : CompileError) (b : Bool) → P c
+    → IfOk (if b then Ok c else Err e) P
+selected P c e true p = p
+selected P c e false p = tt
+
+listed : (P : Compiled → Type 0) (r : Result Compiled CompileError) → IfOk r P
+    → IfOk (if_select r) P
+listed P (Ok c) p = selected P c NoSuchTable (is_select c.command) p
+listed P (Err e) p = tt
+
+-- what follows under each schema follows of what is understood
+pub understood_if : (P : Compiled → Type 0) (text : List ℕ)
+    → ((schema : Schema) → IfOk (compiled schema text) P) → (schema : Schema)
+    → IfOk (understood schema text) P
+unfolding understood
+understood_if P text all schema = elim (reads_listing schema text) as (λ b.
+    IfOk (if b then if_select (compiled listing_schema text) else compiled schema text) P) [
+      | true ↦ listed P _ (all listing_schema)
+      | false ↦ all schema
+    ]
+
+-- what follows of what a text is planned as follows of what it is compiled to
+pub compiled_if : (P : Compiled → Type 0) (text : List ℕ) (schema : Schema) (p : Parsed)
+    → first text ≡ Ok p → ((plan : _) → planned schema p ≡ Ok plan → P (with_command p plan))
+    → IfOk (compiled schema text) P
+unfolding compiled
+compiled_if P text schema p is all =
+    subst (λ (r : Checked Parsed). IfOk (and_then r (λ p. and_then (planned schema p)
+    (λ plan. Ok (with_command p plan)))) P) (sym is) (go (planned schema p) refl)
+  where
+    go : (r : Checked (List Name × (Command × Option Returning))) → planned schema p ≡ r
+        → IfOk (and_then r (λ plan. Ok (with_command p plan))) P
+    go (Ok plan) same = all plan same
+    go (Err e) same = tt
+
+-- ---- Writes
+
+-- the command adds, changes or takes away rows
+abbrev pub changes_rows : Command → Bool
+changes_rows (Insert at from) = true
+changes_rows (InsertOr at way from clauses) = true
+changes_rows (Update at q) = true
+changes_rows (Delete at q) = true
+changes_rows _ = false
+
+abbrev Changes : Command → Type 0
+Changes c = changes_rows c ≡ true
+
+module _ (schema : Schema) (base : ℕ) where
+  on_each : (name : Name) (f : ℕ → Table → Checked Command)
+      → ((at : ℕ) (table : Table) → IfOk (f at table) Changes)
+      → IfOk (on_table schema name f) Changes
+  on_each name f all =
+      if_then Changes (target schema name) (λ at. and_then (table_at schema at) (f at))
+      (λ at. if_then Changes (table_at schema at) (f at) (all at))
+
+  abbrev rows_of : Table → List Name → Rows → Checked Source
+  rows_of table columns rows = new_rows schema table base columns rows
+
+  inserts : (name : Name) (columns : List Name) (rows : Rows)
+      → IfOk (insert schema base name columns rows) Changes
+  unfolding insert
+  inserts name columns rows =
+      on_each name (λ at table. and_then (rows_of table columns rows) (λ s. Ok (Insert at s)))
+      (λ at table. if_then Changes (rows_of table columns rows) (λ s. Ok (Insert at s)) (λ s. refl))
+
+  inserts_or : (way : Way) (name : Name) (columns : List Name) (rows : Rows)
+      (clauses : List Upsert) → IfOk (insert_or schema base way name columns rows clauses) Changes
+  unfolding insert_or
+  inserts_or way name columns rows clauses =
+      on_each name (λ at table. and_then (rows_of table columns rows)
+      (λ s. and_then (upserts schema at table base clauses) (λ found. Ok (InsertOr at way s found))))
+      (λ at table. if_then Changes (rows_of table columns rows)
+      (λ s. and_then (upserts schema at table base clauses) (λ found. Ok (InsertOr at way s found)))
+      (λ s. if_then Changes (upserts schema at table base clauses)
+      (λ found. Ok (InsertOr at way s found)) (λ found. refl)))
+
+  updates : (name : Name) (sets : List (Name × Expr)) (test : Option Expr)
+      → IfOk (update schema name sets test) Changes
+  unfolding update
+  updates name sets test =
+      on_each name (λ at table. and_then (updated schema at table sets test)
+      (λ d. and_then (program schema [] d) (λ p. Ok (Update at p))))
+      (λ at table. if_then Changes (updated schema at table sets test)
+      (λ d. and_then (program schema [] d) (λ p. Ok (Update at p)))
+      (λ d. if_then Changes (program schema [] d) (λ p. Ok (Update at p)) (λ p. refl)))
+
+  deletes : (name : Name) (test : Option Expr) → IfOk (delete schema name test) Changes
+  unfolding delete
+  deletes name test =
+      on_each name (λ at table. and_then (deleted schema at table test)
+      (λ d. and_then (program schema [] d) (λ p. Ok (Delete at p))))
+      (λ at table. if_then Changes (deleted schema at table test)
+      (λ d. and_then (program schema [] d) (λ p. Ok (Delete at p)))
+      (λ d. if_then Changes (program schema [] d) (λ p. Ok (Delete at p)) (λ p. refl)))
+
+  inserts_or_not : (name : Name) (columns : List Name) (rows : Rows) (clauses : List Upsert)
+      → IfOk (insert_or_abort schema base name columns rows clauses) Changes
+  unfolding insert_or_abort
+  inserts_or_not name columns rows clauses = elim (length clauses == 0) as (λ b.
+      IfOk (if b then insert schema base name columns rows
+      else insert_or schema base Abort name columns rows clauses) Changes) [
+        | true ↦ inserts name columns rows
+        | false ↦ inserts_or Abort name columns rows clauses
+      ]
+
+  commands : (formats : List Name) (s : Statement) → is_write s ≡ true
+      → IfOk (command schema formats base s) Changes
+  unfolding command
+  commands formats (written.Insert conflict.Abort name columns rows clauses shown) is =
+      inserts_or_not name columns rows clauses
+  commands formats (written.Insert conflict.Ignore name columns rows clauses shown) is =
+      inserts_or Ignore name columns rows clauses
+  commands formats (written.Insert conflict.Replace name columns rows clauses shown) is =
+      inserts_or Replace name columns rows clauses
+  commands formats (written.Update name sets test shown) is = updates name sets test
+  commands formats (written.Delete name test shown) is = deletes name test
+  commands formats _ is = absurd (cc)
+
+  shown_none : (name : Name) (shown : List Shown) → (length shown == 0) ≡ true
+      → shows schema base name shown ≡ Ok None
+  unfolding shows
+  shown_none name shown none = rw none refl
+
+  returns_none : (s : Statement) → is_write s ≡ true → returning schema base s ≡ Ok None
+  unfolding returning
+  returns_none (written.Insert how name columns rows clauses shown) is = shown_none name shown is
+  returns_none (written.Update name sets test shown) is = shown_none name shown is
+  returns_none (written.Delete name test shown) is = shown_none name shown is
+  returns_none _ is = absurd (cc)
+
+-- the statement writes rows, and shows none
+abbrev pub IsWrite : Compiled → Type 0
+IsWrite c = Changes c.command × (c.returning ≡ None)
+
+planned_write : (schema : Schema) (p : Parsed) → is_write p.statement ≡ true
+    → (plan : List Name × (Command × Option Returning)) → planned schema p ≡ Ok plan
+    → IsWrite (with_command p plan)
+unfolding planned meaning
+planned_write schema p is plan same =
+    go (command schema p.formats base p.statement) (commands schema base p.formats p.statement is)
+    (rw (returns_none schema base p.statement is) at same)
+  where
+    formats : List Name
+    formats = timed schema p.formats p.statement
+
+    base : ℕ
+    base = small p.names + small formats
+
+    go : (r : Checked Command) → IfOk r Changes
+        → and_then (and_then r (λ c. Ok (c, None))) (λ found. Ok (formats, found)) ≡ Ok plan
+        → IsWrite (with_command p plan)
+    go (Ok c) changes done =
+        let is : (formats, (c, None)) ≡ plan = cc in
+        subst (λ plan. IsWrite (with_command p plan)) is (changes, refl)
+    go (Err e) changes done = absurd (cc)
+
+of_kind : (kind : Statement → Bool) (r : Checked Parsed) → is_of_kind kind r ≡ true
+    → (p : Parsed) × (r ≡ Ok p) × (kind p.statement ≡ true)
+of_kind kind (Ok p) is = (p, refl, is)
+of_kind kind (Err e) is = absurd (cc)
+
+-- a text that writes rows does so whatever tables there are
+pub understood_write : (text : List ℕ) → WritesRows text → (schema : Schema)
+    → IfOk (understood schema text) IsWrite
+understood_write text writes =
+    let p = of_kind is_write (first text) writes in
+    understood_if IsWrite text
+    (λ schema. compiled_if IsWrite text schema p.0 p.1 (planned_write schema p.0 p.2))
+
+-- ---- Queries
+
+abbrev pub IsPlainly : Compiled → Type 0
+IsPlainly c = (c.returning ≡ None) × (c.formats ≡ [])
+
+returns_no_more : (schema : Schema) (base : ℕ) (s : Statement) → is_query s ≡ true
+    → returning schema base s ≡ Ok None
+unfolding returning
+returns_no_more schema base (written.Select q) is = refl
+returns_no_more schema base _ is = absurd (cc)
+
+timed_as : (schema : Schema) (formats : List Name) (s : Statement) → is_query s ≡ true
+    → timed schema formats s ≡ formats
+unfolding timed
+timed_as schema formats (written.Select q) is = refl
+timed_as schema formats _ is = absurd (cc)
+
+planned_query : (schema : Schema) (p : Parsed) → is_query p.statement ≡ true → p.formats ≡ []
+    → (plan : List Name × (Command × Option Returning)) → planned schema p ≡ Ok plan
+    → IsPlainly (with_command p plan)
+unfolding planned meaning
+planned_query schema p is none plan same =
+    go (command schema p.formats base p.statement)
+    (rw (returns_no_more schema base p.statement is) at same)
+  where
+    formats : List Name
+    formats = timed schema p.formats p.statement
+
+    base : ℕ
+    base = small p.names + small formats
+
+    go : (r : Checked Command)
+        → and_then (and_then r (λ c. Ok (c, None))) (λ found. Ok (formats, found)) ≡ Ok plan
+        → IsPlainly (with_command p plan)
+    go (Ok c) done =
+        let same : (formats, (c, None)) ≡ plan = cc in
+        subst (λ plan. IsPlainly (with_command p plan)) same
+        (refl, timed_as schema p.formats p.statement is ∙ none)
+    go (Err e) done = absurd (cc)
+
+timeless : (r : Checked Parsed) (p : Parsed) → r ≡ Ok p → is_timeless r ≡ true → p.formats ≡ []
+timeless r p is none =
+    let len : (length p.formats == 0) ≡ true = subst (λ r. is_timeless r ≡ true) is none in
+    nil_from_length p.formats (eqb-true (length p.formats) 0 len)
+
+-- so does a query, and shows its rows and no others
+pub understood_query : (text : List ℕ) → IsQuery text → (schema : Schema)
+    → IfOk (understood schema text) IsPlainly
+understood_query text asks =
+    let p = of_kind is_query (first text) asks.0 in
+    let none = timeless (first text) p.0 p.1 asks.1 in
+    understood_if IsPlainly text
+    (λ schema. compiled_if IsPlainly text schema p.0 p.1 (planned_query schema p.0 p.2 none))
+
+-- ---- What they leave of the tables
+
+at_place : (P : Table → Part (Tally × Database)) (o : Option Table) (done : Tally × Database)
+    → AtPlace P o (Ok done) → (t : Table) × P t (Ok done)
+at_place P None done h = absurd (cc)
+at_place P (Some t) done h = (t, h)
+
+-- a write on a table leaves the definitions
+module _ (limit : Option ℕ) (mode : Mode) (params : Row) (old new : Database) (tally : Tally) where
+  on_rows : (c : Command) (at : ℕ)
+      → OnTable limit mode params old at (λ task. OnRows task mode None c old.trees)
+      (Ok (tally, new)) → new.schema ≡ old.schema
+  on_rows c at h =
+      let task : Table → Task = λ t. record {
+        limit = limit;
+        keys = mode.keys;
+        schema = old.schema;
+        table = t;
+        params = params;
+      } in
+      let there = at_place (λ t. OnRows (task t) mode None c old.trees)
+      (slice_get old.schema.tables at) (tally, new) h in
+      let done = through (WrittenBy (task there.0) old.trees c)
+      (Concludes (task there.0) mode None) (tally, new) there.1 in
+      ap (λ (d : Database). d.schema) (concluded (task there.0) mode done.0 tally new done.2)
+
+  does_rows : (text : List ℕ) (c : Command) → Changes c
+      → Does limit mode params old text None c (Ok (tally, new)) → new.schema ≡ old.schema
+  does_rows text (Insert at from) is h = on_rows (Insert at from) at h
+  does_rows text (InsertOr at way from clauses) is h = on_rows (InsertOr at way from clauses) at h
+  does_rows text (Update at q) is h = on_rows (Update at q) at h
+  does_rows text (Delete at q) is h = on_rows (Delete at q) at h
+  does_rows text _ is h = absurd (cc)
+
+runs_rows : (old new : State) (c : Command) (text : List ℕ) (params : Row) (count : ℕ) → Changes c
+    → Runs old new None c text params count → new.now.schema ≡ old.now.schema
+runs_rows old new (Insert at from) text params count is w =
+    does_rows old.step_limit (mode_of old) params old.now new.now w.tally text (Insert at from) is w.changed
+runs_rows old new (InsertOr at way from clauses) text params count is w =
+    does_rows old.step_limit (mode_of old) params old.now new.now w.tally text
+    (InsertOr at way from clauses) is w.changed
+runs_rows old new (Update at q) text params count is w =
+    does_rows old.step_limit (mode_of old) params old.now new.now w.tally text (Update at q) is w.changed
+runs_rows old new (Delete at q) text params count is w =
+    does_rows old.step_limit (mode_of old) params old.now new.now w.tally text (Delete at q) is w.changed
+runs_rows old new _ text params count is w = absurd (cc)
+
+-- a text that writes rows leaves each table's definition, whatever tables there are
+pub written_schema : (text : List ℕ) (params : Row) (old new : State) (count : ℕ)
+    → WritesRows text → Executes text params old new (Ok count)
+    → new.now.schema ≡ old.now.schema
+unfolding ExecutesIn
+written_schema text params old new count writes h =
+    let it = subst (λ r. IfOk r IsWrite) h.1.is (understood_write text writes old.now.schema) in
+    let ran : Runs old new h.0.returning h.0.command (text_of text h.0)
+    (timed_with params h.0.formats h.1.now) count = elim (cases_Bool (shows_rows false h.0)) [
+      | inl shows ↦ absurd (let e = (rw shows at h.2).0 in cc)
+      | inr runs ↦ rw runs at h.2
+    ] in
+    runs_rows old new h.0.command _ _ count it.0 (rw it.1 at ran)
