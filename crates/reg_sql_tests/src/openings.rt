@@ -1,0 +1,228 @@
+//! Stores that were written by other hands, and what they are to an office that opens them.
+use crate::calls::judge;
+use crate::disks::{Image, Store, closed};
+use crate::making::{blank, filled, prepared, refused, shown};
+use reg_content::open::Verdict;
+use reg_sql::open::OpenFault;
+use sqlite::{Connection, Error};
+use std::alloc::Global;
+use std::process::Abort;
+use std::test::Fail;
+
+// What leaves no row of a version, or several; or another version.
+const VERSIONS: [(&str, Verdict); 5] = [
+    ("UPDATE office SET version = 1", Verdict::Ours),
+    ("DELETE FROM office", Verdict::NotOurs),
+    ("INSERT INTO office (version) VALUES (1)", Verdict::NotOurs),
+    ("UPDATE office SET version = 2", Verdict::OtherVersion(2)),
+    ("UPDATE office SET version = -1", Verdict::OtherVersion(-1)),
+];
+
+// What leaves other tables beside those of the office.
+const BESIDE: [&str; 3] = [
+    "CREATE TABLE cars (plate TEXT PRIMARY KEY)",
+    "CREATE TABLE trips (plate TEXT, day INTEGER) STRICT",
+    "CREATE VIEW names AS SELECT name FROM registries",
+];
+
+// What leaves other tables in the place of the office's.
+const TABLES: [&str; 3] = [
+    "CREATE INDEX by_account ON caps (account)",
+    "CREATE UNIQUE INDEX by_kind ON blocks (organization, first)",
+    "DROP TABLE advice",
+];
+
+// What takes names of the office's tables.
+const TAKEN: [&str; 4] = [
+    "CREATE TABLE caps (digest TEXT)",
+    "CREATE TABLE Pool (prefix INT NOT NULL PRIMARY KEY) STRICT",
+    "CREATE VIEW office AS SELECT 1 AS version",
+    "CREATE TABLE blocks (first INT NOT NULL PRIMARY KEY, size TEXT NOT NULL, \
+     holder TEXT NOT NULL, organization TEXT NOT NULL, address TEXT NOT NULL, \
+     private INTEGER, UNIQUE (holder, first)) STRICT",
+];
+
+// A table of another program's, a row of it, and what touches that row.
+const CARS: &str = "CREATE TABLE cars (plate TEXT PRIMARY KEY)";
+
+const CAR: &str = "INSERT INTO cars (plate) VALUES ('a')";
+
+const TOUCH: &str = "UPDATE cars SET plate = plate WHERE plate = 'a'";
+
+// What leaves rows that are no office's.
+const ROWS: [&str; 20] = [
+    "UPDATE caps SET account = 'Clerk'",
+    "UPDATE caps SET digest = 'abc'",
+    "UPDATE caps SET kind = 'king'",
+    "UPDATE caps SET until = -1",
+    "UPDATE registries SET max = 4294967296",
+    "UPDATE ranges SET lo = 63 WHERE lo = 64",
+    "UPDATE ranges SET lo = 65 WHERE lo = 64",
+    "DELETE FROM ranges WHERE lo = 192",
+    "UPDATE ranges SET treatment = 'mine' WHERE lo = 0",
+    "UPDATE entries SET value = 200",
+    "UPDATE entries SET first = 1",
+    "UPDATE entries SET renewed = 2",
+    "DELETE FROM entries",
+    "UPDATE requests SET label = NULL WHERE kind = 'code'",
+    "UPDATE requests SET size = 'MA-M' WHERE kind = 'code'",
+    "UPDATE requests SET given = '8' WHERE reference = 'a-1'",
+    "INSERT INTO queue (account, reference, expert) VALUES ('bob', 'b-1', 'bob')",
+    "UPDATE pool SET prefix = 65536",
+    "UPDATE blocks SET first = 0",
+    "INSERT INTO blocks (first, size, holder, organization, address, private) \
+     SELECT first + 4096, 'MA-S', holder, organization, address, private FROM blocks",
+];
+
+// What the tables do not take.
+const REFUSED: [&str; 7] = [
+    "UPDATE caps SET account = NULL",
+    "UPDATE caps SET account = x'00'",
+    "UPDATE caps SET until = 1.5",
+    "UPDATE pool SET prefix = 'abc'",
+    "UPDATE entries SET registry = 'none'",
+    "DELETE FROM registries",
+    "DELETE FROM queue WHERE expert = 'xan'",
+];
+
+fn run(conn: &mut Connection<Store>, sql: &str) -> Result<(), Error> {
+    conn.execute(sql, &[])?;
+    Ok(())
+}
+
+// What a store is after a statement, if it goes through.
+fn after(alloc: Global, image: &Image, sql: &str) -> Result<Option<Verdict>, Fail> {
+    let mut conn = image.open(alloc)?;
+    if run(&mut conn, sql).is_err() {
+        return Ok(None);
+    }
+    Ok(Some(judge(alloc, &mut conn)?))
+}
+
+fn assert_not_ours<R: Abort + AllocGlobal>(rt: &R, statements: &[&str]) -> Result<(), Fail> {
+    let image = prepared(rt.alloc())?;
+    for sql in statements {
+        let verdict = after(rt.alloc(), &image, sql)?;
+        assert_eq!(rt; verdict, Some(Verdict::NotOurs), "{sql}");
+    }
+    Ok(())
+}
+
+#[test]
+fn versions(rt: HostRuntime) -> Result<(), Fail> {
+    let image = prepared(rt.alloc())?;
+    for (sql, verdict) in VERSIONS {
+        assert_eq!(rt; after(rt.alloc(), &image, sql)?, Some(verdict), "{sql}");
+    }
+    Ok(())
+}
+
+#[test]
+fn other_tables(rt: HostRuntime) -> Result<(), Fail> {
+    assert_not_ours(&rt, &TABLES)
+}
+
+// These files after some statements.
+fn changed(alloc: Global, image: &Image, statements: &[&str]) -> Result<Image, Fail> {
+    let mut conn = image.open(alloc)?;
+    for sql in statements {
+        run(&mut conn, sql)?;
+    }
+    closed(alloc, conn)
+}
+
+// How many rows of another program's table are there.
+fn cars(alloc: Global, image: &Image) -> Result<usize, Fail> {
+    let mut conn = image.open(alloc)?;
+    Ok(conn.execute(TOUCH, &[])?)
+}
+
+#[test]
+fn other_tables_alone(rt: HostRuntime) -> Result<(), Fail> {
+    let alloc = rt.alloc();
+    let image = changed(alloc, &Image::empty(alloc), &[CARS, CAR])?;
+    let (fault, left) = refused(alloc, &image, false)?;
+    assert_eq!(rt; fault, Some(OpenFault::NotOurs));
+    assert_eq!(rt; left == image, true);
+    let (fault, left) = refused(alloc, &image, true)?;
+    assert_eq!(rt; fault, None);
+    assert_eq!(rt; shown(alloc, &left)?, shown(alloc, &blank(alloc)?)?);
+    assert_eq!(rt; cars(alloc, &left)?, 1);
+    Ok(())
+}
+
+#[test]
+fn an_office_after_other_tables(rt: HostRuntime) -> Result<(), Fail> {
+    let alloc = rt.alloc();
+    let image = changed(alloc, &Image::empty(alloc), &[CARS, CAR])?;
+    let (fault, founded) = refused(alloc, &image, true)?;
+    assert_eq!(rt; fault, None);
+    let made = filled(alloc, &founded)?;
+    assert_eq!(rt; shown(alloc, &made)?, shown(alloc, &prepared(alloc)?)?);
+    assert_eq!(rt; cars(alloc, &made)?, 1);
+    let (fault, again) = refused(alloc, &made, true)?;
+    assert_eq!(rt; fault, None);
+    assert_eq!(rt; shown(alloc, &again)?, shown(alloc, &made)?);
+    Ok(())
+}
+
+#[test]
+fn other_tables_after_an_office(rt: HostRuntime) -> Result<(), Fail> {
+    let alloc = rt.alloc();
+    let image = prepared(alloc)?;
+    let wanted = shown(alloc, &image)?;
+    for sql in BESIDE {
+        let beside = changed(alloc, &image, &[sql])?;
+        assert_eq!(rt; shown(alloc, &beside)?, wanted, "{sql}");
+    }
+    let beside = changed(alloc, &changed(alloc, &blank(alloc)?, &BESIDE)?, &[CAR])?;
+    assert_eq!(rt; shown(alloc, &filled(alloc, &beside)?)?, wanted);
+    assert_eq!(rt; cars(alloc, &beside)?, 1);
+    Ok(())
+}
+
+#[test]
+fn names_that_are_taken(rt: HostRuntime) -> Result<(), Fail> {
+    let alloc = rt.alloc();
+    for sql in TAKEN {
+        let image = changed(alloc, &Image::empty(alloc), &[sql])?;
+        for fresh in [false, true] {
+            let (fault, left) = refused(alloc, &image, fresh)?;
+            assert_eq!(rt; fault, Some(OpenFault::NotOurs), "{sql}");
+            assert_eq!(rt; left == image, true, "{sql}");
+        }
+    }
+    Ok(())
+}
+
+#[test]
+fn other_rows(rt: HostRuntime) -> Result<(), Fail> {
+    assert_not_ours(&rt, &ROWS)
+}
+
+#[test]
+fn refused_rows(rt: HostRuntime) -> Result<(), Fail> {
+    let image = prepared(rt.alloc())?;
+    for sql in REFUSED {
+        assert_eq!(rt; after(rt.alloc(), &image, sql)?, None, "{sql}");
+    }
+    Ok(())
+}
+
+// A label of 200 characters, and one more.
+#[test]
+fn a_text_that_is_too_long(rt: HostRuntime) -> Result<(), Fail> {
+    let alloc = rt.alloc();
+    let image = prepared(alloc)?;
+    let mut sql = String::from_str(alloc, "UPDATE entries SET label = '")?;
+    for _ in 0..200 {
+        sql.push('t')?;
+    }
+    let longest = format!(in alloc; "{sql}'")?;
+    let longer = format!(in alloc; "{sql}t'")?;
+    let verdict = after(alloc, &image, longest.as_str())?;
+    assert_eq!(rt; verdict, Some(Verdict::Ours));
+    let verdict = after(alloc, &image, longer.as_str())?;
+    assert_eq!(rt; verdict, Some(Verdict::NotOurs));
+    Ok(())
+}
