@@ -34,6 +34,7 @@ pub mod Joining
 pub mod Fitting
 pub mod Feeding
 pub mod FedTables
+pub mod SharedOut
 pub mod FedRegistries
 pub mod FedParts
 pub mod RowidStatements

@@ -1,5 +1,5 @@
 -- Registries with their ranges, as they are loaded from two tables.
-use Rattle.std.specs.Prelude.{◌≡◌, ◌⊎◌, true, false, ℕ, Bool, List, map, filter, Option, IsSome, MatchOption, Vec}
+use Rattle.std.specs.Prelude.{◌≡◌, ◌⊎◌, if◌then◌else◌, true, false, ℕ, Bool, List, [], ◌∷◌, map, filter, Option, IsSome, MatchOption, Vec}
 use Rattle.std.specs.FinMap.{get}
 use Rattle.std.specs.List.{AllByRecursion, list_all, list_any}
 use Rattle.std.specs.declared.alloc.Global.{Global}
@@ -46,14 +46,45 @@ is_named registries name = list_any (λ registry. same_text registry.name name) 
 abbrev pub are_owned : List Registry → List RegistryRange → Bool
 are_owned registries rows = list_all (λ row. is_named registries row.registry) rows
 
+-- the ranges that the first rows give to a registry
+abbrev pub leading : List ℕ → List RegistryRange → List Range
+leading name [] = []
+leading name (row ∷ rows) =
+    if same_text row.registry name then row.range ∷ leading name rows else []
+
+-- and the rows after them
+abbrev pub trailing : List ℕ → List RegistryRange → List RegistryRange
+trailing name [] = []
+trailing name (row ∷ rows) =
+    if same_text row.registry name then trailing name rows else row ∷ rows
+
+-- a registry and the ranges that it took
+abbrev pub Share : Type 0
+Share = Registry × List Range
+
+-- registries that take their ranges one after the other, each from the rows that are left
+abbrev pub shared_out : List Registry → List RegistryRange → List Share
+shared_out [] rows = []
+shared_out (registry ∷ registries) rows =
+    (registry, leading registry.name rows) ∷ shared_out registries (trailing registry.name rows)
+
+-- the rows that nobody took
+abbrev pub left_over : List Registry → List RegistryRange → List RegistryRange
+left_over [] rows = rows
+left_over (registry ∷ registries) rows = left_over registries (trailing registry.name rows)
+
+abbrev pub partition_from : Share → Partition
+partition_from share = record {
+  name = share.0.name;
+  table = record { max = share.0.max; ranges = share.1 };
+}
+
 -- each registry with its ranges, or none where the ranges of one are no partition of its values
-abbrev pub ArePartitions : List RegistryRange → List Registry → Option (Vec Partition Global)
-    → Type 0
-ArePartitions rows registries found =
+abbrev pub ArePartitions : List Share → Option (Vec Partition Global) → Type 0
+ArePartitions shares found =
     MatchOption found
-    (¬ AllByRecursion (λ registry. is_partition (partition_of rows registry).table ≡ true)
-    registries)
-    (λ all. all.items ≡ map (partition_of rows) registries)
+    (¬ AllByRecursion (λ share. is_partition (partition_from share).table ≡ true) shares)
+    (λ all. all.items ≡ map partition_from shares)
 
 -- a registry with its ranges, as the row that an audit is fed
 abbrev pub partition_row : Partition → Row

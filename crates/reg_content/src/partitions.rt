@@ -1,12 +1,12 @@
 //! Registries with their ranges, fed to an audit from their tables.
-ghost use Rattle.std.specs.Prelude.{◌≡◌, IfOk};
+ghost use Rattle.std.specs.Prelude.{◌≡◌, IfOk, false};
 ghost use Rattle.std.specs.FinMap.{empty};
 ghost use Rattle.sqlite.specs.Held.{state};
 ghost use Rattle.reg_tables.specs.Connection.{IsIdle};
 ghost use Rattle.reg_content.specs.Content.{maxes_in, ranges_in, registries_in};
 ghost use Rattle.reg_content.specs.Feeding.{FeedsPart};
-ghost use Rattle.reg_content.specs.Partitions.{ArePartitions, AreRegistries, IsFedPartitions};
-ghost use Rattle.reg_content.specs.Partitions.{are_owned, is_named, partition_row, ranges_named};
+ghost use Rattle.reg_content.specs.Partitions.{ArePartitions, AreRegistries, IsFedPartitions, leading};
+ghost use Rattle.reg_content.specs.Partitions.{is_named, left_over, partition_row, shared_out, trailing};
 
 use crate::feed::{Fed, feed_all};
 use crate::read::load;
@@ -21,6 +21,7 @@ use reg_records::ranges::RegistryRange;
 use reg_records::registries::Registry;
 use sqlite::{Alter, Connection};
 use std::alloc::{AllocError, Global};
+use std::marker::Model;
 
 /// A registry with its ranges, which are a partition of its values.
 #[derive(Drop)]
@@ -37,39 +38,75 @@ impl Fed for Partition {
     }
 }
 
-/// The ranges of the registry of a name.
-fn ranges_named(
+/// A registry with the ranges that it took.
+#[derive(Drop)]
+struct Share {
+    registry: Registry,
+    ranges: Vec<Range>,
+}
+
+impl Model for Share {
+    ghost use Rattle.reg_content.specs.Partitions.{Share as Taken};
+
+    ghost Value = { Taken };
+
+    ghost view = { λ share. (share.registry, share.ranges.items) };
+}
+
+/// The ranges that the first rows give to a registry, and the rows after them.
+fn leading<'a>(
     alloc: Global,
-    rows: &[RegistryRange],
+    mut rows: &'a [RegistryRange],
     name: &Name,
-) -> Result<Vec<Range>, AllocError>
-    ensures { IfOk result (λ ranges. ranges.items ≡ ranges_named rows.now name.now) }
+) -> Result<(Vec<Range>, &'a [RegistryRange]), AllocError>
+    ensures { IfOk result (λ both. (both.0.items ≡ leading name.now rows.entry.now)
+        × (both.1.now ≡ trailing name.now rows.entry.now)) }
 {
     let mut ranges = Vec::new(alloc);
-    for row in rows {
-        if row.registry == *name {
-            ranges.push(row.range.copy()?)?;
+    'rows: while let [row, more @ ..] = rows {
+        if row.registry != *name {
+            break;
         }
+        ranges.push(row.range.copy()?)?;
+        rows = more;
     }
-    Ok(ranges)
+    Ok((ranges, rows))
+}
+
+/// Each registry with the ranges that it takes, one after the other, and the rows that nobody took.
+fn shared_out<'a>(
+    alloc: Global,
+    mut registries: &[Registry],
+    mut rows: &'a [RegistryRange],
+) -> Result<(Vec<Share>, &'a [RegistryRange]), AllocError>
+    ensures { IfOk result (λ both.
+        (both.0.items ≡ shared_out registries.entry.now rows.entry.now)
+        × (both.1.now ≡ left_over registries.entry.now rows.entry.now)) }
+{
+    let mut shares = Vec::new(alloc);
+    'registries: while let [registry, more @ ..] = registries {
+        let (ranges, others) = leading(alloc, rows, &registry.name)?;
+        shares.push(Share {
+            registry: *registry,
+            ranges,
+        })?;
+        rows = others;
+        registries = more;
+    }
+    Ok((shares, rows))
 }
 
 /// Each registry with its ranges, or none where those of one are no partition of its values.
-fn partitions(
-    alloc: Global,
-    registries: &[Registry],
-    rows: &[RegistryRange],
-) -> Result<Option<Vec<Partition>>, AllocError>
-    ensures { IfOk result (λ found. ArePartitions rows.now registries.now found) }
+fn partitions(alloc: Global, shares: Vec<Share>) -> Result<Option<Vec<Partition>>, AllocError>
+    ensures { IfOk result (λ found. ArePartitions shares.items found) }
 {
     let mut all = Vec::new(alloc);
-    for registry in registries {
-        let ranges = ranges_named(alloc, rows, &registry.name)?;
-        let Ok(table) = RangeTable::make(registry.max, ranges) else {
+    for share in shares {
+        let Ok(table) = RangeTable::make(share.registry.max, share.ranges) else {
             return Ok(None);
         };
         all.push(Partition {
-            name: registry.name,
+            name: share.registry.name,
             table,
         })?;
     }
@@ -83,14 +120,7 @@ fn is_named(registries: &[Registry], name: &Name) -> bool
     registries.iter().any(|registry| registry.name == *name)
 }
 
-/// Whether each range has a registry.
-fn are_owned(registries: &[Registry], rows: &[RegistryRange]) -> bool
-    ensures { result ≡ are_owned registries.now rows.now }
-{
-    rows.iter().all(|row| is_named(registries, &row.registry))
-}
-
-/// Feeds the registries. Ranges that the store does not give in their order are a fault of it.
+/// Feeds the registries. Rows that the store does not give in their order are a fault of it.
 pub fn feed_registries<S: Alter>(
     alloc: Global,
     conn: &mut Connection<S>,
@@ -122,6 +152,18 @@ pub fn feed_registries<S: Alter>(
     feed_partitions(alloc, audit, registries.as_slice(), rows.as_slice())
 }
 
+/// Of a range that no registry took: where it has one, the rows did not come in their order.
+fn stray(registries: &[Registry], row: &RegistryRange) -> Result<bool, Fault>
+    ensures { IfOk result
+        (λ fed. (fed ≡ false) × (is_named registries.now row.now.registry ≡ false)) }
+{
+    if is_named(registries, &row.registry) {
+        Err(Fault::Store)
+    } else {
+        Ok(false)
+    }
+}
+
 /// Feeds registries with their ranges.
 fn feed_partitions(
     alloc: Global,
@@ -132,13 +174,14 @@ fn feed_partitions(
     ensures { IfOk result
         (λ fed. IsFedPartitions registries.now rows.now audit.old audit.new fed) }
 {
-    if !are_ascending(rows) {
+    if !are_ascending(registries) || !are_ascending(rows) {
         return Err(Fault::Store);
     }
-    if !are_owned(registries, rows) {
-        return Ok(false);
+    let (shares, left) = shared_out(alloc, registries, rows)?;
+    if let [row, ..] = left {
+        return stray(registries, row);
     }
-    match partitions(alloc, registries, rows)? {
+    match partitions(alloc, shares)? {
         Some(all) => {
             feed_all(audit, all)?;
             Ok(true)

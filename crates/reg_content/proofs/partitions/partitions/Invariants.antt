@@ -1,7 +1,6 @@
-use Rattle.std.proofs.Common.{◌≡◌, map, take}
-use Rattle.reg_content.specs.Partitions.{partition_of}
+use Rattle.std.proofs.Common.{◌≡◌, map}
+use Rattle.reg_content.specs.Partitions.{partition_from}
 use Rattle.reg_content.proofs.partitions.partitions.Given as goal
 
-abbrev pub invariant-loop-registry : goal.invariant-loop-registry
-invariant-loop-registry l =
-    l.all.items ≡ map (partition_of l.rows) (take l.registry-index l.registries)
+abbrev pub invariant-loop-share : goal.invariant-loop-share
+invariant-loop-share l = l.all.items ≡ map partition_from l.yielded
