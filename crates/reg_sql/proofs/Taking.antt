@@ -35,7 +35,7 @@ module _ (fresh : Bool) (old new : State) where
     keeps = tt;
     taken = λ w. tt;
     opened = λ h. tt;
-    live = λ honest is_open. tt;
+    live = λ honest. tt;
     refused = λ auto w. refused w;
     unchanged = same;
   }
@@ -76,7 +76,9 @@ module _ (old new : State) (free : AreFree old.now.schema) where
     taken = λ w. founded_taken (has w) (alone w)
         (λ is. (empty (record { works = w; tables = is })).0);
     opened = λ h. inr (refl, (empty h).0, (empty h).1);
-    live = λ honest is_open. live honest.clean;
+    live = λ honest.
+        let is_open = live honest.clean in
+        ((worked (record { clean = honest.clean; is_open = is_open })).clean, λ was_open. is_open);
     refused = λ auto w. tt;
     unchanged = λ w. tt;
   }
@@ -165,11 +167,14 @@ module _ (fresh : Bool) (old mid : State) {E : Type 0} (verdict : Verdict)
             subst IsOurs (decides.stays.same was) (ours_at is was),
             ap content_of (same_over h.works),
           );
-      live = λ honest is_open.
+      live = λ honest.
           let less = looks.endures.faults in
-          looks.endures.stays_open honest.clean honest.unfailed
-          (decides.endures.stays_open (looks.endures.clean honest.clean)
-          (omega (arith, less, honest.unfailed)) is_open);
+          let was_clean = looks.endures.clean honest.clean in (
+            decides.endures.clean was_clean,
+            λ is_open.
+                looks.endures.stays_open honest.clean honest.unfailed
+                (decides.endures.stays_open was_clean (omega (arith, less, honest.unfailed)) is_open),
+          );
       refused = λ auto w. tt;
       unchanged = λ w. tt;
     }

@@ -4,7 +4,7 @@ use Rattle.sqlite.specs.Effect.{Database, IsDatabase}
 use Rattle.sqlite.specs.Files.{AreFoundIn, HoldsDatabase}
 use Rattle.sqlite.specs.Tree.{Trees}
 use Rattle.sqlite_wal.specs.Recovery.{Image}
-use Rattle.sqlite.specs.State.{State}
+use Rattle.sqlite.specs.State.{State, HasCleanDisk}
 use Rattle.sqlite.specs.declared.error.Error.{Error}
 use Rattle.sqlite.specs.declared.error.Error.TheVariants.{SqliteFailure}
 use Rattle.sqlite.specs.declared.error.ErrorCode.TheVariants.{NotADatabase, DatabaseCorrupt, OutOfMemory, CannotOpen, DatabaseBusy}
@@ -59,6 +59,10 @@ IsRefused fresh db NotOurs =
     × (fresh ≡ true → ¬ AreFree db.schema)
 IsRefused fresh db (Fault fault) = Unit {0}
 
+-- the disk was honest before, and nothing has shut the store
+abbrev pub StaysLive : State → State → Type 0
+StaysLive old new = HasCleanDisk old × (IsTrue old.is_open → IsTrue new.is_open)
+
 -- A call that takes a store over, or leaves it as it was.
 pub record TakesOver (fresh : Bool) (old new : State) (result : Result Vacancies OpenFault)
     : Type 0 where
@@ -66,7 +70,7 @@ pub record TakesOver (fresh : Bool) (old new : State) (result : Result Vacancies
   pub keeps : IfOk result (λ vacancies. KeepsOffice (Some vacancies) new)
   pub taken : Works new → IfOk result (λ vacancies. IsTakenOver fresh old.now new.now)
   pub opened : Holds new → IfOk result (λ vacancies. IsOpened fresh old.now (world_in new))
-  pub live : IsHonest new → IsTrue old.is_open → IfOk result (λ vacancies. IsTrue new.is_open)
+  pub live : IsHonest new → IfOk result (λ vacancies. StaysLive old new)
   pub refused : old.in_transaction ≡ false → Works new → IfErr result (IsRefused fresh old.now)
   pub unchanged : Works new → IfErr result (λ fault. new.now ≡ old.now)
 

@@ -68,8 +68,9 @@ impl<S: Alter> SqlKeeper<S> {
             → Works (state S.Store conn)
             × IsTakenOver fresh (state S.Store conn).now (state S.Store keeper.tables).now) }
         ensures live { IfOk result (λ keeper. IsHonest (state S.Store keeper.tables)
-            → IsTrue (state S.Store conn).is_open → StandsAlone (state S.Store conn).now
-            → Holds (state S.Store keeper.tables)) }
+            → HasCleanDisk (state S.Store conn)
+            × (IsTrue (state S.Store conn).is_open → StandsAlone (state S.Store conn).now
+            → Holds (state S.Store keeper.tables))) }
         ensures refused { IfErr result (λ refusal. (state S.Store conn).in_transaction ≡ false
             → Works (state S.Store refusal.1)
             → IsRefused fresh (state S.Store conn).now refusal.0) }
@@ -166,9 +167,12 @@ pub fn from_path<T: Start>(
     fresh: bool,
     start: T,
 ) -> Result<SqlKeeper<FileStore<FileFrom<T>>>, OpenFault>
-    ensures { IfOk result (λ keeper. Holds (file_state keeper.tables)
+    ensures opened { IfOk result (λ keeper. Holds (file_state keeper.tables)
         → (found : Database) × IsFoundIn (image_at T.Start) found
         × IsOpened fresh found (world_in (file_state keeper.tables))) }
+    ensures live { IfOk result (λ keeper. IsHonest (file_state keeper.tables)
+        → (found : Database) × IsFoundIn (image_at T.Start) found
+        × (StandsAlone found → Holds (file_state keeper.tables))) }
 {
     let conn = match Connection::open_from(rt, path, false, start) {
         Ok(conn) => conn,
