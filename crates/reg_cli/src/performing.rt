@@ -3,7 +3,8 @@ use crate::desk::{define_in, definition, list_in, listing, print};
 use crate::faults::Undone;
 use crate::range_file::bytes_of;
 use crate::serving::serve_in;
-use crate::stored::{Stored, open};
+use crate::stored::open;
+use reg_core::command::Command;
 use reg_jobs::jobs::{Definition, Job, JobFault};
 use reg_keeper::keeper::Keeper;
 use reg_office::Office;
@@ -69,7 +70,10 @@ fn attempt<R: Read, W: Write>(
     let alloc = rt.alloc();
     match job {
         Job::Script { clerk } => script(alloc, clerk.as_str(), input, output),
-        Job::Init { file, clerk } => init(rt, file.as_str(), clerk.as_str(), output),
+        Job::Init { file, clerk } => {
+            let clerk = clerk.as_str();
+            in_file(rt, file.as_str(), &Task::Found { clerk }, output)
+        }
         Job::Serve {
             file,
             port,
@@ -81,9 +85,78 @@ fn attempt<R: Read, W: Write>(
     }
 }
 
-// The office in a file.
-fn opened(rt: &HostRuntime, path: &str, fresh: bool) -> Result<Office<Stored>, Undone> {
-    Ok(Office::new(rt.alloc(), open(rt, path, fresh)?))
+fn serve<W: Write>(
+    rt: &HostRuntime,
+    file: &str,
+    port: u16,
+    connections: u32,
+    output: &mut W,
+) -> Result<(), Undone> {
+    in_file(rt, file, &Task::Serve { port, connections }, output)
+}
+
+fn define<W: Write>(rt: &HostRuntime, order: &Definition, output: &mut W) -> Result<(), Undone> {
+    let ranges = bytes_of(rt, rt.alloc(), order.ranges.as_str())?;
+    let command = definition(rt.alloc(), order, ranges.as_slice())?;
+    let clerk = order.clerk.as_str();
+    let task = Task::Define { clerk, command };
+    in_file(rt, order.file.as_str(), &task, output)
+}
+
+fn list<W: Write>(
+    rt: &HostRuntime,
+    file: &str,
+    registry: &Option<String>,
+    output: &mut W,
+) -> Result<(), Undone> {
+    let command = listing(rt.alloc(), registry)?;
+    in_file(rt, file, &Task::List { command }, output)
+}
+
+// What a job does with the office in a file.
+#[derive(Drop)]
+enum Task<'a> {
+    Found { clerk: &'a str },
+    Serve { port: u16, connections: u32 },
+    Define { clerk: &'a str, command: Command },
+    List { command: Command },
+}
+
+impl Task<'_> {
+    fn carry_out<K: Keeper, W: Write>(
+        &self,
+        rt: &HostRuntime,
+        office: &mut Office<K>,
+        output: &mut W,
+    ) -> Result<(), Undone> {
+        let alloc = rt.alloc();
+        match self {
+            Task::Found { clerk } => found_in(office, clerk, output),
+            Task::Serve { port, connections } => serve_in(rt, office, *port, *connections, output),
+            Task::Define { clerk, command } => {
+                define_in(alloc, office, moment(rt), clerk, command, output)
+            }
+            Task::List { command } => list_in(alloc, office, moment(rt), command, output),
+        }
+    }
+}
+
+// Does a task with the office in a file, which is begun where it is to be founded.
+fn in_file<W: Write>(
+    rt: &HostRuntime,
+    path: &str,
+    task: &Task<'_>,
+    output: &mut W,
+) -> Result<(), Undone> {
+    match open(rt, path, matches!(task, Task::Found { .. })) {
+        Ok(keeper) => {
+            let mut office = Office::new(rt.alloc(), keeper);
+            let done = task.carry_out(rt, &mut office, output);
+            drop(office);
+            done
+        }
+        Err(fault) => Err(Undone::from(fault)),
+    }
 }
 
 fn script<R: Read, W: Write>(
@@ -111,13 +184,6 @@ pub fn found_and_run<K: Keeper, R: Read, W: Write>(
     Ok(())
 }
 
-fn init<W: Write>(rt: &HostRuntime, file: &str, clerk: &str, output: &mut W) -> Result<(), Undone> {
-    let mut office = opened(rt, file, true)?;
-    let done = found_in(&mut office, clerk, output);
-    drop(office);
-    done
-}
-
 /// Founds an office, and says that it is ready.
 pub fn found_in<K: Keeper, W: Write>(
     office: &mut Office<K>,
@@ -126,44 +192,6 @@ pub fn found_in<K: Keeper, W: Write>(
 ) -> Result<(), Undone> {
     office.found(clerk.as_bytes())?;
     print(output, b"ready\n")
-}
-
-fn serve<W: Write>(
-    rt: &HostRuntime,
-    file: &str,
-    port: u16,
-    connections: u32,
-    output: &mut W,
-) -> Result<(), Undone> {
-    let mut office = opened(rt, file, false)?;
-    let done = serve_in(rt, &mut office, port, connections, output);
-    drop(office);
-    done
-}
-
-fn define<W: Write>(rt: &HostRuntime, order: &Definition, output: &mut W) -> Result<(), Undone> {
-    let alloc = rt.alloc();
-    let ranges = bytes_of(rt, alloc, order.ranges.as_str())?;
-    let command = definition(alloc, order, ranges.as_slice())?;
-    let mut office = opened(rt, order.file.as_str(), false)?;
-    let clerk = order.clerk.as_str();
-    let done = define_in(alloc, &mut office, moment(rt), clerk, &command, output);
-    drop(office);
-    done
-}
-
-fn list<W: Write>(
-    rt: &HostRuntime,
-    file: &str,
-    registry: &Option<String>,
-    output: &mut W,
-) -> Result<(), Undone> {
-    let alloc = rt.alloc();
-    let command = listing(alloc, registry)?;
-    let mut office = opened(rt, file, false)?;
-    let done = list_in(alloc, &mut office, moment(rt), &command, output);
-    drop(office);
-    done
 }
 
 // Seconds since 1970-01-01T00:00:00Z; 0 where the clock fails, or stands before.

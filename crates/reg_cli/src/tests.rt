@@ -1,8 +1,10 @@
 //! What no clause says: that the program does its jobs, to the byte.
 use crate::performing::{found_and_run, perform};
 use reg_jobs::jobs::Job;
+use reg_keeper::keeper::Keeper;
 use reg_office::Office;
 use reg_sql::open::in_memory;
+use std::alloc::Global;
 use std::test::Fail;
 
 mod approvals;
@@ -57,12 +59,13 @@ fn script(rt: &HostRuntime, clerk: &str, input: &[u8]) -> Result<Given, Fail> {
     })
 }
 
-// What the lines of a script are answered over tables in memory.
-fn answers_over_tables(rt: &HostRuntime, clerk: &str, input: &[u8]) -> Result<Vec<u8>, Fail> {
-    let alloc = rt.alloc();
-    let Ok(keeper) = in_memory(alloc) else {
-        return Err("no office in tables".into());
-    };
+// What the lines of a script are answered by an office over this keeper, once it is founded.
+fn answers_over<K: Keeper + Drop>(
+    alloc: Global,
+    keeper: K,
+    clerk: &str,
+    input: &[u8],
+) -> Result<Vec<u8>, Fail> {
     let mut office = Office::new(alloc, keeper);
     let mut output = Vec::new(alloc);
     let mut reader = input;
@@ -72,4 +75,11 @@ fn answers_over_tables(rt: &HostRuntime, clerk: &str, input: &[u8]) -> Result<Ve
         return Err("not run".into());
     }
     Ok(output)
+}
+
+fn answers_over_tables(alloc: Global, clerk: &str, input: &[u8]) -> Result<Vec<u8>, Fail> {
+    let Ok(keeper) = in_memory(alloc) else {
+        return Err("no office in tables".into());
+    };
+    answers_over(alloc, keeper, clerk, input)
 }

@@ -5,6 +5,7 @@ use crate::messages::{request, with_line_ends};
 use crate::rows::ROWS;
 use crate::served::{CLERK, Served};
 use reg_http::wire_fault::WireFault;
+use reg_keeper::keeper::Keeper;
 use std::alloc::{AllocError, Global};
 use std::process::Abort;
 use std::test::Fail;
@@ -124,7 +125,7 @@ const LOOKS: [(&str, &str); 12] = [
 ];
 
 // What is seen of an office.
-fn seen(alloc: Global, served: &mut Served) -> Result<Vec<u8>, Fail> {
+fn seen<K: Keeper + Drop>(alloc: Global, served: &mut Served<K>) -> Result<Vec<u8>, Fail> {
     let mut seen = Vec::new(alloc);
     for (token, path) in LOOKS {
         let sent = request(alloc, "GET", path, Some(token), b"")?;
@@ -142,7 +143,11 @@ fn seen_after(alloc: Global, rows: &[Row]) -> Result<Vec<u8>, Fail> {
     seen
 }
 
-fn seen_of(alloc: Global, served: &mut Served, rows: &[Row]) -> Result<Vec<u8>, Fail> {
+fn seen_of<K: Keeper + Drop>(
+    alloc: Global,
+    served: &mut Served<K>,
+    rows: &[Row],
+) -> Result<Vec<u8>, Fail> {
     for row in rows {
         served.asked(alloc, row.sent.as_slice())?;
     }
@@ -152,9 +157,9 @@ fn seen_of(alloc: Global, served: &mut Served, rows: &[Row]) -> Result<Vec<u8>, 
 // The last of the requests through it was not answered by its own answer, but by storage, with
 // nothing changed since those before it; or not at all, and then it was carried out or nothing has
 // changed. When it is sent again it is answered.
-fn assert_left<R: Abort + AllocGlobal>(
+fn assert_left<R: Abort + AllocGlobal, K: Keeper + Drop>(
     rt: &R,
-    served: &mut Served,
+    served: &mut Served<K>,
     before: &[Row],
     through: &[Row],
     done: Result<u16, WireFault>,
@@ -180,9 +185,9 @@ fn assert_left<R: Abort + AllocGlobal>(
 }
 
 // Sends these requests in turn, and gives how many were not answered by their own answers.
-fn assert_rows<R: Abort + AllocGlobal>(
+fn assert_rows<R: Abort + AllocGlobal, K: Keeper + Drop>(
     rt: &R,
-    served: &mut Served,
+    served: &mut Served<K>,
     rows: &[Row],
 ) -> Result<u32, Fail> {
     let mut left = 0u32;

@@ -1,8 +1,8 @@
 //! Requests that are asked by lines of a script and over HTTP, of offices in memory and in tables:
 //! all four are answered alike, and none for want of storage.
 use crate::asked::Asked;
-use crate::generated::{ROUTES, asked_by};
-use crate::offices::Offices;
+use crate::generated::{asked_by, route};
+use crate::offices::{Alike, Offices};
 use crate::sequence::Sequence;
 use crate::served::CLERK;
 use crate::wide::assert_wide;
@@ -29,7 +29,7 @@ const FIRST: [(&str, &str); 3] = [
     ),
 ];
 
-fn open<R: Abort + AllocGlobal>(rt: &R, offices: &mut Offices) -> Result<(), Fail> {
+fn open<R: Abort + AllocGlobal, O: Alike>(rt: &R, offices: &mut O) -> Result<(), Fail> {
     for (path, body) in FIRST {
         let asked = Asked {
             method: "PUT",
@@ -42,17 +42,27 @@ fn open<R: Abort + AllocGlobal>(rt: &R, offices: &mut Offices) -> Result<(), Fai
     Ok(())
 }
 
-fn assert_generated<R: Abort + AllocGlobal>(rt: &R, offices: &mut Offices) -> Result<(), Fail> {
+fn assert_generated<R: Abort + AllocGlobal, O: Alike>(rt: &R, offices: &mut O) -> Result<(), Fail> {
     let mut numbers = Sequence::new();
     for count in 0..REQUESTS {
-        let route = ROUTES[count % ROUTES.len()];
-        let asked = asked_by(rt.alloc(), &mut numbers, route)?;
-        offices.assert_alike(rt, &asked)?;
+        assert_next(rt, offices, &mut numbers, count)?;
     }
     Ok(())
 }
 
-fn assert_all<R: Abort + AllocGlobal>(rt: &R, offices: &mut Offices) -> Result<(), Fail> {
+// Of the routes, in turn, this many come before that of the request.
+fn assert_next<R: Abort + AllocGlobal, O: Alike>(
+    rt: &R,
+    offices: &mut O,
+    numbers: &mut Sequence,
+    count: usize,
+) -> Result<(), Fail> {
+    let asked = asked_by(rt.alloc(), numbers, route(count))?;
+    offices.assert_alike(rt, &asked)?;
+    Ok(())
+}
+
+fn assert_all<R: Abort + AllocGlobal, O: Alike>(rt: &R, offices: &mut O) -> Result<(), Fail> {
     open(rt, offices)?;
     assert_generated(rt, offices)?;
     assert_wide(rt, offices)

@@ -1,6 +1,7 @@
 //! Requests and their answers over HTTP, to the byte.
 use crate::messages::{NO_REGISTRY, json_answer, request, with_line_ends};
 use crate::served::Served;
+use reg_keeper::keeper::Keeper;
 use std::alloc::{AllocError, Global};
 use std::process::Abort;
 use std::test::Fail;
@@ -131,9 +132,9 @@ fn assert_told<R: Abort + AllocGlobal>(rt: &R, rows: &[(&str, &str, &str)]) -> R
     done
 }
 
-fn assert_each<R: Abort + AllocGlobal>(
+fn assert_each<R: Abort + AllocGlobal, K: Keeper + Drop>(
     rt: &R,
-    served: &mut Served,
+    served: &mut Served<K>,
     rows: &[(&str, &str, &str)],
 ) -> Result<(), Fail> {
     for (sent, status, body) in rows {

@@ -3,14 +3,15 @@ use crate::devices::{FailsAfter, FailsBefore, GivesOne};
 use crate::messages::{HEAD, MADE, SHORT, SUBMISSION, SUBMISSION_HEAD, THERE};
 use crate::served::Served;
 use reg_http::wire_fault::WireFault;
+use reg_keeper::keeper::Keeper;
 use std::alloc::{AllocError, Global};
 use std::process::Abort;
 use std::test::Fail;
 
 // The submission is answered so when it comes whole.
-fn assert_submitted<R: Abort + AllocGlobal>(
+fn assert_submitted<R: Abort + AllocGlobal, K: Keeper + Drop>(
     rt: &R,
-    served: &mut Served,
+    served: &mut Served<K>,
     wanted: &[u8],
 ) -> Result<(), Fail> {
     let given = served.asked(rt.alloc(), SUBMISSION)?;
@@ -19,9 +20,9 @@ fn assert_submitted<R: Abort + AllocGlobal>(
 }
 
 // The first bytes of the submission, and no more, are refused.
-fn assert_refused<R: Abort + AllocGlobal>(
+fn assert_refused<R: Abort + AllocGlobal, K: Keeper + Drop>(
     rt: &R,
-    served: &mut Served,
+    served: &mut Served<K>,
     sent: &[u8],
 ) -> Result<(), Fail> {
     let given = served.asked(rt.alloc(), sent)?;
@@ -35,7 +36,10 @@ fn assert_refused<R: Abort + AllocGlobal>(
     Ok(())
 }
 
-fn assert_prefixes<R: Abort + AllocGlobal>(rt: &R, served: &mut Served) -> Result<(), Fail> {
+fn assert_prefixes<R: Abort + AllocGlobal, K: Keeper + Drop>(
+    rt: &R,
+    served: &mut Served<K>,
+) -> Result<(), Fail> {
     for count in 0..SUBMISSION.len() {
         assert_refused(rt, served, &SUBMISSION[..count])?;
     }
@@ -99,7 +103,11 @@ fn the_longest_request_one_byte_a_read(rt: HostRuntime) -> Result<(), Fail> {
 }
 
 // A read fails after these bytes of the submission: nothing is written.
-fn assert_unread<R: Abort + AllocGlobal>(rt: &R, served: &mut Served, sent: &[u8]) {
+fn assert_unread<R: Abort + AllocGlobal, K: Keeper + Drop>(
+    rt: &R,
+    served: &mut Served<K>,
+    sent: &[u8],
+) {
     let mut reader = FailsBefore { bytes: sent };
     let mut written = Vec::new(rt.alloc());
     let done = served.serve(rt.alloc(), &mut reader, &mut written);
@@ -107,7 +115,10 @@ fn assert_unread<R: Abort + AllocGlobal>(rt: &R, served: &mut Served, sent: &[u8
     assert!(rt; written.is_empty());
 }
 
-fn assert_failing_reads<R: Abort + AllocGlobal>(rt: &R, served: &mut Served) -> Result<(), Fail> {
+fn assert_failing_reads<R: Abort + AllocGlobal, K: Keeper + Drop>(
+    rt: &R,
+    served: &mut Served<K>,
+) -> Result<(), Fail> {
     for count in 0..SUBMISSION.len() {
         assert_unread(rt, served, &SUBMISSION[..count]);
     }
@@ -123,9 +134,9 @@ fn a_read_that_fails_before_each_byte(rt: HostRuntime) -> Result<(), Fail> {
 }
 
 // A write fails after these bytes of the answer: they went out, and the submission is there.
-fn assert_cut<R: Abort + AllocGlobal>(
+fn assert_cut<R: Abort + AllocGlobal, K: Keeper + Drop>(
     rt: &R,
-    served: &mut Served,
+    served: &mut Served<K>,
     taken: &[u8],
 ) -> Result<(), Fail> {
     let mut reader = SUBMISSION;

@@ -51,8 +51,8 @@ pub enum Body {
 /// token of a caller, and its body.
 pub type Route = (&'static str, &'static str, Option<&'static str>, Body);
 
-/// The routes, in turn.
-pub const ROUTES: [Route; 21] = [
+// The routes, in turn.
+const ROUTES: [Route; 21] = [
     ("GET", "/registries", None, Body::Empty),
     ("GET", "/registries/N", None, Body::Empty),
     ("GET", "/listings/registries/N", None, Body::Empty),
@@ -77,6 +77,11 @@ pub const ROUTES: [Route; 21] = [
 ];
 
 const RANGES: &str = "lo,hi,treatment,note\n0,0,first-come-first-served,\n1,1,reserved,kept\n";
+
+/// The route of a request that comes after so many.
+pub fn route(count: usize) -> Route {
+    ROUTES[count % ROUTES.len()]
+}
 
 /// A request of this route.
 pub fn asked_by(alloc: Global, numbers: &mut Sequence, route: Route) -> Result<Asked, AllocError> {

@@ -2,6 +2,7 @@
 use crate::messages::NO_REGISTRY;
 use crate::served::Served;
 use reg_http::listener::Connections;
+use reg_keeper::keeper::Keeper;
 use std::io::{Read, Write};
 use std::net::{Ipv4Addr, Shutdown, SocketAddr, TcpListener, TcpStream};
 use std::test::Fail;
@@ -35,7 +36,10 @@ fn all_of(rt: &HostRuntime, stream: &mut TcpStream) -> Result<Vec<u8>, Fail> {
 }
 
 // What becomes of a first request over loopback, and its answer.
-fn first_request(rt: &HostRuntime, served: &mut Served) -> Result<(Connections, Vec<u8>), Fail> {
+fn first_request<K: Keeper + Drop>(
+    rt: &HostRuntime,
+    served: &mut Served<K>,
+) -> Result<(Connections, Vec<u8>), Fail> {
     let (listener, address) = listening(rt)?;
     let mut peer = client(rt, address, b"GET /registries HTTP/1.1\r\nHost: x\r\n\r\n")?;
     let done = served.listen(rt, &listener, 1, Duration::from_secs(10));
@@ -111,7 +115,10 @@ impl Peers {
 }
 
 // What becomes of the four connections, and what the clients read.
-fn four_peers(rt: &HostRuntime, served: &mut Served) -> Result<(Connections, Heard), Fail> {
+fn four_peers<K: Keeper + Drop>(
+    rt: &HostRuntime,
+    served: &mut Served<K>,
+) -> Result<(Connections, Heard), Fail> {
     let (listener, address) = listening(rt)?;
     let mut peers = Peers::connected(rt, address)?;
     let done = served.listen(rt, &listener, 4, Duration::from_millis(200));

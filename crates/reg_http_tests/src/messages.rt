@@ -28,6 +28,15 @@ pub const SHORT: &[u8] =
 pub const HEAD: &[u8] =
     b"HTTP/1.1 400 Bad Request\r\nContent-Type: application/json\r\nContent-Length: 16\r\nConnection: close\r\n\r\n{\"error\":\"head\"}";
 
+/// These texts, one after the other.
+pub fn joined(alloc: Global, parts: &[&str]) -> Result<String, AllocError> {
+    let mut text = String::new(alloc);
+    for part in parts {
+        text.push_str(part)?;
+    }
+    Ok(text)
+}
+
 /// The bytes of a request.
 pub fn request(
     alloc: Global,
@@ -36,11 +45,12 @@ pub fn request(
     token: Option<&str>,
     body: &[u8],
 ) -> Result<Vec<u8>, AllocError> {
-    let mut text = format!(in alloc; "{method} {path} HTTP/1.1\r\n")?;
+    let mut text = String::from_str(alloc, method)?;
+    text.push(' ')?;
+    text.push_str(path)?;
+    text.push_str(" HTTP/1.1\r\n")?;
     if let Some(token) = token {
-        text.push_str("Authorization: Bearer ")?;
-        text.push_str(token)?;
-        text.push_str("\r\n")?;
+        put_token(&mut text, token)?;
     }
     let length = body.len().to_string(alloc)?;
     text.push_str("Content-Length: ")?;
@@ -49,6 +59,12 @@ pub fn request(
     let mut bytes = text.into_bytes();
     bytes.extend_from_slice(body)?;
     Ok(bytes)
+}
+
+fn put_token(text: &mut String, token: &str) -> Result<(), AllocError> {
+    text.push_str("Authorization: Bearer ")?;
+    text.push_str(token)?;
+    text.push_str("\r\n")
 }
 
 /// The bytes of an answer in JSON.

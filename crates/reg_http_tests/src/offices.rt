@@ -77,6 +77,12 @@ fn as_line(alloc: Global, status: u16, bytes: &[u8]) -> Result<Vec<u8>, AllocErr
     Ok(line)
 }
 
+/// Offices that are asked alike.
+pub trait Alike {
+    /// Asks all, and gives the status of the answer, which is the same to the byte.
+    fn assert_alike<R: Abort + AllocGlobal>(&mut self, rt: &R, asked: &Asked) -> Result<u16, Fail>;
+}
+
 /// Four offices: two in memory and two in tables, and of each kind one that is asked by lines, and
 /// one that is asked over HTTP.
 #[derive(Drop)]
@@ -92,13 +98,10 @@ impl Offices {
         let tables = Both::founded(alloc, in_memory(alloc)?, in_memory(alloc)?)?;
         Ok(Offices { lists, tables })
     }
+}
 
-    /// Asks all four, and gives the status of the answer, which is the same to the byte.
-    pub fn assert_alike<R: Abort + AllocGlobal>(
-        &mut self,
-        rt: &R,
-        asked: &Asked,
-    ) -> Result<u16, Fail> {
+impl Alike for Offices {
+    fn assert_alike<R: Abort + AllocGlobal>(&mut self, rt: &R, asked: &Asked) -> Result<u16, Fail> {
         let first = self.lists.assert_alike(rt, asked)?;
         let second = self.tables.assert_alike(rt, asked)?;
         assert_eq!(rt; second.line.as_slice(), first.line.as_slice());

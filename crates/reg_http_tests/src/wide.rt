@@ -1,7 +1,8 @@
 //! A registry of 64 ranges that are all of 32 bits, and asks in it with texts of full length.
 use crate::asked::Asked;
 use crate::generated::{ALICE, EXPERT};
-use crate::offices::Offices;
+use crate::messages::joined;
+use crate::offices::Alike;
 use crate::sequence::{FULL, text_of};
 use crate::served::CLERK;
 use std::alloc::{AllocError, Global};
@@ -74,49 +75,87 @@ fn range_file(alloc: Global) -> Result<String, AllocError> {
 // An ask for what this member names, with all that any policy asks for, each text of full length.
 fn ask(alloc: Global, member: &str) -> Result<String, AllocError> {
     let text = text_of(alloc, FULL)?;
-    format!(in alloc;
-        "{{\"kind\":\"code\",\"registry\":\"wide\",{member},\"label\":\"{text}\",\"contact\":\"{text}\",\"specification\":\"{text}\",\"rfc\":{{\"number\":99999,\"stream\":\"ietf\",\"track\":\"standards\"}},\"minute\":\"{text}\"}}"
+    let text = text.as_str();
+    joined(
+        alloc,
+        &[
+            "{\"kind\":\"code\",\"registry\":\"wide\",",
+            member,
+            ",\"label\":\"",
+            text,
+            "\",\"contact\":\"",
+            text,
+            "\",\"specification\":\"",
+            text,
+            "\",\"rfc\":{\"number\":99999,\"stream\":\"ietf\",\"track\":\"standards\"},\"minute\":\"",
+            text,
+            "\"}",
+        ],
     )
 }
 
 fn advice(alloc: Global) -> Result<String, AllocError> {
     let text = text_of(alloc, FULL)?;
-    format!(in alloc; "{{\"verdict\":\"for\",\"text\":\"{text}\"}}")
+    joined(
+        alloc,
+        &["{\"verdict\":\"for\",\"text\":\"", text.as_str(), "\"}"],
+    )
 }
 
 // Asks for what the member names, has an expert advise on that, and approves it, which succeeds
 // where single values are assigned.
-fn assert_ask<R: Abort + AllocGlobal>(
+fn assert_ask<R: Abort + AllocGlobal, O: Alike>(
     rt: &R,
-    offices: &mut Offices,
+    offices: &mut O,
     name: &str,
     member: &str,
     is_assigned: bool,
 ) -> Result<(), Fail> {
     let alloc = rt.alloc();
     let (made, done) = if is_assigned { (201, 200) } else { (409, 404) };
-    let own = format!(in alloc; "/requests/{name}")?;
+    let own = joined(alloc, &["/requests/", name])?;
     let body = ask(alloc, member)?;
-    let submission = asked(alloc, "PUT", own.as_str(), Some(ALICE), body.as_str())?;
-    assert_eq!(rt; offices.assert_alike(rt, &submission)?, made);
-    let path = format!(in alloc; "/desk/experts/alice/{name}/xan")?;
-    let assignment = asked(alloc, "PUT", path.as_str(), Some(CLERK), "")?;
-    assert_eq!(rt; offices.assert_alike(rt, &assignment)?, done);
-    let path = format!(in alloc; "/queue/alice/{name}")?;
+    assert_put(rt, offices, own.as_str(), ALICE, body.as_str(), made)?;
+    let path = joined(alloc, &["/desk/experts/alice/", name, "/xan"])?;
+    assert_put(rt, offices, path.as_str(), CLERK, "", done)?;
+    let path = joined(alloc, &["/queue/alice/", name])?;
     let body = advice(alloc)?;
-    let review = asked(alloc, "PUT", path.as_str(), Some(EXPERT), body.as_str())?;
-    assert_eq!(rt; offices.assert_alike(rt, &review)?, done);
-    let path = format!(in alloc; "/desk/approve/alice/{name}")?;
-    let approval = asked(alloc, "PUT", path.as_str(), Some(CLERK), "")?;
-    assert_eq!(rt; offices.assert_alike(rt, &approval)?, done);
-    let look = asked(alloc, "GET", own.as_str(), Some(ALICE), "")?;
-    assert_eq!(rt; offices.assert_alike(rt, &look)?, done);
+    assert_put(rt, offices, path.as_str(), EXPERT, body.as_str(), done)?;
+    let path = joined(alloc, &["/desk/approve/alice/", name])?;
+    assert_put(rt, offices, path.as_str(), CLERK, "", done)?;
+    assert_look(rt, offices, own.as_str(), Some(ALICE), done)
+}
+
+// What is put there is answered with this status.
+fn assert_put<R: Abort + AllocGlobal, O: Alike>(
+    rt: &R,
+    offices: &mut O,
+    path: &str,
+    token: &'static str,
+    body: &str,
+    status: u16,
+) -> Result<(), Fail> {
+    let put = asked(rt.alloc(), "PUT", path, Some(token), body)?;
+    assert_eq!(rt; offices.assert_alike(rt, &put)?, status);
     Ok(())
 }
 
-fn assert_value<R: Abort + AllocGlobal>(
+// A look there is answered with this status.
+fn assert_look<R: Abort + AllocGlobal, O: Alike>(
     rt: &R,
-    offices: &mut Offices,
+    offices: &mut O,
+    path: &str,
+    token: Option<&'static str>,
+    status: u16,
+) -> Result<(), Fail> {
+    let look = asked(rt.alloc(), "GET", path, token, "")?;
+    assert_eq!(rt; offices.assert_alike(rt, &look)?, status);
+    Ok(())
+}
+
+fn assert_value<R: Abort + AllocGlobal, O: Alike>(
+    rt: &R,
+    offices: &mut O,
     value: u64,
     is_assigned: bool,
 ) -> Result<(), Fail> {
@@ -126,7 +165,7 @@ fn assert_value<R: Abort + AllocGlobal>(
 }
 
 // Asks for both ends of each range.
-fn assert_ends<R: Abort + AllocGlobal>(rt: &R, offices: &mut Offices) -> Result<(), Fail> {
+fn assert_ends<R: Abort + AllocGlobal, O: Alike>(rt: &R, offices: &mut O) -> Result<(), Fail> {
     for place in 0..RANGES {
         let (_, is_assigned) = treatment(place);
         let lo = place as u64 * WIDTH;
@@ -137,31 +176,29 @@ fn assert_ends<R: Abort + AllocGlobal>(rt: &R, offices: &mut Offices) -> Result<
 }
 
 // Asks for the least value under each policy.
-fn assert_leasts<R: Abort + AllocGlobal>(rt: &R, offices: &mut Offices) -> Result<(), Fail> {
+fn assert_leasts<R: Abort + AllocGlobal, O: Alike>(rt: &R, offices: &mut O) -> Result<(), Fail> {
     for (word, is_assigned) in TREATMENTS {
         if word != "reserved" {
-            let member = format!(in rt.alloc(); "\"least\":\"{word}\"")?;
+            let member = joined(rt.alloc(), &["\"least\":\"", word, "\""])?;
             assert_ask(rt, offices, word, member.as_str(), is_assigned)?;
         }
     }
     Ok(())
 }
 
-fn assert_looks<R: Abort + AllocGlobal>(rt: &R, offices: &mut Offices) -> Result<(), Fail> {
+fn assert_looks<R: Abort + AllocGlobal, O: Alike>(rt: &R, offices: &mut O) -> Result<(), Fail> {
     for (path, token) in LOOKS {
-        let look = asked(rt.alloc(), "GET", path, token, "")?;
-        assert_eq!(rt; offices.assert_alike(rt, &look)?, 200);
+        assert_look(rt, offices, path, token, 200)?;
     }
     Ok(())
 }
 
 /// Defines the registry in all offices, asks for both ends of each range and for the least value
 /// under each policy, and looks at it all.
-pub fn assert_wide<R: Abort + AllocGlobal>(rt: &R, offices: &mut Offices) -> Result<(), Fail> {
+pub fn assert_wide<R: Abort + AllocGlobal, O: Alike>(rt: &R, offices: &mut O) -> Result<(), Fail> {
     let file = range_file(rt.alloc())?;
     let path = "/desk/registries/wide/4294967295";
-    let define = asked(rt.alloc(), "PUT", path, Some(CLERK), file.as_str())?;
-    assert_eq!(rt; offices.assert_alike(rt, &define)?, 200);
+    assert_put(rt, offices, path, CLERK, file.as_str(), 200)?;
     assert_ends(rt, offices)?;
     assert_leasts(rt, offices)?;
     assert_looks(rt, offices)

@@ -5,6 +5,7 @@ use crate::faults::{JobFailure, Undone};
 use crate::performing::found_in;
 use crate::serving::serve_in;
 use reg_jobs::jobs::Definition;
+use reg_keeper::keeper::Keeper;
 use reg_office::Office;
 use reg_store::lists::ListKeeper;
 use std::alloc::{AllocError, Global};
@@ -36,9 +37,9 @@ fn order<R: AllocGlobal>(rt: &R) -> Result<Definition, AllocError> {
 }
 
 // What a definition of these ranges prints, or why it does not.
-fn defined<R: AllocGlobal>(
+fn defined<R: AllocGlobal, K: Keeper>(
     rt: &R,
-    office: &mut Office<ListKeeper>,
+    office: &mut Office<K>,
     ranges: &[u8],
 ) -> Result<Vec<u8>, Undone> {
     let alloc = rt.alloc();
@@ -50,7 +51,7 @@ fn defined<R: AllocGlobal>(
 }
 
 // What a listing of the registry `codes` prints.
-fn listed<R: AllocGlobal>(rt: &R, office: &mut Office<ListKeeper>) -> Result<Vec<u8>, Undone> {
+fn listed<R: AllocGlobal, K: Keeper>(rt: &R, office: &mut Office<K>) -> Result<Vec<u8>, Undone> {
     let alloc = rt.alloc();
     let name = String::from_str(alloc, "codes")?;
     let command = listing(alloc, &Some(name))?;
@@ -59,9 +60,9 @@ fn listed<R: AllocGlobal>(rt: &R, office: &mut Office<ListKeeper>) -> Result<Vec
     Ok(output)
 }
 
-fn assert_jobs<R: Abort + AllocGlobal>(
+fn assert_jobs<R: Abort + AllocGlobal, K: Keeper>(
     rt: &R,
-    office: &mut Office<ListKeeper>,
+    office: &mut Office<K>,
 ) -> Result<(), Fail> {
     for _ in 0..2 {
         let mut output = Vec::new(rt.alloc());
@@ -149,7 +150,7 @@ fn free_port<R: Net<Listener = TcpListener, Stream = TcpStream>>(rt: &R) -> Resu
     Ok(port)
 }
 
-fn assert_served<R>(rt: &R, office: &mut Office<ListKeeper>) -> Result<(), Fail>
+fn assert_served<R, K: Keeper>(rt: &R, office: &mut Office<K>) -> Result<(), Fail>
 where
     R: Abort + AllocGlobal + Clock + Net<Listener = TcpListener, Stream = TcpStream>,
 {
@@ -178,7 +179,7 @@ fn an_office_is_served(rt: HostRuntime) -> Result<(), Fail> {
 }
 
 // A port that is listened on already.
-fn assert_port<R>(rt: &R, office: &mut Office<ListKeeper>) -> Result<(), Fail>
+fn assert_port<R, K: Keeper>(rt: &R, office: &mut Office<K>) -> Result<(), Fail>
 where
     R: Abort + AllocGlobal + Clock + Net<Listener = TcpListener, Stream = TcpStream>,
 {

@@ -1,10 +1,8 @@
 //! A store that fails: lines that need it are answered `503`, and the others as ever.
-use super::CLERK;
 use super::failing_keeper::FailingKeeper;
 use super::transcript::{marked, sent};
-use reg_office::Office;
+use super::{CLERK, answers_over};
 use reg_store::lists::ListKeeper;
-use reg_wire::script::run;
 use std::test::Fail;
 
 /// The pool and requests cannot be read; capabilities and registries can.
@@ -27,13 +25,9 @@ const LINES: &str = r#"
 fn a_store_that_fails(rt: HostRuntime) -> Result<(), Fail> {
     let alloc = rt.alloc();
     let keeper = ListKeeper::new(alloc);
-    let mut office = Office::new(alloc, FailingKeeper { keeper });
-    assert!(rt; office.found(CLERK.as_bytes()).is_ok());
     let input = sent(&rt, &[LINES])?;
     let wanted = marked(&rt, &[LINES], "< ")?;
-    let mut output = Vec::new(alloc);
-    let done = run(alloc, &mut office, &mut input.as_bytes(), &mut output);
-    assert!(rt; done.is_ok());
+    let output = answers_over(alloc, FailingKeeper { keeper }, CLERK, input.as_bytes())?;
     assert_eq!(rt; output.as_slice(), wanted.as_bytes());
     Ok(())
 }

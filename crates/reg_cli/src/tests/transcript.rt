@@ -16,7 +16,7 @@ pub fn assert_answered(rt: &HostRuntime, transcripts: &[&str]) -> Result<(), Fai
         "the answers over lists",
     )?;
     ensure(given.errors.is_empty(), "what is said of errors over lists")?;
-    let over_tables = answers_over_tables(rt, CLERK, input.as_bytes())?;
+    let over_tables = answers_over_tables(rt.alloc(), CLERK, input.as_bytes())?;
     ensure(
         over_tables.as_slice() == output.as_str().as_bytes(),
         "the answers over tables",
