@@ -28,6 +28,21 @@ impl Stop {
     }
 }
 
+/// The log's disk stops at each call between these in turn, and then the database's.
+pub fn stops(alloc: Global, first: Stop, last: Stop) -> Result<Vec<Stop>, AllocError> {
+    let mut stops = Vec::new(alloc);
+    for log in first.log..last.log {
+        stops.push(Stop { log, ..NEVER })?;
+    }
+    for db in first.db..last.db {
+        stops.push(Stop { db, ..NEVER })?;
+    }
+    Ok(stops)
+}
+
+/// The disks stop at their first calls.
+pub const AT_ONCE: Stop = Stop { log: 0, db: 0 };
+
 /// The disks do not stop.
 pub const NEVER: Stop = Stop {
     log: u64::MAX,
@@ -101,17 +116,6 @@ impl Image {
                 drop(left);
                 Err(error.into())
             }
-        }
-    }
-}
-
-/// What lies in the files of a store that is closed.
-pub fn closed(alloc: Global, conn: Connection<Store>) -> Result<Image, Fail> {
-    match conn.close_files() {
-        Ok(files) => Ok(Image::of(alloc, &files)?),
-        Err((error, store)) => {
-            drop(store.close());
-            Err(error.into())
         }
     }
 }

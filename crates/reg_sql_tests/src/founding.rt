@@ -1,9 +1,10 @@
 //! Disks that stop at each call of the making of the tables: all are there then, or none.
-use crate::calls::{found, judge};
+use crate::calls::{found, has_tables, judge, left_by};
 use crate::disks::{Image, NEVER, Stop, Stopping};
 use crate::making::blank;
 use reg_content::open::Verdict;
-use sqlite::Files;
+use sqlite::{Connection, FileStore, Files};
+use sqlite_disk::Disk;
 use std::alloc::Global;
 use std::process::Abort;
 use std::test::Fail;
@@ -19,9 +20,11 @@ enum Found {
     Other,
 }
 
-fn found_in(alloc: Global, image: &Image) -> Result<Found, Fail> {
-    let mut conn = image.open(alloc)?;
-    if conn.schema().tables.is_empty() {
+fn found_by<D: Disk + Drop>(
+    alloc: Global,
+    mut conn: Connection<FileStore<D>>,
+) -> Result<Found, Fail> {
+    if !has_tables(&conn) {
         return Ok(Found::Nothing);
     }
     match judge(alloc, &mut conn)? {
@@ -30,13 +33,20 @@ fn found_in(alloc: Global, image: &Image) -> Result<Found, Fail> {
     }
 }
 
-// Makes the tables on disks that stop, and tells whether that was answered.
+fn found_in(alloc: Global, image: &Image) -> Result<Found, Fail> {
+    found_by(alloc, image.open(alloc)?)
+}
+
+// Makes the tables, and tells whether that was answered.
+fn made_by<D: Disk + Drop>(mut conn: Connection<FileStore<D>>) -> (bool, Files<D>) {
+    let made = found(&mut conn).is_ok();
+    (made, left_by(conn))
+}
+
+// Makes the tables on disks that stop.
 fn stopped(alloc: Global, stop: Stop) -> Result<(bool, Files<Stopping>), Fail> {
     match Image::empty(alloc).stopping(alloc, stop)? {
-        Ok(mut conn) => {
-            let made = found(&mut conn).is_ok();
-            Ok((made, conn.into_store().close()))
-        }
+        Ok(conn) => Ok(made_by(conn)),
         Err((_, left)) => Ok((false, left.into_files())),
     }
 }

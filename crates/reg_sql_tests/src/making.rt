@@ -1,32 +1,17 @@
 //! Offices that are made and changed on disks.
-use crate::calls::apply;
+use crate::calls::{adopted, apply, closed_by, files_of, judged, kept};
 use crate::changes::first;
-use crate::disks::{Image, Stop, Stopping, Store, closed};
+use crate::disks::{Image, Stop, Stopping, Store};
 use crate::picture::picture;
 use reg_sql::keeper::SqlKeeper;
 use reg_sql::open::OpenFault;
-use sqlite::{Connection, Files};
+use sqlite::Files;
 use std::alloc::Global;
 use std::test::Fail;
 
 /// The keeper of the office in these files.
 pub fn opened(alloc: Global, image: &Image) -> Result<SqlKeeper<Store>, Fail> {
-    adopted(alloc, image.open(alloc)?, false)
-}
-
-/// The keeper of the office of a connection.
-pub fn adopted(
-    alloc: Global,
-    conn: Connection<Store>,
-    fresh: bool,
-) -> Result<SqlKeeper<Store>, Fail> {
-    match SqlKeeper::adopt(alloc, conn, fresh) {
-        Ok(keeper) => Ok(keeper),
-        Err((fault, conn)) => {
-            drop(conn);
-            Err(fault.into())
-        }
-    }
+    Ok(adopted(alloc, image.open(alloc)?, false)?)
 }
 
 /// The keeper of the office in these files on disks that stop; or the files, where it is not opened.
@@ -36,11 +21,16 @@ pub fn stopping(
     stop: Stop,
 ) -> Result<Result<SqlKeeper<Store>, Files<Stopping>>, Fail> {
     match image.stopping(alloc, stop)? {
-        Ok(conn) => match SqlKeeper::adopt(alloc, conn, false) {
-            Ok(keeper) => Ok(Ok(keeper)),
-            Err((_, conn)) => Ok(Err(conn.into_store().close())),
-        },
+        Ok(conn) => Ok(kept(alloc, conn)),
         Err((_, left)) => Ok(Err(left.into_files())),
+    }
+}
+
+/// Opens an office on disks that stop, and tells whether that went through.
+pub fn opens(alloc: Global, image: &Image, stop: Stop) -> Result<(bool, Files<Stopping>), Fail> {
+    match stopping(alloc, image, stop)? {
+        Ok(keeper) => Ok((true, files_of(keeper))),
+        Err(files) => Ok((false, files)),
     }
 }
 
@@ -54,7 +44,7 @@ pub fn shown(alloc: Global, image: &Image) -> Result<String, Fail> {
 pub fn blank(alloc: Global) -> Result<Image, Fail> {
     let conn = Image::empty(alloc).open(alloc)?;
     let keeper = adopted(alloc, conn, true)?;
-    closed(alloc, keeper.into_connection())
+    Ok(Image::of(alloc, &closed_by(keeper)?)?)
 }
 
 /// The files of an office with rows in every table.
@@ -68,7 +58,7 @@ pub fn filled(alloc: Global, image: &Image) -> Result<Image, Fail> {
     for change in first(alloc)? {
         apply(&mut keeper, change)?;
     }
-    closed(alloc, keeper.into_connection())
+    Ok(Image::of(alloc, &closed_by(keeper)?)?)
 }
 
 /// Why no office is opened in these files, if none is, and the files after that.
@@ -77,8 +67,6 @@ pub fn refused(
     image: &Image,
     fresh: bool,
 ) -> Result<(Option<OpenFault>, Image), Fail> {
-    match SqlKeeper::adopt(alloc, image.open(alloc)?, fresh) {
-        Ok(keeper) => Ok((None, closed(alloc, keeper.into_connection())?)),
-        Err((fault, conn)) => Ok((Some(fault), closed(alloc, conn)?)),
-    }
+    let (fault, files) = judged(alloc, image.open(alloc)?, fresh)?;
+    Ok((fault, Image::of(alloc, &files)?))
 }

@@ -1,10 +1,9 @@
 //! Stores that were written by other hands, and what they are to an office that opens them.
-use crate::calls::judge;
-use crate::disks::{Image, Store, closed};
+use crate::calls::{closed, execute, judge};
+use crate::disks::Image;
 use crate::making::{blank, filled, prepared, refused, shown};
 use reg_content::open::Verdict;
 use reg_sql::open::OpenFault;
-use sqlite::{Connection, Error};
 use std::alloc::Global;
 use std::process::Abort;
 use std::test::Fail;
@@ -85,15 +84,10 @@ const REFUSED: [&str; 7] = [
     "DELETE FROM queue WHERE expert = 'xan'",
 ];
 
-fn run(conn: &mut Connection<Store>, sql: &str) -> Result<(), Error> {
-    conn.execute(sql, &[])?;
-    Ok(())
-}
-
 // What a store is after a statement, if it goes through.
 fn after(alloc: Global, image: &Image, sql: &str) -> Result<Option<Verdict>, Fail> {
     let mut conn = image.open(alloc)?;
-    if run(&mut conn, sql).is_err() {
+    if execute(&mut conn, sql).is_err() {
         return Ok(None);
     }
     Ok(Some(judge(alloc, &mut conn)?))
@@ -126,15 +120,15 @@ fn other_tables(rt: HostRuntime) -> Result<(), Fail> {
 fn changed(alloc: Global, image: &Image, statements: &[&str]) -> Result<Image, Fail> {
     let mut conn = image.open(alloc)?;
     for sql in statements {
-        run(&mut conn, sql)?;
+        execute(&mut conn, sql)?;
     }
-    closed(alloc, conn)
+    Ok(Image::of(alloc, &closed(conn)?)?)
 }
 
 // How many rows of another program's table are there.
 fn cars(alloc: Global, image: &Image) -> Result<usize, Fail> {
     let mut conn = image.open(alloc)?;
-    Ok(conn.execute(TOUCH, &[])?)
+    Ok(execute(&mut conn, TOUCH)?)
 }
 
 #[test]

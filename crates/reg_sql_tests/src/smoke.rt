@@ -1,8 +1,8 @@
 //! Each change once, and what the selections give then.
-use crate::calls::apply;
+use crate::calls::{adopted, apply, closed_by};
 use crate::changes::Next;
-use crate::disks::closed;
-use crate::making::{adopted, blank, opened, prepared, shown};
+use crate::disks::Image;
+use crate::making::{blank, opened, prepared, shown};
 use crate::picture::picture;
 use std::test::Fail;
 
@@ -46,7 +46,7 @@ fn adopted_again(rt: HostRuntime) -> Result<(), Fail> {
     let kept = picture(alloc, &mut keeper)?;
     let mut keeper = adopted(alloc, keeper.into_connection(), false)?;
     assert_eq!(rt; picture(alloc, &mut keeper)?.as_str(), kept.as_str());
-    let image = closed(alloc, keeper.into_connection())?;
+    let image = Image::of(alloc, &closed_by(keeper)?)?;
     assert_eq!(rt; shown(alloc, &image)?.as_str(), kept.as_str());
     Ok(())
 }

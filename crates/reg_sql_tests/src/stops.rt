@@ -1,22 +1,14 @@
 //! Disks that stop at each call of a change. What is found then is the office before the change or
 //! after it, and after it wherever the change was answered.
-use crate::calls::apply;
+use crate::calls::{apply, files_of};
 use crate::changes::Next;
-use crate::disks::{Image, NEVER, Stop, Stopping};
+use crate::disks::{AT_ONCE, Image, NEVER, Stop, Stopping, stops};
 use crate::looks::{Found, Looks};
-use crate::making::{prepared, stopping};
+use crate::making::{opens, prepared, stopping};
 use sqlite::Files;
 use std::alloc::Global;
 use std::process::Abort;
 use std::test::Fail;
-
-// Opens an office on disks that stop, and tells whether that went through.
-fn opened(alloc: Global, image: &Image, stop: Stop) -> Result<(bool, Files<Stopping>), Fail> {
-    match stopping(alloc, image, stop)? {
-        Ok(keeper) => Ok((true, keeper.into_connection().into_store().close())),
-        Err(files) => Ok((false, files)),
-    }
-}
 
 // Makes a change on disks that stop, and tells whether it was answered.
 fn stopped(
@@ -28,7 +20,7 @@ fn stopped(
     match stopping(alloc, image, stop)? {
         Ok(mut keeper) => {
             let made = apply(&mut keeper, next.change(alloc)?).is_ok();
-            Ok((made, keeper.into_connection().into_store().close()))
+            Ok((made, files_of(keeper)))
         }
         Err(files) => Ok((false, files)),
     }
@@ -56,7 +48,7 @@ fn assert_left<R: Abort + AllocGlobal>(
 fn assert_stops<R: Abort + AllocGlobal>(rt: &R, next: Next) -> Result<(), Fail> {
     let alloc = rt.alloc();
     let image = prepared(alloc)?;
-    let (_, files) = opened(alloc, &image, NEVER)?;
+    let (_, files) = opens(alloc, &image, NEVER)?;
     let first = Stop::past(&files);
     let before = Image::of(alloc, &files)?;
     let (_, files) = stopped(alloc, &image, next, NEVER)?;
@@ -64,13 +56,7 @@ fn assert_stops<R: Abort + AllocGlobal>(rt: &R, next: Next) -> Result<(), Fail> 
     let mut looks = Looks::new(alloc, before, Image::of(alloc, &files)?)?;
     assert!(rt; looks.differ() && first.log < last.log);
     assert_left(rt, &mut looks, NEVER, true, files)?;
-    for log in first.log..last.log {
-        let stop = Stop { log, ..NEVER };
-        let (made, files) = stopped(alloc, &image, next, stop)?;
-        assert_left(rt, &mut looks, stop, made, files)?;
-    }
-    for db in first.db..last.db {
-        let stop = Stop { db, ..NEVER };
+    for stop in stops(alloc, first, last)? {
         let (made, files) = stopped(alloc, &image, next, stop)?;
         assert_left(rt, &mut looks, stop, made, files)?;
     }
@@ -84,8 +70,8 @@ fn assert_unopened<R: Abort + AllocGlobal>(
     image: &Image,
     stop: Stop,
 ) -> Result<(), Fail> {
-    let (opens, files) = opened(rt.alloc(), image, stop)?;
-    assert!(rt; !opens, "{stop:?}");
+    let (is_open, files) = opens(rt.alloc(), image, stop)?;
+    assert!(rt; !is_open, "{stop:?}");
     assert_left(rt, looks, stop, false, files)
 }
 
@@ -94,18 +80,15 @@ fn assert_unopened<R: Abort + AllocGlobal>(
 fn of_an_opening(rt: HostRuntime) -> Result<(), Fail> {
     let alloc = rt.alloc();
     let image = prepared(alloc)?;
-    let (_, files) = opened(alloc, &image, NEVER)?;
+    let (_, files) = opens(alloc, &image, NEVER)?;
     let last = Stop::past(&files);
     let mut looks = Looks::new(alloc, image.copy(alloc)?, Image::of(alloc, &files)?)?;
     assert!(rt; !looks.differ());
-    for log in 0..last.log {
-        assert_unopened(&rt, &mut looks, &image, Stop { log, ..NEVER })?;
+    for stop in stops(alloc, AT_ONCE, last)? {
+        assert_unopened(&rt, &mut looks, &image, stop)?;
     }
-    for db in 0..last.db {
-        assert_unopened(&rt, &mut looks, &image, Stop { db, ..NEVER })?;
-    }
-    let (opens, files) = opened(alloc, &image, last)?;
-    assert!(rt; opens);
+    let (is_open, files) = opens(alloc, &image, last)?;
+    assert!(rt; is_open);
     assert_left(&rt, &mut looks, last, false, files)
 }
 
