@@ -1,18 +1,14 @@
 //! The office of an assignment authority as a program.
 #![tactic(auto)]
 
-mod desk;
-mod faults;
-mod performing;
-mod range_file;
-mod serving;
-mod stored;
 #[cfg(test)]
-mod tests;
+mod outcomes;
+mod stored;
 
-use crate::performing::{perform, refuse};
+use crate::stored::Files;
 use reg_jobs::command_line::job;
 use reg_jobs::jobs::{Job, JobFault};
+use reg_program::performing::{perform, refuse};
 use std::process::ExitCode;
 use std::{env, io};
 
@@ -20,7 +16,7 @@ fn main(rt: HostRuntime) -> ExitCode {
     let mut output = io::writer(&rt);
     let mut errors = rt.stderr();
     let status = match asked(&rt) {
-        Ok(job) => perform(&rt, job, &mut rt.reader(), &mut output, &mut errors),
+        Ok(job) => perform(&rt, &Files, job, &mut rt.reader(), &mut output, &mut errors),
         Err(fault) => refuse(fault, &mut errors),
     };
     ExitCode::from(status)

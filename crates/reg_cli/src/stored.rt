@@ -1,13 +1,38 @@
 //! Offices in files of SQLite.
-use reg_sql::keeper::SqlKeeper;
+use reg_office::Office;
+use reg_program::faults::{JobFailure, Undone};
+use reg_program::tasks::{Offices, Task};
 use reg_sql::open::{OpenFault, from_path};
-use sqlite::{FileFrom, FileStore, Unknown};
+use sqlite::Unknown;
+use std::io::Write;
 
-/// What keeps an office in files of which nothing is known before they are opened.
-pub type Stored = SqlKeeper<FileStore<FileFrom<Unknown>>>;
+/// The offices in files of which nothing is known before they are opened.
+pub struct Files;
 
-/// Opens the office in the file at a path. A `fresh` one is begun, empty, where there is no file,
-/// or one with nothing in it.
-pub fn open(rt: &HostRuntime, path: &str, fresh: bool) -> Result<Stored, OpenFault> {
-    from_path(rt, path, fresh, Unknown)
+impl Offices for Files {
+    fn carry_out<W: Write>(
+        &self,
+        rt: &HostRuntime,
+        path: &str,
+        task: &Task<'_>,
+        output: &mut W,
+    ) -> Result<(), Undone> {
+        match from_path(rt, path, task.begins(), Unknown) {
+            Ok(keeper) => {
+                let mut office = Office::new(rt.alloc(), keeper);
+                let done = task.carry_out(rt, &mut office, output);
+                drop(office);
+                done
+            }
+            Err(fault) => Err(Undone::Fault(failure(fault))),
+        }
+    }
+}
+
+fn failure(fault: OpenFault) -> JobFailure {
+    match fault {
+        OpenFault::Version(version) => JobFailure::Version(version),
+        OpenFault::NotOurs => JobFailure::NotOurs,
+        OpenFault::Fault(fault) => JobFailure::from(fault),
+    }
 }

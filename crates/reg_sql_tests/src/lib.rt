@@ -32,4 +32,6 @@ mod smoke;
 #[cfg(test)]
 mod stops;
 #[cfg(test)]
+mod transcripts;
+#[cfg(test)]
 mod values;

@@ -1,12 +1,12 @@
 //! The jobs over an office that stays open.
-use super::CLERK;
-use crate::desk::{define_in, definition, list_in, listing};
-use crate::faults::{JobFailure, Undone};
-use crate::performing::found_in;
-use crate::serving::serve_in;
+use crate::running::CLERK;
 use reg_jobs::jobs::Definition;
 use reg_keeper::keeper::Keeper;
 use reg_office::Office;
+use reg_program::desk::{define_in, definition, list_in, listing};
+use reg_program::faults::{JobFailure, Undone};
+use reg_program::serving::serve_in;
+use reg_program::tasks::found_in;
 use reg_store::lists::ListKeeper;
 use std::alloc::{AllocError, Global};
 use std::io;

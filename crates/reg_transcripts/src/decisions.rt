@@ -1,12 +1,7 @@
 //! Requests that are withdrawn and declined, at the end of the transcript of one office.
-use super::approvals::APPROVALS;
-use super::experts::EXPERTS;
-use super::registers::{GRANTS, LIMITS, REGISTRIES};
-use super::transcript::assert_answered;
-use std::test::Fail;
 
 /// A request for the least value; withdrawn and declined ones.
-const DECISIONS: &str = r#"
+pub const DECISIONS: &str = r#"
 > 1700000000 clerk-token-00001 PUT /desk/registries/tiny/1 lo,hi,treatment,note|0,0,first-come-first-served,|1,1,reserved,|
 < 200 {"defined":"tiny"}
 > 1700000000 - GET /registries/tiny
@@ -44,11 +39,3 @@ const DECISIONS: &str = r#"
 > 1700000000 bobby-token-00001 GET /requests
 < 200 [{"ask":{"contact":"c","kind":"code","label":"Red","registry":"flags","value":64},"given":"64","reference":"b-1","state":"approved"},{"ask":{"contact":"c","kind":"code","label":"Q","registry":"flags","value":71},"reference":"r-1","state":"pending"}]
 "#;
-
-#[test]
-fn values_are_fixed_on_approval(rt: HostRuntime) -> Result<(), Fail> {
-    assert_answered(
-        &rt,
-        &[GRANTS, LIMITS, REGISTRIES, APPROVALS, EXPERTS, DECISIONS],
-    )
-}

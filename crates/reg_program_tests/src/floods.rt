@@ -1,7 +1,7 @@
 //! Other people's requests that are given nothing leave no trace in what an applicant is answered.
-use super::registers::{GRANTS, REGISTRIES};
-use super::transcript::sent;
-use super::{CLERK, ensure, script};
+use crate::running::{CLERK, ensure, script};
+use reg_transcripts::registers::{GRANTS, REGISTRIES};
+use reg_transcripts::transcript::sent;
 use std::test::Fail;
 
 /// What alice asks for, is given, and then sees.
@@ -45,7 +45,7 @@ const KEPT: &str = r#"200 []
 // What is answered to the registers' lines and then to alice's, with so many of bob's submissions
 // before each.
 fn answered(rt: &HostRuntime, first: &str, flood: usize) -> Result<Answers, Fail> {
-    let mut input = sent(rt, &[GRANTS, REGISTRIES])?;
+    let mut input = sent(rt.alloc(), &[GRANTS, REGISTRIES])?;
     input.push_str(first)?;
     for (round, line) in LINES.iter().enumerate() {
         put_flood(rt, &mut input, round, flood)?;

@@ -1,7 +1,4 @@
 //! Range files, and what their policies ask for and give.
-use super::registers::GRANTS;
-use super::transcript::assert_answered;
-use std::test::Fail;
 
 /// A registry of all values, first come, first served.
 pub const OPEN: &str = r#"
@@ -10,7 +7,7 @@ pub const OPEN: &str = r#"
 "#;
 
 /// Range files with faults; one with quotes, an empty line and no last line feed.
-const FILES: &str = r#"
+pub const FILES: &str = r#"
 > 1700000000 clerk-token-00001 PUT /desk/registries/r/9 x
 < 422 {"error":"ranges","item":"header"}
 > 1700000000 clerk-token-00001 PUT /desk/registries/r/9 lo,hi,treatment|0,9,reserved|
@@ -66,7 +63,7 @@ const FILES: &str = r#"
 "#;
 
 /// What each policy asks for beside a contact, and with an RFC.
-const EVIDENCE: &str = r#"
+pub const EVIDENCE: &str = r#"
 > 1700000000 clerk-token-00001 PUT /desk/registries/p/10 lo,hi,treatment,note|0,0,private-use,|1,1,experimental-use,|2,2,hierarchical-allocation,|3,3,first-come-first-served,|4,4,expert-review,|5,5,specification-required,|6,6,rfc-required,|7,7,ietf-review,|8,8,standards-action,|9,9,iesg-approval,|10,10,reserved,|
 < 200 {"defined":"p"}
 > 1700000000 alice-token-00001 PUT /requests/p-0 {"contact":"c","kind":"code","label":"L","registry":"p","value":0}
@@ -114,7 +111,7 @@ const EVIDENCE: &str = r#"
 "#;
 
 /// The least free value of a policy with two ranges, until none is left.
-const LEAST: &str = r#"
+pub const LEAST: &str = r#"
 > 1700000000 clerk-token-00001 PUT /desk/registries/g/4294967295 lo,hi,treatment,note|0,0,first-come-first-served,|1,4294967293,private-use,|4294967294,4294967295,first-come-first-served,|
 < 200 {"defined":"g"}
 > 1700000000 alice-token-00001 PUT /requests/g-1 {"contact":"c","kind":"code","label":"L","least":"first-come-first-served","registry":"g"}
@@ -136,18 +133,3 @@ const LEAST: &str = r#"
 > 1700000000 - GET /listings/registries/g
 < 200 Value,Description,Status,Policy,First,Expires,Assignee|0,L,Assigned,first-come-first-served,2023-11-14,,alice|1-4294967293,,Private Use,private-use,,,|4294967294,L,Assigned,first-come-first-served,2023-11-14,,alice|4294967295,L,Assigned,first-come-first-served,2023-11-14,,alice|
 "#;
-
-#[test]
-fn range_files_are_read(rt: HostRuntime) -> Result<(), Fail> {
-    assert_answered(&rt, &[GRANTS, FILES])
-}
-
-#[test]
-fn policies_ask_for_evidence(rt: HostRuntime) -> Result<(), Fail> {
-    assert_answered(&rt, &[GRANTS, EVIDENCE])
-}
-
-#[test]
-fn the_least_value_is_given(rt: HostRuntime) -> Result<(), Fail> {
-    assert_answered(&rt, &[GRANTS, LEAST])
-}

@@ -1,10 +1,8 @@
 //! A whole day of a small authority, as the README shows it.
-use super::transcript::assert_answered;
-use std::test::Fail;
 
 /// A registry is defined; a value of it is asked for, reviewed, approved and read, and the least
 /// one too.
-const DAY: &str = r#"
+pub const DAY: &str = r#"
 > 1700000000 - GET /requests
 < 401 {"error":"token"}
 > 1700000000 clerk-token-00001 PUT /desk/tokens {"account":"alice","kind":"applicant","token":"alice-token-00001","until":1800000000}
@@ -38,8 +36,3 @@ const DAY: &str = r#"
 > 1700000780 - GET /listings/registries/codes
 < 200 Value,Description,Status,Policy,First,Expires,Assignee|0,Red,Assigned,first-come-first-served,2023-11-14,,alice|1-99,,Unassigned,first-come-first-served,,,|100,Blue,Assigned,expert-review,2023-11-14,,alice|101-199,,Unassigned,expert-review,,,|200-255,kept for later,Reserved,,,,|
 "#;
-
-#[test]
-fn a_whole_day_is_answered(rt: HostRuntime) -> Result<(), Fail> {
-    assert_answered(&rt, &[DAY])
-}

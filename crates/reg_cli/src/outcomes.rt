@@ -1,12 +1,14 @@
 //! What the jobs over an office in a file print, and their exit statuses, in the order in which
 //! faults are found.
-use super::{CLERK, Given, ensure};
-use crate::performing::perform;
+use crate::stored::Files;
 use reg_jobs::command_line::job;
+use reg_program::performing::perform;
 use sqlite::Connection;
 use std::path::PathBuf;
 use std::test::Fail;
 use std::{env, fs};
+
+const CLERK: &str = "clerk-token-00001";
 
 const BLOCK_LISTING: &str = "Registry,Assignment,Organization Name,Organization Address\n";
 
@@ -14,6 +16,19 @@ const CODES: &str = "lo,hi,treatment,note\n0,9,reserved,\n";
 
 const CODES_LISTING: &str =
     "Value,Description,Status,Policy,First,Expires,Assignee\n0-9,,Reserved,,,,\n";
+
+/// What a command line gave: the exit status, standard output and standard error.
+#[derive(Drop)]
+struct Given {
+    status: u8,
+    output: Vec<u8>,
+    errors: Vec<u8>,
+}
+
+// A test fails at this, where it does not hold.
+fn ensure(holds: bool, what: &str) -> Result<(), Fail> {
+    if holds { Ok(()) } else { Err(what.into()) }
+}
 
 // What a command line gives, its words apart by a space each.
 fn given(rt: &HostRuntime, line: &str) -> Result<Given, Fail> {
@@ -29,7 +44,7 @@ fn given(rt: &HostRuntime, line: &str) -> Result<Given, Fail> {
     let mut output = Vec::new(alloc);
     let mut errors = Vec::new(alloc);
     let mut input: &[u8] = b"";
-    let status = perform(rt, job, &mut input, &mut output, &mut errors);
+    let status = perform(rt, &Files, job, &mut input, &mut output, &mut errors);
     Ok(Given {
         status,
         output,
@@ -178,14 +193,23 @@ fn offices_of_other_versions(rt: HostRuntime) -> Result<(), Fail> {
 }
 
 #[test]
-fn offices_that_are_none(rt: HostRuntime) -> Result<(), Fail> {
+fn offices_of_other_tables(rt: HostRuntime) -> Result<(), Fail> {
     for sql in [
         "DELETE FROM office",
-        "UPDATE caps SET account = ''",
-        "INSERT INTO pool VALUES (65536)",
         "CREATE INDEX by_account ON caps (account)",
     ] {
         assert_tampered(&rt, "reg_cli_none.db", sql, "fault: not ours\n")?;
+    }
+    Ok(())
+}
+
+#[test]
+fn offices_that_are_not_well_kept(rt: HostRuntime) -> Result<(), Fail> {
+    for sql in [
+        "UPDATE caps SET account = ''",
+        "INSERT INTO pool VALUES (65536)",
+    ] {
+        assert_tampered(&rt, "reg_cli_ill_kept.db", sql, "fault: not ours\n")?;
     }
     Ok(())
 }

@@ -1,11 +1,7 @@
 //! Lines, paths, methods and names that no command has.
-use super::registers::GRANTS;
-use super::transcript::assert_answered;
-use super::{CLERK, script};
-use std::test::Fail;
 
 /// Lines that ask nothing, or at a moment at which the office is closed.
-const LINES: &str = r#"
+pub const LINES: &str = r#"
 > 00 - GET /registries
 < 400 {"error":"line"}
 > hello
@@ -28,25 +24,8 @@ const LINES: &str = r#"
 < 400 {"error":"line"}
 "#;
 
-/// An empty line, and lines with bytes that are no text.
-const BYTES: &[u8] = b"
-1700000000 - GET /registries \r
-1700000000 - GET /requests/\xff
-1700000000 \xff GET /registries
-1700000000 clerk-token-00001 PUT /desk/decline/a/b {\"reason\":\"\xff\"}
-1700000000 clerk-token-00001 PUT /desk/registries/r/9 \xef\xbb\xbflo,hi,treatment,note\t0,9,reserved,\xff\t
-";
-
-const REFUSED: &[u8] = b"400 {\"error\":\"line\"}
-400 {\"error\":\"body\"}
-404 {\"error\":\"route\"}
-200 []
-400 {\"error\":\"body\"}
-422 {\"error\":\"ranges\",\"item\":\"row 0 text\"}
-";
-
 /// Paths, methods and bodies that no command has, of every caller.
-const PATHS: &str = r#"
+pub const PATHS: &str = r#"
 > 1700000000 alice-token-00001 GET /requests/a-1
 < 404 {"error":"request"}
 > 1700000000 alice-token-00001 GET /requests/UP
@@ -156,7 +135,7 @@ const PATHS: &str = r#"
 "#;
 
 /// Commands about a request, with names that are none.
-const NAMES: &str = r#"
+pub const NAMES: &str = r#"
 > 1700000000 alice-token-00001 DELETE /requests/UP
 < 422 {"error":"field","item":"reference"}
 > 1700000000 alice-token-00001 DELETE /requests/a-1 {}
@@ -292,21 +271,3 @@ const NAMES: &str = r#"
 > 1700000000 clerk-token-00001 GET /desk/decline/bob/b-1 {"reason":"r"}
 < 405 {"error":"method"}
 "#;
-
-#[test]
-fn lines_have_one_form(rt: HostRuntime) -> Result<(), Fail> {
-    assert_answered(&rt, &[LINES])
-}
-
-#[test]
-fn routes_that_are_none(rt: HostRuntime) -> Result<(), Fail> {
-    assert_answered(&rt, &[GRANTS, PATHS, NAMES])
-}
-
-#[test]
-fn bytes_that_are_no_text(rt: HostRuntime) -> Result<(), Fail> {
-    let given = script(&rt, CLERK, BYTES)?;
-    assert_eq!(rt; given.status, 0);
-    assert_eq!(rt; given.output.as_slice(), REFUSED);
-    Ok(())
-}

@@ -1,7 +1,6 @@
 //! Why a job was not done.
 use reg_keeper::keeper::Fault;
 use reg_office::FoundFault;
-use reg_sql::open::OpenFault;
 use reg_wire::wire_fault::WireFault;
 use std::alloc::AllocError;
 use std::fmt;
@@ -57,16 +56,6 @@ impl From<AllocError> for Undone {
 impl From<Fault> for Undone {
     fn from(fault: Fault) -> Undone {
         Undone::Fault(JobFailure::from(fault))
-    }
-}
-
-impl From<OpenFault> for Undone {
-    fn from(fault: OpenFault) -> Undone {
-        Undone::Fault(match fault {
-            OpenFault::Version(version) => JobFailure::Version(version),
-            OpenFault::NotOurs => JobFailure::NotOurs,
-            OpenFault::Fault(fault) => JobFailure::from(fault),
-        })
     }
 }
 

@@ -1,11 +1,7 @@
 //! Bodies, and those that are none.
-use super::policies::OPEN;
-use super::registers::GRANTS;
-use super::transcript::assert_answered;
-use std::test::Fail;
 
 /// Bodies that are no asks.
-const ASKS: &str = r#"
+pub const ASKS: &str = r#"
 > 1700000000 alice-token-00001 PUT /requests/n-1 {"value":5,"kind":"code","label":"L","registry":"f","value":"x"}
 < 422 {"error":"field","item":"value"}
 > 1700000000 alice-token-00001 PUT /requests/n-1 {"kind":"code","label":"L","registry":"f","value":4294967296}
@@ -83,7 +79,7 @@ const ASKS: &str = r#"
 "#;
 
 /// Bodies that grant or revoke nothing.
-const CAPABILITIES: &str = r#"
+pub const CAPABILITIES: &str = r#"
 > 1700000000 clerk-token-00001 PUT /desk/tokens {"account":"a","kind":"expert","token":"0123456789abcdef","until":32503680001}
 < 422 {"error":"field","item":"until"}
 > 1700000000 clerk-token-00001 PUT /desk/tokens {"account":"a","kind":"Expert","token":"0123456789abcdef","until":0}
@@ -99,7 +95,7 @@ const CAPABILITIES: &str = r#"
 "#;
 
 /// Of members of one name the last one counts; escapes, order and space change nothing.
-const SPELLINGS: &str = r#"
+pub const SPELLINGS: &str = r#"
 > 1700000000 alice-token-00001 PUT /requests/a-1  {"v\u0061lue":0,"label":"\"","kind":"code","registry":"f","contact":"c"} 
 < 201 {"ask":{"contact":"c","kind":"code","label":"\"","registry":"f","value":0},"reference":"a-1","state":"pending"}
 > 1700000000 alice-token-00001 PUT /requests/a-2 {"value":"x","kind":"code","label":"L","registry":"f","contact":"c","value":4294967295}
@@ -127,7 +123,7 @@ const SPELLINGS: &str = r#"
 "#;
 
 /// A body of 127 levels is read, and one of 128 is not; a number of 20 digits is read, and one of 400 is not.
-const DEPTHS: &str = r#"
+pub const DEPTHS: &str = r#"
 > 1700000000 alice-token-00001 PUT /requests/d-1 {"x":[[[[[[[[[[[[[[[[[[[[[[[[[[[[[[[[[[[[[[[[[[[[[[[[[[[[[[[[[[[[[[[[[[[[[[[[[[[[[[[[[[[[[[[[[[[[[[[[[[[[[[[[[[[[[[[[[[[[[[[[[[[[[[]]]]]]]]]]]]]]]]]]]]]]]]]]]]]]]]]]]]]]]]]]]]]]]]]]]]]]]]]]]]]]]]]]]]]]]]]]]]]]]]]]]]]]]]]]]]]]]]]]]]]]]]]]]]]]]]]]]]]]]]]]]]]]}
 < 422 {"error":"field","item":"kind"}
 > 1700000000 alice-token-00001 PUT /requests/d-1 {"x":[[[[[[[[[[[[[[[[[[[[[[[[[[[[[[[[[[[[[[[[[[[[[[[[[[[[[[[[[[[[[[[[[[[[[[[[[[[[[[[[[[[[[[[[[[[[[[[[[[[[[[[[[[[[[[[[[[[[[[[[[[[[[[[]]]]]]]]]]]]]]]]]]]]]]]]]]]]]]]]]]]]]]]]]]]]]]]]]]]]]]]]]]]]]]]]]]]]]]]]]]]]]]]]]]]]]]]]]]]]]]]]]]]]]]]]]]]]]]]]]]]]]]]]]]]]]]]}
@@ -137,13 +133,3 @@ const DEPTHS: &str = r#"
 > 1700000000 alice-token-00001 PUT /requests/d-1 {"x":9999999999999999999999999999999999999999999999999999999999999999999999999999999999999999999999999999999999999999999999999999999999999999999999999999999999999999999999999999999999999999999999999999999999999999999999999999999999999999999999999999999999999999999999999999999999999999999999999999999999999999999999999999999999999999999999999999999999999999999999999999999999999999999999999999999999999999}
 < 400 {"error":"body"}
 "#;
-
-#[test]
-fn bodies_that_are_none(rt: HostRuntime) -> Result<(), Fail> {
-    assert_answered(&rt, &[GRANTS, ASKS, CAPABILITIES, DEPTHS])
-}
-
-#[test]
-fn one_body_has_many_spellings(rt: HostRuntime) -> Result<(), Fail> {
-    assert_answered(&rt, &[GRANTS, OPEN, SPELLINGS])
-}

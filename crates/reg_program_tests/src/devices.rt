@@ -1,7 +1,7 @@
 //! Readers that fail before a byte, and writers that fail after one.
-use super::CLERK;
-use crate::performing::perform;
+use crate::running::{CLERK, InLists};
 use reg_jobs::jobs::Job;
+use reg_program::performing::perform;
 use std::alloc::{AllocError, Global};
 use std::io;
 use std::io::{Read, Write};
@@ -68,10 +68,16 @@ impl Read for NeverEnds {
     }
 }
 
-fn founding(rt: &HostRuntime) -> Result<Job, Fail> {
-    Ok(Job::Script {
-        clerk: String::from_str(rt.alloc(), CLERK)?,
-    })
+// The exit status of the job `script`.
+fn done<R: Read, W: Write>(
+    rt: &HostRuntime,
+    input: &mut R,
+    output: &mut W,
+    errors: &mut Vec<u8>,
+) -> Result<u8, Fail> {
+    let clerk = String::from_str(rt.alloc(), CLERK)?;
+    let job = Job::Script { clerk };
+    Ok(perform(rt, &InLists, job, input, output, errors))
 }
 
 // The answers to the lines whose line feed is among these bytes.
@@ -97,7 +103,7 @@ fn a_read_that_fails_before_each_byte(rt: HostRuntime) -> Result<(), Fail> {
         let mut input = FailsBefore { bytes: read };
         let mut output = Vec::new(rt.alloc());
         let mut errors = Vec::new(rt.alloc());
-        let status = perform(&rt, founding(&rt)?, &mut input, &mut output, &mut errors);
+        let status = done(&rt, &mut input, &mut output, &mut errors)?;
         assert_eq!(rt; status, 1);
         assert_eq!(rt; output.as_slice(), answers_to(rt.alloc(), read)?.as_slice());
         assert_eq!(rt; errors.as_slice(), b"fault: read\n".as_slice());
@@ -114,7 +120,7 @@ fn a_write_that_fails_after_each_byte(rt: HostRuntime) -> Result<(), Fail> {
             room,
         };
         let mut errors = Vec::new(rt.alloc());
-        let status = perform(&rt, founding(&rt)?, &mut input, &mut output, &mut errors);
+        let status = done(&rt, &mut input, &mut output, &mut errors)?;
         assert_eq!(rt; status, 1);
         assert_eq!(rt; output.taken.as_slice(), &ANSWERS.as_bytes()[..room]);
         assert_eq!(rt; errors.as_slice(), b"fault: write\n".as_slice());
@@ -127,7 +133,7 @@ fn a_reader_without_an_end(rt: HostRuntime) -> Result<(), Fail> {
     let mut input = NeverEnds { reads: 0 };
     let mut output = Vec::new(rt.alloc());
     let mut errors = Vec::new(rt.alloc());
-    let status = perform(&rt, founding(&rt)?, &mut input, &mut output, &mut errors);
+    let status = done(&rt, &mut input, &mut output, &mut errors)?;
     assert_eq!(rt; status, 1);
     assert_eq!(rt; input.reads, 16_777_216);
     assert!(rt; output.is_empty());

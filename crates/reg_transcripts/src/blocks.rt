@@ -1,11 +1,8 @@
 //! Blocks of addresses: asked for, given, held, and listed.
-use super::registers::GRANTS;
-use super::transcript::assert_answered;
-use std::test::Fail;
 
 /// Blocks are asked for and given in turn, each the free one of its size with the least first
 /// address, until none of a size is free.
-const GIVEN: &str = r#"
+pub const GIVEN: &str = r#"
 > 1700000000 - GET /listings/blocks
 < 200 Registry,Assignment,Organization Name,Organization Address|
 > 1700000000 alice-token-00001 GET /holdings
@@ -41,7 +38,7 @@ const GIVEN: &str = r#"
 "#;
 
 /// A holder is private, and what others are told of that.
-const LISTED: &str = r#"
+pub const LISTED: &str = r#"
 > 1700000000 alice-token-00001 PUT /holdings/001A2B0 {"private":true}
 < 200 {"address":"1 Road, Town","block":"001A2B0","organization":"Acme, Inc.","private":true,"size":"MA-M"}
 > 1700000000 alice-token-00001 PUT /holdings/001A2B0 {"private":true}
@@ -57,7 +54,7 @@ const LISTED: &str = r#"
 "#;
 
 /// A holder is listed again; what was given stays with the request, and with its holder alone.
-const AGAIN: &str = r#"
+pub const AGAIN: &str = r#"
 > 1700000000 alice-token-00001 PUT /holdings/001a2b0 {"private":false}
 < 200 {"address":"1 Road, Town","block":"001A2B0","organization":"Acme, Inc.","private":false,"size":"MA-M"}
 > 1700000000 alice-token-00001 PUT /holdings/001A2B101 {"private":true}
@@ -87,7 +84,7 @@ const AGAIN: &str = r#"
 "#;
 
 /// Asks for blocks, paths and bodies that have not their form, each with the first part at fault.
-const FORMS: &str = r#"
+pub const FORMS: &str = r#"
 > 1700000000 clerk-token-00001 PUT /desk/pool/001A2B
 < 200 {"pool":"001A2B"}
 > 1700000000 alice-token-00001 PUT /requests/UP {"kind":"blocks"}
@@ -171,13 +168,3 @@ const FORMS: &str = r#"
 > 1700000000 nobody-token-0001 GET /listings/blocks
 < 200 Registry,Assignment,Organization Name,Organization Address|MA-S,001A2B000,o,t|
 "#;
-
-#[test]
-fn blocks_are_given_and_listed(rt: HostRuntime) -> Result<(), Fail> {
-    assert_answered(&rt, &[GRANTS, GIVEN, LISTED, AGAIN])
-}
-
-#[test]
-fn parts_without_form_are_named(rt: HostRuntime) -> Result<(), Fail> {
-    assert_answered(&rt, &[GRANTS, FORMS])
-}

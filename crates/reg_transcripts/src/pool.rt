@@ -1,10 +1,7 @@
 //! The pool of prefixes that blocks are cut from.
-use super::registers::GRANTS;
-use super::transcript::assert_answered;
-use std::test::Fail;
 
 /// Prefixes are added and listed, and what is no prefix of a pool is refused.
-const POOL: &str = r#"
+pub const POOL: &str = r#"
 > 1700000000 - GET /pool
 < 200 []
 > 1700000000 clerk-token-00001 PUT /desk/pool/001A2C
@@ -36,8 +33,3 @@ const POOL: &str = r#"
 > 1700000000 xpert-token-00001 GET /pool
 < 200 ["001A2B","001A2C"]
 "#;
-
-#[test]
-fn prefixes_are_added_and_listed(rt: HostRuntime) -> Result<(), Fail> {
-    assert_answered(&rt, &[GRANTS, POOL])
-}

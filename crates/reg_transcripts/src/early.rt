@@ -1,7 +1,4 @@
 //! Early allocations, their renewals and their permanence (RFC 7120).
-use super::registers::GRANTS;
-use super::transcript::assert_answered;
-use std::test::Fail;
 
 /// The registries here: one of values under each policy, and one of values under Standards Action.
 pub const DEFINED: &str = r#"
@@ -13,7 +10,7 @@ pub const DEFINED: &str = r#"
 
 /// An early allocation from 29 February on, its renewal before it expires, and its permanence once
 /// it expired.
-const LIFE: &str = r#"
+pub const LIFE: &str = r#"
 > 1709164800 alice-token-00001 PUT /requests/e-1 {"chair":"wg","director":"ad","draft":"draft-x-00","interest":true,"kind":"early","label":"Early","registry":"bits","stable":true,"value":7}
 < 201 {"ask":{"chair":"wg","director":"ad","draft":"draft-x-00","interest":true,"kind":"early","label":"Early","registry":"bits","stable":true,"value":7},"reference":"e-1","state":"pending"}
 > 1709164800 alice-token-00001 PUT /requests/e-1 {"chair":"wg","director":"ad","draft":"draft-x-00","interest":true,"kind":"early","label":"Early","registry":"bits","stable":true,"value":7}
@@ -80,7 +77,7 @@ const LIFE: &str = r#"
 
 /// Renewals on the day of expiry, on the day after and on the last day of the clock; each runs a
 /// year from the later of the old expiry and the day of its approval.
-const DAYS: &str = r#"
+pub const DAYS: &str = r#"
 > 1699920000 clerk-token-00001 PUT /desk/tokens {"account":"alice","kind":"applicant","token":"alice-token-late1","until":32503680000}
 < 200 {"account":"alice","kind":"applicant","until":32503680000}
 > 1699920000 alice-token-late1 PUT /requests/e-1 {"chair":"wg","director":"ad","draft":"draft-x-00","interest":true,"kind":"early","label":"E","registry":"bits","stable":true,"value":1}
@@ -122,13 +119,3 @@ const DAYS: &str = r#"
 > 32503680000 alice-token-late1 GET /requests
 < 503 {"error":"clock"}
 "#;
-
-#[test]
-fn early_allocations_are_renewed_and_settled(rt: HostRuntime) -> Result<(), Fail> {
-    assert_answered(&rt, &[GRANTS, DEFINED, LIFE])
-}
-
-#[test]
-fn a_year_runs_from_the_later_day(rt: HostRuntime) -> Result<(), Fail> {
-    assert_answered(&rt, &[GRANTS, DEFINED, DAYS])
-}

@@ -1,12 +1,8 @@
 //! Asks for early allocations, renewals and permanence: what they lack, who reviews them, and their
 //! forms.
-use super::early::DEFINED;
-use super::registers::GRANTS;
-use super::transcript::assert_answered;
-use std::test::Fail;
 
 /// What each policy and each missing item of the evidence is answered.
-const POLICIES: &str = r#"
+pub const POLICIES: &str = r#"
 > 1700000000 alice-token-00001 PUT /requests/q-1 {"chair":"wg","director":"ad","draft":"draft-x-00","interest":true,"kind":"early","label":"E","registry":"none","stable":true,"value":5}
 < 404 {"error":"registry"}
 > 1700000000 alice-token-00001 PUT /requests/q-1 {"chair":"wg","director":"ad","draft":"draft-x-00","interest":true,"kind":"early","label":"E","registry":"flags","stable":true,"value":256}
@@ -101,7 +97,7 @@ const POLICIES: &str = r#"
 
 /// Under Specification Required an expert has to be for an early allocation and for its permanence,
 /// and for no renewal; and what is asked for twice is given once.
-const REVIEWED: &str = r#"
+pub const REVIEWED: &str = r#"
 > 1700000000 clerk-token-00001 PUT /desk/approve/alice/q-1
 < 409 {"error":"advice"}
 > 1700000000 clerk-token-00001 PUT /desk/experts/alice/q-1/xan
@@ -167,7 +163,7 @@ const REVIEWED: &str = r#"
 "#;
 
 /// Members without form, and members that another kind of ask has.
-const FORMS: &str = r#"
+pub const FORMS: &str = r#"
 > 1700000000 alice-token-00001 PUT /requests/f-1 {"chair":"wg","director":"ad","draft":"draft-x-00","interest":true,"kind":"late","label":"E","registry":"flags","stable":true,"value":5}
 < 422 {"error":"field","item":"kind"}
 > 1700000000 alice-token-00001 PUT /requests/f-1 {"chair":"wg","director":"ad","draft":"draft-x-00","interest":true,"kind":"early","label":"E","stable":true,"value":5}
@@ -263,13 +259,3 @@ const FORMS: &str = r#"
 > 1700000000 alice-token-00001 PUT /requests/f-1 {"contact":"c","kind":"permanent","minute":"m","registry":"flags","rfc":{"number":9999,"stream":"ietf","track":"standards"},"specification":"s","value":5}
 < 404 {"error":"entry"}
 "#;
-
-#[test]
-fn early_asks_meet_their_policies(rt: HostRuntime) -> Result<(), Fail> {
-    assert_answered(&rt, &[GRANTS, DEFINED, POLICIES, REVIEWED])
-}
-
-#[test]
-fn forms_of_early_asks_are_told_apart(rt: HostRuntime) -> Result<(), Fail> {
-    assert_answered(&rt, &[GRANTS, DEFINED, FORMS])
-}

@@ -1,7 +1,7 @@
 //! Command lines, and those that are none.
-use crate::performing::refuse;
 use reg_jobs::command_line::job;
 use reg_jobs::jobs::{Job, JobFault};
+use reg_program::performing::refuse;
 use std::process::Abort;
 use std::test::Fail;
 

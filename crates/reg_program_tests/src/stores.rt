@@ -1,8 +1,8 @@
 //! A store that fails: lines that need it are answered `503`, and the others as ever.
-use super::failing_keeper::FailingKeeper;
-use super::transcript::{marked, sent};
-use super::{CLERK, answers_over};
+use crate::failing_keeper::FailingKeeper;
+use crate::running::answers_over;
 use reg_store::lists::ListKeeper;
+use reg_transcripts::transcript::{answered, sent};
 use std::test::Fail;
 
 /// The pool and requests cannot be read; capabilities and registries can.
@@ -25,9 +25,9 @@ const LINES: &str = r#"
 fn a_store_that_fails(rt: HostRuntime) -> Result<(), Fail> {
     let alloc = rt.alloc();
     let keeper = ListKeeper::new(alloc);
-    let input = sent(&rt, &[LINES])?;
-    let wanted = marked(&rt, &[LINES], "< ")?;
-    let output = answers_over(alloc, FailingKeeper { keeper }, CLERK, input.as_bytes())?;
+    let input = sent(alloc, &[LINES])?;
+    let wanted = answered(alloc, &[LINES])?;
+    let output = answers_over(alloc, FailingKeeper { keeper }, input.as_bytes())?;
     assert_eq!(rt; output.as_slice(), wanted.as_bytes());
     Ok(())
 }

@@ -1,0 +1,23 @@
+//! Tests of the jobs that the program does, to the byte, over offices in lists. They stand in a crate
+//! of their own because the gate proves a crate that has tests a second time, whole, together with
+//! them.
+#![tactic(auto)]
+
+#[cfg(test)]
+mod command_lines;
+#[cfg(test)]
+mod devices;
+#[cfg(test)]
+mod failing_keeper;
+#[cfg(test)]
+mod file_jobs;
+#[cfg(test)]
+mod floods;
+#[cfg(test)]
+mod lines;
+#[cfg(test)]
+mod offices;
+#[cfg(test)]
+mod running;
+#[cfg(test)]
+mod stores;

@@ -1,0 +1,78 @@
+//! Jobs over offices in lists.
+use reg_jobs::jobs::Job;
+use reg_keeper::keeper::Keeper;
+use reg_office::Office;
+use reg_program::faults::Undone;
+use reg_program::performing::{found_and_run, perform};
+use reg_program::tasks::{Offices, Task};
+use reg_store::lists::ListKeeper;
+use std::alloc::Global;
+use std::io::Write;
+use std::test::Fail;
+
+/// The token of the clerk for whom offices are founded.
+pub const CLERK: &str = "clerk-token-00001";
+
+/// Offices that are new at each path, in lists.
+pub struct InLists;
+
+impl Offices for InLists {
+    fn carry_out<W: Write>(
+        &self,
+        rt: &HostRuntime,
+        _path: &str,
+        task: &Task<'_>,
+        output: &mut W,
+    ) -> Result<(), Undone> {
+        let mut office = Office::new(rt.alloc(), ListKeeper::new(rt.alloc()));
+        let done = task.carry_out(rt, &mut office, output);
+        drop(office);
+        done
+    }
+}
+
+/// What a script gave: the exit status, standard output and standard error.
+#[derive(Drop)]
+pub struct Given {
+    pub status: u8,
+    pub output: Vec<u8>,
+    pub errors: Vec<u8>,
+}
+
+/// A test fails at this, where it does not hold.
+pub fn ensure(holds: bool, what: &str) -> Result<(), Fail> {
+    if holds { Ok(()) } else { Err(what.into()) }
+}
+
+/// What the job `script` gives for these lines.
+pub fn script(rt: &HostRuntime, clerk: &str, input: &[u8]) -> Result<Given, Fail> {
+    let alloc = rt.alloc();
+    let clerk = String::from_str(alloc, clerk)?;
+    let mut output = Vec::new(alloc);
+    let mut errors = Vec::new(alloc);
+    let mut reader = input;
+    let job = Job::Script { clerk };
+    let status = perform(rt, &InLists, job, &mut reader, &mut output, &mut errors);
+    Ok(Given {
+        status,
+        output,
+        errors,
+    })
+}
+
+/// What the lines of a script are answered by an office over this keeper, once it is founded.
+pub fn answers_over<K: Keeper + Drop>(
+    alloc: Global,
+    keeper: K,
+    input: &[u8],
+) -> Result<Vec<u8>, Fail> {
+    let mut office = Office::new(alloc, keeper);
+    let mut output = Vec::new(alloc);
+    let mut reader = input;
+    let done = found_and_run(alloc, &mut office, CLERK, &mut reader, &mut output);
+    drop(office);
+    if done.is_err() {
+        return Err("not run".into());
+    }
+    Ok(output)
+}
