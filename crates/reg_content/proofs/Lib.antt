@@ -41,3 +41,5 @@ pub mod RowidStatements
 pub mod RowidLemmas
 pub mod OpenLemmas
 pub mod QueueRows
+pub mod QueuedRows
+pub mod QueuedRowsFound

@@ -7,3 +7,4 @@ pub mod Tables
 pub mod Loads
 pub mod Items
 pub mod KeyTests
+pub mod Alone

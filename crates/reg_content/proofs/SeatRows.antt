@@ -1,5 +1,5 @@
 -- The rows of the queue.
-use Rattle.std.proofs.Common.{◌≡◌, ℕ, List, [], ◌∷◌, Bool, true, false, ◌&&◌, Option, Some, None}
+use Rattle.std.proofs.Common.{◌≡◌, [], ◌∷◌, Bool, true, false, ◌&&◌, Option, Some, None}
 use Rattle.std.proofs.Common.{is_some, option_map, refl, ap, ◌∙◌}
 use Rattle.std.specs.FinMap.{contains_key, get, insert}
 use Rattle.std.specs.Ordering.{eq_by_cmp}
@@ -72,13 +72,6 @@ request_passes row seat name at =
     ∙ (λ i. same_value (at.account i) (Text name.0)
     && (same_value (at.reference i) (Text name.1) && true))
     ∙ ap (λ b. same_text seat.0.0 name.0 && b) (alone (same_text seat.0.1 name.1))
-
--- the expert is what the statements ask for
-pub expert_passes : (row : Row) (seat : Seat) (expert : List ℕ) → IsSeated row seat
-    → passes (equals ((3, 0) ∷ [])) (Text expert ∷ []) row ≡ same_text seat.1 expert
-expert_passes row seat expert at =
-    passes_equals ((3, 0) ∷ []) (Text expert ∷ []) row
-    ∙ alone _ ∙ ap (λ v. same_value v (Text expert)) at.expert
 
 -- ---- The queue
 

@@ -1,36 +1,28 @@
 -- What the queries on the queue find.
-use Rattle.std.proofs.Common.{◌≡◌, ℕ, List, [], ◌∷◌, map, Option, option_to_list}
-use Rattle.std.proofs.Common.{is_some, option_map, refl, sym, ap, ◌∙◌}
+use Rattle.std.proofs.Common.{◌≡◌, List, [], ◌∷◌, map, Option, option_to_list}
+use Rattle.std.proofs.Common.{is_some, option_map, sym, ap, ◌∙◌}
 use Rattle.std.proofs.lemmas.Simd.{map-map}
-use Rattle.std.specs.FinMap.{contains_key, keys}
+use Rattle.std.specs.FinMap.{contains_key}
 use Rattle.sqlite.specs.Order.{Row}
 use Rattle.sqlite.specs.State.{State, Shown}
 use Rattle.sqlite.specs.declared.types.Value.TheVariants.{Text}
 use Rattle.reg_core.specs.File.{experts_of, same_name}
-use Rattle.reg_core.specs.Maps.{same_text}
 use Rattle.reg_core.specs.World.{RequestName, Seat, seat_cmp}
 use Rattle.reg_core.proofs.MapLaws.{seat_keys}
 use Rattle.reg_records.specs.Queue.{seat_in}
 use Rattle.reg_records.specs.declared.queue.Seat as held
-use Rattle.reg_tables.specs.Texts.{select_queue_row, select_queue_of, select_experts_of}
-use Rattle.reg_tables.proofs.Statements.Queue.{queue_by_key, queue_of_expert, queue_of_request}
+use Rattle.reg_tables.specs.Texts.{select_queue_row, select_experts_of}
+use Rattle.reg_tables.proofs.Statements.Queue.{queue_by_key, queue_of_request}
 use Rattle.reg_content.specs.Content.{IsStored, seat_at, world_in}
 use Rattle.reg_content.specs.Loading.{IsAscending, ReadAs}
-use Rattle.reg_content.specs.Seats.{seat_row, seats_to}
 use Rattle.reg_content.proofs.Looking.{first_of}
 use Rattle.reg_content.proofs.Queries.{all_found, one_found}
-use Rattle.reg_content.proofs.SeatRows.{expert_passes, is_found, is_seated, request_passes, seat_key}
+use Rattle.reg_content.proofs.SeatRows.{is_found, is_seated, request_passes, seat_key}
 use Rattle.reg_content.proofs.SeatRows.{seat_passes, seated}
 
 -- in the order of the queue
 abbrev pub are_seats : List held.Seat → Type 0
 are_seats = IsAscending (λ a b. seat_cmp (seat_key a) (seat_key b))
-
--- seats that were made entries, and seats again
-seats_again : (seats : List held.Seat)
-    → map seat_row (map (λ (e : Seat × Unit {0}). e.0) (map seated seats)) ≡ seats
-seats_again [] = refl
-seats_again (s ∷ seats) = ap (λ more. s ∷ more) (seats_again seats)
 
 module _ (old new : State) (shown : List Row) (stored : IsStored old.now) where
   -- whether there is a seat
@@ -60,16 +52,3 @@ module _ (old new : State) (shown : List Row) (stored : IsStored old.now) where
       (λ row s is. request_passes row (seat_key s) name (is_seated row s is)) up in
       sym (map-map (λ (e : Seat × Unit {0}). e.0.1) seated seats)
       ∙ ap (map (λ (e : Seat × Unit {0}). e.0.1)) is
-
-  -- the seats of an expert, in order
-  pub seats_found : (expert : List ℕ) (seats : List held.Seat) → are_seats seats
-      → Shown select_queue_of (Text expert ∷ []) old new shown
-      → ReadAs seat_in shown seats
-      → seats ≡ map seat_row (keys (seats_to expert (world_in old).queue))
-  unfolding seat_at
-  seats_found expert seats up answer reads =
-      let is = all_found seat_keys 3 seat_in seated select_queue_of 11 _ _ (Text expert ∷ [])
-      old new shown seats queue_of_expert stored.office.schema answer reads stored.kept.queue
-      (λ seat x. same_text seat.1 expert)
-      (λ row s is. expert_passes row (seat_key s) expert (is_seated row s is)) up in
-      sym (seats_again seats) ∙ ap (λ es. map seat_row (map (λ (e : Seat × Unit {0}). e.0) es)) is

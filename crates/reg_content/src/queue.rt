@@ -1,11 +1,10 @@
 //! Seats of experts in the table of the queue.
 ghost use Rattle.std.specs.Prelude.{◌≡◌, false, IfOk, map};
-ghost use Rattle.std.specs.FinMap.{contains_key, insert, keys};
+ghost use Rattle.std.specs.FinMap.{contains_key, insert};
 ghost use Rattle.sqlite.specs.Held.{state};
 ghost use Rattle.reg_core.specs.File.{experts_of};
 ghost use Rattle.reg_core.specs.World.{World};
 ghost use Rattle.reg_content.specs.Calls.{IsKeeping, Looks, Steps};
-ghost use Rattle.reg_content.specs.Seats.{seat_row, seats_to};
 
 use crate::select::{all, one};
 use crate::write::write;
@@ -64,25 +63,6 @@ pub fn experts<S: Alter>(
         &[name_value(account), name_value(reference)],
     )?;
     Ok(Rows::from_vec(experts_at(alloc, seats.as_slice())?))
-}
-
-/// The seats of an expert, by account and then by reference.
-pub fn seats<S: Alter>(
-    alloc: Global,
-    conn: &mut Connection<S>,
-    expert: &Account,
-) -> Result<Vec<Seat>, Fault>
-    requires { IsKeeping (state S.Store conn.old) }
-    ensures { Looks (state S.Store conn.old) (state S.Store conn.new) result
-        (λ w seats. seats.items ≡ map seat_row (keys (seats_to expert.now w.queue))) }
-{
-    all::<S, Seat>(
-        alloc,
-        conn,
-        "SELECT account, reference, expert FROM queue \
-         WHERE expert = ?1 ORDER BY account, reference",
-        &[name_value(expert)],
-    )
 }
 
 /// Assigns a request to an expert to whom it is not assigned.

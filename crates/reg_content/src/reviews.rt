@@ -1,5 +1,5 @@
 //! Requests with what experts say of them.
-ghost use Rattle.std.specs.Prelude.{◌≡◌, ◌++◌, OnOk, option_map, option_to_list};
+ghost use Rattle.std.specs.Prelude.{◌≡◌, IfOk, map, option_map};
 ghost use Rattle.std.specs.FinMap.{get};
 ghost use Rattle.sqlite.specs.Held.{state};
 ghost use Rattle.reg_core.specs.File.{file as file_of};
@@ -7,11 +7,12 @@ ghost use Rattle.reg_core.specs.Queue.{queue_row, queue_rows};
 ghost use Rattle.reg_core.specs.Request.{case_of};
 ghost use Rattle.reg_core.specs.View.{as_queued, queue_of};
 ghost use Rattle.reg_content.specs.Calls.{IsKeeping, Looks};
-ghost use Rattle.reg_content.specs.Seats.{assigned_to};
+ghost use Rattle.reg_content.specs.Seats.{assigned_to, seen_row};
 
 use crate::advice::{advice, opinions};
-use crate::queue::{experts, is_queued, seats};
+use crate::queue::{experts, is_queued};
 use crate::requests::own_one;
+use crate::select::all;
 use reg_core::advice::Advice;
 use reg_core::file::File;
 use reg_core::queue::QueueRow;
@@ -19,6 +20,8 @@ use reg_core::request::Request;
 use reg_core::rows::Rows;
 use reg_core::text::{Account, Ref};
 use reg_keeper::keeper::Fault;
+use reg_records::column::name_value;
+use reg_records::queued::QueuedRequest;
 use sqlite::{Alter, Connection};
 use std::alloc::{AllocError, Global};
 
@@ -57,13 +60,19 @@ pub fn queue<S: Alter>(
     ensures { Looks (state S.Store conn.old) (state S.Store conn.new) result
         (λ w rows. rows ≡ queue_rows (queue_of expert.now w)) }
 {
-    let seats = seats(alloc, conn, expert)?;
-    let mut rows = Vec::new(alloc);
-    for seat in seats.as_slice() {
-        let row = assigned(alloc, conn, expert, &seat.account, &seat.reference)?;
-        add(&mut rows, row)?;
-    }
-    Ok(Rows::from_vec(rows))
+    let requests = all::<S, QueuedRequest>(
+        alloc,
+        conn,
+        "SELECT r.account, r.reference, r.kind, r.registry, r.value, r.least, r.label, \
+         r.contact, r.specification, r.rfc_number, r.rfc_stream, r.rfc_track, r.minute, \
+         r.draft, r.stable, r.interest, r.chair, r.director, r.will_be_rfc, r.size, \
+         r.organization, r.address, r.state, r.given, r.reason, a.verdict, a.text \
+         FROM queue q JOIN requests r ON r.account = q.account AND r.reference = q.reference \
+         LEFT JOIN advice a ON a.account = q.account AND a.reference = q.reference \
+         AND a.expert = q.expert WHERE q.expert = ?1 ORDER BY q.account, q.reference",
+        &[name_value(expert)],
+    )?;
+    Ok(Rows::from_vec(queued_all(alloc, requests)?))
 }
 
 /// The request of an account under a reference, with the expert's own advice, if it is assigned to
@@ -119,12 +128,13 @@ fn queued(request: Request, advice: Option<Advice>) -> QueueRow
     }
 }
 
-// Puts a row after the others, if there is one.
-fn add(rows: &mut Vec<QueueRow>, row: Option<QueueRow>) -> Result<(), AllocError>
-    ensures { OnOk result (rows.new.items ≡ rows.old.items ++ option_to_list row) }
+// Requests that are assigned, as their expert sees them.
+fn queued_all(alloc: Global, requests: Vec<QueuedRequest>) -> Result<Vec<QueueRow>, AllocError>
+    ensures { IfOk result (λ rows. rows.items ≡ map seen_row requests.items) }
 {
-    if let Some(row) = row {
-        rows.push(row)?;
+    let mut rows = Vec::new(alloc);
+    for row in requests {
+        rows.push(queued(row.request, row.advice))?;
     }
-    Ok(())
+    Ok(rows)
 }

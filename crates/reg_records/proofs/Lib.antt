@@ -10,3 +10,4 @@ pub mod PrefixLaws
 pub mod HoldingLaws
 pub mod VersionLaws
 pub mod RequestLaws
+pub mod QueuedLaws

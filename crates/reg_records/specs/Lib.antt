@@ -11,3 +11,4 @@ pub mod Blocks
 pub mod Office
 pub mod Laws
 pub mod Requests
+pub mod Queued

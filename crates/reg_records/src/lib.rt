@@ -10,6 +10,7 @@ pub mod laws;
 pub mod office;
 pub mod pool;
 pub mod queue;
+pub mod queued;
 pub mod ranges;
 pub mod record;
 pub mod registries;

@@ -4,6 +4,7 @@ pub mod InsertStatements
 pub mod MakeLemmas
 pub mod SelectLemmas
 pub mod ValueLemmas
+pub mod JoinLemmas
 pub mod RestLemmas
 pub mod Statements
 pub mod EditLemmas

@@ -1,4 +1,4 @@
--- What the rows of a SELECT over one table are.
+-- What the rows of a SELECT are.
 use Rattle.std.specs.Prelude.{IfOk, unwrap_or}
 use Rattle.std.proofs.Common.{◌≡◌, ℕ, ◌^◌, nat_le, List, [], ◌∷◌, ◌++◌}
 use Rattle.std.proofs.Common.{map, filter, true, false, cond, None, Ok, Err, Result, refl, sym, ap, subst, ◌∙◌}
@@ -8,8 +8,8 @@ use Rattle.std.proofs.lemmas.List.Sorted.{IsPermutation-map}
 use Rattle.sqlite.specs.declared.types.Value.TheVariants.{Null}
 use Rattle.sqlite.specs.Order.{Row, column}
 use Rattle.sqlite.specs.Tree.{Trees}
-use Rattle.sqlite.specs.Term.{Term, Env, col}
-use Rattle.sqlite.specs.Query.{Query, IsAnswer, output, Output}
+use Rattle.sqlite.specs.Term.{Term, Env, col, eval_all}
+use Rattle.sqlite.specs.Query.{Query, Join, inner, end, IsAnswer, matches, output, Output}
 use Rattle.sqlite.specs.Program.{overlay}
 use Rattle.sqlite.specs.Command.TheVariants.{Select}
 use Rattle.sqlite.specs.State.{State, Shown}
@@ -20,38 +20,33 @@ use Rattle.sqlite_schema.specs.declared.program.Program.{Program}
 use Rattle.sqlite_value.specs.declared.keys.Key.{Key}
 use Rattle.reg_tables.specs.Schema.{office_schema}
 use Rattle.reg_tables.proofs.KindLemmas.{IsPlainly, understood_query}
-use Rattle.reg_tables.specs.Selecting.{select_from, passes, shows, Selects, columns_of, stored}
+use Rattle.reg_tables.specs.Selecting.{query_over, select_from, passes, shows, IsTextOf, Selects, columns_of, stored}
 
-module _ (t : ℕ) (tests project : List Term) (order : List (Term × Key)) (params : Row) where
+-- ---- Any query of this form
+
+module _ (from : Join) (tests project : List Term) (order : List (Term × Key)) (params : Row) where
   abbrev q : Query
-  q = select_from t tests project order
-
-  abbrev env_of : Row → List Env
-  env_of r = cond (passes tests params r) ((params ∷ r ∷ []) ∷ []) []
-
-  abbrev wanted : List Row → List Row
-  wanted rows = map (shows project params) (filter (passes tests params) rows)
+  q = query_over from tests project order
 
   abbrev values : List Output → List Row
   values = map (λ (o : Output). o.1)
 
-  matched : (rs : List Row) → values (map (output q) (flat_map env_of rs)) ≡ wanted rs
-  matched [] = refl
-  matched (r ∷ rs) = elim (passes tests params r) as (λ b.
-      values (map (output q) (cond b ((params ∷ r ∷ []) ∷ []) [] ++ flat_map env_of rs))
-      ≡ map (shows project params) (cond b (r ∷ filter (passes tests params) rs)
-      (filter (passes tests params) rs))) [
-        | true ↦ ap (λ more. shows project params r ∷ more) (matched rs)
-        | false ↦ matched rs
-      ]
+  -- what is shown of each match
+  abbrev shown_in : List Env → List Row
+  shown_in = map (eval_all project)
 
-  -- the rows that pass, in some order
-  pub answer_rows : (db : Trees) (rows : List Row) → IsAnswer q db params rows
-      → IsPermutation (wanted (db t)) rows
-  answer_rows db rows a =
+  shown_of : (envs : List Env) → values (map (output q) envs) ≡ shown_in envs
+  shown_of [] = refl
+  shown_of (env ∷ envs) = ap (λ more. eval_all project env ∷ more) (shown_of envs)
+
+  -- what is shown of the matches, in some order
+  pub answered : (db : Trees) (rows : List Row) → IsAnswer q db params rows
+      → IsPermutation (shown_in (matches db tests from (params ∷ []))) rows
+  answered db rows a =
       let moved = IsPermutation-map (λ (o : Output). o.1) a.kept a.ordered a.same in
-      let kept : values a.kept ≡ wanted (db t) =
-      ap values (a.distinct ∙ ap (map (output q)) a.grouped) ∙ matched (db t) in
+      let kept : values a.kept ≡ shown_in (matches db tests from (params ∷ [])) =
+      ap values (a.distinct ∙ ap (map (output q)) a.grouped)
+      ∙ shown_of (matches db tests from (params ∷ [])) in
       let shown : rows ≡ values a.ordered = a.shown in
       subst (λ xs. IsPermutation xs rows) kept
       (subst (IsPermutation (values a.kept)) (sym shown) moved)
@@ -68,6 +63,47 @@ plain_query : (r : Result Compiled CompileError) (program : Program) (names : Li
 plain_query (Ok c) program names plain is = plain
 plain_query (Err e) program names plain is = absurd (cc)
 
+-- the rows of a query are what is shown of the matches, in some order
+pub answered_rows : (sql : List ℕ) (from : Join) (tests project : List Term)
+    (order : List (Term × Key)) (params : Row) (old new : State) (rows : List Row)
+    → IsTextOf sql (query_over from tests project order) → old.now.schema ≡ office_schema
+    → Shown sql params old new rows
+    → IsPermutation (map (eval_all project) (matches old.now.trees tests from (params ∷ []))) rows
+answered_rows sql from tests project order params old new rows s has h =
+    let program : Program =
+    record { lets = []; body = query_over from tests project order } in
+    let read = reads_as sql params old new office_schema has (Select program s.names) s.is
+    (plain_query _ program s.names (understood_query sql s.plain office_schema) s.is)
+    s.unlisted rows h in
+    subst (λ db. IsPermutation (map (eval_all project) (matches db tests from (params ∷ []))) rows)
+    (λ i t. as_kept old.now.trees t i)
+    (answered from tests project order params (overlay old.now.trees []) rows (read.answer Null))
+
+-- ---- Over one table
+
+module _ (tests project : List Term) (params : Row) where
+  abbrev env_of : Row → List Env
+  env_of r = cond (passes tests params r) ((params ∷ r ∷ []) ∷ []) []
+
+  matched : (rs : List Row) → map (eval_all project) (flat_map env_of rs)
+      ≡ map (shows project params) (filter (passes tests params) rs)
+  matched [] = refl
+  matched (r ∷ rs) = elim (passes tests params r) as (λ b.
+      map (eval_all project) (cond b ((params ∷ r ∷ []) ∷ []) [] ++ flat_map env_of rs)
+      ≡ map (shows project params) (cond b (r ∷ filter (passes tests params) rs)
+      (filter (passes tests params) rs))) [
+        | true ↦ ap (λ more. shows project params r ∷ more) (matched rs)
+        | false ↦ matched rs
+      ]
+
+-- the rows that pass, in some order
+pub answer_rows : (t : ℕ) (tests project : List Term) (order : List (Term × Key)) (params : Row)
+    (db : Trees) (rows : List Row) → IsAnswer (select_from t tests project order) db params rows
+    → IsPermutation (map (shows project params) (filter (passes tests params) (db t))) rows
+answer_rows t tests project order params db rows a =
+    subst (λ xs. IsPermutation xs rows) (matched tests project params (db t))
+    (answered (inner t end) tests project order params db rows a)
+
 -- the rows of a query are what is shown of the rows that pass, in some order
 pub selected : (sql : List ℕ) (t : ℕ) (tests project : List Term) (order : List (Term × Key))
     (params : Row) (old new : State) (rows : List Row) → Selects sql t tests project order
@@ -75,14 +111,8 @@ pub selected : (sql : List ℕ) (t : ℕ) (tests project : List Term) (order : L
     → IsPermutation (map (shows project params) (filter (passes tests params) (old.now.trees t)))
     rows
 selected sql t tests project order params old new rows s has h =
-    let program : Program =
-    record { lets = []; body = select_from t tests project order } in
-    let read = reads_as sql params old new office_schema has (Select program s.names) s.is
-    (plain_query _ program s.names (understood_query sql s.plain office_schema) s.is)
-    s.unlisted rows h in
-    subst (λ xs. IsPermutation (map (shows project params) (filter (passes tests params) xs)) rows)
-    (as_kept old.now.trees t)
-    (answer_rows t tests project order params (overlay old.now.trees []) rows (read.answer Null))
+    subst (λ xs. IsPermutation xs rows) (matched tests project params (old.now.trees t))
+    (answered_rows sql (inner t end) tests project order params old new rows s has h)
 
 columns_shown : (params row : Row) (places : List ℕ)
     → shows (map (col 1) places) params row ≡ map (column row) places

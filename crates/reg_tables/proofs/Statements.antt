@@ -6,6 +6,7 @@ pub mod Ranges
 pub mod Entries
 pub mod Requests
 pub mod Queue
+pub mod Queued
 pub mod Advice
 pub mod Pool
 pub mod Blocks

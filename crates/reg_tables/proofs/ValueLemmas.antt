@@ -26,7 +26,8 @@ apart : (a b : Value) → (class a ≡ class b → ⊥) → is_eq (nat_cmp (clas
     → is_eq (value_cmp a b) ≡ false
 apart a b differ unequal = ap is_eq (value_cmp-apart a b differ) ∙ unequal
 
-compared : (a b : Value) → is_true (binary (Compare Eq Binary) a b) ≡ same_value a b
+-- a test that two values are equal
+pub compared : (a b : Value) → is_true (binary (Compare Eq Binary) a b) ≡ same_value a b
 unfolding binary
 compared Null b = refl
 compared (Int m) Null = refl

@@ -5,6 +5,7 @@ pub mod Making
 pub mod Lasting
 pub mod Values
 pub mod Selecting
+pub mod Joining
 pub mod Texts
 pub mod Editing
 pub mod Bare

@@ -1,11 +1,11 @@
--- What a SELECT over one table of an office answers.
+-- What a SELECT over tables of an office answers.
 use Rattle.std.specs.Prelude.{◌≡◌, ℕ, pos, negsuc, Bool, false, List, [], ◌∷◌, map, None}
 use Rattle.std.specs.List.{list_all, range_with_len}
 use Rattle.sqlite.specs.declared.types.Value.TheVariants.{Int}
 use Rattle.sqlite.specs.Collation.TheVariants.{Binary}
 use Rattle.sqlite.specs.Order.{Row, column}
 use Rattle.sqlite.specs.Term.{Term, lit, col, op2, holds, eval_all}
-use Rattle.sqlite.specs.Query.{Query, inner, end}
+use Rattle.sqlite.specs.Query.{Query, Join, inner, end}
 use Rattle.sqlite.specs.Command.TheVariants.{Select}
 use Rattle.sqlite.specs.Listing.{understood, reads_listing}
 use Rattle.sqlite.proofs.Callers.{command_of}
@@ -16,10 +16,10 @@ use Rattle.sqlite_sql.specs.declared.ops.CompareOp.TheVariants.{Eq}
 use Rattle.reg_tables.specs.Kinds.{IsQuery}
 use Rattle.reg_tables.specs.Schema.{office_schema}
 
--- the query on the table in this tree, with these tests, columns and keys of its order
-abbrev pub select_from : ℕ → List Term → List Term → List (Term × Key) → Query
-select_from t tests project order = record {
-  from = inner t end;
+-- the query over these tables, with these tests, columns and keys of its order
+abbrev pub query_over : Join → List Term → List Term → List (Term × Key) → Query
+query_over from tests project order = record {
+  from = from;
   filter = tests;
   group = None;
   project = project;
@@ -30,6 +30,10 @@ select_from t tests project order = record {
   offset = lit (Int (pos 0));
 }
 
+-- the query on the table in this tree
+abbrev pub select_from : ℕ → List Term → List Term → List (Term × Key) → Query
+select_from t tests project order = query_over (inner t end) tests project order
+
 -- whether a row passes the WHERE, with these parameters
 abbrev pub passes : List Term → Row → Row → Bool
 passes tests params row = list_all (holds (params ∷ row ∷ [])) tests
@@ -38,14 +42,17 @@ passes tests params row = list_all (holds (params ∷ row ∷ [])) tests
 abbrev pub shows : List Term → Row → Row → Row
 shows project params row = eval_all project (params ∷ row ∷ [])
 
--- the text is a query over one table of an office
-pub record Selects (sql : List ℕ) (t : ℕ) (tests project : List Term)
-    (order : List (Term × Key)) : Type 0 where
+-- the text is this query over tables of an office
+pub record IsTextOf (sql : List ℕ) (q : Query) : Type 0 where
   pub names : List (List ℕ)
   pub is : command_of (understood office_schema sql)
-      ≡ Select (record { lets = []; body = select_from t tests project order }) names
+      ≡ Select (record { lets = []; body = q }) names
   pub plain : IsQuery sql
   pub unlisted : reads_listing office_schema sql ≡ false
+
+-- the text is a query over one table of an office
+abbrev pub Selects : List ℕ → ℕ → List Term → List Term → List (Term × Key) → Type 0
+Selects sql t tests project order = IsTextOf sql (select_from t tests project order)
 
 -- each of these columns equals a parameter: pairs of their places
 abbrev pub equals : List (ℕ × ℕ) → List Term

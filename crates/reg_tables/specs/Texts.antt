@@ -43,8 +43,8 @@ select_requests = codes "SELECT account, reference, kind, registry, value, least
 abbrev pub select_queue_row : List ℕ
 select_queue_row = codes "SELECT account, reference, expert FROM queue WHERE account = ?1 AND reference = ?2 AND expert = ?3"
 
-abbrev pub select_queue_of : List ℕ
-select_queue_of = codes "SELECT account, reference, expert FROM queue WHERE expert = ?1 ORDER BY account, reference"
+abbrev pub select_queued : List ℕ
+select_queued = codes "SELECT r.account, r.reference, r.kind, r.registry, r.value, r.least, r.label, r.contact, r.specification, r.rfc_number, r.rfc_stream, r.rfc_track, r.minute, r.draft, r.stable, r.interest, r.chair, r.director, r.will_be_rfc, r.size, r.organization, r.address, r.state, r.given, r.reason, a.verdict, a.text FROM queue q JOIN requests r ON r.account = q.account AND r.reference = q.reference LEFT JOIN advice a ON a.account = q.account AND a.reference = q.reference AND a.expert = q.expert WHERE q.expert = ?1 ORDER BY q.account, q.reference"
 
 abbrev pub select_experts_of : List ℕ
 select_experts_of = codes "SELECT account, reference, expert FROM queue WHERE account = ?1 AND reference = ?2 ORDER BY expert"

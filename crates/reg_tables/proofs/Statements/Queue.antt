@@ -3,7 +3,7 @@ use Rattle.std.proofs.Common.{ℕ, List, [], ◌∷◌, codes, refl}
 use Rattle.sqlite.specs.Listing.{understood}
 use Rattle.sqlite_tied.specs.Compute.{everything}
 use Rattle.reg_tables.specs.Selecting.{Selects, equals, columns_of, ordered_by}
-use Rattle.reg_tables.specs.Texts.{select_queue_row, select_queue_of, select_experts_of, select_queue}
+use Rattle.reg_tables.specs.Texts.{select_queue_row, select_experts_of, select_queue}
 
 abbrev names : List (List ℕ)
 names =
@@ -13,11 +13,6 @@ pub queue_by_key : Selects select_queue_row 11 (equals ((1, 0) ∷ (2, 1) ∷ (3
     []
 unfolding understood everything
 queue_by_key = record { names = names; is = refl; plain = (refl, refl); unlisted = refl }
-
-pub queue_of_expert : Selects select_queue_of 11 (equals ((3, 0) ∷ [])) (columns_of 3)
-    (ordered_by (1 ∷ 2 ∷ []))
-unfolding understood everything
-queue_of_expert = record { names = names; is = refl; plain = (refl, refl); unlisted = refl }
 
 pub queue_of_request : Selects select_experts_of 11 (equals ((1, 0) ∷ (2, 1) ∷ [])) (columns_of 3)
     (ordered_by (3 ∷ []))

@@ -1,0 +1,63 @@
+//! Requests with an expert's own advice, as rows of the query that joins them.
+ghost use Rattle.std.specs.Prelude.{◌≡◌, IfOk};
+ghost use Rattle.reg_core.specs.World.{name_cmp};
+ghost use Rattle.reg_records.specs.Queued.{own_advice_in, queued_in};
+
+use crate::column::{is_null, printable, word};
+use crate::record::{Keyed, Record};
+use reg_core::advice::Advice;
+use reg_core::request::Request;
+use sqlite::Row;
+use std::alloc::{AllocError, Global};
+use std::cmp::Ordering;
+
+// The columns after those of the request.
+const VERDICT: usize = 25;
+
+const TEXT: usize = 26;
+
+/// A request that is assigned to an expert, with the expert's own advice, if there is one.
+#[derive(Drop)]
+pub struct QueuedRequest {
+    pub request: Request,
+    pub advice: Option<Advice>,
+}
+
+impl Record for QueuedRequest {
+    ghost of = { queued_in };
+
+    fn read(alloc: Global, row: &Row) -> Result<Option<Self>, AllocError> {
+        let Some(request) = Request::read(alloc, row)? else {
+            return Ok(None);
+        };
+        let Some(advice) = own_advice(alloc, row)? else {
+            return Ok(None);
+        };
+        Ok(Some(QueuedRequest { request, advice }))
+    }
+}
+
+impl Keyed for QueuedRequest {
+    ghost order = { λ a b. name_cmp (a.request.account, a.request.reference)
+        (b.request.account, b.request.reference) };
+
+    fn compare(&self, other: &Self) -> Ordering {
+        self.request.compare(&other.request)
+    }
+}
+
+// The advice: none where both columns are NULL.
+fn own_advice(alloc: Global, row: &Row) -> Result<Option<Option<Advice>>, AllocError>
+    ensures { IfOk result (λ advice. advice ≡ own_advice_in row.now) }
+{
+    if is_null(row, VERDICT) && is_null(row, TEXT) {
+        return Ok(Some(None));
+    }
+    let Some(verdict) = word(row, VERDICT) else {
+        return Ok(None);
+    };
+    let Some(text) = printable(alloc, row, TEXT)? else {
+        return Ok(None);
+    };
+    Ok(Some(Some(Advice { verdict, text })))
+}
