@@ -1,15 +1,15 @@
 -- What the rows of the query on the queue, the requests and the advice are.
-use Rattle.std.proofs.Common.{◌≡◌, ℕ, Bool, true, false, ◌&&◌, cond, List, [], ◌∷◌, ◌++◌, map, filter}
-use Rattle.std.proofs.Common.{IsPermutation, refl, sym, ap, ap₂, subst, ◌∙◌}
+use Rattle.std.proofs.Common.{◌≡◌, Bool, true, false, ◌&&◌, cond, List, [], ◌∷◌, ◌++◌, map, filter}
+use Rattle.std.proofs.Common.{IsPermutation, refl, ap, ap₂, subst, ◌∙◌}
 use Rattle.std.specs.List.{flat_map, list_all}
 use Rattle.std.proofs.lemmas.List.{map-append}
 use Rattle.sqlite.specs.declared.types.Value.{Value}
 use Rattle.sqlite.specs.Order.{Row, column}
 use Rattle.sqlite.specs.State.{State, Shown}
 use Rattle.sqlite.specs.Tree.{Trees}
-use Rattle.sqlite.specs.Term.{Term, Env, eval_all, holds}
+use Rattle.sqlite.specs.Term.{Env, eval_all, holds}
 use Rattle.sqlite.specs.Query.{matches, or_nulls}
-use Rattle.reg_tables.specs.Joining.{advice_agrees, is_of, joined_by, queued_at, queued_columns, queued_from, queued_order, queued_project, queued_query, queued_rows, queued_tests, request_agrees, with_advice}
+use Rattle.reg_tables.specs.Joining.{advice_agrees, is_of, joined_by, queued_at, queued_columns, queued_from, queued_order, queued_project, queued_rows, queued_tests, request_agrees, with_advice}
 use Rattle.reg_tables.specs.Schema.{office_schema}
 use Rattle.reg_tables.specs.Texts.{select_queued}
 use Rattle.reg_tables.specs.Values.{same_value}
