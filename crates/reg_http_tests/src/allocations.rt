@@ -1,9 +1,9 @@
 //! Each request of an office is answered by its own answer; where an allocation is refused, perhaps
 //! by `503 {"error":"storage"}`, with nothing changed, or not at all. A run refuses none by itself:
 //! `tools/refuse-allocations` refuses each in turn.
-use crate::messages::{request, with_line_ends};
 use crate::rows::ROWS;
-use crate::served::{CLERK, Served};
+use reg_carriers::messages::{request, with_line_ends};
+use reg_carriers::served::{CLERK, Served};
 use reg_http::wire_fault::WireFault;
 use reg_keeper::keeper::Keeper;
 use std::alloc::{AllocError, Global};

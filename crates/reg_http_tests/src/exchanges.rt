@@ -1,6 +1,6 @@
 //! Requests and their answers over HTTP, to the byte.
-use crate::messages::{NO_REGISTRY, json_answer, request, with_line_ends};
-use crate::served::Served;
+use reg_carriers::messages::{NO_REGISTRY, json_answer, request, with_line_ends};
+use reg_carriers::served::Served;
 use reg_keeper::keeper::Keeper;
 use std::alloc::{AllocError, Global};
 use std::process::Abort;

@@ -1,7 +1,7 @@
 //! Requests that come in pieces, break off or fail on their way, and answers that do.
 use crate::devices::{FailsAfter, FailsBefore, GivesOne};
-use crate::messages::{HEAD, MADE, SHORT, SUBMISSION, SUBMISSION_HEAD, THERE};
-use crate::served::Served;
+use reg_carriers::messages::{HEAD, MADE, SHORT, SUBMISSION, SUBMISSION_HEAD, THERE};
+use reg_carriers::served::Served;
 use reg_http::wire_fault::WireFault;
 use reg_keeper::keeper::Keeper;
 use std::alloc::{AllocError, Global};

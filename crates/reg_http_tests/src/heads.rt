@@ -1,6 +1,6 @@
 //! Heads at their limits and above them, and bytes that begin with none.
-use crate::messages::{HEAD, NO_REGISTRY};
-use crate::served::Served;
+use reg_carriers::messages::{HEAD, NO_REGISTRY};
+use reg_carriers::served::Served;
 use std::alloc::{AllocError, Global};
 use std::process::Abort;
 use std::test::Fail;

@@ -1,6 +1,6 @@
 //! A listener on loopback, and its clients.
-use crate::messages::NO_REGISTRY;
-use crate::served::Served;
+use reg_carriers::messages::NO_REGISTRY;
+use reg_carriers::served::Served;
 use reg_http::listener::Connections;
 use reg_keeper::keeper::Keeper;
 use std::io::{Read, Write};

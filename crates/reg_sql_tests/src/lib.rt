@@ -8,6 +8,8 @@ mod asking;
 #[cfg(test)]
 mod calls;
 #[cfg(test)]
+mod carriers;
+#[cfg(test)]
 mod changes;
 #[cfg(test)]
 mod disks;

@@ -1,8 +1,8 @@
-//! Requests that are asked by lines of a script and over HTTP, of offices in memory and in tables:
-//! all four are answered alike, and none for want of storage.
+//! What offices are asked that are to answer alike: 2,000 requests of a fixed sequence, and a
+//! registry with texts of full length.
+use crate::alike::Alike;
 use crate::asked::Asked;
 use crate::generated::{asked_by, route};
-use crate::offices::{Alike, Offices};
 use crate::sequence::Sequence;
 use crate::served::CLERK;
 use crate::wide::assert_wide;
@@ -62,16 +62,9 @@ fn assert_next<R: Abort + AllocGlobal, O: Alike>(
     Ok(())
 }
 
-fn assert_all<R: Abort + AllocGlobal, O: Alike>(rt: &R, offices: &mut O) -> Result<(), Fail> {
+/// Opens the offices, and asks them all of it: all answer alike.
+pub fn assert_all<R: Abort + AllocGlobal, O: Alike>(rt: &R, offices: &mut O) -> Result<(), Fail> {
     open(rt, offices)?;
     assert_generated(rt, offices)?;
     assert_wide(rt, offices)
-}
-
-#[test]
-fn all_are_answered_alike(rt: HostRuntime) -> Result<(), Fail> {
-    let mut offices = Offices::founded(rt.alloc())?;
-    let done = assert_all(&rt, &mut offices);
-    drop(offices);
-    done
 }

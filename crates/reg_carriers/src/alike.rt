@@ -1,41 +1,38 @@
-//! Offices in memory and in tables, asked by lines of a script and over HTTP.
+//! Offices that are asked by lines of a script and over HTTP, and answer alike.
 use crate::asked::Asked;
 use crate::served::{CLERK, Served};
 use reg_keeper::keeper::Keeper;
 use reg_office::Office;
-use reg_sql::keeper::SqlKeeper;
-use reg_sql::open::in_memory;
-use reg_store::lists::ListKeeper;
 use reg_wire::script::run;
-use sqlite::MemStore;
 use std::alloc::{AllocError, Global};
 use std::process::Abort;
 use std::test::Fail;
 
 /// An answer: its status, and the line of a script that gives it.
 #[derive(Drop)]
-struct Told {
-    status: u16,
-    line: Vec<u8>,
+pub struct Told {
+    pub status: u16,
+    pub line: Vec<u8>,
 }
 
 /// Two offices of one kind: one that is asked by lines, and one that is asked over HTTP.
 #[derive(Drop)]
-struct Both<K> {
+pub struct Both<K> {
     office: Office<K>,
     served: Served<K>,
 }
 
 impl<K: Keeper + Drop> Both<K> {
-    fn founded(alloc: Global, first: K, second: K) -> Result<Both<K>, Fail> {
+    /// Offices over these keepers that are founded, and nothing else.
+    pub fn founded(alloc: Global, first: K, second: K) -> Result<Both<K>, Fail> {
         let mut office = Office::new(alloc, first);
         office.found(CLERK.as_bytes())?;
         let served = Served::over(alloc, second)?;
         Ok(Both { office, served })
     }
 
-    // Asks both, and gives the answer, which is the same to the byte, and not for want of storage.
-    fn assert_alike<R: Abort + AllocGlobal>(
+    /// Asks both, and gives the answer, which is the same to the byte, and not for want of storage.
+    pub fn assert_alike<R: Abort + AllocGlobal>(
         &mut self,
         rt: &R,
         asked: &Asked,
@@ -81,30 +78,4 @@ fn as_line(alloc: Global, status: u16, bytes: &[u8]) -> Result<Vec<u8>, AllocErr
 pub trait Alike {
     /// Asks all, and gives the status of the answer, which is the same to the byte.
     fn assert_alike<R: Abort + AllocGlobal>(&mut self, rt: &R, asked: &Asked) -> Result<u16, Fail>;
-}
-
-/// Four offices: two in memory and two in tables, and of each kind one that is asked by lines, and
-/// one that is asked over HTTP.
-#[derive(Drop)]
-pub struct Offices {
-    lists: Both<ListKeeper>,
-    tables: Both<SqlKeeper<MemStore>>,
-}
-
-impl Offices {
-    /// Offices that are founded, and nothing else.
-    pub fn founded(alloc: Global) -> Result<Offices, Fail> {
-        let lists = Both::founded(alloc, ListKeeper::new(alloc), ListKeeper::new(alloc))?;
-        let tables = Both::founded(alloc, in_memory(alloc)?, in_memory(alloc)?)?;
-        Ok(Offices { lists, tables })
-    }
-}
-
-impl Alike for Offices {
-    fn assert_alike<R: Abort + AllocGlobal>(&mut self, rt: &R, asked: &Asked) -> Result<u16, Fail> {
-        let first = self.lists.assert_alike(rt, asked)?;
-        let second = self.tables.assert_alike(rt, asked)?;
-        assert_eq!(rt; second.line.as_slice(), first.line.as_slice());
-        Ok(first.status)
-    }
 }
