@@ -12,10 +12,13 @@ use Rattle.sqlite_value.specs.Keys.{ascending}
 use Rattle.sqlite_value.specs.declared.keys.Key.{Key}
 use Rattle.sqlite_sql.specs.declared.ops.BinaryOp.TheVariants.{Compare}
 use Rattle.sqlite_sql.specs.declared.ops.CompareOp.TheVariants.{Eq}
+use Rattle.reg_tables.specs.Schema.{advice_table, queue_table, requests_table}
 use Rattle.reg_tables.specs.Selecting.{query_over, stored}
 use Rattle.reg_tables.specs.Values.{same_value}
 
 -- ---- The query
+
+-- The slots are 0 for the parameters, 1 for the queue, 2 for the requests and 3 for the advice.
 
 -- the row in this slot has what the row of the queue has, in these columns
 abbrev pub joined_by : ℕ → List ℕ → List Term
@@ -23,7 +26,9 @@ joined_by slot places = map (λ c. op2 (Compare Eq Binary) (col slot c) (col 1 c
 
 -- the queue, then the requests, then the advice, where there is one
 abbrev pub queued_from : Join
-queued_from = inner 11 (inner 9 (left 14 (joined_by 3 (1 ∷ 2 ∷ 3 ∷ [])) end))
+queued_from =
+    inner queue_table.tree (inner requests_table.tree
+    (left advice_table.tree (joined_by 3 (1 ∷ 2 ∷ 3 ∷ [])) end))
 
 -- the request is the one that the queue names, and the expert is the parameter
 abbrev pub queued_tests : List Term
@@ -75,4 +80,5 @@ queued_at requests advice seat =
 -- what is shown of the queue of an expert
 abbrev pub queued_rows : Trees → Value → List Row
 queued_rows trees expert =
-    flat_map (queued_at (trees 9) (trees 14)) (filter (is_of expert) (trees 11))
+    flat_map (queued_at (trees requests_table.tree) (trees advice_table.tree))
+    (filter (is_of expert) (trees queue_table.tree))
