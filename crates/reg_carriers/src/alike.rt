@@ -5,8 +5,12 @@ use reg_keeper::keeper::Keeper;
 use reg_office::Office;
 use reg_wire::script::run;
 use std::alloc::{AllocError, Global};
-use std::process::Abort;
 use std::test::Fail;
+
+/// A test fails at this, where it does not hold.
+pub fn ensure(holds: bool, what: &str) -> Result<(), Fail> {
+    if holds { Ok(()) } else { Err(what.into()) }
+}
 
 /// An answer: its status, and the line of a script that gives it.
 #[derive(Drop)]
@@ -32,18 +36,17 @@ impl<K: Keeper + Drop> Both<K> {
     }
 
     /// Asks both, and gives the answer, which is the same to the byte, and not for want of storage.
-    pub fn assert_alike<R: Abort + AllocGlobal>(
-        &mut self,
-        rt: &R,
-        asked: &Asked,
-    ) -> Result<Told, Fail> {
-        let alloc = rt.alloc();
+    pub fn assert_alike(&mut self, alloc: Global, asked: &Asked) -> Result<Told, Fail> {
         let told = self.told(alloc, asked.line(alloc)?.as_bytes())?;
         let given = self.served.asked(alloc, asked.bytes(alloc)?.as_slice())?;
         let status = given.status?;
         let line = as_line(alloc, status, given.bytes.as_slice())?;
-        assert_eq!(rt; line.as_slice(), told.as_slice());
-        assert!(rt; !line.ends_with(b"{\"error\":\"storage\"}\n"));
+        ensure(
+            line.as_slice() == told.as_slice(),
+            "one answer by a line and over HTTP",
+        )?;
+        let is_short = line.ends_with(b"{\"error\":\"storage\"}\n");
+        ensure(!is_short, "an answer that is not for want of storage")?;
         Ok(Told { status, line })
     }
 
@@ -77,5 +80,5 @@ fn as_line(alloc: Global, status: u16, bytes: &[u8]) -> Result<Vec<u8>, AllocErr
 /// Offices that are asked alike.
 pub trait Alike {
     /// Asks all, and gives the status of the answer, which is the same to the byte.
-    fn assert_alike<R: Abort + AllocGlobal>(&mut self, rt: &R, asked: &Asked) -> Result<u16, Fail>;
+    fn assert_alike(&mut self, alloc: Global, asked: &Asked) -> Result<u16, Fail>;
 }

@@ -1,12 +1,12 @@
 //! What offices are asked that are to answer alike: 2,000 requests of a fixed sequence, and a
 //! registry with texts of full length.
-use crate::alike::Alike;
+use crate::alike::{Alike, ensure};
 use crate::asked::Asked;
 use crate::generated::{asked_by, route};
 use crate::sequence::Sequence;
 use crate::served::CLERK;
 use crate::wide::assert_wide;
-use std::process::Abort;
+use std::alloc::Global;
 use std::test::Fail;
 
 const REQUESTS: usize = 2_000;
@@ -29,42 +29,42 @@ const FIRST: [(&str, &str); 3] = [
     ),
 ];
 
-fn open<R: Abort + AllocGlobal, O: Alike>(rt: &R, offices: &mut O) -> Result<(), Fail> {
+fn open<O: Alike>(alloc: Global, offices: &mut O) -> Result<(), Fail> {
     for (path, body) in FIRST {
         let asked = Asked {
             method: "PUT",
-            path: String::from_str(rt.alloc(), path)?,
+            path: String::from_str(alloc, path)?,
             token: Some(CLERK),
-            body: String::from_str(rt.alloc(), body)?,
+            body: String::from_str(alloc, body)?,
         };
-        assert_eq!(rt; offices.assert_alike(rt, &asked)?, 200);
+        ensure(offices.assert_alike(alloc, &asked)? == 200, path)?;
     }
     Ok(())
 }
 
-fn assert_generated<R: Abort + AllocGlobal, O: Alike>(rt: &R, offices: &mut O) -> Result<(), Fail> {
+fn assert_generated<O: Alike>(alloc: Global, offices: &mut O) -> Result<(), Fail> {
     let mut numbers = Sequence::new();
     for count in 0..REQUESTS {
-        assert_next(rt, offices, &mut numbers, count)?;
+        assert_next(alloc, offices, &mut numbers, count)?;
     }
     Ok(())
 }
 
 // Of the routes, in turn, this many come before that of the request.
-fn assert_next<R: Abort + AllocGlobal, O: Alike>(
-    rt: &R,
+fn assert_next<O: Alike>(
+    alloc: Global,
     offices: &mut O,
     numbers: &mut Sequence,
     count: usize,
 ) -> Result<(), Fail> {
-    let asked = asked_by(rt.alloc(), numbers, route(count))?;
-    offices.assert_alike(rt, &asked)?;
+    let asked = asked_by(alloc, numbers, route(count))?;
+    offices.assert_alike(alloc, &asked)?;
     Ok(())
 }
 
 /// Opens the offices, and asks them all of it: all answer alike.
-pub fn assert_all<R: Abort + AllocGlobal, O: Alike>(rt: &R, offices: &mut O) -> Result<(), Fail> {
-    open(rt, offices)?;
-    assert_generated(rt, offices)?;
-    assert_wide(rt, offices)
+pub fn assert_all<O: Alike>(alloc: Global, offices: &mut O) -> Result<(), Fail> {
+    open(alloc, offices)?;
+    assert_generated(alloc, offices)?;
+    assert_wide(alloc, offices)
 }

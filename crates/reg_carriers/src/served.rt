@@ -1,4 +1,5 @@
 //! An office that is asked over HTTP.
+use crate::alike::ensure;
 use crate::messages::request;
 use reg_http::listener::{Connections, serve_listener};
 use reg_http::serving::serve_one;
@@ -10,7 +11,6 @@ use reg_store::lists::ListKeeper;
 use std::alloc::{AllocError, Global};
 use std::io::{Read, Write};
 use std::net::TcpListener;
-use std::process::Abort;
 use std::test::Fail;
 use std::time::{Clock, Duration};
 
@@ -47,20 +47,20 @@ impl Served {
     }
 
     /// An office with an applicant, alice, and a registry, `flags`.
-    pub fn opened<R: Abort + AllocGlobal>(rt: &R) -> Result<Served, Fail> {
-        let mut served = Served::founded(rt.alloc())?;
-        served.open(rt)?;
+    pub fn opened(alloc: Global) -> Result<Served, Fail> {
+        let mut served = Served::founded(alloc)?;
+        served.open(alloc)?;
         Ok(served)
     }
 
-    fn open<R: Abort + AllocGlobal>(&mut self, rt: &R) -> Result<(), Fail> {
-        let alloc = rt.alloc();
+    fn open(&mut self, alloc: Global) -> Result<(), Fail> {
         let grant = request(alloc, "PUT", "/desk/tokens", Some(CLERK), GRANT)?;
-        assert_eq!(rt; self.asked(alloc, grant.as_slice())?.status, Ok(200));
+        let granted = self.asked(alloc, grant.as_slice())?;
+        ensure(granted.status == Ok(200), "a grant")?;
         let path = "/desk/registries/flags/255";
         let define = request(alloc, "PUT", path, Some(CLERK), RANGES)?;
-        assert_eq!(rt; self.asked(alloc, define.as_slice())?.status, Ok(200));
-        Ok(())
+        let defined = self.asked(alloc, define.as_slice())?;
+        ensure(defined.status == Ok(200), "a definition")
     }
 }
 

@@ -1,12 +1,11 @@
 //! A registry of 64 ranges that are all of 32 bits, and asks in it with texts of full length.
-use crate::alike::Alike;
+use crate::alike::{Alike, ensure};
 use crate::asked::Asked;
 use crate::generated::{ALICE, EXPERT};
 use crate::messages::joined;
 use crate::sequence::{FULL, text_of};
 use crate::served::CLERK;
 use std::alloc::{AllocError, Global};
-use std::process::Abort;
 use std::test::Fail;
 
 const RANGES: usize = 64;
@@ -104,102 +103,101 @@ fn advice(alloc: Global) -> Result<String, AllocError> {
 
 // Asks for what the member names, has an expert advise on that, and approves it, which succeeds
 // where single values are assigned.
-fn assert_ask<R: Abort + AllocGlobal, O: Alike>(
-    rt: &R,
+fn assert_ask<O: Alike>(
+    alloc: Global,
     offices: &mut O,
     name: &str,
     member: &str,
     is_assigned: bool,
 ) -> Result<(), Fail> {
-    let alloc = rt.alloc();
     let (made, done) = if is_assigned { (201, 200) } else { (409, 404) };
     let own = joined(alloc, &["/requests/", name])?;
     let body = ask(alloc, member)?;
-    assert_put(rt, offices, own.as_str(), ALICE, body.as_str(), made)?;
+    assert_put(alloc, offices, own.as_str(), ALICE, body.as_str(), made)?;
     let path = joined(alloc, &["/desk/experts/alice/", name, "/xan"])?;
-    assert_put(rt, offices, path.as_str(), CLERK, "", done)?;
+    assert_put(alloc, offices, path.as_str(), CLERK, "", done)?;
     let path = joined(alloc, &["/queue/alice/", name])?;
     let body = advice(alloc)?;
-    assert_put(rt, offices, path.as_str(), EXPERT, body.as_str(), done)?;
+    assert_put(alloc, offices, path.as_str(), EXPERT, body.as_str(), done)?;
     let path = joined(alloc, &["/desk/approve/alice/", name])?;
-    assert_put(rt, offices, path.as_str(), CLERK, "", done)?;
-    assert_look(rt, offices, own.as_str(), Some(ALICE), done)
+    assert_put(alloc, offices, path.as_str(), CLERK, "", done)?;
+    assert_look(alloc, offices, own.as_str(), Some(ALICE), done)
 }
 
 // What is put there is answered with this status.
-fn assert_put<R: Abort + AllocGlobal, O: Alike>(
-    rt: &R,
+fn assert_put<O: Alike>(
+    alloc: Global,
     offices: &mut O,
     path: &str,
     token: &'static str,
     body: &str,
     status: u16,
 ) -> Result<(), Fail> {
-    let put = asked(rt.alloc(), "PUT", path, Some(token), body)?;
-    assert_eq!(rt; offices.assert_alike(rt, &put)?, status);
+    let put = asked(alloc, "PUT", path, Some(token), body)?;
+    ensure(offices.assert_alike(alloc, &put)? == status, path)?;
     Ok(())
 }
 
 // A look there is answered with this status.
-fn assert_look<R: Abort + AllocGlobal, O: Alike>(
-    rt: &R,
+fn assert_look<O: Alike>(
+    alloc: Global,
     offices: &mut O,
     path: &str,
     token: Option<&'static str>,
     status: u16,
 ) -> Result<(), Fail> {
-    let look = asked(rt.alloc(), "GET", path, token, "")?;
-    assert_eq!(rt; offices.assert_alike(rt, &look)?, status);
+    let look = asked(alloc, "GET", path, token, "")?;
+    ensure(offices.assert_alike(alloc, &look)? == status, path)?;
     Ok(())
 }
 
-fn assert_value<R: Abort + AllocGlobal, O: Alike>(
-    rt: &R,
+fn assert_value<O: Alike>(
+    alloc: Global,
     offices: &mut O,
     value: u64,
     is_assigned: bool,
 ) -> Result<(), Fail> {
-    let name = format!(in rt.alloc(); "v-{value}")?;
-    let member = format!(in rt.alloc(); "\"value\":{value}")?;
-    assert_ask(rt, offices, name.as_str(), member.as_str(), is_assigned)
+    let name = format!(in alloc; "v-{value}")?;
+    let member = format!(in alloc; "\"value\":{value}")?;
+    assert_ask(alloc, offices, name.as_str(), member.as_str(), is_assigned)
 }
 
 // Asks for both ends of each range.
-fn assert_ends<R: Abort + AllocGlobal, O: Alike>(rt: &R, offices: &mut O) -> Result<(), Fail> {
+fn assert_ends<O: Alike>(alloc: Global, offices: &mut O) -> Result<(), Fail> {
     for place in 0..RANGES {
         let (_, is_assigned) = treatment(place);
         let lo = place as u64 * WIDTH;
-        assert_value(rt, offices, lo, is_assigned)?;
-        assert_value(rt, offices, lo + (WIDTH - 1), is_assigned)?;
+        assert_value(alloc, offices, lo, is_assigned)?;
+        assert_value(alloc, offices, lo + (WIDTH - 1), is_assigned)?;
     }
     Ok(())
 }
 
 // Asks for the least value under each policy.
-fn assert_leasts<R: Abort + AllocGlobal, O: Alike>(rt: &R, offices: &mut O) -> Result<(), Fail> {
+fn assert_leasts<O: Alike>(alloc: Global, offices: &mut O) -> Result<(), Fail> {
     for (word, is_assigned) in TREATMENTS {
         if word != "reserved" {
-            let member = joined(rt.alloc(), &["\"least\":\"", word, "\""])?;
-            assert_ask(rt, offices, word, member.as_str(), is_assigned)?;
+            let member = joined(alloc, &["\"least\":\"", word, "\""])?;
+            assert_ask(alloc, offices, word, member.as_str(), is_assigned)?;
         }
     }
     Ok(())
 }
 
-fn assert_looks<R: Abort + AllocGlobal, O: Alike>(rt: &R, offices: &mut O) -> Result<(), Fail> {
+fn assert_looks<O: Alike>(alloc: Global, offices: &mut O) -> Result<(), Fail> {
     for (path, token) in LOOKS {
-        assert_look(rt, offices, path, token, 200)?;
+        assert_look(alloc, offices, path, token, 200)?;
     }
     Ok(())
 }
 
 /// Defines the registry in all offices, asks for both ends of each range and for the least value
 /// under each policy, and looks at it all.
-pub fn assert_wide<R: Abort + AllocGlobal, O: Alike>(rt: &R, offices: &mut O) -> Result<(), Fail> {
-    let file = range_file(rt.alloc())?;
+pub fn assert_wide<O: Alike>(alloc: Global, offices: &mut O) -> Result<(), Fail> {
+    let file = range_file(alloc)?;
     let path = "/desk/registries/wide/4294967295";
-    assert_put(rt, offices, path, CLERK, file.as_str(), 200)?;
-    assert_ends(rt, offices)?;
-    assert_leasts(rt, offices)?;
-    assert_looks(rt, offices)
+    assert_put(alloc, offices, path, CLERK, file.as_str(), 200)?;
+    assert_ends(alloc, offices)?;
+    assert_leasts(alloc, offices)?;
+    assert_looks(alloc, offices)
 }

@@ -126,7 +126,7 @@ const TOKENS: [(&str, &str, &str); 6] = [
 
 // Asks an open office each of these in turn.
 fn assert_told<R: Abort + AllocGlobal>(rt: &R, rows: &[(&str, &str, &str)]) -> Result<(), Fail> {
-    let mut served = Served::opened(rt)?;
+    let mut served = Served::opened(rt.alloc())?;
     let done = assert_each(rt, &mut served, rows);
     drop(served);
     done
@@ -160,7 +160,7 @@ fn a_first_request(rt: HostRuntime) -> Result<(), Fail> {
 
 #[test]
 fn a_listing(rt: HostRuntime) -> Result<(), Fail> {
-    let mut served = Served::opened(&rt)?;
+    let mut served = Served::opened(rt.alloc())?;
     let given = served.asked(rt.alloc(), b"GET /listings/registries/flags HTTP/1.0\n\n");
     drop(served);
     let given = given?;
@@ -203,7 +203,7 @@ fn assert_no_json<R: Abort + AllocGlobal>(rt: &R, body: &[u8]) -> Result<(), Fai
     let token = Some("alice-token-00001");
     let sent = request(alloc, "PUT", "/requests/w-1", token, body)?;
     let refused = json_answer(alloc, BAD, "{\"error\":\"body\"}")?;
-    let mut served = Served::opened(rt)?;
+    let mut served = Served::opened(rt.alloc())?;
     let given = served.asked(alloc, sent.as_slice());
     drop(served);
     let given = given?;

@@ -48,7 +48,7 @@ fn assert_prefixes<R: Abort + AllocGlobal, K: Keeper + Drop>(
 
 #[test]
 fn each_prefix(rt: HostRuntime) -> Result<(), Fail> {
-    let mut served = Served::opened(&rt)?;
+    let mut served = Served::opened(rt.alloc())?;
     let done = assert_prefixes(&rt, &mut served);
     drop(served);
     done
@@ -56,7 +56,7 @@ fn each_prefix(rt: HostRuntime) -> Result<(), Fail> {
 
 #[test]
 fn one_byte_a_read(rt: HostRuntime) -> Result<(), Fail> {
-    let mut served = Served::opened(&rt)?;
+    let mut served = Served::opened(rt.alloc())?;
     let mut reader = GivesOne {
         bytes: SUBMISSION,
         reads: 0,
@@ -127,7 +127,7 @@ fn assert_failing_reads<R: Abort + AllocGlobal, K: Keeper + Drop>(
 
 #[test]
 fn a_read_that_fails_before_each_byte(rt: HostRuntime) -> Result<(), Fail> {
-    let mut served = Served::opened(&rt)?;
+    let mut served = Served::opened(rt.alloc())?;
     let done = assert_failing_reads(&rt, &mut served);
     drop(served);
     done
@@ -155,7 +155,7 @@ fn assert_cut<R: Abort + AllocGlobal, K: Keeper + Drop>(
 #[test]
 fn a_write_that_fails_after_each_byte(rt: HostRuntime) -> Result<(), Fail> {
     for room in 0..MADE.len() {
-        let mut served = Served::opened(&rt)?;
+        let mut served = Served::opened(rt.alloc())?;
         let done = assert_cut(&rt, &mut served, &MADE[..room]);
         drop(served);
         done?;
@@ -165,7 +165,7 @@ fn a_write_that_fails_after_each_byte(rt: HostRuntime) -> Result<(), Fail> {
 
 #[test]
 fn one_write_where_it_is_taken_whole(rt: HostRuntime) -> Result<(), Fail> {
-    let mut served = Served::opened(&rt)?;
+    let mut served = Served::opened(rt.alloc())?;
     let mut reader = SUBMISSION;
     let mut writer = FailsAfter {
         taken: Vec::new(rt.alloc()),

@@ -1,6 +1,6 @@
 //! Requests that are asked by lines of a script and over HTTP, of offices in lists and in tables:
 //! all four are answered alike, and none for want of storage.
-use reg_carriers::alike::{Alike, Both};
+use reg_carriers::alike::{Alike, Both, ensure};
 use reg_carriers::asked::Asked;
 use reg_carriers::generating::assert_all;
 use reg_sql::keeper::SqlKeeper;
@@ -8,7 +8,6 @@ use reg_sql::open::in_memory;
 use reg_store::lists::ListKeeper;
 use sqlite::MemStore;
 use std::alloc::Global;
-use std::process::Abort;
 use std::test::Fail;
 
 /// Four offices: two in lists and two in tables, and of each kind one that is asked by lines, and
@@ -29,10 +28,11 @@ impl Offices {
 }
 
 impl Alike for Offices {
-    fn assert_alike<R: Abort + AllocGlobal>(&mut self, rt: &R, asked: &Asked) -> Result<u16, Fail> {
-        let first = self.lists.assert_alike(rt, asked)?;
-        let second = self.tables.assert_alike(rt, asked)?;
-        assert_eq!(rt; second.line.as_slice(), first.line.as_slice());
+    fn assert_alike(&mut self, alloc: Global, asked: &Asked) -> Result<u16, Fail> {
+        let first = self.lists.assert_alike(alloc, asked)?;
+        let second = self.tables.assert_alike(alloc, asked)?;
+        let are_alike = second.line.as_slice() == first.line.as_slice();
+        ensure(are_alike, "one answer over lists and over tables")?;
         Ok(first.status)
     }
 }
@@ -40,7 +40,7 @@ impl Alike for Offices {
 #[test]
 fn all_are_answered_alike(rt: HostRuntime) -> Result<(), Fail> {
     let mut offices = Offices::founded(rt.alloc())?;
-    let done = assert_all(&rt, &mut offices);
+    let done = assert_all(rt.alloc(), &mut offices);
     drop(offices);
     done
 }
