@@ -19,7 +19,7 @@ const CODES_LISTING: &str =
 
 /// What a command line gave: the exit status, standard output and standard error.
 #[derive(Drop)]
-struct Given {
+struct Outcome {
     status: u8,
     output: Vec<u8>,
     errors: Vec<u8>,
@@ -31,7 +31,7 @@ fn ensure(holds: bool, what: &str) -> Result<(), Fail> {
 }
 
 // What a command line gives, its words apart by a space each.
-fn given(rt: &HostRuntime, line: &str) -> Result<Given, Fail> {
+fn done(rt: &HostRuntime, line: &str) -> Result<Outcome, Fail> {
     let alloc = rt.alloc();
     let mut words = Vec::new(alloc);
     words.push("reg_cli")?;
@@ -45,7 +45,7 @@ fn given(rt: &HostRuntime, line: &str) -> Result<Given, Fail> {
     let mut errors = Vec::new(alloc);
     let mut input: &[u8] = b"";
     let status = perform(rt, &Files, job, &mut input, &mut output, &mut errors);
-    Ok(Given {
+    Ok(Outcome {
         status,
         output,
         errors,
@@ -54,7 +54,7 @@ fn given(rt: &HostRuntime, line: &str) -> Result<Given, Fail> {
 
 // A command line that prints this, and nothing else.
 fn assert_prints(rt: &HostRuntime, line: &str, wanted: &str) -> Result<(), Fail> {
-    let given = given(rt, line)?;
+    let given = done(rt, line)?;
     ensure(given.errors.is_empty(), line)?;
     ensure(given.output.as_slice() == wanted.as_bytes(), line)?;
     ensure(given.status == 0, line)
@@ -62,7 +62,7 @@ fn assert_prints(rt: &HostRuntime, line: &str, wanted: &str) -> Result<(), Fail>
 
 // A command line that is not done, with this on standard error.
 fn assert_undone(rt: &HostRuntime, line: &str, wanted: &str) -> Result<(), Fail> {
-    let given = given(rt, line)?;
+    let given = done(rt, line)?;
     ensure(given.errors.as_slice() == wanted.as_bytes(), line)?;
     ensure(given.output.is_empty(), line)?;
     ensure(given.status == 1, line)
