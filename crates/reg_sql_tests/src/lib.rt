@@ -8,8 +8,6 @@ mod asking;
 #[cfg(test)]
 mod calls;
 #[cfg(test)]
-mod carriers;
-#[cfg(test)]
 mod changes;
 #[cfg(test)]
 mod disks;
@@ -33,7 +31,5 @@ mod rows;
 mod smoke;
 #[cfg(test)]
 mod stops;
-#[cfg(test)]
-mod transcripts;
 #[cfg(test)]
 mod values;
