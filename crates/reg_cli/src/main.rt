@@ -1,11 +1,7 @@
 //! The office of an assignment authority as a program.
 #![tactic(auto)]
 
-#[cfg(test)]
-mod outcomes;
-mod stored;
-
-use crate::stored::Files;
+use reg_files::Files;
 use reg_jobs::command_line::job;
 use reg_jobs::jobs::{Job, JobFault};
 use reg_program::performing::{perform, refuse};

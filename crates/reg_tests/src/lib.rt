@@ -2,7 +2,7 @@
 //! places for them, the days of early allocation, sets of numbers, and range files that no text can
 //! hold. They stand in a
 //! crate of their own because the gate proves a crate that has tests a second time, whole, together
-//! with them. What the program answers is tested in `reg_cli`.
+//! with them. What the program answers is tested in `reg_program_tests`.
 #![tactic(auto)]
 
 #[cfg(test)]

@@ -1,6 +1,6 @@
 //! What the jobs over an office in a file print, and their exit statuses, in the order in which
 //! faults are found.
-use crate::stored::Files;
+use reg_files::Files;
 use reg_jobs::command_line::job;
 use reg_program::performing::perform;
 use sqlite::Connection;

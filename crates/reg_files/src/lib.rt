@@ -1,4 +1,6 @@
 //! Offices in files of SQLite.
+#![tactic(auto)]
+
 use reg_office::Office;
 use reg_program::faults::{JobFailure, Undone};
 use reg_program::tasks::{Offices, Task};
