@@ -8,8 +8,6 @@ mod asking;
 #[cfg(test)]
 mod calls;
 #[cfg(test)]
-mod changes;
-#[cfg(test)]
 mod disks;
 #[cfg(test)]
 mod doubted;
@@ -24,12 +22,8 @@ mod making;
 #[cfg(test)]
 mod openings;
 #[cfg(test)]
-mod picture;
-#[cfg(test)]
 mod rows;
 #[cfg(test)]
 mod smoke;
 #[cfg(test)]
 mod stops;
-#[cfg(test)]
-mod values;

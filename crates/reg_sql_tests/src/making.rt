@@ -1,8 +1,8 @@
 //! Offices that are made and changed on disks.
 use crate::calls::{adopted, apply, closed_by, files_of, judged, kept};
-use crate::changes::first;
 use crate::disks::{Image, Stop, Stopping, Store};
-use crate::picture::picture;
+use reg_changes::changes::first;
+use reg_changes::picture::picture;
 use reg_sql::keeper::SqlKeeper;
 use reg_sql::open::OpenFault;
 use sqlite::Files;

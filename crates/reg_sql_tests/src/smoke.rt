@@ -1,9 +1,9 @@
 //! Each change once, and what the selections give then.
 use crate::calls::{adopted, apply, closed_by};
-use crate::changes::Next;
 use crate::disks::Image;
 use crate::making::{blank, opened, prepared, shown};
-use crate::picture::picture;
+use reg_changes::changes::Next;
+use reg_changes::picture::picture;
 use std::test::Fail;
 
 // What the changes of `first` leave, by hand.

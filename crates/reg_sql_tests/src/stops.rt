@@ -1,10 +1,10 @@
 //! Disks that stop at each call of a change. What is found then is the office before the change or
 //! after it, and after it wherever the change was answered.
 use crate::calls::{apply, files_of};
-use crate::changes::Next;
 use crate::disks::{AT_ONCE, Image, NEVER, Stop, Stopping, stops};
 use crate::looks::{Found, Looks};
 use crate::making::{opens, prepared, stopping};
+use reg_changes::changes::Next;
 use sqlite::Files;
 use std::alloc::Global;
 use std::process::Abort;

@@ -4,6 +4,7 @@ use reg_core::ask::Ask;
 use reg_core::capability::Cap;
 use reg_core::entry::Entry;
 use reg_core::holding::{Holding, Listed};
+use reg_core::queue::QueueRow;
 use reg_core::request::{Given, Request, State};
 use reg_core::text::{Account, Name, Ref, Text};
 use reg_keeper::keeper::Keeper;
@@ -14,21 +15,41 @@ use std::test::Fail;
 /// The content of an office, a line for each row.
 pub fn picture<K: Keeper>(alloc: Global, keeper: &mut K) -> Result<String, Fail> {
     let mut lines = String::new(alloc);
+    all_lines(alloc, keeper, &mut lines)?;
+    Ok(lines)
+}
+
+fn all_lines<K: Keeper>(alloc: Global, keeper: &mut K, lines: &mut String) -> Result<(), Fail> {
+    cap_lines(alloc, keeper, lines)?;
+    register_lines(alloc, keeper, lines)?;
+    request_lines(alloc, keeper, lines)?;
+    for name in ACCOUNTS {
+        let account = account(name)?;
+        holding_lines(alloc, keeper, lines, &account)?;
+        queue_lines(alloc, keeper, lines, &account)?;
+    }
+    block_lines(alloc, keeper, lines)
+}
+
+fn cap_lines<K: Keeper>(alloc: Global, keeper: &mut K, lines: &mut String) -> Result<(), Fail> {
     for token in DIGESTS {
         if let Some(found) = keeper.cap(&digest(token)?)? {
             lines.push_str(cap_line(alloc, &found)?.as_str())?;
         }
     }
-    let all_names = keeper.names()?;
-    for registry in all_names.as_slice() {
-        registry_lines(alloc, keeper, &mut lines, registry)?;
+    Ok(())
+}
+
+fn register_lines<K: Keeper>(
+    alloc: Global,
+    keeper: &mut K,
+    lines: &mut String,
+) -> Result<(), Fail> {
+    let names = keeper.names()?;
+    for registry in names.as_slice() {
+        registry_lines(alloc, keeper, lines, registry)?;
     }
-    request_lines(alloc, keeper, &mut lines)?;
-    for name in ACCOUNTS {
-        account_lines(alloc, keeper, &mut lines, &account(name)?)?;
-    }
-    block_lines(alloc, keeper, &mut lines)?;
-    Ok(lines)
+    Ok(())
 }
 
 fn registry_lines<K: Keeper>(
@@ -81,8 +102,7 @@ fn review_lines<K: Keeper>(
     Ok(())
 }
 
-// What an account holds, and what is queued to it.
-fn account_lines<K: Keeper>(
+fn holding_lines<K: Keeper>(
     alloc: Global,
     keeper: &mut K,
     lines: &mut String,
@@ -92,14 +112,27 @@ fn account_lines<K: Keeper>(
     for holding in held.as_slice() {
         lines.push_str(holding_line(alloc, holding)?.as_str())?;
     }
+    Ok(())
+}
+
+fn queue_lines<K: Keeper>(
+    alloc: Global,
+    keeper: &mut K,
+    lines: &mut String,
+    account: &Account,
+) -> Result<(), Fail> {
     let queued = keeper.queue(account)?;
     for row in queued.as_slice() {
-        let expert = account.as_str();
-        let applicant = row.account.as_str();
-        let request = row.reference.as_str();
-        lines.push_str(format!(in alloc; "queued to {expert}: {applicant} {request}\n")?.as_str())?;
+        lines.push_str(queued_line(alloc, account, row)?.as_str())?;
     }
     Ok(())
+}
+
+fn queued_line(alloc: Global, expert: &Account, row: &QueueRow) -> Result<String, AllocError> {
+    let expert = expert.as_str();
+    let applicant = row.account.as_str();
+    let request = row.reference.as_str();
+    format!(in alloc; "queued to {expert}: {applicant} {request}\n")
 }
 
 fn block_lines<K: Keeper>(alloc: Global, keeper: &mut K, lines: &mut String) -> Result<(), Fail> {
