@@ -1,10 +1,6 @@
 //! Lines that an office is asked, and their answers.
 use crate::rows::ROWS;
-use reg_keeper::keeper::Keeper;
-use reg_office::Office;
-use reg_wire::script::run;
 use std::alloc::{AllocError, Global};
-use std::test::Fail;
 
 /// The token of the first clerk.
 pub const CLERK: &str = "clerk-token-00001";
@@ -38,6 +34,15 @@ pub fn rows(alloc: Global) -> Result<Vec<Row>, AllocError> {
     Ok(rows)
 }
 
+/// The lines of the transcript, in one text.
+pub fn all_lines(alloc: Global) -> Result<Vec<u8>, AllocError> {
+    let mut lines = Vec::new(alloc);
+    for row in &ROWS {
+        lines.extend_from_slice(as_line(alloc, row.0)?.as_slice())?;
+    }
+    Ok(lines)
+}
+
 // A text as a line, with a TAB for each `|`.
 fn as_line(alloc: Global, text: &str) -> Result<Vec<u8>, AllocError> {
     let mut line = Vec::new(alloc);
@@ -48,20 +53,8 @@ fn as_line(alloc: Global, text: &str) -> Result<Vec<u8>, AllocError> {
     Ok(line)
 }
 
-/// What an office answers to these lines.
-pub fn told<K: Keeper>(
-    alloc: Global,
-    office: &mut Office<K>,
-    lines: &[u8],
-) -> Result<Vec<u8>, Fail> {
-    let mut reader = lines;
-    let mut answers = Vec::new(alloc);
-    run(alloc, office, &mut reader, &mut answers)?;
-    Ok(answers)
-}
-
-// What shows an office's content.
-const LOOKS: &str = "\
+/// What shows an office's content.
+pub const LOOKS: &str = "\
 1700000000 - GET /registries
 1700000000 - GET /registries/flags
 1700000000 - GET /pool
@@ -72,10 +65,4 @@ const LOOKS: &str = "\
 1700000000 xpert-token-00001 GET /queue
 1700000000 clerk-token-00001 GET /desk/requests
 1700000000 clerk-token-00001 GET /desk/requests/alice/a-1
-1700000000 clerk-token-00001 GET /desk/requests/bob/b-1
 ";
-
-/// What is seen of an office.
-pub fn seen<K: Keeper>(alloc: Global, office: &mut Office<K>) -> Result<Vec<u8>, Fail> {
-    told(alloc, office, LOOKS.as_bytes())
-}

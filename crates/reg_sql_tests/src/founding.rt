@@ -1,10 +1,9 @@
 //! Disks that stop at each call of the making of the tables: all are there then, or none.
-use crate::calls::{found, has_tables, judge, left_by};
-use crate::disks::{Image, NEVER, Stop, Stopping};
-use crate::making::blank;
+use crate::making::{blank, connected};
 use reg_content::open::Verdict;
-use sqlite::{Connection, FileStore, Files};
-use sqlite_disk::Disk;
+use reg_disks::database::{Database, Statement};
+use reg_disks::image::Image;
+use reg_disks::left::{Left, NEVER, Stop};
 use std::alloc::Global;
 use std::process::Abort;
 use std::test::Fail;
@@ -20,34 +19,24 @@ enum Found {
     Other,
 }
 
-fn found_by<D: Disk + Drop>(
-    alloc: Global,
-    mut conn: Connection<FileStore<D>>,
-) -> Result<Found, Fail> {
-    if !has_tables(&conn) {
-        return Ok(Found::Nothing);
-    }
-    match judge(alloc, &mut conn)? {
-        Verdict::Ours => Ok(Found::Office),
-        Verdict::OtherVersion(_) | Verdict::NotOurs => Ok(Found::Other),
-    }
-}
-
 fn found_in(alloc: Global, image: &Image) -> Result<Found, Fail> {
-    found_by(alloc, image.open(alloc)?)
+    let (outcome, database) = connected(alloc, image)?.carry_out(alloc, Statement::Nothing);
+    drop(database);
+    Ok(match outcome.verdict? {
+        None => Found::Nothing,
+        Some(Verdict::Ours) => Found::Office,
+        Some(Verdict::OtherVersion(_) | Verdict::NotOurs) => Found::Other,
+    })
 }
 
-// Makes the tables, and tells whether that was answered.
-fn made_by<D: Disk + Drop>(mut conn: Connection<FileStore<D>>) -> (bool, Files<D>) {
-    let made = found(&mut conn).is_ok();
-    (made, left_by(conn))
-}
-
-// Makes the tables on disks that stop.
-fn stopped(alloc: Global, stop: Stop) -> Result<(bool, Files<Stopping>), Fail> {
-    match Image::empty(alloc).stopping(alloc, stop)? {
-        Ok(conn) => Ok(made_by(conn)),
-        Err((_, left)) => Ok((false, left.into_files())),
+// Makes the tables on disks that stop, and tells whether that was answered.
+fn stopped(alloc: Global, stop: Stop) -> Result<(bool, Left), Fail> {
+    match Database::open(alloc, &Image::empty(alloc), stop)? {
+        Ok(database) => {
+            let (outcome, database) = database.carry_out(alloc, Statement::MakeTables);
+            Ok((outcome.changed.is_some(), database.leave(alloc)?))
+        }
+        Err(left) => Ok((false, left)),
     }
 }
 
@@ -65,13 +54,10 @@ fn assert_found<R: Abort + AllocGlobal>(
 }
 
 fn assert_stop<R: Abort + AllocGlobal>(rt: &R, stop: Stop) -> Result<bool, Fail> {
-    let alloc = rt.alloc();
-    let (made, files) = stopped(alloc, stop)?;
-    let left = Image::of(alloc, &files)?;
-    assert_found(rt, &left, made, stop)?;
-    let synced = Image::synced(alloc, files)?;
-    if synced != left {
-        assert_found(rt, &synced, made, stop)?;
+    let (made, left) = stopped(rt.alloc(), stop)?;
+    assert_found(rt, &left.written, made, stop)?;
+    if left.synced != left.written {
+        assert_found(rt, &left.synced, made, stop)?;
     }
     Ok(made)
 }

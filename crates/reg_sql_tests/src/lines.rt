@@ -1,88 +1,60 @@
-//! Disks that stop at each call of a line of a script. The office is opened again from what is left
-//! then, and the line is sent again.
-use crate::asking::{CLERK, Row, STORAGE, rows, seen, told};
-use crate::calls::files_of;
-use crate::disks::{Image, NEVER, Stop, Stopping, stops};
-use crate::making::{blank, opened, opens, stopping};
-use reg_keeper::keeper::Keeper;
-use reg_office::Office;
-use reg_sql::keeper::SqlKeeper;
-use sqlite::{FileStore, Files};
-use sqlite_disk::Disk;
+//! Disks that stop at each call of a line of a script. What is found then is the office before the
+//! line or after it, and after it wherever the line was answered; and the line is sent again.
+use crate::asking::{CLERK, LOOKS, Row, STORAGE, all_lines, rows};
+use crate::making::{adopted, blank, calls_of_opening, opened, prepared, seen};
+use reg_disks::image::Image;
+use reg_disks::left::{AT_ONCE, Left, NEVER, Stop, stops};
+use reg_disks::office::DiskOffice;
 use std::alloc::Global;
 use std::process::Abort;
 use std::test::Fail;
 
-/// A row, the files before it, and the files and what is seen after it where no disk stops.
+/// The files of an office, and what is seen of it.
+#[derive(Drop)]
+struct Standing {
+    image: Image,
+    seen: Vec<u8>,
+}
+
+/// A row, and the office before and after it where no disk stops.
 #[derive(Drop)]
 struct Case<'a> {
     row: &'a Row,
-    before: &'a Image,
-    after: &'a Image,
-    seen: &'a [u8],
+    before: &'a Standing,
+    after: &'a Standing,
 }
 
-// The files of the office over this keeper, which is founded.
-fn founded_by<D: Disk + Drop>(
-    alloc: Global,
-    keeper: SqlKeeper<FileStore<D>>,
-) -> Result<Files<D>, Fail> {
-    let mut office = Office::new(alloc, keeper);
-    office.found(CLERK.as_bytes())?;
-    Ok(files_of(office.into_keeper()))
+// The office that is founded.
+fn founded(alloc: Global) -> Result<Standing, Fail> {
+    let token = Some(CLERK.as_bytes());
+    let (_, office) = opened(alloc, &blank(alloc)?)?.ask(alloc, token, b"")?;
+    standing_of(alloc, office)
 }
 
-// The files of an office that is founded.
-fn founded(alloc: Global) -> Result<Image, Fail> {
-    let files = founded_by(alloc, opened(alloc, &blank(alloc)?)?)?;
-    Ok(Image::of(alloc, &files)?)
+// How an office stands.
+fn standing_of(alloc: Global, office: DiskOffice) -> Result<Standing, Fail> {
+    let (seen, office) = office.ask(alloc, None, LOOKS.as_bytes())?;
+    let image = office.into_database().leave(alloc)?.written;
+    Ok(Standing { image, seen })
 }
 
-// The files of the office over this keeper after a row that is answered by its own answer, and what
-// is seen then.
-fn answered<R: Abort + AllocGlobal, D: Disk + Drop>(
-    rt: &R,
-    keeper: SqlKeeper<FileStore<D>>,
-    row: &Row,
-) -> Result<(Files<D>, Vec<u8>), Fail> {
+// The office after a row, which is answered by its own answer.
+fn after<R: Abort + AllocGlobal>(rt: &R, before: &Image, row: &Row) -> Result<Standing, Fail> {
     let alloc = rt.alloc();
-    let mut office = Office::new(alloc, keeper);
-    let answer = told(alloc, &mut office, row.line.as_slice())?;
+    let office = opened(alloc, before)?;
+    let (answer, office) = office.ask(alloc, None, row.line.as_slice())?;
     assert_eq!(rt; answer.as_slice(), row.answer.as_slice());
-    let seen = seen(alloc, &mut office)?;
-    Ok((files_of(office.into_keeper()), seen))
-}
-
-// The files after a row, and what is seen then.
-fn after<R: Abort + AllocGlobal>(
-    rt: &R,
-    before: &Image,
-    row: &Row,
-) -> Result<(Image, Vec<u8>), Fail> {
-    let (files, seen) = answered(rt, opened(rt.alloc(), before)?, row)?;
-    Ok((Image::of(rt.alloc(), &files)?, seen))
-}
-
-// What the office over this keeper answers to the line, and its files.
-fn sent<D: Disk + Drop>(
-    alloc: Global,
-    keeper: SqlKeeper<FileStore<D>>,
-    line: &[u8],
-) -> Result<(Option<Vec<u8>>, Files<D>), Fail> {
-    let mut office = Office::new(alloc, keeper);
-    let answer = told(alloc, &mut office, line)?;
-    Ok((Some(answer), files_of(office.into_keeper())))
+    standing_of(alloc, office)
 }
 
 // Sends the line on disks that stop, and gives what was answered, if the office was opened.
-fn stopped(
-    alloc: Global,
-    case: &Case<'_>,
-    stop: Stop,
-) -> Result<(Option<Vec<u8>>, Files<Stopping>), Fail> {
-    match stopping(alloc, case.before, stop)? {
-        Ok(keeper) => sent(alloc, keeper, case.row.line.as_slice()),
-        Err(files) => Ok((None, files)),
+fn stopped(alloc: Global, case: &Case<'_>, stop: Stop) -> Result<(Option<Vec<u8>>, Left), Fail> {
+    match DiskOffice::open(alloc, &case.before.image, stop)? {
+        Ok(office) => {
+            let (answer, office) = office.ask(alloc, None, case.row.line.as_slice())?;
+            Ok((Some(answer), office.into_database().leave(alloc)?))
+        }
+        Err(left) => Ok((None, left)),
     }
 }
 
@@ -93,42 +65,20 @@ fn assert_answer<R: Abort>(rt: &R, case: &Case<'_>, answer: &[u8], stop: Stop) -
     is_own
 }
 
-// When the line is sent again to this office it is answered, as one that was carried
-// out where it was answered before, and then the content is that after it.
-fn assert_resumed_by<R: Abort + AllocGlobal, K: Keeper>(
-    rt: &R,
-    case: &Case<'_>,
-    office: &mut Office<K>,
-    is_answered: bool,
-    stop: Stop,
-) -> Result<(), Fail> {
-    let alloc = rt.alloc();
-    if is_answered {
-        assert_seen(rt, case, office, stop)?;
-    }
-    let answer = told(alloc, office, case.row.line.as_slice())?;
-    let is_first = !is_answered && answer == case.row.answer;
-    assert!(rt;
-        is_first || case.row.is_repeated(answer.as_slice()),
-        "{stop:?}"
-    );
-    assert_seen(rt, case, office, stop)
+// The office is the one before the line or after it, and after it where that was answered.
+fn assert_left<R: Abort>(rt: &R, case: &Case<'_>, seen: &[u8], is_answered: bool, stop: Stop) {
+    let is_before = !is_answered && seen == case.before.seen.as_slice();
+    assert!(rt; is_before || seen == case.after.seen.as_slice(), "{stop:?}");
 }
 
-// The office shows what it shows where no disk stops.
-fn assert_seen<R: Abort + AllocGlobal, K: Keeper>(
-    rt: &R,
-    case: &Case<'_>,
-    office: &mut Office<K>,
-    stop: Stop,
-) -> Result<(), Fail> {
-    let seen = seen(rt.alloc(), office)?;
-    assert!(rt; seen.as_slice() == case.seen, "{stop:?}");
-    Ok(())
+// The line that is sent again is answered, as one that was carried out where it was answered before.
+fn assert_again<R: Abort>(rt: &R, case: &Case<'_>, answer: &[u8], is_answered: bool, stop: Stop) {
+    let is_first = !is_answered && answer == case.row.answer.as_slice();
+    assert!(rt; is_first || case.row.is_repeated(answer), "{stop:?}");
 }
 
-// So it is in these files. Files that are as before the line need not be opened again: that it is
-// answered from there is known.
+// So it is of the office in these files, and once the line was sent again it is the one after it.
+// Files that are as before the line need not be opened again: what is answered from there is known.
 fn assert_resumed<R: Abort + AllocGlobal>(
     rt: &R,
     case: &Case<'_>,
@@ -136,25 +86,26 @@ fn assert_resumed<R: Abort + AllocGlobal>(
     is_answered: bool,
     stop: Stop,
 ) -> Result<(), Fail> {
-    if !is_answered && image == case.before {
+    if !is_answered && image == &case.before.image {
         return Ok(());
     }
-    let mut office = Office::new(rt.alloc(), opened(rt.alloc(), image)?);
-    let done = assert_resumed_by(rt, case, &mut office, is_answered, stop);
-    drop(office);
-    done
+    let alloc = rt.alloc();
+    let (seen, office) = opened(alloc, image)?.ask(alloc, None, LOOKS.as_bytes())?;
+    assert_left(rt, case, seen.as_slice(), is_answered, stop);
+    let (answer, office) = office.ask(alloc, None, case.row.line.as_slice())?;
+    assert_again(rt, case, answer.as_slice(), is_answered, stop);
+    let after = standing_of(alloc, office)?;
+    assert_left(rt, case, after.seen.as_slice(), true, stop);
+    Ok(())
 }
 
 fn assert_stop<R: Abort + AllocGlobal>(rt: &R, case: &Case<'_>, stop: Stop) -> Result<(), Fail> {
-    let alloc = rt.alloc();
-    let (answer, files) = stopped(alloc, case, stop)?;
+    let (answer, left) = stopped(rt.alloc(), case, stop)?;
     let answer = answer.ok_or("an office that is opened")?;
     let is_answered = assert_answer(rt, case, answer.as_slice(), stop);
-    let written = Image::of(alloc, &files)?;
-    assert_resumed(rt, case, &written, is_answered, stop)?;
-    let synced = Image::synced(alloc, files)?;
-    if synced != written {
-        assert_resumed(rt, case, &synced, is_answered, stop)?;
+    assert_resumed(rt, case, &left.written, is_answered, stop)?;
+    if left.synced != left.written {
+        assert_resumed(rt, case, &left.synced, is_answered, stop)?;
     }
     Ok(())
 }
@@ -162,30 +113,26 @@ fn assert_stop<R: Abort + AllocGlobal>(rt: &R, case: &Case<'_>, stop: Stop) -> R
 // The log's disk stops at each call of the line, and then the database's.
 fn assert_case<R: Abort + AllocGlobal>(rt: &R, case: &Case<'_>) -> Result<(), Fail> {
     let alloc = rt.alloc();
-    let (_, files) = opens(alloc, case.before, NEVER)?;
-    let first = Stop::past(&files);
-    let (_, files) = stopped(alloc, case, NEVER)?;
-    let last = Stop::past(&files);
-    assert!(rt; Image::of(alloc, &files)? == *case.after);
-    for stop in stops(alloc, first, last)? {
+    let first = calls_of_opening(alloc, &case.before.image)?;
+    let (_, left) = stopped(alloc, case, NEVER)?;
+    for stop in stops(alloc, first, left.calls)? {
         assert_stop(rt, case, stop)?;
     }
-    assert_stop(rt, case, last)
+    assert_stop(rt, case, left.calls)
 }
 
 // The rows from one place up to another are sent on disks that stop, after those before them.
 fn assert_rows<R: Abort + AllocGlobal>(rt: &R, from: usize, to: usize) -> Result<(), Fail> {
     let rows = rows(rt.alloc())?;
-    assert_eq!(rt; rows.len(), 24);
+    assert_eq!(rt; rows.len(), 25);
     let mut before = founded(rt.alloc())?;
     for (place, row) in rows.iter().enumerate() {
-        let (after, seen) = after(rt, &before, row)?;
+        let after = after(rt, &before.image, row)?;
         if from <= place && place < to {
             let case = Case {
                 row,
                 before: &before,
                 after: &after,
-                seen: seen.as_slice(),
             };
             assert_case(rt, &case)?;
         }
@@ -201,25 +148,80 @@ fn of_grants_a_definition_and_a_prefix(rt: HostRuntime) -> Result<(), Fail> {
 
 #[test]
 fn of_a_value_that_is_reviewed(rt: HostRuntime) -> Result<(), Fail> {
-    assert_rows(&rt, 5, 9)
+    assert_rows(&rt, 5, 10)
 }
 
 #[test]
 fn of_a_block(rt: HostRuntime) -> Result<(), Fail> {
-    assert_rows(&rt, 9, 12)
+    assert_rows(&rt, 10, 13)
 }
 
 #[test]
 fn of_refusals(rt: HostRuntime) -> Result<(), Fail> {
-    assert_rows(&rt, 12, 16)
+    assert_rows(&rt, 13, 17)
 }
 
 #[test]
 fn of_an_early_allocation(rt: HostRuntime) -> Result<(), Fail> {
-    assert_rows(&rt, 16, 20)
+    assert_rows(&rt, 17, 21)
 }
 
 #[test]
 fn of_a_revocation_and_looks(rt: HostRuntime) -> Result<(), Fail> {
-    assert_rows(&rt, 20, 24)
+    assert_rows(&rt, 21, 25)
+}
+
+// An opening that lacks a call does not open, and leaves the office as it was: so the calls of a line
+// begin after those that an opening takes.
+fn assert_unopened<R: Abort + AllocGlobal>(
+    rt: &R,
+    image: &Image,
+    wanted: &[u8],
+    stop: Stop,
+) -> Result<(), Fail> {
+    let Err(left) = DiskOffice::open(rt.alloc(), image, stop)? else {
+        return Err("an office that is not opened".into());
+    };
+    assert_seen(rt, &left.written, wanted, stop)?;
+    if left.synced != left.written {
+        assert_seen(rt, &left.synced, wanted, stop)?;
+    }
+    Ok(())
+}
+
+fn assert_seen<R: Abort + AllocGlobal>(
+    rt: &R,
+    image: &Image,
+    wanted: &[u8],
+    stop: Stop,
+) -> Result<(), Fail> {
+    let seen = seen(rt.alloc(), image)?;
+    assert!(rt; seen.as_slice() == wanted, "{stop:?}");
+    Ok(())
+}
+
+#[test]
+fn of_an_opening(rt: HostRuntime) -> Result<(), Fail> {
+    let alloc = rt.alloc();
+    let image = prepared(alloc)?;
+    let wanted = seen(alloc, &image)?;
+    for stop in stops(alloc, AT_ONCE, calls_of_opening(alloc, &image)?)? {
+        assert_unopened(&rt, &image, wanted.as_slice(), stop)?;
+    }
+    Ok(())
+}
+
+// The store of an office that was changed is the same office again, and so is the one in its files.
+#[test]
+fn adopted_again(rt: HostRuntime) -> Result<(), Fail> {
+    let alloc = rt.alloc();
+    let before = founded(alloc)?;
+    let lines = all_lines(alloc)?;
+    let (_, office) = opened(alloc, &before.image)?.ask(alloc, None, lines.as_slice())?;
+    let (wanted, office) = office.ask(alloc, None, LOOKS.as_bytes())?;
+    let office = adopted(alloc, office.into_database(), false)?;
+    let again = standing_of(alloc, office)?;
+    assert!(rt; again.seen == wanted && wanted != before.seen);
+    assert!(rt; seen(alloc, &again.image)? == wanted);
+    Ok(())
 }

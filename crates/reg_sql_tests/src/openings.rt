@@ -1,8 +1,8 @@
 //! Stores that were written by other hands, and what they are to an office that opens them.
-use crate::calls::{closed, execute, judge};
-use crate::disks::Image;
-use crate::making::{blank, filled, prepared, refused, shown};
+use crate::making::{blank, connected, filled, prepared, refused, seen};
 use reg_content::open::Verdict;
+use reg_disks::database::Statement;
+use reg_disks::image::Image;
 use reg_sql::open::OpenFault;
 use std::alloc::Global;
 use std::process::Abort;
@@ -51,7 +51,7 @@ const TOUCH: &str = "UPDATE cars SET plate = plate WHERE plate = 'a'";
 // What leaves rows that are no office's.
 const ROWS: [&str; 20] = [
     "UPDATE caps SET account = 'Clerk'",
-    "UPDATE caps SET digest = 'abc'",
+    "UPDATE caps SET digest = 'abc' WHERE account = 'alice'",
     "UPDATE caps SET kind = 'king'",
     "UPDATE caps SET until = -1",
     "UPDATE registries SET max = 4294967296",
@@ -59,12 +59,12 @@ const ROWS: [&str; 20] = [
     "UPDATE ranges SET lo = 65 WHERE lo = 64",
     "DELETE FROM ranges WHERE lo = 192",
     "UPDATE ranges SET treatment = 'mine' WHERE lo = 0",
-    "UPDATE entries SET value = 200",
+    "UPDATE entries SET value = 230 WHERE value = 200",
     "UPDATE entries SET first = 1",
     "UPDATE entries SET renewed = 2",
     "DELETE FROM entries",
-    "UPDATE requests SET label = NULL WHERE kind = 'code'",
-    "UPDATE requests SET size = 'MA-M' WHERE kind = 'code'",
+    "UPDATE requests SET label = NULL WHERE reference = 'a-1'",
+    "UPDATE requests SET size = 'MA-M' WHERE reference = 'a-1'",
     "UPDATE requests SET given = '8' WHERE reference = 'a-1'",
     "INSERT INTO queue (account, reference, expert) VALUES ('bob', 'b-1', 'bob')",
     "UPDATE pool SET prefix = 65536",
@@ -86,11 +86,12 @@ const REFUSED: [&str; 7] = [
 
 // What a store is after a statement, if it goes through.
 fn after(alloc: Global, image: &Image, sql: &str) -> Result<Option<Verdict>, Fail> {
-    let mut conn = image.open(alloc)?;
-    if execute(&mut conn, sql).is_err() {
+    let (outcome, database) = connected(alloc, image)?.carry_out(alloc, Statement::Sql(sql));
+    drop(database);
+    if outcome.changed.is_none() {
         return Ok(None);
     }
-    Ok(Some(judge(alloc, &mut conn)?))
+    Ok(outcome.verdict?)
 }
 
 fn assert_not_ours<R: Abort + AllocGlobal>(rt: &R, statements: &[&str]) -> Result<(), Fail> {
@@ -118,17 +119,20 @@ fn other_tables(rt: HostRuntime) -> Result<(), Fail> {
 
 // These files after some statements.
 fn changed(alloc: Global, image: &Image, statements: &[&str]) -> Result<Image, Fail> {
-    let mut conn = image.open(alloc)?;
+    let mut database = connected(alloc, image)?;
     for sql in statements {
-        execute(&mut conn, sql)?;
+        let (outcome, after) = database.carry_out(alloc, Statement::Sql(sql));
+        database = after;
+        outcome.changed.ok_or("a statement that is done")?;
     }
-    Ok(Image::of(alloc, &closed(conn)?)?)
+    database.close(alloc)
 }
 
 // How many rows of another program's table are there.
 fn cars(alloc: Global, image: &Image) -> Result<usize, Fail> {
-    let mut conn = image.open(alloc)?;
-    Ok(execute(&mut conn, TOUCH)?)
+    let (outcome, database) = connected(alloc, image)?.carry_out(alloc, Statement::Sql(TOUCH));
+    drop(database);
+    Ok(outcome.changed.ok_or("a table of cars")?)
 }
 
 #[test]
@@ -140,7 +144,7 @@ fn other_tables_alone(rt: HostRuntime) -> Result<(), Fail> {
     assert_eq!(rt; left == image, true);
     let (fault, left) = refused(alloc, &image, true)?;
     assert_eq!(rt; fault, None);
-    assert_eq!(rt; shown(alloc, &left)?, shown(alloc, &blank(alloc)?)?);
+    assert_eq!(rt; seen(alloc, &left)?, seen(alloc, &blank(alloc)?)?);
     assert_eq!(rt; cars(alloc, &left)?, 1);
     Ok(())
 }
@@ -152,11 +156,11 @@ fn an_office_after_other_tables(rt: HostRuntime) -> Result<(), Fail> {
     let (fault, founded) = refused(alloc, &image, true)?;
     assert_eq!(rt; fault, None);
     let made = filled(alloc, &founded)?;
-    assert_eq!(rt; shown(alloc, &made)?, shown(alloc, &prepared(alloc)?)?);
+    assert_eq!(rt; seen(alloc, &made)?, seen(alloc, &prepared(alloc)?)?);
     assert_eq!(rt; cars(alloc, &made)?, 1);
     let (fault, again) = refused(alloc, &made, true)?;
     assert_eq!(rt; fault, None);
-    assert_eq!(rt; shown(alloc, &again)?, shown(alloc, &made)?);
+    assert_eq!(rt; seen(alloc, &again)?, seen(alloc, &made)?);
     Ok(())
 }
 
@@ -164,13 +168,13 @@ fn an_office_after_other_tables(rt: HostRuntime) -> Result<(), Fail> {
 fn other_tables_after_an_office(rt: HostRuntime) -> Result<(), Fail> {
     let alloc = rt.alloc();
     let image = prepared(alloc)?;
-    let wanted = shown(alloc, &image)?;
+    let wanted = seen(alloc, &image)?;
     for sql in BESIDE {
         let beside = changed(alloc, &image, &[sql])?;
-        assert_eq!(rt; shown(alloc, &beside)?, wanted, "{sql}");
+        assert_eq!(rt; seen(alloc, &beside)?, wanted, "{sql}");
     }
     let beside = changed(alloc, &changed(alloc, &blank(alloc)?, &BESIDE)?, &[CAR])?;
-    assert_eq!(rt; shown(alloc, &filled(alloc, &beside)?)?, wanted);
+    assert_eq!(rt; seen(alloc, &filled(alloc, &beside)?)?, wanted);
     assert_eq!(rt; cars(alloc, &beside)?, 1);
     Ok(())
 }

@@ -1,7 +1,7 @@
 //! Lines and their answers, worked from the specification.
 
 /// The lines of one office from its founding on, each with its answer. A TAB is written as `|`.
-pub const ROWS: [(&str, &str); 24] = [
+pub const ROWS: [(&str, &str); 25] = [
     (
         r#"1700000000 clerk-token-00001 PUT /desk/tokens {"account":"alice","kind":"applicant","token":"alice-token-00001","until":1800000000}"#,
         r#"200 {"account":"alice","kind":"applicant","until":1800000000}"#,
@@ -29,6 +29,10 @@ pub const ROWS: [(&str, &str); 24] = [
     (
         r#"1700000000 clerk-token-00001 PUT /desk/experts/alice/a-1/xan"#,
         r#"200 {"account":"alice","ask":{"contact":"c","kind":"code","label":"Green","registry":"flags","value":200},"reference":"a-1","state":"pending"}"#,
+    ),
+    (
+        r#"1700000000 xpert-token-00001 PUT /queue/alice/a-1 {"text":"no","verdict":"against"}"#,
+        r#"200 {"account":"alice","advice":{"text":"no","verdict":"against"},"ask":{"contact":"c","kind":"code","label":"Green","registry":"flags","value":200},"reference":"a-1","state":"pending"}"#,
     ),
     (
         r#"1700000000 xpert-token-00001 PUT /queue/alice/a-1 {"text":"fine","verdict":"for"}"#,

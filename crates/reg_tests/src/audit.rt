@@ -1,4 +1,5 @@
 //! The rows of a small office, with ample memory.
+use crate::expecting::expect_true;
 use reg_audit::audit::Audit;
 use reg_audit::row::Row;
 use reg_blocks::block::Block;
@@ -119,19 +120,41 @@ fn advice(rt: &(impl Abort + AllocGlobal)) -> Result<Row, Fail> {
     ))
 }
 
+// Feeds a row that fits those before it.
+fn accept(rt: &impl Abort, audit: &mut Audit, row: Row, what: &str) -> Result<(), Fail> {
+    expect_true(rt, audit.feed(row)?, what);
+    Ok(())
+}
+
+// Feeds rows of all kinds but those of a request's course.
+fn accept_registers(rt: &(impl Abort + AllocGlobal), audit: &mut Audit) -> Result<(), Fail> {
+    accept(rt, audit, cap(rt), "a capability")?;
+    accept(rt, audit, ranges(rt)?, "a registry")?;
+    accept(rt, audit, entry(rt)?, "an entry")?;
+    accept(rt, audit, Row::Prefix(0x00_1A2B), "a prefix")?;
+    accept(rt, audit, holding(rt)?, "a block")
+}
+
+// Feeds a request, its assignment and the advice on it.
+fn accept_course(rt: &(impl Abort + AllocGlobal), audit: &mut Audit) -> Result<(), Fail> {
+    accept(rt, audit, request(rt)?, "a request")?;
+    accept(rt, audit, assignment(rt, "carol"), "an assignment")?;
+    accept(rt, audit, advice(rt)?, "an advice")
+}
+
+// Feeds a row that does not fit.
+fn refuse(rt: &impl Abort, audit: &mut Audit, row: Row, what: &str) -> Result<(), Fail> {
+    expect_true(rt, !audit.feed(row)?, what);
+    Ok(())
+}
+
 #[test]
 fn rows_of_an_office(rt: HostRuntime) -> Result<(), Fail> {
     let mut audit = Audit::new(rt.alloc());
-    assert!(rt; audit.feed(cap(&rt))?);
-    assert!(rt; audit.feed(ranges(&rt)?)?);
-    assert!(rt; audit.feed(entry(&rt)?)?);
-    assert!(rt; audit.feed(Row::Prefix(0x00_1A2B))?);
-    assert!(rt; audit.feed(holding(&rt)?)?);
-    assert!(rt; audit.feed(request(&rt)?)?);
-    assert!(rt; audit.feed(assignment(&rt, "carol"))?);
-    assert!(rt; audit.feed(advice(&rt)?)?);
-    assert!(rt; audit.is_well_kept());
-    assert!(rt; !audit.feed(assignment(&rt, "bob"))?);
-    assert!(rt; !audit.is_well_kept());
+    accept_registers(&rt, &mut audit)?;
+    accept_course(&rt, &mut audit)?;
+    expect_true(&rt, audit.is_well_kept(), "well kept");
+    refuse(&rt, &mut audit, assignment(&rt, "bob"), "of the asker")?;
+    expect_true(&rt, !audit.is_well_kept(), "no longer well kept");
     Ok(())
 }

@@ -1,4 +1,5 @@
 //! Days and texts against Python's `datetime`, and terms and evidence against worked cases.
+use crate::expecting::{expect_at, expect_text, expect_true};
 use reg_early::day::{Day, day_of, day_text, year_after};
 use reg_early::evidence::EarlyEvidence;
 use reg_early::laws;
@@ -8,31 +9,50 @@ use reg_ranges::evidence::Item;
 use reg_ranges::policy::Policy;
 use reg_ranges::text::Text;
 use std::alloc::Global;
+use std::process::Abort;
 use std::test::Fail;
 
 fn day(number: u32) -> Result<Day, Fail> {
     Ok(Day::from_days(number).ok_or("no day")?)
 }
 
-#[test]
-fn days_end_where_the_calendar_does(rt: HostRuntime) -> Result<(), Fail> {
-    for number in [0, 10956, 2932897, u32::MAX] {
-        assert_eq!(rt; Day::from_days(number), None);
-    }
-    for (number, text) in [
-        (10957, "2000-01-01"),
-        (19782, "2024-02-29"),
-        (47541, "2100-03-01"),
-        (2932896, "9999-12-31"),
-    ] {
-        assert_eq!(rt; day_text(rt.alloc(), day(number)?)?.as_str(), text);
-        assert_eq!(rt; day(number)?.days(), number);
-    }
+const NO_DAYS: &[u32] = &[0, 10956, 2932897, u32::MAX];
+
+const DAYS: &[(u32, &str)] = &[
+    (10957, "2000-01-01"),
+    (19782, "2024-02-29"),
+    (47541, "2100-03-01"),
+    (2932896, "9999-12-31"),
+];
+
+fn expect_no_day(rt: &impl Abort, number: u32) {
+    expect_at(rt, Day::from_days(number), None, u64::from(number));
+}
+
+fn expect_day(rt: &impl Abort, alloc: Global, number: u32, text: &str) -> Result<(), Fail> {
+    let day = day(number)?;
+    expect_at(rt, day.days(), number, u64::from(number));
+    expect_text(rt, day_text(alloc, day)?.as_str(), text, "date");
+    Ok(())
+}
+
+fn laws_return() {
     laws::days_and_dates_are_one_to_one();
     laws::calendar_is_jiffs();
     laws::year_after_is_the_same_date();
     laws::moments_have_days();
     laws::terms_have_days();
+}
+
+#[test]
+fn days_end_where_the_calendar_does(rt: HostRuntime) -> Result<(), Fail> {
+    for number in NO_DAYS {
+        expect_no_day(&rt, *number);
+    }
+    for (number, text) in DAYS {
+        expect_day(&rt, rt.alloc(), *number, text)?;
+    }
+    laws_return();
     Ok(())
 }
 
@@ -180,42 +200,70 @@ fn evidence(alloc: Global, items: u8, will_be_rfc: bool) -> Result<EarlyEvidence
     })
 }
 
+// With so many items one is missing.
+const MISSING: &[(u8, Option<Item>)] = &[
+    (0, Some(Item::Draft)),
+    (1, Some(Item::Stable)),
+    (2, Some(Item::Interest)),
+    (3, Some(Item::Chair)),
+    (4, Some(Item::Director)),
+    (5, None),
+];
+
+fn expect_missing(
+    rt: &impl Abort,
+    alloc: Global,
+    items: u8,
+    missing: Option<Item>,
+) -> Result<(), Fail> {
+    let shown = evidence(alloc, items, false)?;
+    let found = early_missing(Policy::StandardsAction, &shown);
+    expect_at(rt, found, missing, u64::from(items));
+    expect_true(rt, shown.copy()? == shown, "a copy is equal");
+    Ok(())
+}
+
 #[test]
 fn early_items_are_asked_in_order(rt: HostRuntime) -> Result<(), Fail> {
-    for (items, missing) in [
-        (0, Some(Item::Draft)),
-        (1, Some(Item::Stable)),
-        (2, Some(Item::Interest)),
-        (3, Some(Item::Chair)),
-        (4, Some(Item::Director)),
-        (5, None),
-    ] {
-        let shown = evidence(rt.alloc(), items, false)?;
-        assert_eq!(rt; early_missing(Policy::StandardsAction, &shown), missing);
-        assert!(rt; shown.copy()? == shown);
+    for (items, missing) in MISSING {
+        expect_missing(&rt, rt.alloc(), *items, *missing)?;
     }
+    Ok(())
+}
+
+const NEVER: Option<Item> = Some(Item::Policy);
+
+// What is missing under each policy, and what where the document will be an RFC.
+const POLICIES: &[(Policy, Option<Item>, Option<Item>)] = &[
+    (Policy::PrivateUse, NEVER, NEVER),
+    (Policy::ExperimentalUse, NEVER, NEVER),
+    (Policy::HierarchicalAllocation, NEVER, NEVER),
+    (Policy::FirstComeFirstServed, NEVER, NEVER),
+    (Policy::ExpertReview, NEVER, NEVER),
+    (Policy::SpecificationRequired, NEVER, None),
+    (Policy::RfcRequired, None, None),
+    (Policy::IetfReview, None, None),
+    (Policy::StandardsAction, None, None),
+    (Policy::IesgApproval, NEVER, NEVER),
+];
+
+fn expect_allowed(
+    rt: &impl Abort,
+    alloc: Global,
+    policy: Policy,
+    will_be_rfc: bool,
+    missing: Option<Item>,
+) -> Result<(), Fail> {
+    let shown = evidence(alloc, 5, will_be_rfc)?;
+    assert_eq!(rt; early_missing(policy, &shown), missing, "{policy:?}");
     Ok(())
 }
 
 #[test]
 fn four_policies_allow_early_allocation(rt: HostRuntime) -> Result<(), Fail> {
-    let never = Some(Item::Policy);
-    for (policy, otherwise, with_rfc) in [
-        (Policy::PrivateUse, never, never),
-        (Policy::ExperimentalUse, never, never),
-        (Policy::HierarchicalAllocation, never, never),
-        (Policy::FirstComeFirstServed, never, never),
-        (Policy::ExpertReview, never, never),
-        (Policy::SpecificationRequired, never, None),
-        (Policy::RfcRequired, None, None),
-        (Policy::IetfReview, None, None),
-        (Policy::StandardsAction, None, None),
-        (Policy::IesgApproval, never, never),
-    ] {
-        for (will_be_rfc, missing) in [(false, otherwise), (true, with_rfc)] {
-            let shown = evidence(rt.alloc(), 5, will_be_rfc)?;
-            assert_eq!(rt; early_missing(policy, &shown), missing, "{policy:?}");
-        }
+    for (policy, otherwise, with_rfc) in POLICIES {
+        expect_allowed(&rt, rt.alloc(), *policy, false, *otherwise)?;
+        expect_allowed(&rt, rt.alloc(), *policy, true, *with_rfc)?;
     }
     Ok(())
 }

@@ -12,6 +12,8 @@ mod blocks;
 #[cfg(test)]
 mod early;
 #[cfg(test)]
+mod expecting;
+#[cfg(test)]
 mod free_values;
 #[cfg(test)]
 mod places;

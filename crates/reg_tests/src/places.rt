@@ -1,4 +1,5 @@
 //! The block due by free places: worked by hand, and against the sweep over all given blocks.
+use crate::expecting::{expect, expect_true};
 use reg_blocks::block::Block;
 use reg_blocks::due::{ascends, least_free};
 use reg_blocks::pool::{Add, Pool, is_pool_prefix};
@@ -25,10 +26,15 @@ fn places_of(alloc: Global, prefixes: &[u32]) -> Result<Places, AllocError> {
     Ok(places)
 }
 
+fn block_if(rt: &impl Abort, digits: Option<&str>) -> Option<Block> {
+    digits.map(|digits| block(rt, digits))
+}
+
 fn expect_due(rt: &impl Abort, places: &Places, want: [Option<&str>; 3]) {
-    for (size, digits) in SIZES.into_iter().zip(want) {
-        assert_eq!(rt; places.due(size), digits.map(|digits| block(rt, digits)));
-    }
+    let [large, medium, small] = want;
+    expect(rt, places.due(Size::MaL), block_if(rt, large), "large");
+    expect(rt, places.due(Size::MaM), block_if(rt, medium), "medium");
+    expect(rt, places.due(Size::MaS), block_if(rt, small), "small");
 }
 
 #[test]
@@ -126,6 +132,35 @@ fn may_give(rt: &impl Abort, pool: &Pool, given: &[Block], block: &Block) -> boo
     pool.prefixes().contains(&prefix) && !given.iter().any(|other| block.overlaps(other))
 }
 
+// A prefix more in the pool and among the places.
+fn grow(
+    rt: &impl Abort,
+    places: &mut Places,
+    pool: &mut Pool,
+    prefix: u32,
+) -> Result<(), AllocError> {
+    assert!(rt; is_pool_prefix(prefix));
+    places.add_prefix(prefix)?;
+    expect_true(rt, pool.add(prefix) != Add::Memory, "memory");
+    Ok(())
+}
+
+// Gives the block if it is free.
+fn give_free(
+    rt: &impl Abort,
+    places: &mut Places,
+    pool: &Pool,
+    given: &mut Vec<Block>,
+    block: Block,
+) -> Result<(), AllocError> {
+    if may_give(rt, pool, given.as_slice(), &block) {
+        places.give(block)?;
+        given.push(block)?;
+        given.sort_unstable();
+    }
+    Ok(())
+}
+
 // An office whose pool grows, and which gives blocks in any order. Whether nothing is due at last.
 fn office(rt: &impl Abort, alloc: Global, seed: u64) -> Result<bool, AllocError> {
     let mut state = seed;
@@ -135,16 +170,10 @@ fn office(rt: &impl Abort, alloc: Global, seed: u64) -> Result<bool, AllocError>
     for turn in 0..48 {
         if turn % 16 == 0 {
             let prefix = (0x00_1A2B + next(&mut state) % 3) as u32;
-            assert!(rt; is_pool_prefix(prefix));
-            places.add_prefix(prefix)?;
-            assert!(rt; pool.add(prefix) != Add::Memory);
+            grow(rt, &mut places, &mut pool, prefix)?;
         }
         let block = some_block(&mut state).expect(rt, "a block");
-        if may_give(rt, &pool, &given, &block) {
-            places.give(block)?;
-            given.push(block)?;
-            given.sort_unstable();
-        }
+        give_free(rt, &mut places, &pool, &mut given, block)?;
         compare(rt, &places, &pool, &given);
     }
     Ok(places.due(Size::MaS).is_none())
@@ -171,25 +200,33 @@ fn give_or_again(rt: &impl Abort, places: &mut Places, block: Block) -> Result<(
     Ok(())
 }
 
+// As `give_or_again`, of a prefix.
+fn add_or_again(rt: &impl Abort, places: &mut Places, prefix: u32) -> Result<(), AllocError> {
+    assert!(rt; is_pool_prefix(prefix));
+    let before = SIZES.map(|size| places.due(size));
+    if places.add_prefix(prefix).is_err() {
+        assert_eq!(rt; SIZES.map(|size| places.due(size)), before);
+        places.add_prefix(prefix)?;
+    }
+    Ok(())
+}
+
+fn give_each_other(rt: &impl Abort, places: &mut Places) -> Result<(), AllocError> {
+    for k in 0..64 {
+        let small = Block::make(Size::MaS, 0x0_01A2_B000 + 2 * k);
+        give_or_again(rt, places, small.expect(rt, "36 bits"))?;
+    }
+    Ok(())
+}
+
 #[test]
 fn due_where_memory_is_refused_once(rt: HostRuntime) -> Result<(), Fail> {
     let mut places = Places::new(rt.alloc());
     for prefix in 0x00_1A2B..0x00_1A3B {
-        assert!(rt; is_pool_prefix(prefix));
-        let before = SIZES.map(|size| places.due(size));
-        if places.add_prefix(prefix).is_err() {
-            assert_eq!(rt; SIZES.map(|size| places.due(size)), before);
-            places.add_prefix(prefix)?;
-        }
+        add_or_again(&rt, &mut places, prefix)?;
     }
-    for k in 0..64 {
-        let small = Block::make(Size::MaS, 0x0_01A2_B000 + 2 * k);
-        give_or_again(&rt, &mut places, small.expect(&rt, "36 bits"))?;
-    }
-    expect_due(
-        &rt,
-        &places,
-        [Some("001A2C"), Some("001A2B1"), Some("001A2B001")],
-    );
+    give_each_other(&rt, &mut places)?;
+    let due = [Some("001A2C"), Some("001A2B1"), Some("001A2B001")];
+    expect_due(&rt, &places, due);
     Ok(())
 }

@@ -1,13 +1,12 @@
-//! A disk that no proof trusts, so that a proof over it says nothing of values: what is found on it
-//! is only tested.
+//! A disk that counts its calls. No proof trusts it: what is found on it is only tested.
 ghost use Rattle.std.specs.Prelude.{◌+◌, false, true, refl};
 
 use sqlite_disk::{Disk, Tally, digest_of};
 use std::io;
 
-/// Another disk, of which it is never supposed that it gave back what was written.
+/// Another disk, with a count of its calls. It is never supposed that it gave back what was written.
 #[derive(Drop)]
-pub struct Doubted<D: Disk> {
+pub struct Counted<D: Disk> {
     inner: D,
     // Calls so far.
     calls: u64,
@@ -15,9 +14,9 @@ pub struct Doubted<D: Disk> {
     failed: u64,
 }
 
-impl<D: Disk> Doubted<D> {
-    pub fn new(inner: D) -> Doubted<D> {
-        Doubted {
+impl<D: Disk> Counted<D> {
+    pub fn new(inner: D) -> Counted<D> {
+        Counted {
             inner,
             calls: 0,
             failed: 0,
@@ -29,12 +28,8 @@ impl<D: Disk> Doubted<D> {
         self.calls
     }
 
-    pub fn inner(&self) -> &D {
-        &self.inner
-    }
-
     pub fn into_inner(self) -> D {
-        let Doubted {
+        let Counted {
             inner,
             calls: _,
             failed: _,
@@ -43,7 +38,7 @@ impl<D: Disk> Doubted<D> {
     }
 }
 
-impl<D: Disk> Disk for Doubted<D> {
+impl<D: Disk> Disk for Counted<D> {
     ghost seen = { λ d. D.Disk.seen d.inner };
 
     ghost may_leave = { λ d. D.Disk.may_leave d.inner };
