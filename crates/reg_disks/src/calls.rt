@@ -1,7 +1,6 @@
 //! The calls of an office and of its store. Each is over any store, whose parts its proof need not
 //! unfold, and none has a clause, so that who makes several does not carry what each of them leaves.
-//! There are few, since each costs who calls it the parts of the store that it names.
-use crate::database::{Outcome, Statement};
+use crate::sessions::{Asking, Outcome, Statement};
 use reg_content::open::{Verdict, check};
 use reg_keeper::keeper::{Fault, Keeper};
 use reg_office::Office;
@@ -28,13 +27,22 @@ pub fn carried_out<S: Alter>(
 fn changed_by<S: Alter>(conn: &mut Connection<S>, statement: Statement<'_>) -> Option<usize> {
     match statement {
         Statement::Nothing => Some(0),
-        Statement::Sql(sql) => conn.execute(sql, &[]).ok(),
+        Statement::Sql(statements) => executed(conn, statements),
         Statement::MakeTables => if make_tables(conn).is_ok() {
             Some(0)
         } else {
             None
         },
     }
+}
+
+// How many rows the last of these changed, if all were done.
+fn executed<S: Alter>(conn: &mut Connection<S>, statements: &[&str]) -> Option<usize> {
+    let mut changed = 0;
+    for sql in statements {
+        changed = conn.execute(sql, &[]).ok()?;
+    }
+    Some(changed)
 }
 
 fn make_tables<S: Alter>(conn: &mut Connection<S>) -> Result<(), Error> {
@@ -54,13 +62,44 @@ fn judge<S: Alter>(alloc: Global, conn: &mut Connection<S>) -> Result<Option<Ver
     Ok(Some(check(alloc, conn)?))
 }
 
-/// The files of a store that ends without being closed.
-pub fn left_by<D: Disk + Drop>(conn: Connection<FileStore<D>>) -> Files<D> {
-    conn.into_store().close()
+/// Takes the store over, and tells what the office answers, or why there is none.
+pub fn asked<S: Alter>(
+    alloc: Global,
+    conn: Connection<S>,
+    asking: Asking<'_>,
+) -> (Result<Vec<u8>, Fail>, Option<OpenFault>, Connection<S>) {
+    match SqlKeeper::adopt(alloc, conn, asking.fresh) {
+        Ok(keeper) => {
+            let mut office = Office::new(alloc, keeper);
+            let answers = answers(alloc, &mut office, asking);
+            (answers, None, office.into_keeper().into_connection())
+        }
+        Err((fault, conn)) => (Ok(Vec::new(alloc)), Some(fault), conn),
+    }
 }
 
-/// The files of a store that is closed.
-pub fn closed<D: Disk + Drop>(conn: Connection<FileStore<D>>) -> Result<Files<D>, Error> {
+fn answers<K: Keeper>(
+    alloc: Global,
+    office: &mut Office<K>,
+    asking: Asking<'_>,
+) -> Result<Vec<u8>, Fail> {
+    if let Some(token) = asking.token {
+        office.found(token)?;
+    }
+    let mut reader = asking.lines;
+    let mut answers = Vec::new(alloc);
+    run(alloc, office, &mut reader, &mut answers)?;
+    Ok(answers)
+}
+
+/// The files of a store that is closed, or ends without that.
+pub fn ended<D: Disk + Drop>(
+    conn: Connection<FileStore<D>>,
+    closes: bool,
+) -> Result<Files<D>, Error> {
+    if !closes {
+        return Ok(conn.into_store().close());
+    }
     match conn.close_files() {
         Ok(files) => Ok(files),
         Err((error, store)) => {
@@ -68,48 +107,4 @@ pub fn closed<D: Disk + Drop>(conn: Connection<FileStore<D>>) -> Result<Files<D>
             Err(error)
         }
     }
-}
-
-/// The office of a store that is taken over, or why it is none.
-pub fn adopted<S: Alter>(
-    alloc: Global,
-    conn: Connection<S>,
-    fresh: bool,
-) -> Result<Office<SqlKeeper<S>>, (OpenFault, Connection<S>)> {
-    match SqlKeeper::adopt(alloc, conn, fresh) {
-        Ok(keeper) => Ok(Office::new(alloc, keeper)),
-        Err((fault, conn)) => Err((fault, conn)),
-    }
-}
-
-/// The store of an office.
-pub fn store_of<S: Alter>(office: Office<SqlKeeper<S>>) -> Connection<S> {
-    office.into_keeper().into_connection()
-}
-
-/// What an office answers to these lines, once the first clerk has the capability for this token, if
-/// one is given.
-pub fn answered<S: Alter>(
-    alloc: Global,
-    mut office: Office<SqlKeeper<S>>,
-    token: Option<&[u8]>,
-    lines: &[u8],
-) -> (Result<Vec<u8>, Fail>, Office<SqlKeeper<S>>) {
-    let answers = answers(alloc, &mut office, token, lines);
-    (answers, office)
-}
-
-fn answers<K: Keeper>(
-    alloc: Global,
-    office: &mut Office<K>,
-    token: Option<&[u8]>,
-    lines: &[u8],
-) -> Result<Vec<u8>, Fail> {
-    if let Some(token) = token {
-        office.found(token)?;
-    }
-    let mut reader = lines;
-    let mut answers = Vec::new(alloc);
-    run(alloc, office, &mut reader, &mut answers)?;
-    Ok(answers)
 }

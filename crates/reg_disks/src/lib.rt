@@ -4,7 +4,6 @@
 
 mod calls;
 mod counted;
-pub mod database;
 pub mod image;
 pub mod left;
-pub mod office;
+pub mod sessions;

@@ -1,8 +1,9 @@
 //! Stores that were written by other hands, and what they are to an office that opens them.
-use crate::making::{blank, connected, filled, prepared, refused, seen};
+use crate::making::{blank, filled, prepared, refused, seen};
 use reg_content::open::Verdict;
-use reg_disks::database::Statement;
 use reg_disks::image::Image;
+use reg_disks::left::NEVER;
+use reg_disks::sessions::{Outcome, Statement, carry_out};
 use reg_sql::open::OpenFault;
 use std::alloc::Global;
 use std::process::Abort;
@@ -86,12 +87,17 @@ const REFUSED: [&str; 7] = [
 
 // What a store is after a statement, if it goes through.
 fn after(alloc: Global, image: &Image, sql: &str) -> Result<Option<Verdict>, Fail> {
-    let (outcome, database) = connected(alloc, image)?.carry_out(alloc, Statement::Sql(sql));
-    drop(database);
+    let (outcome, _) = done(alloc, image, &[sql])?;
     if outcome.changed.is_none() {
         return Ok(None);
     }
     Ok(outcome.verdict?)
+}
+
+// What comes of statements, and the files after them.
+fn done(alloc: Global, image: &Image, statements: &[&str]) -> Result<(Outcome, Image), Fail> {
+    let (outcome, left) = carry_out(alloc, image, NEVER, Statement::Sql(statements), true)?;
+    Ok((outcome.ok_or("a store")?, left.written))
 }
 
 fn assert_not_ours<R: Abort + AllocGlobal>(rt: &R, statements: &[&str]) -> Result<(), Fail> {
@@ -119,19 +125,14 @@ fn other_tables(rt: HostRuntime) -> Result<(), Fail> {
 
 // These files after some statements.
 fn changed(alloc: Global, image: &Image, statements: &[&str]) -> Result<Image, Fail> {
-    let mut database = connected(alloc, image)?;
-    for sql in statements {
-        let (outcome, after) = database.carry_out(alloc, Statement::Sql(sql));
-        database = after;
-        outcome.changed.ok_or("a statement that is done")?;
-    }
-    database.close(alloc)
+    let (outcome, after) = done(alloc, image, statements)?;
+    outcome.changed.ok_or("statements that are done")?;
+    Ok(after)
 }
 
 // How many rows of another program's table are there.
 fn cars(alloc: Global, image: &Image) -> Result<usize, Fail> {
-    let (outcome, database) = connected(alloc, image)?.carry_out(alloc, Statement::Sql(TOUCH));
-    drop(database);
+    let (outcome, _) = done(alloc, image, &[TOUCH])?;
     Ok(outcome.changed.ok_or("a table of cars")?)
 }
 

@@ -1,9 +1,9 @@
 //! Disks that stop at each call of the making of the tables: all are there then, or none.
-use crate::making::{blank, connected};
+use crate::making::blank;
 use reg_content::open::Verdict;
-use reg_disks::database::{Database, Statement};
 use reg_disks::image::Image;
 use reg_disks::left::{Left, NEVER, Stop};
+use reg_disks::sessions::{Outcome, Statement, carry_out};
 use std::alloc::Global;
 use std::process::Abort;
 use std::test::Fail;
@@ -20,9 +20,9 @@ enum Found {
 }
 
 fn found_in(alloc: Global, image: &Image) -> Result<Found, Fail> {
-    let (outcome, database) = connected(alloc, image)?.carry_out(alloc, Statement::Nothing);
-    drop(database);
-    Ok(match outcome.verdict? {
+    let (outcome, left) = carry_out(alloc, image, NEVER, Statement::Nothing, false)?;
+    drop(left);
+    Ok(match outcome.ok_or("a store")?.verdict? {
         None => Found::Nothing,
         Some(Verdict::Ours) => Found::Office,
         Some(Verdict::OtherVersion(_) | Verdict::NotOurs) => Found::Other,
@@ -31,12 +31,15 @@ fn found_in(alloc: Global, image: &Image) -> Result<Found, Fail> {
 
 // Makes the tables on disks that stop, and tells whether that was answered.
 fn stopped(alloc: Global, stop: Stop) -> Result<(bool, Left), Fail> {
-    match Database::open(alloc, &Image::empty(alloc), stop)? {
-        Ok(database) => {
-            let (outcome, database) = database.carry_out(alloc, Statement::MakeTables);
-            Ok((outcome.changed.is_some(), database.leave(alloc)?))
-        }
-        Err(left) => Ok((false, left)),
+    let image = Image::empty(alloc);
+    let (outcome, left) = carry_out(alloc, &image, stop, Statement::MakeTables, false)?;
+    Ok((is_done(outcome), left))
+}
+
+fn is_done(outcome: Option<Outcome>) -> bool {
+    match outcome {
+        Some(outcome) => outcome.changed.is_some(),
+        None => false,
     }
 }
 

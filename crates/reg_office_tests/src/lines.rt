@@ -1,10 +1,10 @@
 //! Disks that stop at each call of a line of a script. What is found then is the office before the
 //! line or after it, and after it wherever the line was answered; and the line is sent again.
-use crate::asking::{CLERK, LOOKS, Row, STORAGE, all_lines, rows};
-use crate::making::{adopted, blank, calls_of_opening, opened, prepared, seen};
+use crate::asking::{CLERK, LOOKS, Row, STORAGE, rows};
+use crate::making::{answered, asking, blank, calls_of_opening, prepared, seen};
 use reg_disks::image::Image;
 use reg_disks::left::{AT_ONCE, Left, NEVER, Stop, stops};
-use reg_disks::office::DiskOffice;
+use reg_disks::sessions::{Asking, ask};
 use std::alloc::Global;
 use std::process::Abort;
 use std::test::Fail;
@@ -26,36 +26,32 @@ struct Case<'a> {
 
 // The office that is founded.
 fn founded(alloc: Global) -> Result<Standing, Fail> {
-    let token = Some(CLERK.as_bytes());
-    let (_, office) = opened(alloc, &blank(alloc)?)?.ask(alloc, token, b"")?;
-    standing_of(alloc, office)
-}
-
-// How an office stands.
-fn standing_of(alloc: Global, office: DiskOffice) -> Result<Standing, Fail> {
-    let (seen, office) = office.ask(alloc, None, LOOKS.as_bytes())?;
-    let image = office.into_database().leave(alloc)?.written;
-    Ok(Standing { image, seen })
+    let founding = Asking {
+        token: Some(CLERK.as_bytes()),
+        ..asking(LOOKS.as_bytes())
+    };
+    let (seen, left) = answered(alloc, &blank(alloc)?, founding)?;
+    Ok(Standing {
+        image: left.written,
+        seen,
+    })
 }
 
 // The office after a row, which is answered by its own answer.
 fn after<R: Abort + AllocGlobal>(rt: &R, before: &Image, row: &Row) -> Result<Standing, Fail> {
     let alloc = rt.alloc();
-    let office = opened(alloc, before)?;
-    let (answer, office) = office.ask(alloc, None, row.line.as_slice())?;
-    assert_eq!(rt; answer.as_slice(), row.answer.as_slice());
-    standing_of(alloc, office)
+    let (answer, left) = answered(alloc, before, asking(row.line.as_slice()))?;
+    assert!(rt; answer == row.answer);
+    let image = left.written;
+    let seen = seen(alloc, &image)?;
+    Ok(Standing { image, seen })
 }
 
 // Sends the line on disks that stop, and gives what was answered, if the office was opened.
 fn stopped(alloc: Global, case: &Case<'_>, stop: Stop) -> Result<(Option<Vec<u8>>, Left), Fail> {
-    match DiskOffice::open(alloc, &case.before.image, stop)? {
-        Ok(office) => {
-            let (answer, office) = office.ask(alloc, None, case.row.line.as_slice())?;
-            Ok((Some(answer), office.into_database().leave(alloc)?))
-        }
-        Err(left) => Ok((None, left)),
-    }
+    let asking = asking(case.row.line.as_slice());
+    let asked = ask(alloc, &case.before.image, stop, asking)?;
+    Ok((asked.answers, asked.left))
 }
 
 // The line was answered by its own answer, or by that of a store that failed.
@@ -90,12 +86,12 @@ fn assert_resumed<R: Abort + AllocGlobal>(
         return Ok(());
     }
     let alloc = rt.alloc();
-    let (seen, office) = opened(alloc, image)?.ask(alloc, None, LOOKS.as_bytes())?;
-    assert_left(rt, case, seen.as_slice(), is_answered, stop);
-    let (answer, office) = office.ask(alloc, None, case.row.line.as_slice())?;
+    let seen_first = seen(alloc, image)?;
+    assert_left(rt, case, seen_first.as_slice(), is_answered, stop);
+    let (answer, left) = answered(alloc, image, asking(case.row.line.as_slice()))?;
     assert_again(rt, case, answer.as_slice(), is_answered, stop);
-    let after = standing_of(alloc, office)?;
-    assert_left(rt, case, after.seen.as_slice(), true, stop);
+    let seen_then = seen(alloc, &left.written)?;
+    assert_left(rt, case, seen_then.as_slice(), true, stop);
     Ok(())
 }
 
@@ -179,9 +175,9 @@ fn assert_unopened<R: Abort + AllocGlobal>(
     wanted: &[u8],
     stop: Stop,
 ) -> Result<(), Fail> {
-    let Err(left) = DiskOffice::open(rt.alloc(), image, stop)? else {
-        return Err("an office that is not opened".into());
-    };
+    let asked = ask(rt.alloc(), image, stop, asking(b""))?;
+    assert!(rt; asked.answers.is_none(), "{stop:?}");
+    let left = asked.left;
     assert_seen(rt, &left.written, wanted, stop)?;
     if left.synced != left.written {
         assert_seen(rt, &left.synced, wanted, stop)?;
@@ -208,20 +204,5 @@ fn of_an_opening(rt: HostRuntime) -> Result<(), Fail> {
     for stop in stops(alloc, AT_ONCE, calls_of_opening(alloc, &image)?)? {
         assert_unopened(&rt, &image, wanted.as_slice(), stop)?;
     }
-    Ok(())
-}
-
-// The store of an office that was changed is the same office again, and so is the one in its files.
-#[test]
-fn adopted_again(rt: HostRuntime) -> Result<(), Fail> {
-    let alloc = rt.alloc();
-    let before = founded(alloc)?;
-    let lines = all_lines(alloc)?;
-    let (_, office) = opened(alloc, &before.image)?.ask(alloc, None, lines.as_slice())?;
-    let (wanted, office) = office.ask(alloc, None, LOOKS.as_bytes())?;
-    let office = adopted(alloc, office.into_database(), false)?;
-    let again = standing_of(alloc, office)?;
-    assert!(rt; again.seen == wanted && wanted != before.seen);
-    assert!(rt; seen(alloc, &again.image)? == wanted);
     Ok(())
 }
