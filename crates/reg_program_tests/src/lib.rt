@@ -1,6 +1,6 @@
-//! Tests of the jobs that the program does, to the byte, over offices in lists. They stand in a crate
-//! of their own because the gate proves a crate that has tests a second time, whole, together with
-//! them.
+//! Tests of the program over offices in lists, to the byte: the jobs that it does, and requests and
+//! answers over HTTP. They stand in a crate of their own because the gate proves a crate that has
+//! tests a second time, whole, together with them.
 #![tactic(auto)]
 
 #[cfg(test)]
@@ -8,11 +8,15 @@ mod command_lines;
 #[cfg(test)]
 mod devices;
 #[cfg(test)]
+mod failing_devices;
+#[cfg(test)]
 mod failing_keeper;
 #[cfg(test)]
 mod file_jobs;
 #[cfg(test)]
 mod floods;
+#[cfg(test)]
+mod http;
 #[cfg(test)]
 mod lines;
 #[cfg(test)]

@@ -1,7 +1,7 @@
 //! Each request of an office is answered by its own answer; where an allocation is refused, perhaps
 //! by `503 {"error":"storage"}`, with nothing changed, or not at all. A run refuses none by itself:
 //! `tools/refuse-allocations` refuses each in turn.
-use crate::rows::ROWS;
+use crate::http::rows::ROWS;
 use reg_carriers::messages::{request, with_line_ends};
 use reg_carriers::served::{CLERK, Served};
 use reg_http::wire_fault::WireFault;
