@@ -3,14 +3,10 @@ use crate::asked::Asked;
 use crate::served::{CLERK, Served};
 use reg_keeper::keeper::Keeper;
 use reg_office::Office;
+use reg_testing::facts::ensure;
 use reg_wire::script::run;
 use std::alloc::{AllocError, Global};
 use std::test::Fail;
-
-/// A test fails at this, where it does not hold.
-pub fn ensure(holds: bool, what: &str) -> Result<(), Fail> {
-    if holds { Ok(()) } else { Err(what.into()) }
-}
 
 /// An answer: its status, and the line of a script that gives it.
 #[derive(Drop)]

@@ -1,11 +1,12 @@
 //! What offices are asked that are to answer alike: 2,000 requests of a fixed sequence, and a
 //! registry with texts of full length.
-use crate::alike::{Alike, ensure};
+use crate::alike::Alike;
 use crate::asked::Asked;
 use crate::generated::{asked_by, route};
 use crate::sequence::Sequence;
 use crate::served::CLERK;
 use crate::wide::assert_wide;
+use reg_testing::facts::ensure;
 use std::alloc::Global;
 use std::test::Fail;
 

@@ -1,5 +1,4 @@
 //! An office that is asked over HTTP.
-use crate::alike::ensure;
 use crate::messages::request;
 use reg_http::listener::{Connections, serve_listener};
 use reg_http::serving::serve_one;
@@ -8,6 +7,7 @@ use reg_keeper::keeper::Keeper;
 use reg_office::Office;
 use reg_parse::route::Routes;
 use reg_store::lists::ListKeeper;
+use reg_testing::facts::ensure;
 use std::alloc::{AllocError, Global};
 use std::io::{Read, Write};
 use std::net::TcpListener;
@@ -31,6 +31,14 @@ const RANGES: &[u8] =
 pub struct Answered {
     pub status: Result<u16, WireFault>,
     pub bytes: Vec<u8>,
+}
+
+impl Answered {
+    /// The test fails at this, unless this answer came back whole.
+    pub fn assert_is(&self, status: u16, bytes: &[u8]) -> Result<(), Fail> {
+        ensure(self.status == Ok(status), "the status")?;
+        ensure(self.bytes.as_slice() == bytes, "the answer")
+    }
 }
 
 /// An office, in memory where nothing else is said, with its router.

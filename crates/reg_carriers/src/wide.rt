@@ -1,10 +1,11 @@
 //! A registry of 64 ranges that are all of 32 bits, and asks in it with texts of full length.
-use crate::alike::{Alike, ensure};
+use crate::alike::Alike;
 use crate::asked::Asked;
 use crate::generated::{ALICE, EXPERT};
 use crate::messages::joined;
 use crate::sequence::{FULL, text_of};
 use crate::served::CLERK;
+use reg_testing::facts::ensure;
 use std::alloc::{AllocError, Global};
 use std::test::Fail;
 

@@ -17,10 +17,10 @@ use Rattle.reg_tables.specs.Editing.{AltersRows, IsOffice, front, has_all}
 use Rattle.reg_tables.specs.Inserting.{AddedRow}
 use Rattle.reg_tables.specs.Schema.{advice_table}
 use Rattle.reg_tables.specs.Selecting.{stored}
-use Rattle.reg_content.specs.Content.{IsStored, advice_at, content_of}
-use Rattle.reg_content.proofs.RowMaps.Items.{items_pass_at}
-use Rattle.reg_content.proofs.RowMaps.KeyTests.{read_parts}
-use Rattle.reg_content.proofs.RowMaps.Tables.{added, changed_to}
+use Rattle.reg_statements.specs.Content.{IsStored, advice_at, content_of}
+use Rattle.reg_statements.proofs.RowMaps.Items.{items_pass_at}
+use Rattle.reg_statements.proofs.RowMaps.KeyTests.{read_parts}
+use Rattle.reg_statements.proofs.RowMaps.Tables.{added, changed_to}
 use Rattle.reg_content.proofs.SeatRows.{IsSeated, seat_has}
 use Rattle.reg_content.proofs.Turning.{advice_turn}
 

@@ -15,8 +15,8 @@ use Rattle.reg_records.specs.Advice.{advice_in}
 use Rattle.reg_records.specs.declared.advice.ExpertAdvice.{ExpertAdvice}
 use Rattle.reg_tables.specs.Texts.{select_advice_row, select_advice_of}
 use Rattle.reg_tables.proofs.Statements.Advice.{advice_by_key, advice_of_request}
-use Rattle.reg_content.specs.Content.{IsStored, advice_at, world_in}
-use Rattle.reg_content.specs.Loading.{IsAscending, ReadAs}
+use Rattle.reg_statements.specs.Content.{IsStored, advice_at, world_in}
+use Rattle.reg_statements.specs.Loading.{IsAscending, ReadAs}
 use Rattle.reg_content.proofs.AdviceRows.{advice_key, advised, is_advised}
 use Rattle.reg_content.proofs.Looking.{first_of}
 use Rattle.reg_content.proofs.Queries.{all_found, one_found}

@@ -24,9 +24,9 @@ use Rattle.reg_tables.proofs.EditLemmas.Inserting.{tables_after_insert}
 use Rattle.reg_tables.proofs.InsertLemmas.{adds, cast_int}
 use Rattle.reg_tables.proofs.InsertStatements.{adds_blocks, insert_blocks}
 use Rattle.reg_tables.proofs.ValueLemmas.{passes_equals}
-use Rattle.reg_content.specs.Content.{IsStored, content_of, holder_at}
+use Rattle.reg_statements.specs.Content.{IsStored, content_of, holder_at}
 use Rattle.reg_content.proofs.PoolRows.{alone, number_tie}
-use Rattle.reg_content.proofs.RowMaps.Tables.{added}
+use Rattle.reg_statements.proofs.RowMaps.Tables.{added}
 use Rattle.reg_content.proofs.Turning.{blocks_turn}
 
 -- ---- What the statements ask for

@@ -9,7 +9,7 @@ use Rattle.reg_core.specs.Holding.{holder_in, holding_row}
 use Rattle.reg_core.specs.Maps.{only_if, same_text, select}
 use Rattle.reg_core.specs.declared.holding.Holder.{Holder}
 use Rattle.reg_core.specs.declared.holding.Holding.{Holding}
-use Rattle.reg_content.specs.Loading.{IsAscending}
+use Rattle.reg_statements.specs.Loading.{IsAscending}
 use Rattle.reg_content.proofs.BlockRowsListed.{pair}
 use Rattle.reg_content.proofs.PoolRows.{tie_decides}
 

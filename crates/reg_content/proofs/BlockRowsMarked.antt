@@ -28,10 +28,10 @@ use Rattle.reg_tables.specs.Selecting.{stored}
 use Rattle.reg_tables.specs.Values.{same_value}
 use Rattle.reg_tables.proofs.EditLemmas.Tables.{office_after_change}
 use Rattle.reg_tables.proofs.EditStatements.{block_changed, change_block}
-use Rattle.reg_content.specs.Content.{IsStored, content_of, holder_at}
+use Rattle.reg_statements.specs.Content.{IsStored, content_of, holder_at}
 use Rattle.reg_content.proofs.BlockRowsListed.{pair}
 use Rattle.reg_content.proofs.PoolRows.{alone, number_tie, tie_decides}
-use Rattle.reg_content.proofs.RowMaps.Tables.{changed}
+use Rattle.reg_statements.proofs.RowMaps.Tables.{changed}
 use Rattle.reg_content.proofs.Turning.{blocks_turn}
 
 -- ---- Rows and keys

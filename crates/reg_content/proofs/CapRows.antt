@@ -19,10 +19,10 @@ use Rattle.reg_tables.specs.Selecting.{equals, passes, stored}
 use Rattle.reg_tables.specs.Values.{same_value}
 use Rattle.reg_tables.proofs.InsertLemmas.{cast_int}
 use Rattle.reg_tables.proofs.ValueLemmas.{passes_equals}
-use Rattle.reg_content.specs.Content.{IsStored, cap_at, content_of}
-use Rattle.reg_content.proofs.RowMaps.Items.{items_pass_at}
-use Rattle.reg_content.proofs.RowMaps.KeyTests.{text_test}
-use Rattle.reg_content.proofs.RowMaps.Tables.{added, removed}
+use Rattle.reg_statements.specs.Content.{IsStored, cap_at, content_of}
+use Rattle.reg_statements.proofs.RowMaps.Items.{items_pass_at}
+use Rattle.reg_statements.proofs.RowMaps.KeyTests.{text_test}
+use Rattle.reg_statements.proofs.RowMaps.Tables.{added, removed}
 use Rattle.reg_content.proofs.Turning.{caps_turn}
 
 alone : (b : Bool) → (b && true) ≡ b

@@ -15,7 +15,7 @@ use Rattle.reg_tables.specs.Editing.{has_all}
 use Rattle.reg_tables.specs.Selecting.{equals, passes, stored}
 use Rattle.reg_tables.specs.Values.{same_value}
 use Rattle.reg_tables.proofs.ValueLemmas.{passes_equals}
-use Rattle.reg_content.proofs.RowMaps.KeyTests.{pair_test, text_test}
+use Rattle.reg_statements.proofs.RowMaps.KeyTests.{pair_test, text_test}
 
 -- whole numbers are compared as natural ones
 whole_test : (m n : ℕ) → int_eq (pos m) (pos n) ≡ eq_by_cmp nat_cmp m n

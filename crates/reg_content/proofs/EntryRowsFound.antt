@@ -23,14 +23,14 @@ use Rattle.reg_tables.specs.Texts.{select_entries, select_entries_of, select_ent
 use Rattle.reg_tables.proofs.SelectLemmas.{selected, shows_columns}
 use Rattle.reg_tables.proofs.Statements.Entries.{all_entries, entries_of_registry}
 use Rattle.reg_tables.proofs.Statements.Entries.{entry_by_key}
-use Rattle.reg_content.specs.Content.{registration_at}
-use Rattle.reg_content.specs.Loading.{IsAscending, ReadAs}
-use Rattle.reg_content.specs.RowMaps.{IsTable, held_in}
+use Rattle.reg_statements.specs.Content.{registration_at}
+use Rattle.reg_statements.specs.Loading.{IsAscending, ReadAs}
+use Rattle.reg_statements.specs.RowMaps.{IsTable, held_in}
 use Rattle.reg_content.proofs.EntryRows.{place_passes, registry_passes}
-use Rattle.reg_content.proofs.Neighbours.{strict}
+use Rattle.reg_statements.proofs.Neighbours.{strict}
 use Rattle.reg_content.proofs.Queries.{all_found}
-use Rattle.reg_content.proofs.RowMaps.Items as items
-use Rattle.reg_content.proofs.RowMaps.Lists.{filter_true, shown_rows}
+use Rattle.reg_statements.proofs.RowMaps.Items as items
+use Rattle.reg_statements.proofs.RowMaps.Lists.{filter_true, shown_rows}
 
 -- an entry, as its place and what stands there
 abbrev pub placed_entry : Entry → Place × Registration

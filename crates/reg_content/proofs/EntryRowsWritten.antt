@@ -26,11 +26,11 @@ use Rattle.reg_tables.proofs.EditStatements.{change_entry}
 use Rattle.reg_tables.proofs.InsertLemmas.{cast_int, cast_null}
 use Rattle.reg_tables.proofs.InsertStatements.{adds_entries, insert_entries}
 use Rattle.reg_content.specs.Calls.{Turns}
-use Rattle.reg_content.specs.Content.{content_of, registration_at}
+use Rattle.reg_statements.specs.Content.{content_of, registration_at}
 use Rattle.reg_content.proofs.EntryRows.{placed, place_has}
 use Rattle.reg_content.proofs.EntryRowsFound.{placed_entry}
-use Rattle.reg_content.proofs.RowMaps.Items as items
-use Rattle.reg_content.proofs.RowMaps.Tables.{added, changed_to}
+use Rattle.reg_statements.proofs.RowMaps.Items as items
+use Rattle.reg_statements.proofs.RowMaps.Tables.{added, changed_to}
 use Rattle.reg_content.proofs.Turning.{entries_turn}
 use Rattle.reg_content.proofs.Writing.{added_row}
 

@@ -4,7 +4,7 @@ use Rattle.sqlite.specs.State.{State}
 use Rattle.reg_core.specs.World.{World}
 use Rattle.reg_tables.proofs.MakeLemmas.{on_ok}
 use Rattle.reg_content.specs.Calls.{Steps}
-use Rattle.reg_content.specs.Content.{content_of}
+use Rattle.reg_statements.specs.Content.{content_of}
 
 -- where the premise implies the write's own, and then the change is the same
 pub steps_as : {T E : Type 0} {a b : State} {result : Result T E} {F G : World → Type 0}

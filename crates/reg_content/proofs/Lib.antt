@@ -1,6 +1,4 @@
 pub mod OneTable
-pub mod RowMaps
-pub mod Neighbours
 pub mod Queries
 pub mod Looking
 pub mod CapRows
@@ -18,12 +16,10 @@ pub mod BlockRowsFound
 pub mod BlockRowsMarked
 pub mod PoolRows
 pub mod PoolRowsListed
-pub mod RegistryRows
 pub mod RegistryRowsMaps
 pub mod RegistryRowsTurning
 pub mod RegistryRowsAdded
 pub mod RegistryRowsSteps
-pub mod ReadLemmas
 pub mod Turning
 pub mod Writing
 pub mod RequestRows
@@ -32,14 +28,6 @@ pub mod RequestRowsStated
 pub mod RequestRowsWritten
 pub mod Joining
 pub mod Fitting
-pub mod Feeding
-pub mod FedTables
-pub mod SharedOut
-pub mod FedRegistries
-pub mod FedParts
-pub mod RowidStatements
-pub mod RowidLemmas
-pub mod OpenLemmas
 pub mod QueueRows
 pub mod QueuedRows
 pub mod QueuedRowsFound

@@ -8,7 +8,7 @@ use Rattle.reg_tables.specs.Connection.{Endures, Holds, IsIdle, Stays}
 use Rattle.reg_content.specs.Calls.{IsKeeping, Looks}
 use Rattle.reg_tables.proofs.Enduring.{endures_then, holds_then, stays_on}
 use Rattle.reg_tables.proofs.RestLemmas.{stays_then}
-use Rattle.reg_content.specs.Content.{IsStored, content_of, world_in}
+use Rattle.reg_statements.specs.Content.{IsStored, content_of, world_in}
 
 pub keeps_on : (old new : State) → IsKeeping old → IsIdle new → Stays old new → IsKeeping new
 keeps_on old new keeping idle stays = record {

@@ -6,7 +6,7 @@ use Rattle.std.specs.List.{AllByRecursion}
 use Rattle.sqlite.specs.Tree.{Trees}
 use Rattle.sqlite_schema.specs.declared.schema.Index.{Index}
 use Rattle.reg_tables.specs.Schema.{office_schema, office_table, caps_table, registries_table, ranges_table, entries_table, requests_table, queue_table, advice_table, pool_table, blocks_table}
-use Rattle.reg_content.specs.Tables.{tables_in, OthersStay}
+use Rattle.reg_statements.specs.Tables.{tables_in, OthersStay}
 
 differ : (a b : ℕ) → (a == b) ≡ false → a ≢ b
 differ a b e same = let t : (a == a) ≡ false = subst (λ n. (a == n) ≡ false) (sym same) e in absurd (grind (arith, nat_tests))

@@ -20,8 +20,8 @@ use Rattle.reg_tables.proofs.EditLemmas.Inserting.{tables_after_insert}
 use Rattle.reg_tables.proofs.InsertLemmas.{adds, cast_int}
 use Rattle.reg_tables.proofs.InsertStatements.{adds_pool, insert_pool}
 use Rattle.reg_tables.proofs.ValueLemmas.{passes_equals, same_value-Int}
-use Rattle.reg_content.specs.Content.{IsStored, content_of, prefix_at}
-use Rattle.reg_content.proofs.RowMaps.Tables.{added}
+use Rattle.reg_statements.specs.Content.{IsStored, content_of, prefix_at}
+use Rattle.reg_statements.proofs.RowMaps.Tables.{added}
 use Rattle.reg_content.proofs.Turning.{pool_turn}
 
 pub alone : (b : Bool) → (b && true) ≡ b

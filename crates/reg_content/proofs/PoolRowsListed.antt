@@ -16,8 +16,8 @@ use Rattle.reg_blocks.specs.Pool.{AddsPrefix}
 use Rattle.reg_ranges.proofs.Increasing.{Rises, rises_any}
 use Rattle.reg_core.specs.Maps.{keyed, only_if, select}
 use Rattle.reg_core.proofs.MapLaws.{IsKeyOrder, number_keys, entries-select}
-use Rattle.reg_content.specs.Loading.{IsAscending}
-use Rattle.reg_content.proofs.Neighbours.{strict}
+use Rattle.reg_statements.specs.Loading.{IsAscending}
+use Rattle.reg_statements.proofs.Neighbours.{strict}
 
 -- ---- Lists that rise
 

@@ -12,11 +12,11 @@ use Rattle.reg_core.proofs.MapLaws.{IsKeyOrder}
 use Rattle.reg_tables.specs.Schema.{office_schema}
 use Rattle.reg_tables.specs.Selecting.{Selects, columns_of, passes, shows, stored}
 use Rattle.reg_tables.proofs.SelectLemmas.{selected, shows_columns}
-use Rattle.reg_content.specs.Loading.{IsAscending, ReadAs}
-use Rattle.reg_content.specs.RowMaps.{IsTable, held_in}
-use Rattle.reg_content.proofs.Neighbours.{strict}
-use Rattle.reg_content.proofs.RowMaps.Items as items
-use Rattle.reg_content.proofs.RowMaps.Lists.{shown_rows}
+use Rattle.reg_statements.specs.Loading.{IsAscending, ReadAs}
+use Rattle.reg_statements.specs.RowMaps.{IsTable, held_in}
+use Rattle.reg_statements.proofs.Neighbours.{strict}
+use Rattle.reg_statements.proofs.RowMaps.Items as items
+use Rattle.reg_statements.proofs.RowMaps.Lists.{shown_rows}
 
 module _ {T K X : Type 0} {R : K → K → Ordering} (o : IsKeyOrder R) (n : ℕ) (read : Row → Option T)
     (pair : T → K × X) where

@@ -26,14 +26,14 @@ use Rattle.reg_tables.specs.Joining.{advice_agrees, is_of, queued_at, queued_col
 use Rattle.reg_tables.specs.Editing.{has_all}
 use Rattle.reg_tables.specs.Selecting.{stored}
 use Rattle.reg_tables.specs.Values.{same_value}
-use Rattle.reg_content.specs.Content.{IsStored, advice_at, case_at, content_of, seat_at}
-use Rattle.reg_content.specs.RowMaps.{PassesAt}
+use Rattle.reg_statements.specs.Content.{IsStored, advice_at, case_at, content_of, seat_at}
+use Rattle.reg_statements.specs.RowMaps.{PassesAt}
 use Rattle.reg_content.specs.Seats.{assigned_to}
 use Rattle.reg_content.proofs.AdviceRows.{advice_key, advised, is_advised}
 use Rattle.reg_content.proofs.RequestRows.{alone, named, named_request}
-use Rattle.reg_content.proofs.RowMaps.Alone.{AreAlone, alone_at}
-use Rattle.reg_content.proofs.RowMaps.Items.{items_pass_at}
-use Rattle.reg_content.proofs.RowMaps.KeyTests.{name_test, text_test}
+use Rattle.reg_statements.proofs.RowMaps.Alone.{AreAlone, alone_at}
+use Rattle.reg_statements.proofs.RowMaps.Items.{items_pass_at}
+use Rattle.reg_statements.proofs.RowMaps.KeyTests.{name_test, text_test}
 use Rattle.reg_content.proofs.SeatRows.{is_seated, seat_has, seat_key, seated}
 
 -- a row of the query, as the name of its request and what the expert sees of it

@@ -22,18 +22,18 @@ use Rattle.reg_records.specs.declared.queued.QueuedRequest.{QueuedRequest}
 use Rattle.reg_tables.specs.Joining.{queued_rows}
 use Rattle.reg_tables.specs.Texts.{select_queued}
 use Rattle.reg_tables.proofs.JoinLemmas.{queued_selected}
-use Rattle.reg_content.specs.Content.{IsStored, seat_at, world_in}
-use Rattle.reg_content.specs.Loading.{IsAscending, ReadAs}
-use Rattle.reg_content.specs.RowMaps.{AreAscending}
+use Rattle.reg_statements.specs.Content.{IsStored, seat_at, world_in}
+use Rattle.reg_statements.specs.Loading.{IsAscending, ReadAs}
+use Rattle.reg_statements.specs.RowMaps.{AreAscending}
 use Rattle.reg_content.specs.Seats.{assigned_to, seen_row}
-use Rattle.reg_content.proofs.Neighbours.{strict}
+use Rattle.reg_statements.proofs.Neighbours.{strict}
 use Rattle.reg_content.proofs.QueueRows.{by_seat}
 use Rattle.reg_content.proofs.QueuedRows.{joined_reads, queued_pair, queued_reader, seen_by}
-use Rattle.reg_content.proofs.RowMaps.Ascending.{apart_from_ascending, entries_are}
-use Rattle.reg_content.proofs.RowMaps.Entries.{find_permuted}
-use Rattle.reg_content.proofs.RowMaps.Items.{read_pairs}
-use Rattle.reg_content.proofs.RowMaps.KeyTests.{pair_test, text_test}
-use Rattle.reg_content.proofs.RowMaps.Lists.{IsPermutation-filter_map, filter_map-loaded}
+use Rattle.reg_statements.proofs.RowMaps.Ascending.{apart_from_ascending, entries_are}
+use Rattle.reg_statements.proofs.RowMaps.Entries.{find_permuted}
+use Rattle.reg_statements.proofs.RowMaps.Items.{read_pairs}
+use Rattle.reg_statements.proofs.RowMaps.KeyTests.{pair_test, text_test}
+use Rattle.reg_statements.proofs.RowMaps.Lists.{IsPermutation-filter_map, filter_map-loaded}
 
 -- in the order of the names of requests
 abbrev pub are_queued : List QueuedRequest → Type 0

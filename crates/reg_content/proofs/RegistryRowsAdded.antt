@@ -23,15 +23,15 @@ use Rattle.reg_tables.specs.Inserting.{AddedRow}
 use Rattle.reg_tables.specs.Schema.{ranges_table, registries_table}
 use Rattle.reg_tables.specs.Selecting.{stored}
 use Rattle.reg_tables.proofs.InsertLemmas.{cast_int}
-use Rattle.reg_content.specs.Content.{IsStored, content_of, max_at, maxes_in, range_at, ranges_in}
-use Rattle.reg_content.specs.Content.{registry_table}
+use Rattle.reg_statements.specs.Content.{IsStored, content_of, max_at, maxes_in, range_at, ranges_in}
+use Rattle.reg_statements.specs.Content.{registry_table}
 use Rattle.reg_content.specs.Registries.{CanFollow, with_range}
-use Rattle.reg_content.specs.RowMaps.{held_in}
-use Rattle.reg_content.specs.Tables.{tables_in}
-use Rattle.reg_content.proofs.RegistryRows.{ranges-at, registry-at}
+use Rattle.reg_statements.specs.RowMaps.{held_in}
+use Rattle.reg_statements.specs.Tables.{tables_in}
+use Rattle.reg_statements.proofs.RegistryRows.{ranges-at, registry-at}
 use Rattle.reg_content.proofs.RegistryRowsMaps.{AreAtFirst, place_free, range_more, registry_more}
 use Rattle.reg_content.proofs.RegistryRowsTurning.{ranges_turn, registries_turn}
-use Rattle.reg_content.proofs.RowMaps.Tables.{added}
+use Rattle.reg_statements.proofs.RowMaps.Tables.{added}
 
 -- what is written for a registry is stored as it is
 pub registry_cast : (r : Registry)

@@ -7,10 +7,10 @@ use Rattle.reg_core.specs.Maps.{text_cmp}
 use Rattle.reg_core.specs.World.{Place, place_cmp}
 use Rattle.reg_tables.specs.Editing.{IsOffice}
 use Rattle.reg_tables.specs.Schema.{registries_table, ranges_table}
-use Rattle.reg_content.specs.Content.{AreKept, IsStored, content, content_of, max_at, maxes_in}
-use Rattle.reg_content.specs.Content.{range_at, ranges_in, registries_in}
-use Rattle.reg_content.specs.RowMaps.{IsTable, held_in}
-use Rattle.reg_content.specs.Tables.{OthersStay, tables_in}
+use Rattle.reg_statements.specs.Content.{AreKept, IsStored, content, content_of, max_at, maxes_in}
+use Rattle.reg_statements.specs.Content.{range_at, ranges_in, registries_in}
+use Rattle.reg_statements.specs.RowMaps.{IsTable, held_in}
+use Rattle.reg_statements.specs.Tables.{OthersStay, tables_in}
 use Rattle.reg_content.proofs.OneTable.{only_registries, only_ranges}
 
 module _ (old new : Database) (stored : IsStored old) (office : IsOffice new) where

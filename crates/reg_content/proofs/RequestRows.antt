@@ -21,12 +21,12 @@ use Rattle.reg_tables.specs.Values.{same_value}
 use Rattle.reg_tables.proofs.SelectLemmas.{selected, shows_columns}
 use Rattle.reg_tables.proofs.Statements.Requests.{request_by_key}
 use Rattle.reg_tables.proofs.ValueLemmas.{passes_equals}
-use Rattle.reg_content.specs.Content.{case_at}
-use Rattle.reg_content.specs.Loading.{ReadAs}
-use Rattle.reg_content.specs.RowMaps.{IsTable, held_in}
-use Rattle.reg_content.proofs.RowMaps.Items as items
-use Rattle.reg_content.proofs.RowMaps.KeyTests.{name_test}
-use Rattle.reg_content.proofs.RowMaps.Lists.{shown_rows}
+use Rattle.reg_statements.specs.Content.{case_at}
+use Rattle.reg_statements.specs.Loading.{ReadAs}
+use Rattle.reg_statements.specs.RowMaps.{IsTable, held_in}
+use Rattle.reg_statements.proofs.RowMaps.Items as items
+use Rattle.reg_statements.proofs.RowMaps.KeyTests.{name_test}
+use Rattle.reg_statements.proofs.RowMaps.Lists.{shown_rows}
 
 pub alone : (b : Bool) → (b && true) ≡ b
 alone true = refl

@@ -15,8 +15,8 @@ use Rattle.reg_tables.specs.Texts.{select_requests, select_requests_of}
 use Rattle.reg_tables.specs.Values.{same_value}
 use Rattle.reg_tables.proofs.Statements.Requests.{all_requests, requests_of_account}
 use Rattle.reg_tables.proofs.ValueLemmas.{passes_equals}
-use Rattle.reg_content.specs.Content.{IsStored, case_at, content_of}
-use Rattle.reg_content.specs.Loading.{IsAscending, ReadAs}
+use Rattle.reg_statements.specs.Content.{IsStored, case_at, content_of}
+use Rattle.reg_statements.specs.Loading.{IsAscending, ReadAs}
 use Rattle.reg_content.proofs.PoolRowsListed.{entries_all}
 use Rattle.reg_content.proofs.Queries.{all_found}
 use Rattle.reg_content.proofs.RequestRows.{alone, named, named_request}

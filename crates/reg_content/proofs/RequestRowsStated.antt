@@ -27,11 +27,11 @@ use Rattle.reg_tables.specs.Values.{same_value}
 use Rattle.reg_tables.proofs.EditLemmas.Tables.{office_after_change}
 use Rattle.reg_tables.proofs.EditStatements.{change_request, request_changed}
 use Rattle.reg_content.specs.Calls.{Turns}
-use Rattle.reg_content.specs.Content.{case_at, content_of}
+use Rattle.reg_statements.specs.Content.{case_at, content_of}
 use Rattle.reg_content.proofs.RequestRows.{alone, named, named_request}
-use Rattle.reg_content.proofs.RowMaps.Items as items
-use Rattle.reg_content.proofs.RowMaps.KeyTests.{name_test}
-use Rattle.reg_content.proofs.RowMaps.Tables.{changed_held}
+use Rattle.reg_statements.proofs.RowMaps.Items as items
+use Rattle.reg_statements.proofs.RowMaps.KeyTests.{name_test}
+use Rattle.reg_statements.proofs.RowMaps.Tables.{changed_held}
 use Rattle.reg_content.proofs.Turning.{requests_turn}
 
 -- the request has this name

@@ -33,8 +33,8 @@ use Rattle.reg_tables.specs.Schema.{requests_table}
 use Rattle.reg_tables.specs.Selecting.{stored}
 use Rattle.reg_tables.proofs.InsertLemmas.{Adds, cast_int, cast_null}
 use Rattle.reg_tables.proofs.InsertStatements.{adds_requests, insert_requests, requests_terms}
-use Rattle.reg_content.specs.Content.{IsStored, case_at, content_of}
-use Rattle.reg_content.proofs.RowMaps.Tables.{added}
+use Rattle.reg_statements.specs.Content.{IsStored, case_at, content_of}
+use Rattle.reg_statements.proofs.RowMaps.Tables.{added}
 use Rattle.reg_content.proofs.Turning.{requests_turn}
 
 stored_row : (id account reference : Value) (a : Ask) (s : State)

@@ -20,9 +20,9 @@ use Rattle.reg_tables.specs.Schema.{queue_table}
 use Rattle.reg_tables.specs.Selecting.{equals, passes, stored}
 use Rattle.reg_tables.specs.Values.{same_value}
 use Rattle.reg_tables.proofs.ValueLemmas.{passes_equals}
-use Rattle.reg_content.specs.Content.{IsStored, content_of, seat_at}
-use Rattle.reg_content.proofs.RowMaps.KeyTests.{seat_test}
-use Rattle.reg_content.proofs.RowMaps.Tables.{added}
+use Rattle.reg_statements.specs.Content.{IsStored, content_of, seat_at}
+use Rattle.reg_statements.proofs.RowMaps.KeyTests.{seat_test}
+use Rattle.reg_statements.proofs.RowMaps.Tables.{added}
 use Rattle.reg_content.proofs.Turning.{queue_turn}
 
 -- ---- Rows whose first three columns name a seat

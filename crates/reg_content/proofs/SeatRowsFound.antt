@@ -13,8 +13,8 @@ use Rattle.reg_records.specs.Queue.{seat_in}
 use Rattle.reg_records.specs.declared.queue.Seat as held
 use Rattle.reg_tables.specs.Texts.{select_queue_row, select_experts_of}
 use Rattle.reg_tables.proofs.Statements.Queue.{queue_by_key, queue_of_request}
-use Rattle.reg_content.specs.Content.{IsStored, seat_at, world_in}
-use Rattle.reg_content.specs.Loading.{IsAscending, ReadAs}
+use Rattle.reg_statements.specs.Content.{IsStored, seat_at, world_in}
+use Rattle.reg_statements.specs.Loading.{IsAscending, ReadAs}
 use Rattle.reg_content.proofs.Looking.{first_of}
 use Rattle.reg_content.proofs.Queries.{all_found, one_found}
 use Rattle.reg_content.proofs.SeatRows.{is_found, is_seated, request_passes, seat_key}

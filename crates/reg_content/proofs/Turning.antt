@@ -14,11 +14,11 @@ use Rattle.reg_core.specs.declared.request.Case.{Case}
 use Rattle.reg_tables.specs.Editing.{IsOffice}
 use Rattle.reg_tables.specs.Schema.{caps_table, entries_table, requests_table, queue_table}
 use Rattle.reg_tables.specs.Schema.{advice_table, pool_table, blocks_table}
-use Rattle.reg_content.specs.Content.{AreKept, IsStored, content, content_of}
-use Rattle.reg_content.specs.Content.{cap_at, registration_at, case_at, seat_at, advice_at, prefix_at}
-use Rattle.reg_content.specs.Content.{holder_at}
-use Rattle.reg_content.specs.RowMaps.{IsTable, held_in}
-use Rattle.reg_content.specs.Tables.{OthersStay, tables_in}
+use Rattle.reg_statements.specs.Content.{AreKept, IsStored, content, content_of}
+use Rattle.reg_statements.specs.Content.{cap_at, registration_at, case_at, seat_at, advice_at, prefix_at}
+use Rattle.reg_statements.specs.Content.{holder_at}
+use Rattle.reg_statements.specs.RowMaps.{IsTable, held_in}
+use Rattle.reg_statements.specs.Tables.{OthersStay, tables_in}
 use Rattle.reg_content.proofs.OneTable.{only_caps, only_entries, only_requests, only_queue}
 use Rattle.reg_content.proofs.OneTable.{only_advice, only_pool, only_blocks}
 

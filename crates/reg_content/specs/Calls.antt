@@ -4,7 +4,7 @@ use Rattle.sqlite.specs.Effect.{Database}
 use Rattle.sqlite.specs.State.{State, HasCleanDisk, KeepsCommit}
 use Rattle.reg_core.specs.World.{World}
 use Rattle.reg_tables.specs.Connection.{Endures, Holds, HoldsOn, IsIdle, Stays, WentOn}
-use Rattle.reg_content.specs.Content.{IsStored, content_of, world_in}
+use Rattle.reg_statements.specs.Content.{IsStored, content_of, world_in}
 
 -- no transaction is open, and what was committed are the rows of an office
 pub record IsKeeping (s : State) : Type 0 where

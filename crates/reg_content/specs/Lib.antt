@@ -1,14 +1,4 @@
-pub mod Tables
-pub mod Content
 pub mod Calls
-pub mod Loading
-pub mod RowMaps
-pub mod Reading
 pub mod Seats
 pub mod Registries
 pub mod Changing
-pub mod Feeding
-pub mod Partitions
-pub mod Parts
-pub mod Rowids
-pub mod Opening

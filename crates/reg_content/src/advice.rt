@@ -8,8 +8,6 @@ ghost use Rattle.reg_core.specs.World.{World};
 ghost use Rattle.reg_records.specs.Advice.{advice_values, is_expert_advice};
 ghost use Rattle.reg_content.specs.Calls.{IsKeeping, Looks, Steps};
 
-use crate::select::{all, one};
-use crate::write::write;
 use reg_core::advice::{Advice, Opinion};
 use reg_core::rows::Rows;
 use reg_core::text::{Account, Ref};
@@ -17,6 +15,8 @@ use reg_keeper::keeper::Fault;
 use reg_ranges::formed::Formed;
 use reg_records::advice::ExpertAdvice;
 use reg_records::column::{name_value, printable_value, word_value};
+use reg_statements::select::{all, one};
+use reg_statements::write::write;
 use sqlite::types::ValueRef;
 use sqlite::{Alter, Connection, Transaction};
 use std::alloc::{AllocError, Global};

@@ -13,8 +13,6 @@ ghost use Rattle.reg_core.specs.World.{World};
 ghost use Rattle.reg_records.specs.Blocks.{is_holding};
 ghost use Rattle.reg_content.specs.Calls.{IsKeeping, Looks, Steps};
 
-use crate::select::{all, one};
-use crate::write::write;
 use reg_blocks::block::Block;
 use reg_core::holding::{Holding, Listed};
 use reg_core::rows::Rows;
@@ -23,6 +21,8 @@ use reg_keeper::keeper::Fault;
 use reg_ranges::formed::Formed;
 use reg_records::blocks::holding_values;
 use reg_records::column::{flag_value, name_value, whole_value};
+use reg_statements::select::{all, one};
+use reg_statements::write::write;
 use sqlite::{Alter, Connection, Transaction};
 use std::alloc::{AllocError, Global};
 

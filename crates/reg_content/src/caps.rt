@@ -5,14 +5,14 @@ ghost use Rattle.sqlite.specs.Held.{state};
 ghost use Rattle.reg_core.specs.World.{World};
 ghost use Rattle.reg_content.specs.Calls.{IsKeeping, Looks, Steps};
 
-use crate::select::one;
-use crate::write::write;
 use reg_core::capability::Cap;
 use reg_core::text::Digest;
 use reg_keeper::keeper::Fault;
 use reg_ranges::formed::Formed;
 use reg_records::caps::Grant;
 use reg_records::column::name_value;
+use reg_statements::select::one;
+use reg_statements::write::write;
 use sqlite::{Alter, Connection, Transaction};
 use std::alloc::Global;
 

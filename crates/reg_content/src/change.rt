@@ -6,7 +6,7 @@ ghost use Rattle.reg_core.specs.World.{World, applied};
 ghost use Rattle.reg_tables.specs.Connection.{Holds};
 ghost use Rattle.reg_content.specs.Calls.{Alters, IsKeeping, Looks, Steps};
 ghost use Rattle.reg_content.specs.Changing.{Fits, is_replaced};
-ghost use Rattle.reg_content.specs.Content.{world_in};
+ghost use Rattle.reg_statements.specs.Content.{world_in};
 
 use crate::advice::{add_advice, advice, change_advice};
 use crate::blocks::set_mark;
@@ -17,9 +17,9 @@ use crate::pool::add_prefix;
 use crate::queue::add_seat;
 use crate::registries::add_registry;
 use crate::requests::set_state;
-use crate::write::fault;
 use reg_core::change::Change;
 use reg_keeper::keeper::Fault;
+use reg_statements::write::fault;
 use sqlite::{Alter, Connection, Transaction};
 use std::alloc::Global;
 

@@ -11,11 +11,9 @@ ghost use Rattle.reg_records.specs.Entries.{is_entry};
 ghost use Rattle.reg_tables.specs.Connection.{Endures, Holds, IsIdle, Stays};
 ghost use Rattle.reg_tables.specs.Schema.{entries_table};
 ghost use Rattle.reg_content.specs.Calls.{IsKeeping, Looks, Steps};
-ghost use Rattle.reg_content.specs.Content.{registration_at};
-ghost use Rattle.reg_content.specs.RowMaps.{IsTable, held_in};
+ghost use Rattle.reg_statements.specs.Content.{registration_at};
+ghost use Rattle.reg_statements.specs.RowMaps.{IsTable, held_in};
 
-use crate::select::{all, one};
-use crate::write::write;
 use reg_core::entry::Entry;
 use reg_core::rows::Rows;
 use reg_core::text::Name;
@@ -23,6 +21,8 @@ use reg_keeper::keeper::Fault;
 use reg_ranges::formed::Formed;
 use reg_records::column::{name_value, number_value};
 use reg_records::entries::entry_values;
+use reg_statements::select::{all, one};
+use reg_statements::write::write;
 use sqlite::{Alter, Connection, Transaction};
 use std::alloc::Global;
 

@@ -1,4 +1,4 @@
-//! An office kept in SQLite tables.
+//! The content of an office in SQLite tables: what is asked of it, and its changes.
 #![tactic(auto)]
 
 pub mod advice;
@@ -6,19 +6,9 @@ pub mod blocks;
 pub mod caps;
 pub mod change;
 pub mod entries;
-mod fed;
-mod feed;
 mod give;
-mod office;
-pub mod open;
-mod partitions;
-mod parts;
 pub mod pool;
 pub mod queue;
-mod read;
 pub mod registries;
 pub mod requests;
 pub mod reviews;
-mod rowids;
-mod select;
-pub mod write;

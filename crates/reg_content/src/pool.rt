@@ -6,15 +6,15 @@ ghost use Rattle.sqlite.specs.Held.{state};
 ghost use Rattle.reg_blocks.specs.Pool.{AddsPrefix};
 ghost use Rattle.reg_core.specs.World.{World};
 ghost use Rattle.reg_content.specs.Calls.{IsKeeping, Looks, Steps};
-ghost use Rattle.reg_content.specs.Loading.{IsAscending};
+ghost use Rattle.reg_statements.specs.Loading.{IsAscending};
 
-use crate::select::{all, one};
-use crate::write::write;
 use reg_blocks::pool::{Add, Pool};
 use reg_keeper::keeper::Fault;
 use reg_ranges::formed::Formed;
 use reg_records::column::number_value;
 use reg_records::pool::Prefix;
+use reg_statements::select::{all, one};
+use reg_statements::write::write;
 use sqlite::{Alter, Connection, Transaction};
 use std::alloc::Global;
 

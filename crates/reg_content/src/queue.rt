@@ -6,14 +6,14 @@ ghost use Rattle.reg_core.specs.File.{experts_of};
 ghost use Rattle.reg_core.specs.World.{World};
 ghost use Rattle.reg_content.specs.Calls.{IsKeeping, Looks, Steps};
 
-use crate::select::{all, one};
-use crate::write::write;
 use reg_core::rows::Rows;
 use reg_core::text::{Account, Ref};
 use reg_keeper::keeper::Fault;
 use reg_ranges::formed::Formed;
 use reg_records::column::name_value;
 use reg_records::queue::Seat;
+use reg_statements::select::{all, one};
+use reg_statements::write::write;
 use sqlite::{Alter, Connection, Transaction};
 use std::alloc::{AllocError, Global};
 

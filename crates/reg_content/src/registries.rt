@@ -8,8 +8,6 @@ ghost use Rattle.reg_core.specs.World.{World};
 ghost use Rattle.reg_content.specs.Calls.{IsKeeping, Looks, Steps};
 ghost use Rattle.reg_content.specs.Registries.{CanFollow, with_range};
 
-use crate::select::{all, one};
-use crate::write::write;
 use reg_core::rows::Rows;
 use reg_core::text::Name;
 use reg_keeper::keeper::Fault;
@@ -19,6 +17,8 @@ use reg_ranges::table::RangeTable;
 use reg_records::column::name_value;
 use reg_records::ranges::RegistryRange;
 use reg_records::registries::Registry;
+use reg_statements::select::{all, one};
+use reg_statements::write::write;
 use sqlite::{Alter, Connection, Transaction};
 use std::alloc::{AllocError, Global};
 

@@ -15,8 +15,6 @@ ghost use Rattle.reg_records.specs.Requests.Forms.{gives_its_kind};
 ghost use Rattle.reg_records.specs.Requests.Values.{given_text, state_values};
 ghost use Rattle.reg_content.specs.Calls.{IsKeeping, Looks, Steps};
 
-use crate::select::{self, one};
-use crate::write::write;
 use reg_core::request::{Request, State};
 use reg_core::rows::Rows;
 use reg_core::text::{Account, Ref};
@@ -24,6 +22,8 @@ use reg_keeper::keeper::Fault;
 use reg_ranges::formed::Formed;
 use reg_records::column::name_value;
 use reg_records::requests::values::{given_text, request_values, state_values};
+use reg_statements::select::{self, one};
+use reg_statements::write::write;
 use sqlite::types::ValueRef;
 use sqlite::{Alter, Connection, Transaction};
 use std::alloc::Global;

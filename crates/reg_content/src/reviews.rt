@@ -12,7 +12,6 @@ ghost use Rattle.reg_content.specs.Seats.{assigned_to, seen_row};
 use crate::advice::{advice, opinions};
 use crate::queue::{experts, is_queued};
 use crate::requests::own_one;
-use crate::select::all;
 use reg_core::advice::Advice;
 use reg_core::file::File;
 use reg_core::queue::QueueRow;
@@ -22,6 +21,7 @@ use reg_core::text::{Account, Ref};
 use reg_keeper::keeper::Fault;
 use reg_records::column::name_value;
 use reg_records::queued::QueuedRequest;
+use reg_statements::select::all;
 use sqlite::{Alter, Connection};
 use std::alloc::{AllocError, Global};
 

@@ -1,11 +1,12 @@
 //! Requests that are asked by lines of a script and over HTTP, of offices in lists and in tables:
 //! all four are answered alike, and none for want of storage.
-use reg_carriers::alike::{Alike, Both, ensure};
+use reg_carriers::alike::{Alike, Both};
 use reg_carriers::asked::Asked;
 use reg_carriers::generating::assert_all;
 use reg_sql::keeper::SqlKeeper;
 use reg_sql::open::in_memory;
 use reg_store::lists::ListKeeper;
+use reg_testing::facts::ensure;
 use sqlite::MemStore;
 use std::alloc::Global;
 use std::test::Fail;

@@ -3,6 +3,7 @@
 use reg_files::Files;
 use reg_jobs::command_line::job;
 use reg_program::performing::perform;
+use reg_testing::facts::ensure;
 use sqlite::Connection;
 use std::path::PathBuf;
 use std::test::Fail;
@@ -23,11 +24,6 @@ struct Outcome {
     status: u8,
     output: Vec<u8>,
     errors: Vec<u8>,
-}
-
-// A test fails at this, where it does not hold.
-fn ensure(holds: bool, what: &str) -> Result<(), Fail> {
-    if holds { Ok(()) } else { Err(what.into()) }
 }
 
 // What a command line gives, its words apart by a space each.
@@ -164,7 +160,8 @@ fn files_of_others(rt: HostRuntime) -> Result<(), Fail> {
         b"These are no tables, but a letter to the office, which is longer than a head of SQLite.\n";
     let path = scratch(&rt, "reg_cli_letter.db", text)?;
     assert_unopened(&rt, path.as_str(), "fault: not ours\n")?;
-    assert_eq!(rt; fs::read(&rt, path.as_str())?.as_slice(), text.as_slice());
+    let left = fs::read(&rt, path.as_str())?;
+    ensure(left.as_slice() == text.as_slice(), "the file as it was")?;
     remove(&rt, path.as_str())
 }
 

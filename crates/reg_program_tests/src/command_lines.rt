@@ -2,8 +2,14 @@
 use reg_jobs::command_line::job;
 use reg_jobs::jobs::{Job, JobFault};
 use reg_program::performing::refuse;
-use std::process::Abort;
+use reg_testing::facts::ensure;
+use std::alloc::Global;
 use std::test::Fail;
+
+// A word of a job.
+fn assert_word(word: &String, wanted: &str) -> Result<(), Fail> {
+    ensure(word.as_str() == wanted, wanted)
+}
 
 fn unexpected() -> Fail {
     "another job, or none".into()
@@ -13,10 +19,9 @@ fn unexpected() -> Fail {
 fn a_script_has_a_clerk(rt: HostRuntime) -> Result<(), Fail> {
     let words = ["reg_cli", "script", "--clerk", "clerk-token-00001"];
     match job(rt.alloc(), &words) {
-        Ok(Job::Script { clerk }) => assert_eq!(rt; clerk.as_str(), "clerk-token-00001"),
-        _ => return Err(unexpected()),
+        Ok(Job::Script { clerk }) => assert_word(&clerk, "clerk-token-00001"),
+        _ => Err(unexpected()),
     }
-    Ok(())
 }
 
 #[test]
@@ -24,17 +29,21 @@ fn an_init_has_a_file_and_a_clerk(rt: HostRuntime) -> Result<(), Fail> {
     let words = ["reg_cli", "init", "o.db", "--clerk=-token-of-16-bytes"];
     match job(rt.alloc(), &words) {
         Ok(Job::Init { file, clerk }) => {
-            assert_eq!(rt; file.as_str(), "o.db");
-            assert_eq!(rt; clerk.as_str(), "-token-of-16-bytes");
+            assert_word(&file, "o.db")?;
+            assert_word(&clerk, "-token-of-16-bytes")
         }
-        _ => return Err(unexpected()),
+        _ => Err(unexpected()),
     }
-    Ok(())
 }
 
-// The port and the connections of a serve.
-fn served<R: Abort + AllocGlobal>(rt: &R, words: &[&str]) -> Result<(u16, u32), Fail> {
-    match job(rt.alloc(), words) {
+// These are the port and the connections of a serve.
+fn assert_served(
+    alloc: Global,
+    words: &[&str],
+    wanted_port: u16,
+    wanted_connections: u32,
+) -> Result<(), Fail> {
+    match job(alloc, words) {
         Ok(
             Job::Serve {
                 file,
@@ -42,8 +51,9 @@ fn served<R: Abort + AllocGlobal>(rt: &R, words: &[&str]) -> Result<(u16, u32), 
                 connections,
             },
         ) => {
-            assert_eq!(rt; file.as_str(), "o.db");
-            Ok((port, connections))
+            assert_word(&file, "o.db")?;
+            ensure(port == wanted_port, "the port")?;
+            ensure(connections == wanted_connections, "the connections")
         }
         _ => Err(unexpected()),
     }
@@ -60,7 +70,7 @@ fn a_serve_has_a_port_and_connections(rt: HostRuntime) -> Result<(), Fail> {
         "--connections",
         "1",
     ];
-    assert_eq!(rt; served(&rt, &least)?, (1, 1));
+    assert_served(rt.alloc(), &least, 1, 1)?;
     let most = [
         "reg_cli",
         "serve",
@@ -68,10 +78,9 @@ fn a_serve_has_a_port_and_connections(rt: HostRuntime) -> Result<(), Fail> {
         "--port=65535",
         "o.db",
     ];
-    assert_eq!(rt; served(&rt, &most)?, (65_535, 1_000_000));
+    assert_served(rt.alloc(), &most, 65_535, 1_000_000)?;
     let left_out = ["reg_cli", "serve", "o.db", "--port", "8080"];
-    assert_eq!(rt; served(&rt, &left_out)?, (8_080, 1_000_000));
-    Ok(())
+    assert_served(rt.alloc(), &left_out, 8_080, 1_000_000)
 }
 
 #[test]
@@ -82,19 +91,18 @@ fn a_definition_has_five_words(rt: HostRuntime) -> Result<(), Fail> {
     let Ok(Job::Define(order)) = job(rt.alloc(), &words) else {
         return Err(unexpected());
     };
-    assert_eq!(rt; order.file.as_str(), "o.db");
-    assert_eq!(rt; order.name.as_str(), "codes");
-    assert_eq!(rt; order.max.as_str(), "255");
-    assert_eq!(rt; order.ranges.as_str(), "r.csv");
-    assert_eq!(rt; order.clerk.as_str(), "k");
-    Ok(())
+    assert_word(&order.file, "o.db")?;
+    assert_word(&order.name, "codes")?;
+    assert_word(&order.max, "255")?;
+    assert_word(&order.ranges, "r.csv")?;
+    assert_word(&order.clerk, "k")
 }
 
 // The registry of a listing.
-fn listed<R: Abort + AllocGlobal>(rt: &R, words: &[&str]) -> Result<Option<String>, Fail> {
-    match job(rt.alloc(), words) {
+fn listed(alloc: Global, words: &[&str]) -> Result<Option<String>, Fail> {
+    match job(alloc, words) {
         Ok(Job::Listing { file, registry }) => {
-            assert_eq!(rt; file.as_str(), "-o.db");
+            assert_word(&file, "-o.db")?;
             Ok(registry)
         }
         _ => Err(unexpected()),
@@ -104,11 +112,21 @@ fn listed<R: Abort + AllocGlobal>(rt: &R, words: &[&str]) -> Result<Option<Strin
 #[test]
 fn a_listing_may_have_a_registry(rt: HostRuntime) -> Result<(), Fail> {
     let blocks = ["reg_cli", "listing", "--", "-o.db"];
-    assert!(rt; listed(&rt, &blocks)?.is_none());
+    let registry = listed(rt.alloc(), &blocks)?;
+    ensure(registry.is_none(), "no registry")?;
     let one = ["reg_cli", "listing", "--registry", "codes", "--", "-o.db"];
-    let registry = listed(&rt, &one)?;
-    assert!(rt; registry.is_some_and(|name| name.as_str() == "codes"));
-    Ok(())
+    let registry = listed(rt.alloc(), &one)?.ok_or("a registry")?;
+    assert_word(&registry, "codes")
+}
+
+// The words of this line are no command line.
+fn assert_no_line(alloc: Global, line: &str) -> Result<(), Fail> {
+    let mut words = Vec::new(alloc);
+    for word in line.split(' ') {
+        words.push(word)?;
+    }
+    let is_none = matches!(job(alloc, words.as_slice()), Err(JobFault::Line));
+    ensure(is_none, line)
 }
 
 #[test]
@@ -134,19 +152,25 @@ fn other_words_are_no_command_line(rt: HostRuntime) -> Result<(), Fail> {
         "reg_cli define o.db codes 255 r.csv more --clerk k",
         "reg_cli --version",
     ] {
-        let mut words = Vec::new(rt.alloc());
-        for word in line.split(' ') {
-            words.push(word)?;
-        }
-        assert!(rt;
-            matches!(job(rt.alloc(), words.as_slice()), Err(JobFault::Line)),
-            "{line}"
-        );
+        assert_no_line(rt.alloc(), line)?;
     }
     let mut errors = Vec::new(rt.alloc());
-    assert_eq!(rt; refuse(JobFault::Line, &mut errors), 2);
-    assert_eq!(rt; errors.as_slice(), b"fault: line\n".as_slice());
-    Ok(())
+    ensure(refuse(JobFault::Line, &mut errors) == 2, "the status")?;
+    let said = errors.as_slice() == b"fault: line\n".as_slice();
+    ensure(said, "what is said of errors")
+}
+
+// The help of these words shows this example.
+fn assert_help(alloc: Global, line: &str, example: &str) -> Result<(), Fail> {
+    let mut words = Vec::new(alloc);
+    words.push("reg_cli")?;
+    for word in line.split(' ') {
+        words.push(word)?;
+    }
+    match job(alloc, words.as_slice()) {
+        Ok(Job::Help { text }) => ensure(text.as_str().contains(example), line),
+        _ => Err(unexpected()),
+    }
 }
 
 #[test]
@@ -175,18 +199,7 @@ fn help_shows_examples(rt: HostRuntime) -> Result<(), Fail> {
             "reg_cli listing office.db --registry codes\n",
         ),
     ] {
-        let mut words = Vec::new(rt.alloc());
-        words.push("reg_cli")?;
-        for word in line.split(' ') {
-            words.push(word)?;
-        }
-        match job(rt.alloc(), words.as_slice()) {
-            Ok(Job::Help { text }) => assert!(rt;
-                text.as_str().contains(example),
-                "{line}: {text}"
-            ),
-            _ => return Err(unexpected()),
-        }
+        assert_help(rt.alloc(), line, example)?;
     }
     Ok(())
 }

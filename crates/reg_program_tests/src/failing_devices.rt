@@ -1,8 +1,9 @@
 //! Scripts whose reader fails before a byte or never ends, and whose writer fails after a byte.
-use crate::devices::{FailsAfter, FailsBefore, NeverEnds};
 use crate::running::{CLERK, InLists};
 use reg_jobs::jobs::Job;
 use reg_program::performing::perform;
+use reg_testing::devices::{FailsAfter, FailsBefore, NeverEnds};
+use reg_testing::facts::ensure;
 use std::alloc::{AllocError, Global};
 use std::io::{Read, Write};
 use std::test::Fail;
@@ -41,6 +42,12 @@ fn answers_to(alloc: Global, read: &[u8]) -> Result<Vec<u8>, AllocError> {
     Ok(answers)
 }
 
+// The script was not done, for this fault.
+fn assert_ended(status: u8, errors: &[u8], fault: &[u8]) -> Result<(), Fail> {
+    ensure(status == 1, "the status")?;
+    ensure(errors == fault, "what is said of errors")
+}
+
 #[test]
 fn a_read_that_fails_before_each_byte(rt: HostRuntime) -> Result<(), Fail> {
     for count in 0..=LINES.len() {
@@ -49,9 +56,9 @@ fn a_read_that_fails_before_each_byte(rt: HostRuntime) -> Result<(), Fail> {
         let mut output = Vec::new(rt.alloc());
         let mut errors = Vec::new(rt.alloc());
         let status = done(&rt, &mut input, &mut output, &mut errors)?;
-        assert_eq!(rt; status, 1);
-        assert_eq!(rt; output.as_slice(), answers_to(rt.alloc(), read)?.as_slice());
-        assert_eq!(rt; errors.as_slice(), b"fault: read\n".as_slice());
+        let wanted = answers_to(rt.alloc(), read)?;
+        ensure(output == wanted, "the answers to what was read")?;
+        assert_ended(status, errors.as_slice(), b"fault: read\n")?;
     }
     Ok(())
 }
@@ -68,9 +75,9 @@ fn a_write_that_fails_after_each_byte(rt: HostRuntime) -> Result<(), Fail> {
         };
         let mut errors = Vec::new(rt.alloc());
         let status = done(&rt, &mut input, &mut output, &mut errors)?;
-        assert_eq!(rt; status, 1);
-        assert_eq!(rt; output.taken.as_slice(), &ANSWERS.as_bytes()[..room]);
-        assert_eq!(rt; errors.as_slice(), b"fault: write\n".as_slice());
+        let wanted = &ANSWERS.as_bytes()[..room];
+        ensure(output.taken.as_slice() == wanted, "what was taken")?;
+        assert_ended(status, errors.as_slice(), b"fault: write\n")?;
     }
     Ok(())
 }
@@ -81,9 +88,7 @@ fn a_reader_without_an_end(rt: HostRuntime) -> Result<(), Fail> {
     let mut output = Vec::new(rt.alloc());
     let mut errors = Vec::new(rt.alloc());
     let status = done(&rt, &mut input, &mut output, &mut errors)?;
-    assert_eq!(rt; status, 1);
-    assert_eq!(rt; input.reads, 16_777_216);
-    assert!(rt; output.is_empty());
-    assert_eq!(rt; errors.as_slice(), b"fault: read\n".as_slice());
-    Ok(())
+    ensure(input.reads == 16_777_216, "the reads that are made")?;
+    ensure(output.is_empty(), "no answer")?;
+    assert_ended(status, errors.as_slice(), b"fault: read\n")
 }

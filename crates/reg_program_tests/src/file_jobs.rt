@@ -8,11 +8,11 @@ use reg_program::faults::{JobFailure, Undone};
 use reg_program::serving::serve_in;
 use reg_program::tasks::found_in;
 use reg_store::lists::ListKeeper;
+use reg_testing::facts::ensure;
 use std::alloc::{AllocError, Global};
 use std::io;
 use std::io::{Read, Write};
 use std::net::{Ipv4Addr, Net, Shutdown, SocketAddr, TcpListener, TcpStream};
-use std::process::Abort;
 use std::test::Fail;
 use std::time::Clock;
 
@@ -60,34 +60,32 @@ fn listed<R: AllocGlobal, K: Keeper>(rt: &R, office: &mut Office<K>) -> Result<V
     Ok(output)
 }
 
-fn assert_jobs<R: Abort + AllocGlobal, K: Keeper>(
-    rt: &R,
-    office: &mut Office<K>,
-) -> Result<(), Fail> {
-    for _ in 0..2 {
-        let mut output = Vec::new(rt.alloc());
-        assert!(rt; found_in(office, CLERK, &mut output).is_ok());
-        assert_eq!(rt; output.as_slice(), b"ready\n".as_slice());
-    }
-    for _ in 0..2 {
-        let Ok(printed) = defined(rt, office, RANGES) else {
-            return Err("not defined".into());
-        };
-        assert_eq!(rt;
-            printed.as_slice(),
-            b"200 {\"defined\":\"codes\"}\n".as_slice()
-        );
-        let Ok(printed) = listed(rt, office) else {
-            return Err("not listed".into());
-        };
-        assert_eq!(rt; printed.as_slice(), LISTING.as_bytes());
-    }
+// The office is begun, and a registry is defined in it and listed.
+fn assert_done<R: AllocGlobal, K: Keeper>(rt: &R, office: &mut Office<K>) -> Result<(), Fail> {
+    let mut output = Vec::new(rt.alloc());
+    let is_found = found_in(office, CLERK, &mut output).is_ok();
+    let is_said = output.as_slice() == b"ready\n".as_slice();
+    ensure(is_found && is_said, "an office")?;
+    let Ok(printed) = defined(rt, office, RANGES) else {
+        return Err("not defined".into());
+    };
+    let wanted = b"200 {\"defined\":\"codes\"}\n";
+    ensure(printed.as_slice() == wanted.as_slice(), "a definition")?;
+    let Ok(printed) = listed(rt, office) else {
+        return Err("not listed".into());
+    };
+    ensure(printed.as_slice() == LISTING.as_bytes(), "a listing")
+}
+
+fn assert_jobs<R: AllocGlobal, K: Keeper>(rt: &R, office: &mut Office<K>) -> Result<(), Fail> {
+    assert_done(rt, office)?;
+    assert_done(rt, office)?;
     let other = b"lo,hi,treatment,note\n0,255,reserved,\n";
     let Err(Undone::Refused(line)) = defined(rt, office, other) else {
         return Err("not refused".into());
     };
-    assert_eq!(rt; line.as_slice(), b"409 {\"error\":\"exists\"}".as_slice());
-    Ok(())
+    let wanted = b"409 {\"error\":\"exists\"}";
+    ensure(line.as_slice() == wanted.as_slice(), "a refusal")
 }
 
 #[test]
@@ -152,7 +150,7 @@ fn free_port<R: Net<Listener = TcpListener, Stream = TcpStream>>(rt: &R) -> Resu
 
 fn assert_served<R, K: Keeper>(rt: &R, office: &mut Office<K>) -> Result<(), Fail>
 where
-    R: Abort + AllocGlobal + Clock + Net<Listener = TcpListener, Stream = TcpStream>,
+    R: AllocGlobal + Clock + Net<Listener = TcpListener, Stream = TcpStream>,
 {
     let port = free_port(rt)?;
     let mut output = Asking {
@@ -164,10 +162,12 @@ where
     };
     let done = serve_in(rt, office, port, 1, &mut output);
     let line = format!(in rt.alloc(); "listening on 127.0.0.1:{port}\n")?;
-    assert!(rt; done.is_ok());
-    assert_eq!(rt; output.printed.as_slice(), line.as_bytes());
-    assert!(rt; output.heard()?.ends_with(b"\r\n\r\n[]"));
-    Ok(())
+    ensure(done.is_ok(), "an office that is served")?;
+    ensure(
+        output.printed.as_slice() == line.as_bytes(),
+        "the line printed",
+    )?;
+    ensure(output.heard()?.ends_with(b"\r\n\r\n[]"), "the answer")
 }
 
 #[test]
@@ -181,16 +181,16 @@ fn an_office_is_served(rt: HostRuntime) -> Result<(), Fail> {
 // A port that is listened on already.
 fn assert_port<R, K: Keeper>(rt: &R, office: &mut Office<K>) -> Result<(), Fail>
 where
-    R: Abort + AllocGlobal + Clock + Net<Listener = TcpListener, Stream = TcpStream>,
+    R: AllocGlobal + Clock + Net<Listener = TcpListener, Stream = TcpStream>,
 {
     let listener = TcpListener::bind(rt, SocketAddr::from((Ipv4Addr::LOCALHOST, 0)))?;
     let port = listener.local_addr()?.port();
     let mut output = Vec::new(rt.alloc());
     let done = serve_in(rt, office, port, 1, &mut output);
     drop(listener);
-    assert!(rt; matches!(done, Err(Undone::Fault(JobFailure::Port))));
-    assert!(rt; output.is_empty());
-    Ok(())
+    let is_taken = matches!(done, Err(Undone::Fault(JobFailure::Port)));
+    ensure(is_taken, "a port that is taken")?;
+    ensure(output.is_empty(), "no line")
 }
 
 #[test]

@@ -1,5 +1,6 @@
 //! Other people's requests that are given nothing leave no trace in what an applicant is answered.
-use crate::running::{CLERK, ensure, script};
+use crate::running::{CLERK, script};
+use reg_testing::facts::ensure;
 use reg_transcripts::registers::{GRANTS, REGISTRIES};
 use reg_transcripts::transcript::sent;
 use std::test::Fail;
@@ -93,22 +94,29 @@ fn apart(rt: &HostRuntime, output: &[u8]) -> Result<Answers, Fail> {
     Ok(Answers { made, shown, kept })
 }
 
+// So many answers make a hidden request, and so many others show one.
+fn assert_counts(answers: &Answers, made: usize, shown: usize) -> Result<(), Fail> {
+    ensure(answers.made == made, "the hidden requests that are made")?;
+    ensure(answers.shown == shown, "the answers that show one")
+}
+
 #[test]
 fn a_flood_of_submissions_leaves_no_trace(rt: HostRuntime) -> Result<(), Fail> {
     let alone = answered(&rt, "", 0)?;
     let flooded = answered(&rt, "", FLOOD)?;
-    assert!(rt; alone.made == 0 && alone.shown == 0);
-    assert!(rt; flooded.made == 6 * FLOOD && flooded.shown == 0);
-    assert!(rt; alone.kept.as_str().contains(KEPT));
-    assert_eq!(rt; flooded.kept.as_str(), alone.kept.as_str());
-    Ok(())
+    assert_counts(&alone, 0, 0)?;
+    assert_counts(&flooded, 6 * FLOOD, 0)?;
+    ensure(alone.kept.as_str().contains(KEPT), "what alice is answered")?;
+    ensure(flooded.kept == alone.kept, "the same answers after a flood")
 }
 
 #[test]
 fn a_reviewed_request_of_another_leaves_no_trace(rt: HostRuntime) -> Result<(), Fail> {
     let alone = answered(&rt, "", 0)?;
     let reviewed = answered(&rt, REVIEWED, 0)?;
-    assert!(rt; reviewed.made == 1 && reviewed.shown == 4);
-    assert_eq!(rt; reviewed.kept.as_str(), alone.kept.as_str());
-    Ok(())
+    assert_counts(&reviewed, 1, 4)?;
+    ensure(
+        reviewed.kept == alone.kept,
+        "the same answers after a review",
+    )
 }

@@ -1,12 +1,10 @@
-//! Tests of the program over offices in lists, to the byte: the jobs that it does, and requests and
-//! answers over HTTP. They stand in a crate of their own because the gate proves a crate that has
-//! tests a second time, whole, together with them.
+//! Tests of the program over offices in lists, to the byte: the jobs that it does, and the lines of
+//! scripts. They stand in a crate of their own because the gate proves a crate that has tests a
+//! second time, whole, together with them.
 #![tactic(auto)]
 
 #[cfg(test)]
 mod command_lines;
-#[cfg(test)]
-mod devices;
 #[cfg(test)]
 mod failing_devices;
 #[cfg(test)]
@@ -15,8 +13,6 @@ mod failing_keeper;
 mod file_jobs;
 #[cfg(test)]
 mod floods;
-#[cfg(test)]
-mod http;
 #[cfg(test)]
 mod lines;
 #[cfg(test)]

@@ -21,26 +21,18 @@ const REFUSED: &[u8] = b"400 {\"error\":\"line\"}
 
 #[test]
 fn bytes_that_are_no_text(rt: HostRuntime) -> Result<(), Fail> {
-    let given = script(&rt, CLERK, BYTES)?;
-    assert_eq!(rt; given.status, 0);
-    assert_eq!(rt; given.output.as_slice(), REFUSED);
-    Ok(())
+    script(&rt, CLERK, BYTES)?.assert_is(0, REFUSED, b"")
 }
 
 #[test]
 fn a_last_line_may_lack_its_line_feed(rt: HostRuntime) -> Result<(), Fail> {
     let given = script(&rt, CLERK, b"1700000000 - GET /requests\nhello")?;
-    assert_eq!(rt; given.status, 0);
-    let answers: &[u8] = b"401 {\"error\":\"token\"}\n400 {\"error\":\"line\"}\n";
-    assert_eq!(rt; given.output.as_slice(), answers);
-    Ok(())
+    let answers = b"401 {\"error\":\"token\"}\n400 {\"error\":\"line\"}\n";
+    given.assert_is(0, answers, b"")
 }
 
 #[test]
 fn a_short_token_founds_no_office(rt: HostRuntime) -> Result<(), Fail> {
     let given = script(&rt, "short", b"1700000000 - GET /requests\n")?;
-    assert_eq!(rt; given.status, 1);
-    assert!(rt; given.output.is_empty());
-    assert_eq!(rt; given.errors.as_slice(), b"fault: token\n".as_slice());
-    Ok(())
+    given.assert_is(1, b"", b"fault: token\n")
 }

@@ -1,5 +1,5 @@
 //! Transcripts of whole offices.
-use crate::running::{CLERK, ensure, script};
+use crate::running::{CLERK, script};
 use reg_transcripts::offices;
 use reg_transcripts::transcript::{answered, sent};
 use std::test::Fail;
@@ -8,10 +8,7 @@ use std::test::Fail;
 fn assert_answered(rt: &HostRuntime, transcripts: &[&str]) -> Result<(), Fail> {
     let input = sent(rt.alloc(), transcripts)?;
     let output = answered(rt.alloc(), transcripts)?;
-    let given = script(rt, CLERK, input.as_bytes())?;
-    ensure(given.status == 0, "the status")?;
-    ensure(given.output.as_slice() == output.as_bytes(), "the answers")?;
-    ensure(given.errors.is_empty(), "what is said of errors")
+    script(rt, CLERK, input.as_bytes())?.assert_is(0, output.as_bytes(), b"")
 }
 
 #[test]

@@ -6,6 +6,7 @@ use reg_program::faults::Undone;
 use reg_program::performing::{found_and_run, perform};
 use reg_program::tasks::{Offices, Task};
 use reg_store::lists::ListKeeper;
+use reg_testing::facts::ensure;
 use std::alloc::Global;
 use std::io::Write;
 use std::test::Fail;
@@ -39,9 +40,13 @@ pub struct Given {
     pub errors: Vec<u8>,
 }
 
-/// A test fails at this, where it does not hold.
-pub fn ensure(holds: bool, what: &str) -> Result<(), Fail> {
-    if holds { Ok(()) } else { Err(what.into()) }
+impl Given {
+    /// The test fails at this, unless this is what the script gave.
+    pub fn assert_is(&self, status: u8, output: &[u8], errors: &[u8]) -> Result<(), Fail> {
+        ensure(self.status == status, "the status")?;
+        ensure(self.output.as_slice() == output, "the answers")?;
+        ensure(self.errors.as_slice() == errors, "what is said of errors")
+    }
 }
 
 /// What the job `script` gives for these lines.

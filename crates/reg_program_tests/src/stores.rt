@@ -2,6 +2,7 @@
 use crate::failing_keeper::FailingKeeper;
 use crate::running::answers_over;
 use reg_store::lists::ListKeeper;
+use reg_testing::facts::ensure;
 use reg_transcripts::transcript::{answered, sent};
 use std::test::Fail;
 
@@ -28,6 +29,5 @@ fn a_store_that_fails(rt: HostRuntime) -> Result<(), Fail> {
     let input = sent(alloc, &[LINES])?;
     let wanted = answered(alloc, &[LINES])?;
     let output = answers_over(alloc, FailingKeeper { keeper }, input.as_bytes())?;
-    assert_eq!(rt; output.as_slice(), wanted.as_bytes());
-    Ok(())
+    ensure(output.as_slice() == wanted.as_bytes(), "the answers")
 }

@@ -19,8 +19,8 @@ use Rattle.reg_tables.specs.Having.{Gains}
 use Rattle.reg_tables.specs.Making.{IsBlank, IsFounded, no_schema}
 use Rattle.reg_tables.specs.Schema.{office_schema}
 use Rattle.reg_tables.proofs.GrowLemmas.{none_before}
-use Rattle.reg_content.specs.Content.{AreKept, IsStored, IsVersion, content, content_of, registry_table}
-use Rattle.reg_content.specs.Tables.{Tables, tables_in}
+use Rattle.reg_statements.specs.Content.{AreKept, IsStored, IsVersion, content, content_of, registry_table}
+use Rattle.reg_statements.specs.Tables.{Tables, tables_in}
 use Rattle.reg_sql.specs.Keeping.{AreVacanciesOf, KeepsOffice}
 use Rattle.reg_sql.specs.Opening.{HasNoTables}
 

@@ -15,10 +15,10 @@ use Rattle.reg_tables.specs.Making.{no_schema}
 use Rattle.reg_tables.specs.Schema.{office_schema}
 use Rattle.reg_tables.proofs.HavingLemmas.{all_has}
 use Rattle.reg_content.specs.Calls.{Looks}
-use Rattle.reg_content.specs.Content.{content_of, world_in}
-use Rattle.reg_content.specs.Opening.{Decides, IsFoundAs, IsOurs}
-use Rattle.reg_content.specs.declared.open.Verdict.{Verdict}
-use Rattle.reg_content.specs.declared.open.Verdict.TheVariants.{NotOurs, OtherVersion, Ours}
+use Rattle.reg_statements.specs.Content.{content_of, world_in}
+use Rattle.reg_opening.specs.Opening.{Decides, IsFoundAs, IsOurs}
+use Rattle.reg_opening.specs.declared.open.Verdict.{Verdict}
+use Rattle.reg_opening.specs.declared.open.Verdict.TheVariants.{NotOurs, OtherVersion, Ours}
 use Rattle.reg_sql.specs.Keeping.{AreVacanciesOf, KeepsOffice}
 use Rattle.reg_sql.specs.Opening.{HasNoTables, IsRefused, IsTakenOver, TakesOver}
 use Rattle.reg_sql.specs.declared.open.OpenFault.{OpenFault}

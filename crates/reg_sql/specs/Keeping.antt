@@ -7,7 +7,7 @@ use Rattle.reg_vacancies.specs.Vacancies.{AreVacancies}
 use Rattle.reg_vacancies.specs.declared.vacancies.Vacancies.{Vacancies}
 use Rattle.reg_tables.specs.Connection.{Holds}
 use Rattle.reg_content.specs.Calls.{IsKeeping}
-use Rattle.reg_content.specs.Content.{world_in}
+use Rattle.reg_statements.specs.Content.{world_in}
 
 -- they are the vacancies of the world's entries, pool and blocks
 abbrev pub AreVacanciesOf : World → Vacancies → Type 0

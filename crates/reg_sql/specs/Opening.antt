@@ -15,8 +15,8 @@ use Rattle.reg_tables.specs.Connection.{Holds, Works}
 use Rattle.reg_tables.specs.Having.{AreFree, HasTables}
 use Rattle.reg_tables.specs.Making.{no_schema}
 use Rattle.reg_tables.specs.Schema.{office_schema}
-use Rattle.reg_content.specs.Content.{content_of, world_in}
-use Rattle.reg_content.specs.Opening.{IsOfVersion, IsOurs}
+use Rattle.reg_statements.specs.Content.{content_of, world_in}
+use Rattle.reg_opening.specs.Opening.{IsOfVersion, IsOurs}
 use Rattle.reg_sql.specs.Keeping.{IsHonest, KeepsOffice}
 use Rattle.reg_sql.specs.declared.open.OpenFault.{OpenFault}
 use Rattle.reg_sql.specs.declared.open.OpenFault.TheVariants.{Version, NotOurs, Fault}

@@ -3,8 +3,8 @@ ghost use Rattle.std.specs.Prelude.{◌≡◌, false, Some};
 ghost use Rattle.sqlite.specs.Held.{state};
 ghost use Rattle.reg_tables.specs.Connection.{Holds};
 ghost use Rattle.reg_content.specs.Calls.{Alters, Looks};
-ghost use Rattle.reg_content.specs.Content.{world_in};
-ghost use Rattle.reg_content.specs.Opening.{IsOurs};
+ghost use Rattle.reg_statements.specs.Content.{world_in};
+ghost use Rattle.reg_opening.specs.Opening.{IsOurs};
 ghost use Rattle.reg_core.specs.BlockDue.{due_in};
 ghost use Rattle.reg_core.specs.WellKept.{CanApply, WellKept};
 ghost use Rattle.reg_core.specs.World.{applied};
@@ -143,7 +143,7 @@ impl<S: Alter> Keeper for SqlKeeper<S> {
     ghost use Rattle.sqlite.specs.Held.{state};
     ghost use Rattle.reg_tables.specs.Connection.{Holds};
     ghost use Rattle.reg_content.specs.Calls.{Alters, Looks};
-    ghost use Rattle.reg_content.specs.Content.{world_in};
+    ghost use Rattle.reg_statements.specs.Content.{world_in};
     ghost use Rattle.reg_sql.specs.Keeping.{IsHonest};
 
     ghost world = { λ keeper. world_in (state S.Store keeper.tables) };

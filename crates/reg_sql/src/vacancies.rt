@@ -7,7 +7,7 @@ ghost use Rattle.reg_blocks.specs.Pool.{is_pool_prefix};
 ghost use Rattle.reg_core.specs.WellKept.{WellKept};
 ghost use Rattle.reg_tables.specs.Connection.{Holds};
 ghost use Rattle.reg_content.specs.Calls.{IsKeeping, Looks};
-ghost use Rattle.reg_content.specs.Content.{world_in};
+ghost use Rattle.reg_statements.specs.Content.{world_in};
 ghost use Rattle.reg_vacancies.specs.Pool.{prefix_set};
 ghost use Rattle.reg_vacancies.specs.Vacancies.{AreVacancies, Pool as Prefixes};
 ghost use Rattle.reg_vacancies.specs.Values.{Entries};

@@ -1,12 +1,9 @@
-//! Tests of what the program does not reach: the audit of an office's rows, blocks and the free
-//! places for them, the days of early allocation, sets of numbers, and range files that no text can
-//! hold. They stand in a
-//! crate of their own because the gate proves a crate that has tests a second time, whole, together
-//! with them. What the program answers is tested in `reg_program_tests`.
+//! Tests of what the program does not reach: blocks and the free places for them, the days of early
+//! allocation, sets of numbers, and range files that no text can hold. They stand in a crate of their
+//! own because the gate proves a crate that has tests a second time, whole, together with them. What
+//! the program answers is tested in `reg_program_tests`.
 #![tactic(auto)]
 
-#[cfg(test)]
-mod audit;
 #[cfg(test)]
 mod blocks;
 #[cfg(test)]

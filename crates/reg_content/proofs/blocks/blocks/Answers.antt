@@ -3,7 +3,7 @@ use Rattle.sqlite.specs.Held.{state}
 use Rattle.reg_core.proofs.MapLaws.{block_keys}
 use Rattle.reg_records.specs.Blocks.{holding_in}
 use Rattle.reg_tables.proofs.Statements.Blocks.{all_blocks}
-use Rattle.reg_content.specs.Content.{holder_at, world_in}
+use Rattle.reg_statements.specs.Content.{holder_at, world_in}
 use Rattle.reg_content.proofs.BlockRowsListed.{listed_are, pair}
 use Rattle.reg_content.proofs.Looking.{looks}
 use Rattle.reg_content.proofs.Queries.{all_found}

@@ -5,7 +5,7 @@ use Rattle.reg_blocks.specs.Block.{first_address}
 use Rattle.reg_core.proofs.MapLaws.{block_keys}
 use Rattle.reg_records.specs.Blocks.{holding_in}
 use Rattle.reg_tables.proofs.Statements.Blocks.{block_by_key}
-use Rattle.reg_content.specs.Content.{holder_at, world_in}
+use Rattle.reg_statements.specs.Content.{holder_at, world_in}
 use Rattle.reg_content.proofs.BlockRows.{first_passes}
 use Rattle.reg_content.proofs.BlockRowsFound.{found_holding, one_ascends}
 use Rattle.reg_content.proofs.BlockRowsListed.{pair}

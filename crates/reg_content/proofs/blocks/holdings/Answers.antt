@@ -5,7 +5,7 @@ use Rattle.reg_core.specs.Maps.{same_text}
 use Rattle.reg_core.specs.View.{holdings_of}
 use Rattle.reg_records.specs.Blocks.{holding_in}
 use Rattle.reg_tables.proofs.Statements.Blocks.{blocks_of_holder}
-use Rattle.reg_content.specs.Content.{holder_at, world_in}
+use Rattle.reg_statements.specs.Content.{holder_at, world_in}
 use Rattle.reg_content.proofs.BlockRows.{holder_passes}
 use Rattle.reg_content.proofs.BlockRowsListed.{holdings_are, pair}
 use Rattle.reg_content.proofs.Looking.{looks}

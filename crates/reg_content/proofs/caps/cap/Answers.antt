@@ -3,7 +3,7 @@ use Rattle.sqlite.specs.Held.{state}
 use Rattle.reg_core.proofs.MapLaws.{text_keys}
 use Rattle.reg_records.specs.Caps.{grant_in}
 use Rattle.reg_tables.proofs.Statements.Caps.{cap_by_key}
-use Rattle.reg_content.specs.Content.{cap_at}
+use Rattle.reg_statements.specs.Content.{cap_at}
 use Rattle.reg_content.proofs.CapRows.{cap_passes}
 use Rattle.reg_content.proofs.Looking.{first_of, looks}
 use Rattle.reg_content.proofs.Queries.{one_found}

@@ -4,7 +4,7 @@ use Rattle.sqlite.specs.Held.{state}
 use Rattle.reg_core.proofs.MapLaws.{number_keys}
 use Rattle.reg_records.specs.Pool.{prefix_in}
 use Rattle.reg_tables.proofs.Statements.Pool.{all_pool}
-use Rattle.reg_content.specs.Content.{prefix_at}
+use Rattle.reg_statements.specs.Content.{prefix_at}
 use Rattle.reg_content.proofs.PoolRowsListed.{listed_keys}
 use Rattle.reg_content.proofs.Looking.{looks}
 use Rattle.reg_content.proofs.Queries.{all_found}

@@ -6,7 +6,7 @@ use Rattle.reg_records.specs.declared.ranges.RegistryRange.{RegistryRange}
 use Rattle.reg_tables.proofs.InsertStatements.{adds_ranges}
 use Rattle.reg_tables.proofs.KindLemmas.{written_schema}
 use Rattle.reg_tables.proofs.WriteTexts.{insert_ranges_writes}
-use Rattle.reg_content.specs.Content.{IsStored, content_of}
+use Rattle.reg_statements.specs.Content.{IsStored, content_of}
 use Rattle.reg_content.specs.Registries.{CanFollow, with_range}
 use Rattle.reg_content.proofs.RegistryRowsAdded.{range_added, range_cast}
 use Rattle.reg_content.proofs.Writing.{added_row}

@@ -3,11 +3,11 @@ use Rattle.sqlite.specs.Held.{state}
 use Rattle.reg_core.proofs.MapLaws.{text_keys}
 use Rattle.reg_records.specs.Registries.{registry_in}
 use Rattle.reg_tables.proofs.Statements.Registries.{registry_by_key}
-use Rattle.reg_content.specs.Content.{max_at, maxes_in, ranges_in}
-use Rattle.reg_content.specs.Tables.{tables_in}
+use Rattle.reg_statements.specs.Content.{max_at, maxes_in, ranges_in}
+use Rattle.reg_statements.specs.Tables.{tables_in}
 use Rattle.reg_content.proofs.Looking.{first_of, looks}
 use Rattle.reg_content.proofs.Queries.{one_found}
-use Rattle.reg_content.proofs.RegistryRows.{max-at, registry_passes}
+use Rattle.reg_statements.proofs.RegistryRows.{max-at, registry_passes}
 use Rattle.reg_content.proofs.registries.max.Goals as goal
 
 pub one-requires-clause-plain : goal.one-requires-clause-plain

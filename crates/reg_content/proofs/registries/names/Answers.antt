@@ -5,11 +5,11 @@ use Rattle.sqlite.specs.Held.{state}
 use Rattle.reg_core.proofs.MapLaws.{text_keys}
 use Rattle.reg_records.specs.Registries.{registry_in}
 use Rattle.reg_tables.proofs.Statements.Registries.{all_registries}
-use Rattle.reg_content.specs.Content.{max_at, maxes_in, ranges_in}
-use Rattle.reg_content.specs.Tables.{tables_in}
+use Rattle.reg_statements.specs.Content.{max_at, maxes_in, ranges_in}
+use Rattle.reg_statements.specs.Tables.{tables_in}
 use Rattle.reg_content.proofs.Looking.{looks}
 use Rattle.reg_content.proofs.Queries.{all_found}
-use Rattle.reg_content.proofs.RegistryRows.{registry-keys, select-all}
+use Rattle.reg_statements.proofs.RegistryRows.{registry-keys, select-all}
 use Rattle.reg_content.proofs.registries.names.Goals as goal
 
 pub all-requires-clause-plain : goal.all-requires-clause-plain

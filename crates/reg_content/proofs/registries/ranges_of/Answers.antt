@@ -5,11 +5,11 @@ use Rattle.reg_core.specs.Maps.{same_text}
 use Rattle.reg_core.proofs.MapLaws.{place_keys}
 use Rattle.reg_records.specs.Ranges.{range_in}
 use Rattle.reg_tables.proofs.Statements.Ranges.{ranges_of_registry}
-use Rattle.reg_content.specs.Content.{range_at, maxes_in, ranges_in}
-use Rattle.reg_content.specs.Tables.{tables_in}
+use Rattle.reg_statements.specs.Content.{range_at, maxes_in, ranges_in}
+use Rattle.reg_statements.specs.Tables.{tables_in}
 use Rattle.reg_content.proofs.Looking.{looks}
 use Rattle.reg_content.proofs.Queries.{all_found}
-use Rattle.reg_content.proofs.RegistryRows.{range_passes, ranges-at}
+use Rattle.reg_statements.proofs.RegistryRows.{range_passes, ranges-at}
 use Rattle.reg_content.proofs.registries.ranges_of.Goals as goal
 
 pub all-requires-clause-plain : goal.all-requires-clause-plain

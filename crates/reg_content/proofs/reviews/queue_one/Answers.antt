@@ -2,7 +2,7 @@ use Rattle.std.proofs.Common.{sym, ap, ◌∙◌, option_map}
 use Rattle.sqlite.specs.Held.{state}
 use Rattle.reg_core.specs.Queue.{queue_row}
 use Rattle.reg_core.specs.World.{RequestName}
-use Rattle.reg_content.specs.Content.{world_in}
+use Rattle.reg_statements.specs.Content.{world_in}
 use Rattle.reg_content.proofs.Looking.{looks, looks_before}
 use Rattle.reg_content.proofs.QueueRows.{is_assigned, not_assigned}
 use Rattle.reg_content.proofs.reviews.queue_one.Goals as goal

@@ -5,7 +5,7 @@ use Rattle.sqlite_trees.specs.View.{doubt}
 use Rattle.sqlite_trees.specs.declared.memory.MemStore.{MemStore}
 use Rattle.reg_core.specs.World.{empty_world}
 use Rattle.reg_tables.specs.Connection.{Holds, Works}
-use Rattle.reg_content.specs.Content.{world_in}
+use Rattle.reg_statements.specs.Content.{world_in}
 use Rattle.reg_sql.specs.Opening.{HasNoTables}
 use Rattle.reg_sql.proofs.open.in_memory.Goals as goal
 

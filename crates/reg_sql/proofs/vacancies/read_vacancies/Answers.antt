@@ -4,7 +4,7 @@ use Rattle.sqlite.specs.Held.{state}
 use Rattle.reg_core.specs.Page.{entry_rows}
 use Rattle.reg_vacancies.specs.Pool.{prefix_set}
 use Rattle.reg_content.specs.Calls.{Looks}
-use Rattle.reg_content.specs.Content.{world_in}
+use Rattle.reg_statements.specs.Content.{world_in}
 use Rattle.reg_content.proofs.Looking.{looks}
 use Rattle.reg_sql.specs.Listed.{registrations}
 use Rattle.reg_sql.proofs.Reading.{listed_in_pool, listed_leave, looks_next, looks_so}

@@ -1,6 +1,0 @@
-use Rattle.std.proofs.Common.{◌≡◌, map}
-use Rattle.reg_content.specs.Partitions.{partition_from}
-use Rattle.reg_content.proofs.partitions.partitions.Given as goal
-
-abbrev pub invariant-loop-share : goal.invariant-loop-share
-invariant-loop-share l = l.all.items ≡ map partition_from l.yielded

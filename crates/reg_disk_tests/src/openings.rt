@@ -1,0 +1,238 @@
+//! Stores that were written by other hands, and what they are to an office that opens them.
+use crate::image::Image;
+use crate::left::NEVER;
+use crate::making::{blank, filled, prepared, refused, seen};
+use crate::sessions::{Outcome, Statement, carry_out};
+use reg_opening::open::Verdict;
+use reg_sql::open::OpenFault;
+use reg_testing::facts::ensure;
+use std::alloc::Global;
+use std::test::Fail;
+
+// What leaves no row of a version, or several; or another version.
+const VERSIONS: [(&str, Verdict); 5] = [
+    ("UPDATE office SET version = 1", Verdict::Ours),
+    ("DELETE FROM office", Verdict::NotOurs),
+    ("INSERT INTO office (version) VALUES (1)", Verdict::NotOurs),
+    ("UPDATE office SET version = 2", Verdict::OtherVersion(2)),
+    ("UPDATE office SET version = -1", Verdict::OtherVersion(-1)),
+];
+
+// What leaves other tables beside those of the office.
+const BESIDE: [&str; 3] = [
+    "CREATE TABLE cars (plate TEXT PRIMARY KEY)",
+    "CREATE TABLE trips (plate TEXT, day INTEGER) STRICT",
+    "CREATE VIEW names AS SELECT name FROM registries",
+];
+
+// What leaves other tables in the place of the office's.
+const TABLES: [&str; 3] = [
+    "CREATE INDEX by_account ON caps (account)",
+    "CREATE UNIQUE INDEX by_kind ON blocks (organization, first)",
+    "DROP TABLE advice",
+];
+
+// What takes names of the office's tables.
+const TAKEN: [&str; 4] = [
+    "CREATE TABLE caps (digest TEXT)",
+    "CREATE TABLE Pool (prefix INT NOT NULL PRIMARY KEY) STRICT",
+    "CREATE VIEW office AS SELECT 1 AS version",
+    "CREATE TABLE blocks (first INT NOT NULL PRIMARY KEY, size TEXT NOT NULL, \
+     holder TEXT NOT NULL, organization TEXT NOT NULL, address TEXT NOT NULL, \
+     private INTEGER, UNIQUE (holder, first)) STRICT",
+];
+
+// A table of another program's, a row of it, and what touches that row.
+const CARS: &str = "CREATE TABLE cars (plate TEXT PRIMARY KEY)";
+
+const CAR: &str = "INSERT INTO cars (plate) VALUES ('a')";
+
+const TOUCH: &str = "UPDATE cars SET plate = plate WHERE plate = 'a'";
+
+// What leaves rows that are no office's.
+const ROWS: [&str; 20] = [
+    "UPDATE caps SET account = 'Clerk'",
+    "UPDATE caps SET digest = 'abc' WHERE account = 'alice'",
+    "UPDATE caps SET kind = 'king'",
+    "UPDATE caps SET until = -1",
+    "UPDATE registries SET max = 4294967296",
+    "UPDATE ranges SET lo = 63 WHERE lo = 64",
+    "UPDATE ranges SET lo = 65 WHERE lo = 64",
+    "DELETE FROM ranges WHERE lo = 192",
+    "UPDATE ranges SET treatment = 'mine' WHERE lo = 0",
+    "UPDATE entries SET value = 230 WHERE value = 200",
+    "UPDATE entries SET first = 1",
+    "UPDATE entries SET renewed = 2",
+    "DELETE FROM entries",
+    "UPDATE requests SET label = NULL WHERE reference = 'a-1'",
+    "UPDATE requests SET size = 'MA-M' WHERE reference = 'a-1'",
+    "UPDATE requests SET given = '8' WHERE reference = 'a-1'",
+    "INSERT INTO queue (account, reference, expert) VALUES ('bob', 'b-1', 'bob')",
+    "UPDATE pool SET prefix = 65536",
+    "UPDATE blocks SET first = 0",
+    "INSERT INTO blocks (first, size, holder, organization, address, private) \
+     SELECT first + 4096, 'MA-S', holder, organization, address, private FROM blocks",
+];
+
+// What the tables do not take.
+const REFUSED: [&str; 7] = [
+    "UPDATE caps SET account = NULL",
+    "UPDATE caps SET account = x'00'",
+    "UPDATE caps SET until = 1.5",
+    "UPDATE pool SET prefix = 'abc'",
+    "UPDATE entries SET registry = 'none'",
+    "DELETE FROM registries",
+    "DELETE FROM queue WHERE expert = 'xan'",
+];
+
+// What a store is after a statement, if it goes through.
+fn after(alloc: Global, image: &Image, sql: &str) -> Result<Option<Verdict>, Fail> {
+    let (outcome, _) = done(alloc, image, &[sql])?;
+    if outcome.changed.is_none() {
+        return Ok(None);
+    }
+    Ok(outcome.verdict?)
+}
+
+// What comes of statements, and the files after them.
+fn done(alloc: Global, image: &Image, statements: &[&str]) -> Result<(Outcome, Image), Fail> {
+    let (outcome, left) = carry_out(alloc, image, NEVER, Statement::Sql(statements), true)?;
+    Ok((outcome.ok_or("a store")?, left.written))
+}
+
+// After this statement, if it goes through, the store is this.
+fn assert_after(
+    alloc: Global,
+    image: &Image,
+    sql: &str,
+    wanted: Option<Verdict>,
+) -> Result<(), Fail> {
+    ensure(after(alloc, image, sql)? == wanted, sql)
+}
+
+fn assert_not_ours(alloc: Global, statements: &[&str]) -> Result<(), Fail> {
+    let image = prepared(alloc)?;
+    for sql in statements {
+        assert_after(alloc, &image, sql, Some(Verdict::NotOurs))?;
+    }
+    Ok(())
+}
+
+// The same is seen of the offices in these files.
+fn assert_same(alloc: Global, one: &Image, other: &Image) -> Result<(), Fail> {
+    ensure(seen(alloc, one)? == seen(alloc, other)?, "the same office")
+}
+
+// What opening says of a store: no fault, or this one.
+fn assert_fault(found: Option<OpenFault>, wanted: Option<OpenFault>) -> Result<(), Fail> {
+    ensure(found == wanted, "what opening says")
+}
+
+#[test]
+fn versions(rt: HostRuntime) -> Result<(), Fail> {
+    let image = prepared(rt.alloc())?;
+    for (sql, verdict) in VERSIONS {
+        assert_after(rt.alloc(), &image, sql, Some(verdict))?;
+    }
+    Ok(())
+}
+
+#[test]
+fn other_tables(rt: HostRuntime) -> Result<(), Fail> {
+    assert_not_ours(rt.alloc(), &TABLES)
+}
+
+// These files after some statements.
+fn changed(alloc: Global, image: &Image, statements: &[&str]) -> Result<Image, Fail> {
+    let (outcome, after) = done(alloc, image, statements)?;
+    outcome.changed.ok_or("statements that are done")?;
+    Ok(after)
+}
+
+// The one row of another program's table is there.
+fn assert_car(alloc: Global, image: &Image) -> Result<(), Fail> {
+    let (outcome, _) = done(alloc, image, &[TOUCH])?;
+    ensure(outcome.changed == Some(1), "a table with a car")
+}
+
+#[test]
+fn other_tables_alone(rt: HostRuntime) -> Result<(), Fail> {
+    let alloc = rt.alloc();
+    let image = changed(alloc, &Image::empty(alloc), &[CARS, CAR])?;
+    let (fault, left) = refused(alloc, &image, false)?;
+    assert_fault(fault, Some(OpenFault::NotOurs))?;
+    ensure(left == image, "the files as they were")?;
+    let (fault, left) = refused(alloc, &image, true)?;
+    assert_fault(fault, None)?;
+    assert_same(alloc, &left, &blank(alloc)?)?;
+    assert_car(alloc, &left)
+}
+
+#[test]
+fn an_office_after_other_tables(rt: HostRuntime) -> Result<(), Fail> {
+    let alloc = rt.alloc();
+    let image = changed(alloc, &Image::empty(alloc), &[CARS, CAR])?;
+    let (fault, founded) = refused(alloc, &image, true)?;
+    assert_fault(fault, None)?;
+    let made = filled(alloc, &founded)?;
+    assert_same(alloc, &made, &prepared(alloc)?)?;
+    assert_car(alloc, &made)?;
+    let (fault, again) = refused(alloc, &made, true)?;
+    assert_fault(fault, None)?;
+    assert_same(alloc, &again, &made)
+}
+
+#[test]
+fn other_tables_after_an_office(rt: HostRuntime) -> Result<(), Fail> {
+    let alloc = rt.alloc();
+    let image = prepared(alloc)?;
+    for sql in BESIDE {
+        assert_same(alloc, &changed(alloc, &image, &[sql])?, &image)?;
+    }
+    let beside = changed(alloc, &changed(alloc, &blank(alloc)?, &BESIDE)?, &[CAR])?;
+    assert_same(alloc, &filled(alloc, &beside)?, &image)?;
+    assert_car(alloc, &beside)
+}
+
+#[test]
+fn names_that_are_taken(rt: HostRuntime) -> Result<(), Fail> {
+    let alloc = rt.alloc();
+    for sql in TAKEN {
+        let image = changed(alloc, &Image::empty(alloc), &[sql])?;
+        for fresh in [false, true] {
+            let (fault, left) = refused(alloc, &image, fresh)?;
+            assert_fault(fault, Some(OpenFault::NotOurs))?;
+            ensure(left == image, sql)?;
+        }
+    }
+    Ok(())
+}
+
+#[test]
+fn other_rows(rt: HostRuntime) -> Result<(), Fail> {
+    assert_not_ours(rt.alloc(), &ROWS)
+}
+
+#[test]
+fn refused_rows(rt: HostRuntime) -> Result<(), Fail> {
+    let image = prepared(rt.alloc())?;
+    for sql in REFUSED {
+        assert_after(rt.alloc(), &image, sql, None)?;
+    }
+    Ok(())
+}
+
+// A label of 200 characters, and one more.
+#[test]
+fn a_text_that_is_too_long(rt: HostRuntime) -> Result<(), Fail> {
+    let alloc = rt.alloc();
+    let image = prepared(alloc)?;
+    let mut sql = String::from_str(alloc, "UPDATE entries SET label = '")?;
+    for _ in 0..200 {
+        sql.push('t')?;
+    }
+    let longest = format!(in alloc; "{sql}'")?;
+    let longer = format!(in alloc; "{sql}t'")?;
+    assert_after(alloc, &image, longest.as_str(), Some(Verdict::Ours))?;
+    assert_after(alloc, &image, longer.as_str(), Some(Verdict::NotOurs))
+}

@@ -1,0 +1,117 @@
+//! Sessions over the files of a store, on disks that stop: it is opened, something is done, and it
+//! ends.
+use crate::calls::{asked, carried_out, ended};
+use crate::image::Image;
+use crate::left::{Left, Stop, Stopping, disk_with, left_of};
+use reg_keeper::keeper::Fault;
+use reg_opening::open::Verdict;
+use reg_sql::open::OpenFault;
+use sqlite::{Connection, FileStore, Files, Options};
+use sqlite_disk::Disk;
+use std::alloc::Global;
+use std::test::Fail;
+
+// A store on disks that stop.
+type Store = FileStore<Stopping>;
+
+/// What is done with a store.
+#[derive(Clone, Copy)]
+pub enum Statement<'a> {
+    Nothing,
+    /// The tables of an office are made.
+    MakeTables,
+    /// Statements in their order, up to the first that is refused.
+    Sql(&'a [&'a str]),
+}
+
+/// What came of a statement.
+#[derive(Clone, Copy)]
+pub struct Outcome {
+    /// How many rows it changed, the last one of several, if it was done.
+    pub changed: Option<usize>,
+    /// What the store is after it to an office that opens it, if it has tables.
+    pub verdict: Result<Option<Verdict>, Fault>,
+}
+
+/// What an office is asked.
+#[derive(Clone, Copy)]
+pub struct Asking<'a> {
+    /// Whether the office is founded where there is none.
+    pub fresh: bool,
+    /// The token for which the first clerk gets a capability, if any does.
+    pub token: Option<&'a [u8]>,
+    /// Lines of a script.
+    pub lines: &'a [u8],
+    /// Whether the store is closed in the end.
+    pub closes: bool,
+}
+
+/// What came of asking.
+#[derive(Drop)]
+pub struct Asked {
+    /// What the lines were answered, if an office was opened.
+    pub answers: Option<Vec<u8>>,
+    /// Why none was opened in the store, if the store was opened.
+    pub fault: Option<OpenFault>,
+    pub left: Left,
+}
+
+/// Carries a statement out in the store of these files, if that is opened, and closes the store
+/// then, or does not.
+pub fn carry_out(
+    alloc: Global,
+    image: &Image,
+    stop: Stop,
+    statement: Statement<'_>,
+    closes: bool,
+) -> Result<(Option<Outcome>, Left), Fail> {
+    match opened(alloc, image, stop)? {
+        Ok(conn) => {
+            let (outcome, conn) = carried_out(alloc, conn, statement);
+            let left = left_of(alloc, ended(conn, closes)?)?;
+            Ok((Some(outcome), left))
+        }
+        Err(left) => Ok((None, left)),
+    }
+}
+
+/// Asks the office in the store of these files, if there is one.
+pub fn ask(alloc: Global, image: &Image, stop: Stop, asking: Asking<'_>) -> Result<Asked, Fail> {
+    match opened(alloc, image, stop)? {
+        Ok(conn) => ask_in(alloc, conn, asking),
+        Err(left) => Ok(Asked {
+            answers: None,
+            fault: None,
+            left,
+        }),
+    }
+}
+
+fn ask_in(alloc: Global, conn: Connection<Store>, asking: Asking<'_>) -> Result<Asked, Fail> {
+    let (answers, fault, conn) = asked(alloc, conn, asking);
+    let files = ended(conn, asking.closes);
+    let answers = answers?;
+    let left = left_of(alloc, files?)?;
+    Ok(Asked {
+        answers: if fault.is_none() { Some(answers) } else { None },
+        fault,
+        left,
+    })
+}
+
+// A connection to files that hold this on disks that stop; or what is left of them.
+fn opened(
+    alloc: Global,
+    image: &Image,
+    stop: Stop,
+) -> Result<Result<Connection<Store>, Left>, Fail> {
+    let log = disk_with(alloc, image.log.as_slice(), stop.log)?;
+    let db = disk_with(alloc, image.db.as_slice(), stop.db)?;
+    if !log.may_be_used() || !db.may_be_used() {
+        return Err("disks that may be used".into());
+    }
+    match Connection::open_files(alloc, Files { log, db }, Options::new(1)) {
+        Ok(conn) => Ok(Ok(conn)),
+        Err((_, left)) => Ok(Err(left_of(alloc, left.into_files())?)),
+    }
+}

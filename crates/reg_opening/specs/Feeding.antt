@@ -1,0 +1,72 @@
+-- What an audit is fed of the rows of a table.
+use Rattle.std.specs.Prelude.{Result, IfOk, List, [], ◌∷◌, map, Bool, true, false, IsTrue, IsSome, Option}
+use Rattle.std.specs.List.{AllByRecursion}
+use Rattle.sqlite.specs.Order.{Row as SqlRow}
+use Rattle.sqlite.specs.State.{State}
+use Rattle.reg_core.specs.WellKept.{WellKept}
+use Rattle.reg_core.specs.World.{World}
+use Rattle.reg_audit.specs.Audits.{Audits, is_well_kept}
+use Rattle.reg_audit.specs.Rows.{with_row, IsInTurn, IsNew}
+use Rattle.reg_audit.specs.declared.audit.Audit.{Audit}
+use Rattle.reg_audit.specs.declared.row.Row.{Row}
+use Rattle.reg_tables.specs.Connection.{Endures, Holds, IsIdle, Stays}
+use Rattle.reg_statements.specs.Content.{world_in}
+use Rattle.reg_statements.specs.Loading.{ReadAs}
+use Rattle.reg_statements.specs.Tables.{Tables, tables_in}
+
+-- the world with the rows, from the last to the first
+abbrev pub with_rows : World → List Row → World
+with_rows w [] = w
+with_rows w (next ∷ after) = with_row (with_rows w after) next
+
+-- each row comes in its turn
+abbrev pub AreInTurn : World → List Row → Type 0
+AreInTurn w [] = Unit {0}
+AreInTurn w (next ∷ after) = AreInTurn w after × IsInTurn (with_rows w after) next
+
+-- no row has the key of one that is there
+abbrev pub AreNew : World → List Row → Type 0
+AreNew w [] = Unit {0}
+AreNew w (next ∷ after) = AreNew w after × IsNew (with_rows w after) next
+
+-- fed rows that are new, the audit was fed the rows of the world with them; and where it says that
+-- all is well kept, they were new
+pub record FeedsRows (old new : Audit) (rows : List Row) : Type 0 where
+  pub audits : (w : World) → Audits old w → AreInTurn w rows → AreNew w rows
+      → Audits new (with_rows w rows)
+  pub fresh : (w : World) → Audits old w → AreInTurn w rows → IsTrue (is_well_kept new)
+      → AreNew w rows
+  pub stays : IsTrue (is_well_kept new) → IsTrue (is_well_kept old)
+
+-- whether each row reads, and where each does, the audit was fed what they read as
+abbrev pub IsFed : {T : Type 0} → (SqlRow → Option T) → (T → Row) → List SqlRow → Audit → Audit
+    → Bool → Type 0
+IsFed {T} of row rows old new true =
+    (values : List T) × ReadAs of rows values × FeedsRows old new (map row values)
+IsFed of row rows old new false = ¬ AllByRecursion (λ r. IsSome (of r)) rows
+
+-- an audit that was fed the rows of a part of the office: whether they are the table of the part,
+-- and where they are, it was fed the rows of the world with this
+pub record FeedsTable (Before : World → Type 0) (IsHeld : Type 0) (with : World → World)
+    (old new : Audit) : Type 0 where
+  pub audits : (w : World) → Audits old w → Before w → IsHeld → Audits new (with w)
+  pub held : (w : World) → Audits old w → Before w → IsTrue (is_well_kept new) → IsHeld
+  pub stays : IsTrue (is_well_kept new) → IsTrue (is_well_kept old)
+
+-- what an audit that was fed the rows of a part says; or the part is not what it should be, or the
+-- whole world not well kept
+abbrev pub TellsTable : (World → Type 0) → Type 0 → (World → World) → World → Audit → Audit → Bool
+    → Type 0
+TellsTable Before IsHeld with whole old new true = FeedsTable Before IsHeld with old new
+TellsTable Before IsHeld with whole old new false = IsHeld → ¬ WellKept whole
+
+-- A call that feeds the rows of a part of the office to an audit. The store stays as it was.
+pub record FeedsPart {E : Type 0} (Before : World → Type 0) (IsHeld : Tables → Type 0)
+    (with : Tables → World → World) (old new : State) (before after : Audit)
+    (result : Result Bool E) : Type 0 where
+  pub idle : IsIdle new
+  pub endures : Endures old new
+  pub stays : Stays old new
+  pub tells : Holds new → IfOk result
+      (TellsTable Before (IsHeld (tables_in old.now.trees)) (with (tables_in old.now.trees))
+      (world_in old) before after)

@@ -1,0 +1,5 @@
+pub mod Feeding
+pub mod Partitions
+pub mod Parts
+pub mod Rowids
+pub mod Opening

@@ -1,0 +1,10 @@
+//! What a store is to an office that opens it: each row is read once, and fed to an audit.
+#![tactic(auto)]
+
+mod fed;
+mod feed;
+mod office;
+pub mod open;
+mod partitions;
+mod parts;
+mod rowids;

@@ -1,0 +1,191 @@
+//! Registries with their ranges, fed to an audit from their tables.
+ghost use Rattle.std.specs.Prelude.{◌≡◌, IfOk, false};
+ghost use Rattle.std.specs.FinMap.{empty};
+ghost use Rattle.sqlite.specs.Held.{state};
+ghost use Rattle.reg_tables.specs.Connection.{IsIdle};
+ghost use Rattle.reg_statements.specs.Content.{maxes_in, ranges_in, registries_in};
+ghost use Rattle.reg_opening.specs.Feeding.{FeedsPart};
+ghost use Rattle.reg_opening.specs.Partitions.{ArePartitions, AreRegistries, IsFedPartitions, leading};
+ghost use Rattle.reg_opening.specs.Partitions.{is_named, left_over, partition_row, shared_out, trailing};
+
+use crate::feed::{Fed, feed_all};
+use reg_audit::audit::Audit;
+use reg_audit::row::Row;
+use reg_core::text::Name;
+use reg_keeper::keeper::Fault;
+use reg_ranges::range::Range;
+use reg_ranges::table::RangeTable;
+use reg_records::ranges::RegistryRange;
+use reg_records::registries::Registry;
+use reg_statements::read::load;
+use reg_statements::select::are_ascending;
+use sqlite::{Alter, Connection};
+use std::alloc::{AllocError, Global};
+use std::marker::Model;
+
+/// A registry with its ranges, which are a partition of its values.
+#[derive(Drop)]
+pub struct Partition {
+    name: Name,
+    table: RangeTable,
+}
+
+impl Fed for Partition {
+    ghost row_of = { partition_row };
+
+    fn row(self) -> Row {
+        Row::Registry(self.name, self.table)
+    }
+}
+
+/// A registry with the ranges that it took.
+#[derive(Drop)]
+struct Share {
+    registry: Registry,
+    ranges: Vec<Range>,
+}
+
+impl Model for Share {
+    ghost use Rattle.reg_opening.specs.Partitions.{Share as Taken};
+
+    ghost Value = { Taken };
+
+    ghost view = { λ share. (share.registry, share.ranges.items) };
+}
+
+/// The ranges that the first rows give to a registry, and the rows after them.
+fn leading<'a>(
+    alloc: Global,
+    mut rows: &'a [RegistryRange],
+    name: &Name,
+) -> Result<(Vec<Range>, &'a [RegistryRange]), AllocError>
+    ensures { IfOk result (λ both. (both.0.items ≡ leading name.now rows.entry.now)
+        × (both.1.now ≡ trailing name.now rows.entry.now)) }
+{
+    let mut ranges = Vec::new(alloc);
+    'rows: while let [row, more @ ..] = rows {
+        if row.registry != *name {
+            break;
+        }
+        ranges.push(row.range.copy()?)?;
+        rows = more;
+    }
+    Ok((ranges, rows))
+}
+
+/// Each registry with the ranges that it takes, one after the other, and the rows that nobody took.
+fn shared_out<'a>(
+    alloc: Global,
+    mut registries: &[Registry],
+    mut rows: &'a [RegistryRange],
+) -> Result<(Vec<Share>, &'a [RegistryRange]), AllocError>
+    ensures { IfOk result (λ both.
+        (both.0.items ≡ shared_out registries.entry.now rows.entry.now)
+        × (both.1.now ≡ left_over registries.entry.now rows.entry.now)) }
+{
+    let mut shares = Vec::new(alloc);
+    'registries: while let [registry, more @ ..] = registries {
+        let (ranges, others) = leading(alloc, rows, &registry.name)?;
+        shares.push(Share {
+            registry: *registry,
+            ranges,
+        })?;
+        rows = others;
+        registries = more;
+    }
+    Ok((shares, rows))
+}
+
+/// Each registry with its ranges, or none where those of one are no partition of its values.
+fn partitions(alloc: Global, shares: Vec<Share>) -> Result<Option<Vec<Partition>>, AllocError>
+    ensures { IfOk result (λ found. ArePartitions shares.items found) }
+{
+    let mut all = Vec::new(alloc);
+    for share in shares {
+        let Ok(table) = RangeTable::make(share.registry.max, share.ranges) else {
+            return Ok(None);
+        };
+        all.push(Partition {
+            name: share.registry.name,
+            table,
+        })?;
+    }
+    Ok(Some(all))
+}
+
+/// Whether there is a registry of the name.
+fn is_named(registries: &[Registry], name: &Name) -> bool
+    ensures { result ≡ is_named registries.now name.now }
+{
+    registries.iter().any(|registry| registry.name == *name)
+}
+
+/// Feeds the registries. Rows that the store does not give in their order are a fault of it.
+pub fn feed_registries<S: Alter>(
+    alloc: Global,
+    conn: &mut Connection<S>,
+    audit: &mut Audit,
+) -> Result<bool, Fault>
+    requires { IsIdle (state S.Store conn.old) }
+    ensures { FeedsPart (λ w. (w.registries ≡ empty) × (w.entries ≡ empty)) AreRegistries
+        (λ t w. record w { registries = registries_in (maxes_in t) (ranges_in t) })
+        (state S.Store conn.old) (state S.Store conn.new) audit.old audit.new result }
+{
+    let Some(registries) = load::<S, Registry>(
+        alloc,
+        conn,
+        "SELECT name, max FROM registries ORDER BY name",
+        &[],
+    )?
+    else {
+        return Ok(false);
+    };
+    let Some(rows) = load::<S, RegistryRange>(
+        alloc,
+        conn,
+        "SELECT registry, lo, hi, treatment, note FROM ranges ORDER BY registry, lo",
+        &[],
+    )?
+    else {
+        return Ok(false);
+    };
+    feed_partitions(alloc, audit, registries.as_slice(), rows.as_slice())
+}
+
+/// Of a range that no registry took: where it has one, the rows did not come in their order.
+fn stray(registries: &[Registry], row: &RegistryRange) -> Result<bool, Fault>
+    ensures { IfOk result
+        (λ fed. (fed ≡ false) × (is_named registries.now row.now.registry ≡ false)) }
+{
+    if is_named(registries, &row.registry) {
+        Err(Fault::Store)
+    } else {
+        Ok(false)
+    }
+}
+
+/// Feeds registries with their ranges.
+fn feed_partitions(
+    alloc: Global,
+    audit: &mut Audit,
+    registries: &[Registry],
+    rows: &[RegistryRange],
+) -> Result<bool, Fault>
+    ensures { IfOk result
+        (λ fed. IsFedPartitions registries.now rows.now audit.old audit.new fed) }
+{
+    if !are_ascending(registries) || !are_ascending(rows) {
+        return Err(Fault::Store);
+    }
+    let (shares, left) = shared_out(alloc, registries, rows)?;
+    if let [row, ..] = left {
+        return stray(registries, row);
+    }
+    match partitions(alloc, shares)? {
+        Some(all) => {
+            feed_all(audit, all)?;
+            Ok(true)
+        }
+        None => Ok(false),
+    }
+}

@@ -1,0 +1,4 @@
+pub mod RowMaps
+pub mod Neighbours
+pub mod RegistryRows
+pub mod ReadLemmas

@@ -1,0 +1,220 @@
+-- What a table holds after its rows are moved, added to, taken away and changed.
+use Rattle.std.proofs.Common.{◌≡◌, if◌then◌else◌, Bool, true, false, cond, not, List, [], ◌∷◌}
+use Rattle.std.proofs.Common.{map, filter}
+use Rattle.std.proofs.Common.{refl, sym, ap, ap₂, subst, ◌∙◌, Option, Some, None, IsSome, is_some}
+use Rattle.std.proofs.Common.{IsPermutation, option_map, option_and_then, filter_map}
+use Rattle.std.specs.List.{AllByRecursion, IsDistinct, cons_option}
+use Rattle.std.specs.declared.cmp.Ordering.{Ordering}
+use Rattle.std.specs.Ordering.{eq_by_cmp}
+use Rattle.std.specs.FinMap.{FinMap, get, insert, remove, empty, find, from_entries}
+use Rattle.std.specs.FinMap.{get-from_entries, get-remove}
+use Rattle.reg_core.specs.Maps.{only_if, select, update, replaced}
+use Rattle.reg_core.proofs.MapLaws.{IsKeyOrder, tied, same_at, get-select, get-update}
+use Rattle.reg_statements.specs.RowMaps.{held_in, AreApart, IsTable, PassesAt, PassesWhere}
+use Rattle.reg_statements.proofs.RowMaps.Held.{IsHeld, rows_held}
+use Rattle.reg_statements.proofs.RowMaps.Lists.{all_permuted, all_filtered, IsPermutation-filter_map}
+use Rattle.reg_statements.proofs.RowMaps.Lists.{filter_map-filter}
+use Rattle.reg_statements.proofs.RowMaps.Entries.{free_from_none, apart_more, apart_permuted}
+use Rattle.reg_statements.proofs.RowMaps.Entries.{find_permuted, apart_filtered, find_filtered}
+use Rattle.reg_statements.proofs.RowMaps.Entries.{changed_at, keys_changed, find_changed}
+
+-- the table of no rows, which holds nothing
+pub empty_table : {A K X : Type 0} (R : K → K → Ordering) (of : A → Option (K × X))
+    → IsTable R of [] × (held_in {R = R} of [] ≡ empty)
+unfolding IsDistinct
+empty_table R of = (record { reads = tt; distinct = tt }, refl)
+
+module _ {K X : Type 0} {R : K → K → Ordering} (o : IsKeyOrder R) where
+  -- maps of entries in which each key has the same value
+  pub same_held : (es fs : List (K × X)) → ((q : K) → find R q es ≡ find R q fs)
+      → from_entries {R = R} es ≡ from_entries fs
+  same_held es fs same = same_at o _ _ (λ q.
+      get-from_entries o.total es q ∙ same q ∙ sym (get-from_entries o.total fs q))
+
+-- a row that passes the test, changed
+abbrev changed_row : {A : Type 0} → (A → Bool) → (A → A) → A → A
+changed_row test put row = if test row then put row else row
+
+without : {X : Type 0} (b : Bool) (r : Option X)
+    → option_and_then (λ x. only_if (not b) x) r ≡ cond b None r
+without true None = refl
+without true (Some x) = refl
+without false None = refl
+without false (Some x) = refl
+
+module _ {A K X : Type 0} {R : K → K → Ordering} (o : IsKeyOrder R) {of : A → Option (K × X)} where
+  -- the same rows in another order
+  pub same_rows : {old new : List A} → IsPermutation old new → IsTable R of old
+      → IsTable R of new × (held_in {R = R} of new ≡ held_in of old)
+  same_rows {old} {new} moved table =
+      let es = filter_map of old in
+      let fs = filter_map of new in
+      let entries_moved = IsPermutation-filter_map of old new moved in (
+        record {
+          reads = all_permuted (λ row. IsSome (of row)) old new moved table.reads;
+          distinct = apart_permuted o es fs entries_moved table.distinct;
+        },
+        same_held o fs es (λ q. sym (find_permuted o q es fs entries_moved table.distinct)),
+      )
+
+  one_more : {old : List A} {row : A} {k : K} {x : X} → IsTable R of old → of row ≡ Some (k, x)
+      → get (held_in {R = R} of old) k ≡ None → IsTable R of (row ∷ old)
+  one_more {old} {row} {k} {x} table is none = record {
+    reads = (ap is_some is, table.reads);
+    distinct = subst (λ r. AreApart R (cons_option r (filter_map of old)))
+        (sym is) (apart_more R (k, x) (filter_map of old)
+        (free_from_none R k (filter_map of old)
+        (sym (get-from_entries o.total (filter_map of old) k) ∙ none)) table.distinct);
+  }
+
+  -- one row more, whose key is new
+  pub added : {old new : List A} {row : A} {k : K} {x : X} → IsTable R of old
+      → of row ≡ Some (k, x) → get (held_in {R = R} of old) k ≡ None
+      → IsPermutation (row ∷ old) new
+      → IsTable R of new × (held_in {R = R} of new ≡ insert (held_in of old) k x)
+  added {old} table is none moved =
+      let after = same_rows moved (one_more table is none) in (
+        after.0,
+        after.1 ∙ ap (λ r. from_entries (cons_option r (filter_map of old))) is,
+      )
+
+  -- the rows that pass a test of the key and the value
+  pub chosen : {old : List A} (test : A → Bool) (p : K → X → Bool) → IsTable R of old
+      → PassesWhere of test p
+      → IsTable R of (filter test old)
+      × (held_in of (filter test old) ≡ select (λ k x. only_if (p k x) x) (held_in {R = R} of old))
+  chosen {old} test p table agree =
+      let es = filter_map of old in
+      let is = filter_map-filter of test (λ e. p e.0 e.1) (λ row e. agree row e.0 e.1) old in (
+        record {
+          reads = all_filtered (λ row. IsSome (of row)) test old table.reads;
+          distinct = subst (AreApart R) (sym is) (apart_filtered o p es table.distinct);
+        },
+        same_at o _ _ (λ q.
+            get-from_entries o.total (filter_map of (filter test old)) q
+            ∙ ap (find R q) is ∙ find_filtered o p q es table.distinct
+            ∙ ap (option_and_then (λ x. only_if (p q x) x)) (sym (get-from_entries o.total es q))
+            ∙ sym (get-select o (λ k x. only_if (p k x) x) (held_in of old) q)),
+      )
+
+  -- ---- One key's row taken away, or changed
+
+  -- the rows without those of a key
+  pub removed : {old new : List A} (test : A → Bool) (k : K) → IsTable R of old
+      → PassesAt R of test k → IsPermutation (filter (λ row. not (test row)) old) new
+      → IsTable R of new × (held_in {R = R} of new ≡ remove (held_in of old) k)
+  removed {old} test k table at moved =
+      let kept = chosen (λ row. not (test row)) (λ key x. not (eq_by_cmp R key k)) table
+      (λ row key x is. ap not (at row key x is)) in
+      let after = same_rows moved kept.0 in (
+        after.0,
+        after.1 ∙ kept.1 ∙ same_at o _ _ (λ q.
+            get-select o (λ key x. only_if (not (eq_by_cmp R key k)) x) (held_in of old) q
+            ∙ without (eq_by_cmp R q k) (get (held_in of old) q)
+            ∙ sym (get-remove o.total (held_in of old) k q)),
+      )
+
+  module _ (test : A → Bool) (k : K) (put : A → A) (f : X → X) (es : List (K × X))
+      (at : PassesAt R of test k)
+      (puts : (row : A) (x : X) → of row ≡ Some (k, x) → find R k es ≡ Some x
+      → of (put row) ≡ Some (k, f x)) where
+    row_changed : (row : A) (e : K × X) → IsHeld o of es row → of row ≡ Some e
+        → of (changed_row test put row) ≡ Some (changed_at o k f e)
+    row_changed row e held is =
+        ap (λ b. of (cond b (put row) row)) (at row e.0 e.1 is)
+        ∙ elim (eq_by_cmp R e.0 k) as (λ b. eq_by_cmp R e.0 k ≡ b
+        → of (cond b (put row) row) ≡ Some (e.0, cond b (f e.1) e.1)) [
+          | true ↦ λ t.
+              let same = tied o e.0 k t in
+              let here = is ∙ ap (λ key. Some (key, e.1)) same in
+              puts row e.1 here (held k e.1 here)
+              ∙ ap (λ key. Some (key, f e.1)) (sym same)
+          | false ↦ λ t. is
+        ] refl
+
+    rows_changed : (rows : List A) → AllByRecursion (λ row. IsSome (of row)) rows
+        → AllByRecursion (IsHeld o of es) rows
+        → AllByRecursion (λ row. IsSome (of row)) (map (changed_row test put) rows)
+        × (filter_map of (map (changed_row test put) rows)
+        ≡ map (changed_at o k f) (filter_map of rows))
+    rows_changed [] all held = (tt, refl)
+    rows_changed (row ∷ rows) all held =
+        let rest = rows_changed rows all.1 held.1 in
+        elim (of row) as (λ r. of row ≡ r → IsSome r
+        → AllByRecursion (λ row. IsSome (of row)) (map (changed_row test put) (row ∷ rows))
+        × (filter_map of (map (changed_row test put) (row ∷ rows))
+        ≡ map (changed_at o k f) (cons_option r (filter_map of rows)))) [
+          | None ↦ λ is some. absurd (cc)
+          | Some e ↦ λ is some.
+              let now = row_changed row e held.0 is in
+              ((ap is_some now, rest.0), ap₂ cons_option now rest.1)
+        ] refl all.0
+
+  -- the rows with those of a key changed, each to a row of the same key and another value, where
+  -- the value is the one that the table has
+  pub changed_held : {old new : List A} (test : A → Bool) (k : K) (put : A → A) (f : X → X)
+      → IsTable R of old → PassesAt R of test k
+      → ((row : A) (x : X) → of row ≡ Some (k, x) → get (held_in {R = R} of old) k ≡ Some x
+      → of (put row) ≡ Some (k, f x))
+      → IsPermutation (map (λ row. if test row then put row else row) old) new
+      → IsTable R of new × (held_in {R = R} of new ≡ update (held_in of old) k f)
+  changed_held {old} test k put f table at puts moved =
+      let es = filter_map of old in
+      let now = rows_changed test k put f es at
+      (λ row x is here. puts row x is (get-from_entries o.total es k ∙ here))
+      old table.reads (rows_held o of old table.distinct) in
+      let between : IsTable R of (map (changed_row test put) old) = record {
+        reads = now.0;
+        distinct = subst (AreApart R) (sym now.1)
+            (subst (IsDistinct (eq_by_cmp R)) (sym (keys_changed o k f es)) table.distinct);
+      } in
+      let after = same_rows moved between in (
+        after.0,
+        after.1 ∙ same_at o _ _ (λ q.
+            get-from_entries o.total (filter_map of (map (changed_row test put) old)) q
+            ∙ ap (find R q) now.1 ∙ find_changed o k f q es
+            ∙ in_map q es
+            ∙ sym (get-update o (held_in of old) k f q)),
+      )
+    where
+      at_key : (q : K) (r s : Option X) → (eq_by_cmp R q k ≡ true → r ≡ s)
+          → cond (eq_by_cmp R q k) (option_map f r) r ≡ cond (eq_by_cmp R q k) (option_map f s) r
+      at_key q r s same = elim (eq_by_cmp R q k) as
+          (λ b. (b ≡ true → r ≡ s) → cond b (option_map f r) r ≡ cond b (option_map f s) r) [
+            | true ↦ λ same. ap (option_map f) (same refl)
+            | false ↦ λ same. refl
+          ] same
+
+      in_map : (q : K) (es : List (K × X))
+          → cond (eq_by_cmp R q k) (option_map f (find R q es)) (find R q es)
+          ≡ cond (eq_by_cmp R q k) (option_map f (get (from_entries {R = R} es) k))
+          (get (from_entries {R = R} es) q)
+      in_map q es =
+          at_key q (find R q es) (find R k es) (λ t. ap (λ key. find R key es) (tied o q k t))
+          ∙ (λ i. cond (eq_by_cmp R q k) (option_map f (sym (get-from_entries o.total es k) i))
+          (sym (get-from_entries o.total es q) i))
+
+  -- the rows with those of a key changed, each to a row of the same key and another value
+  pub changed : {old new : List A} (test : A → Bool) (k : K) (put : A → A) (f : X → X)
+      → IsTable R of old → PassesAt R of test k
+      → ((row : A) (x : X) → of row ≡ Some (k, x) → of (put row) ≡ Some (k, f x))
+      → IsPermutation (map (λ row. if test row then put row else row) old) new
+      → IsTable R of new × (held_in {R = R} of new ≡ update (held_in of old) k f)
+  changed test k put f table at puts =
+      changed_held test k put f table at (λ row x is there. puts row x is)
+
+  -- the same where each is changed to one value
+  pub changed_to : {old new : List A} (test : A → Bool) (k : K) (put : A → A) (x : X)
+      → IsTable R of old → PassesAt R of test k
+      → ((row : A) (y : X) → of row ≡ Some (k, y) → of (put row) ≡ Some (k, x))
+      → IsSome (get (held_in {R = R} of old) k)
+      → IsPermutation (map (λ row. if test row then put row else row) old) new
+      → IsTable R of new × (held_in {R = R} of new ≡ insert (held_in of old) k x)
+  changed_to {old} test k put x table at puts there moved =
+      let after = changed test k put (λ y. x) table at puts moved in
+      (after.0, after.1 ∙ put_in (held_in of old) (get (held_in of old) k) there)
+    where
+      put_in : (m : FinMap R X) (r : Option X) → IsSome r
+          → replaced m k (option_map (λ y. x) r) ≡ insert m k x
+      put_in m None there = absurd (cc)
+      put_in m (Some y) there = refl

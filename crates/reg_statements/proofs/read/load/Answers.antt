@@ -1,0 +1,11 @@
+use Rattle.sqlite.specs.Held.{state}
+use Rattle.reg_tables.proofs.Enduring.{endures_lasting}
+use Rattle.reg_statements.proofs.read.load.Goals as goal
+
+pub returns-in-Ok-clause-endures : goal.returns-in-Ok-clause-endures
+returns-in-Ok-clause-endures g c =
+    endures_lasting (state g.S.Store c.args.conn.now) (state g.S.Store c.read_rows.new.conn) c.read_rows.ensures.lasts
+
+pub returns-in-Err-clause-endures : goal.returns-in-Err-clause-endures
+returns-in-Err-clause-endures g c =
+    endures_lasting (state g.S.Store c.args.conn.now) (state g.S.Store c.read_rows.new.conn) c.read_rows.ensures.lasts

@@ -1,0 +1,70 @@
+use Rattle.std.proofs.Common.{[], ◌∷◌, ◌++◌, refl, ◌∙◌, arith, rules}
+use Rattle.sqlite.specs.Held.{state}
+use Rattle.sqlite.specs.State.{HasCleanDisk}
+use Rattle.sqlite.specs.Values.{bound}
+use Rattle.reg_tables.proofs.RestLemmas.{refused_rests, begun_idle, whole_answer, survives_lasts, lasts_then}
+use Rattle.sqlite.proofs.Callers.{unchanged_then}
+use Rattle.reg_statements.specs.Reading.{AreRead}
+use Rattle.reg_statements.proofs.read.read_rows.Goals as goal
+
+pub returns-in_err-rows-clause-rests : goal.returns-in_err-rows-clause-rests
+returns-in_err-rows-clause-rests g c clean =
+    let old = state g.S.Store c.args.conn.now in
+    let new = state g.S.Store c.query.follows.lender-at-none in
+    let refused = rw c.in_err-rows.was at c.query.follows.holds-at-none in
+    refused_rests c.args.sql.now (bound c.args.params.now) old new _ (refused.err clean)
+
+pub rows-init : goal.rows-init
+rows-init g c =
+    let old = c.args.conn.now in
+    let new = c.in_ok-rows.rows.conn.now in
+    let made = c.in_ok-rows.ensures in
+    let begun = λ (clean : HasCleanDisk (state g.S.Store new)).
+    begun_idle g.S.Store c.args.sql.now (bound c.args.params.now) old new c.requires.plain
+    (made.begun clean) in
+    record {
+      same_reference = refl;
+      mode = made.mode c.requires.idle.autocommit;
+      lasts = survives_lasts _ _ _ made.survives;
+      same = λ clean. (begun clean).1;
+      given = λ clean. ([], (begun clean).0, rw c.new.ensures.items refl);
+    }
+
+pub rows-preserved : goal.rows-preserved
+rows-preserved g c =
+    let later = c.next.follows.lender-at-none.conn.now in
+    let moved = c.next.follows.holds-at-none in
+    let was = c.rows.invariant in
+    let early : HasCleanDisk (state g.S.Store later)
+    → HasCleanDisk (state g.S.Store c.rows.rows.conn.now) =
+    λ clean. omega (arith, moved.survives.clean, clean) in
+    record {
+      same_reference = moved.same_reference ∙ was.same_reference;
+      mode = moved.mode was.mode;
+      lasts = lasts_then _ _ _ was.lasts (survives_lasts _ _ _ moved.survives);
+      same = λ clean. unchanged_then _ _ _ (was.same (early clean))
+          (rw c.in_ok-row.was at (moved.same clean));
+      given = λ clean.
+          let had = was.given (early clean) in
+          let on = (rw (c.in_ok-row.was, c.in-Some.is) at (moved.ok clean)) c.args.sql.now
+          (bound c.args.params.now) had.0 had.1 in
+          (had.0 ++ c.in-Some.row.now ∷ [], on, c.in_ok-all.ensures had.0 had.2);
+    }
+
+pub returns-in_default-clause-rows : goal.returns-in_default-clause-rows
+returns-in_default-clause-rows g c clean =
+    let old = c.args.conn.now in
+    let now = c.rows.rows.conn.now in
+    let later = c.next.follows.lender-at-none.conn.now in
+    let moved = c.next.follows.holds-at-none in
+    let late : HasCleanDisk (state g.S.Store later) = search rules in
+    let early : HasCleanDisk (state g.S.Store now) =
+    omega (arith, moved.survives.clean, late) in
+    let was = c.rows.invariant.given early in
+    let shown = (rw (c.in_ok-row.was, c.in_default.is) at (moved.ok late)) c.args.sql.now
+    (bound c.args.params.now) was.0 was.1 in
+    let done = whole_answer g.S.Store c.args.sql.now (bound c.args.params.now)
+    (λ rows. AreRead g.T.Record.of rows c.rows.all) old now later later was.0
+    c.requires.plain refl (c.rows.invariant.same early)
+    (rw c.in_ok-row.was at (moved.same late)) shown was.2 in
+    search rules

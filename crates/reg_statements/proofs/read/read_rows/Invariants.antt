@@ -1,0 +1,23 @@
+use Rattle.std.proofs.Common.{◌≡◌, List, false}
+use Rattle.sqlite.specs.Given.{HasGiven}
+use Rattle.sqlite.specs.Held.{state}
+use Rattle.sqlite.specs.Order.{Row}
+use Rattle.sqlite.specs.State.{HasCleanDisk, IsUnchanged}
+use Rattle.sqlite.specs.Values.{bound}
+use Rattle.reg_tables.specs.Lasting.{Lasts}
+use Rattle.reg_statements.specs.Reading.{AreRead}
+use Rattle.reg_statements.proofs.read.read_rows.Given as goal
+
+abbrev pub invariant-rows : goal.invariant-rows
+invariant-rows g l =
+    let old = state g.S.Store l.fn.conn in
+    let now = state g.S.Store l.rows.conn.now in
+    record {
+      same_reference : l.rows.conn.ghost_name ≡ l.initial.rows.conn.ghost_name;
+      mode : now.in_transaction ≡ false;
+      lasts : Lasts old now;
+      same : HasCleanDisk now → IsUnchanged old now;
+      given : HasCleanDisk now → (given : List Row)
+          × HasGiven g.S.Store l.sql (bound l.params) l.rows.conn.now given
+          × AreRead g.T.Record.of given l.all;
+    }

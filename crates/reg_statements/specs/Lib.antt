@@ -1,0 +1,5 @@
+pub mod Tables
+pub mod Content
+pub mod Loading
+pub mod RowMaps
+pub mod Reading

@@ -1,0 +1,45 @@
+//! Statements that write.
+ghost use Rattle.std.specs.Prelude.{◌≡◌, IfOk, OnOk};
+ghost use Rattle.std.specs.Prelude.{Ok as Done};
+ghost use Rattle.sqlite.specs.Held.{state};
+ghost use Rattle.sqlite.specs.State.{Executes, HasCleanDisk, KeepsCommit};
+ghost use Rattle.sqlite.specs.Values.{bound};
+ghost use Rattle.reg_tables.specs.Connection.{Endures, WentOn};
+ghost use Rattle.reg_statements.specs.Reading.{fault_of};
+
+use reg_keeper::keeper::Fault;
+use reg_tables::write::run;
+use sqlite::types::ValueRef;
+use sqlite::{Alter, Error, ErrorCode, Transaction};
+
+/// What an error of the store is to an office.
+pub fn fault(error: &Error) -> Fault
+    ensures { result ≡ fault_of error.now }
+{
+    match error {
+        Error::SqliteFailure(ErrorCode::OutOfMemory) => Fault::Memory,
+        _ => Fault::Store,
+    }
+}
+
+/// Runs a statement inside a transaction, and tells how many rows it wrote or took away.
+pub fn write<S: Alter>(
+    tx: &mut Transaction<'_, S>,
+    sql: &str,
+    params: &[ValueRef<'_>],
+) -> Result<usize, Fault>
+    ensures same_reference { tx.new.conn.ghost_name ≡ tx.old.conn.ghost_name }
+    ensures endures { Endures (state S.Store tx.old.conn.now) (state S.Store tx.new.conn.now) }
+    ensures kept { HasCleanDisk (state S.Store tx.new.conn.now)
+        → KeepsCommit (state S.Store tx.old.conn.now) (state S.Store tx.new.conn.now) }
+    ensures went { HasCleanDisk (state S.Store tx.new.conn.now)
+        → OnOk result (WentOn (state S.Store tx.old.conn.now) (state S.Store tx.new.conn.now)) }
+    ensures ran { HasCleanDisk (state S.Store tx.new.conn.now)
+        → IfOk result (λ count. Executes sql.now (bound params.now)
+        (state S.Store tx.old.conn.now) (state S.Store tx.new.conn.now) (Done count)) }
+{
+    match run(tx, sql, params) {
+        Ok(count) => Ok(count),
+        Err(error) => Err(fault(&error)),
+    }
+}

@@ -1,0 +1,6 @@
+//! What tests are written with: facts that they want to hold, and readers and writers that give and
+//! take little, and fail.
+#![tactic(auto)]
+
+pub mod devices;
+pub mod facts;
