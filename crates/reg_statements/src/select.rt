@@ -1,5 +1,5 @@
 //! Queries over the tables of an office.
-ghost use Rattle.std.specs.Prelude.{◌≡◌, IfOk, IsTrue, option_to_list};
+ghost use Rattle.std.specs.Prelude.{◌≡◌, ◌↔◌, IfOk, IsTrue, option_to_list};
 ghost use Rattle.sqlite.specs.Held.{state};
 ghost use Rattle.sqlite.specs.State.{Shown};
 ghost use Rattle.sqlite.specs.Values.{bound};
@@ -69,7 +69,7 @@ pub fn all<S: Alter, T: Keyed>(
 
 /// Whether each row comes before the next.
 pub fn are_ascending<T: Keyed>(mut rows: &[T]) -> bool
-    ensures { IsTrue result → IsAscending T.order rows.entry.now }
+    ensures { IsTrue result ↔ IsAscending T.order rows.entry.now }
 {
     'rows: while let [row, more @ ..] = rows {
         let [next, ..] = more else {

@@ -12,7 +12,7 @@ returns-in-len1-up c =
     let gs = c.args.registries.now in
     let rows = c.args.rows.now in
     let in_order : IsTrue c.are_ascending-else-not-are_ascending.result = search rules in
-    let up = c.are_ascending-else-not-are_ascending.ensures in_order in
+    let up = c.are_ascending-else-not-are_ascending.ensures.0 in_order in
     IfOk-weaker c.stray.result _ _ (λ fed is.
     subst (IsFedPartitions gs rows c.args.audit.now c.args.audit.now) (sym is.0) (
       up,
@@ -24,10 +24,10 @@ pub returns-in_ok-feed_all-in-Some : goal.returns-in_ok-feed_all-in-Some
 returns-in_ok-feed_all-in-Some c =
     let gs = c.args.registries.now in
     let made = made_of_all gs c.args.rows.now c.in_ok-shares.left.now c.in_ok-shares.shares.items
-    c.in_ok-all.field-0 (strict text_keys (λ g. g.name) gs (c.are_ascending.ensures (search rules)))
+    c.in_ok-all.field-0 (strict text_keys (λ g. g.name) gs (c.are_ascending.ensures.0 (search rules)))
     c.in_ok-shares.ensures c.in_default.len_below c.in_ok-all.ensures in
     let items : c.in-Some.all.items ≡ map (partition_of c.args.rows.now) gs = rw c.in-Some.is at made.1 in (
-      c.are_ascending-else-not-are_ascending.ensures (search rules),
+      c.are_ascending-else-not-are_ascending.ensures.0 (search rules),
       (
         made.0,
         subst (λ ps. FeedsRows c.args.audit.now c.feed_all.new.audit (map partition_row ps)) items
@@ -39,6 +39,6 @@ pub returns-in-None : goal.returns-in-None
 returns-in-None c =
     let gs = c.args.registries.now in
     let made = made_of_all gs c.args.rows.now c.in_ok-shares.left.now c.in_ok-shares.shares.items
-    c.in_ok-all.field-0 (strict text_keys (λ g. g.name) gs (c.are_ascending.ensures (search rules)))
+    c.in_ok-all.field-0 (strict text_keys (λ g. g.name) gs (c.are_ascending.ensures.0 (search rules)))
     c.in_ok-shares.ensures c.in_default.len_below c.in_ok-all.ensures in
-    (c.are_ascending-else-not-are_ascending.ensures (search rules), inr (rw c.in-None.is at made.1))
+    (c.are_ascending-else-not-are_ascending.ensures.0 (search rules), inr (rw c.in-None.is at made.1))
