@@ -1,4 +1,4 @@
-//! A whole day of a small authority, as the README shows it.
+//! A whole day of a small authority, as docs/DAY.md shows it.
 
 /// A registry is defined; a value of it is asked for, reviewed, approved and read, and the least
 /// one too.
