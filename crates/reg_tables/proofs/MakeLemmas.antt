@@ -1,183 +1,168 @@
--- What the CREATE TABLE texts make.
-use Rattle.std.proofs.Common.{◌≡◌, ℕ, List, [], ◌∷◌, ◌++◌, drop, Bool, true, false, not, ◌==◌, ◌&&◌}
-use Rattle.std.proofs.Common.{None, Ok, Err, Result, OnOk}
-use Rattle.std.proofs.Common.{refl, sym, ap, subst, ◌∙◌}
-use Rattle.std.specs.List.{AllByRecursion, list_all}
+-- What CREATE TABLE texts make, one after the other.
+use Rattle.std.proofs.Common.{◌≡◌, ◌⊎◌, inr, ◌≤◌, ℕ, List, [], ◌∷◌, ◌++◌, length, drop, Bool, true, false}
+use Rattle.std.proofs.Common.{not, ◌==◌, ◌&&◌, Ok, Err, Result, OnOk}
+use Rattle.std.proofs.Common.{refl, sym, subst, ◌∙◌, arith}
+use Rattle.std.specs.List.{AllByRecursion, list_all, list_any}
 use Rattle.std.specs.List.Sorted.{IsPermutation}
-use Rattle.std.proofs.lemmas.Bool.{and_parts}
+use Rattle.std.proofs.lemmas.Bool.{and_parts, or_parts}
+use Rattle.std.proofs.lemmas.List.Folds.{list_any-append}
 use Rattle.std.specs.Fmt.{digits}
 use Rattle.sqlite.specs.Tree.{Trees}
 use Rattle.sqlite.specs.Table.{Table}
 use Rattle.sqlite.specs.Schema.{Schema}
-use Rattle.sqlite_schema.specs.declared.command.Command.TheVariants.{CreateTable}
+use Rattle.sqlite.specs.State.{State, HasCleanDisk, KeepsCommit}
 use Rattle.sqlite_catalog.specs.Change.{created, next_tree, KeepsRows}
-use Rattle.sqlite_tied.specs.Compute.{everything}
-use Rattle.sqlite.specs.Does.{Tally, lacks_sequence}
-use Rattle.sqlite.specs.Listing.{understood}
+use Rattle.sqlite_schema.specs.Names.{same_name}
+use Rattle.sqlite_trees.specs.View.{doubt}
+use Rattle.sqlite.specs.Does.{lacks_sequence}
 use Rattle.sqlite.specs.Effect.{Database}
-use Rattle.sqlite.specs.State.{State, Writes, Executes}
-use Rattle.sqlite.proofs.Callers.{runs_as, one_permutation}
-use Rattle.reg_tables.specs.Schema.{make_office, make_caps, make_registries, make_ranges}
-use Rattle.reg_tables.specs.Schema.{make_entries, make_requests, make_queue, make_advice}
-use Rattle.reg_tables.specs.Schema.{make_pool, make_blocks}
-use Rattle.reg_tables.specs.Schema.{office_table, caps_table, registries_table, ranges_table}
-use Rattle.reg_tables.specs.Schema.{entries_table, requests_table, queue_table, advice_table}
-use Rattle.reg_tables.specs.Schema.{pool_table, blocks_table, office_schema}
-use Rattle.reg_tables.specs.Making.{Creates, IsBlank, unplaced, no_schema, schema_1, schema_2}
-use Rattle.reg_tables.specs.Making.{schema_3, schema_4, schema_5, schema_6, schema_7}
-use Rattle.reg_tables.specs.Making.{schema_8, schema_9, version_row, IsFounded}
+use Rattle.sqlite.proofs.Callers.{one_permutation}
+use Rattle.reg_tables.specs.Schema.{office_table, office_schema, office_texts}
+use Rattle.reg_tables.specs.Connection.{WentOn}
+use Rattle.reg_tables.specs.Having.{Defines, Gains, GainsEach, unplaced}
+use Rattle.reg_tables.specs.Inside.{GoesInside}
+use Rattle.reg_tables.specs.Making.{AreCountless, AreToBeEmpty, HasRows, IsBlank, IsFounded}
+use Rattle.reg_tables.specs.Making.{IsMade, MakesEach, MakesOne, no_schema, version_row, with_tables}
 use Rattle.reg_tables.specs.Editing.{IsOffice}
 use Rattle.reg_tables.specs.Inserting.{AddedRow}
-use Rattle.reg_tables.proofs.InsertLemmas.{went, same_value, apart_if, unindexed}
+use Rattle.reg_tables.proofs.DefineTexts.{all_countless, all_defined}
+use Rattle.reg_tables.proofs.Library.GrowingSchemas.{gains_each}
+use Rattle.reg_tables.proofs.InsertLemmas.{apart_if, unindexed}
 
-module _ (old new : Trees) where
-  still_empty : (tables : List Table) → KeepsRows tables old new
-      → AllByRecursion (λ t. old t.tree ≡ []) tables
-      → AllByRecursion (λ t. new t.tree ≡ []) tables
-  still_empty [] kept empty = tt
-  still_empty (t ∷ tables) kept empty =
-      (kept.0 ∙ empty.0, still_empty tables kept.1 empty.1)
+pub on_ok : {A E : Type 0} {P Q : Type 0} (r : Result A E) → (P → Q) → OnOk r P → OnOk r Q
+on_ok (Ok a) f p = f p
+on_ok (Err e) f p = tt
+
+-- ---- The rows
+
+module _ (held old new : Trees) where
+  still_held : (tables : List Table) → KeepsRows tables old new
+      → AllByRecursion (λ t. old t.tree ≡ held t.tree) tables
+      → AllByRecursion (λ t. new t.tree ≡ held t.tree) tables
+  still_held [] kept rows = tt
+  still_held (t ∷ tables) kept rows =
+      (kept.0 ∙ rows.0, still_held tables kept.1 rows.1)
 
 all_and : (P : Table → Type 0) (tables : List Table) (t : Table) → AllByRecursion P tables → P t
     → AllByRecursion P (tables ++ t ∷ [])
 all_and P [] t all p = (p, tt)
 all_and P (s ∷ tables) t all p = (all.0, all_and P tables t all.1 p)
 
--- the tree of the table that the text defines is not looked at
-module _ (schema : Schema) (text : List ℕ) (table : Table) (it : Creates schema text table) where
-  pub creates : (old new : State) (count : ℕ) → Executes text [] old new (Ok count)
-      → IsBlank schema old.now → IsBlank (created schema table) new.now
-  creates old new count h blank =
-      let has = blank.has in
-      let w = subst (λ t. Writes old new None CreateTable t [] count) it.whole
-      (runs_as text [] old new schema has CreateTable it.is it.plain count h) in
-      let all = went w.changed in
-      let first = went all.1 in
-      let made = first.1 in
-      let both : Ok made.table ≡ Ok table = sym made.defined ∙ it.defined in
-      let same : made.table ≡ table = cc in
-      let after : first.0.schema ≡ created schema table =
-      made.is ∙ ap (λ s. created s made.table) has ∙ ap (created schema) same in
-      let plain : lacks_sequence first.0.schema ≡ false = ap lacks_sequence after ∙ it.uncounted in
-      let now : new.now ≡ first.0 =
-      ap (λ (p : Tally × Database). p.1) (same_value all.2)
-      ∙ same_value (rw plain at first.2) in
-      let kept : KeepsRows schema.tables old.now.trees first.0.trees =
-      subst (λ (s : Schema). KeepsRows s.tables old.now.trees first.0.trees) has made.others in
-      let fresh : first.0.trees (next_tree schema) ≡ [] =
-      subst (λ s. first.0.trees (next_tree s) ≡ []) has made.empty in
-      let empty = all_and (λ t. first.0.trees t.tree ≡ []) schema.tables
+-- a table that counts no rowids needs no other
+pub countless : (tables : List Table) (t : Table) → AreCountless tables → t.is_counted ≡ false
+    → AreCountless (tables ++ t ∷ [])
+countless tables t none uncounted =
+    list_any-append (λ (t : Table). t.is_counted) tables (t ∷ []) ∙ rw (none, uncounted) refl
+
+pub uncounted_lacks : (schema : Schema) → AreCountless schema.tables
+    → lacks_sequence schema ≡ false
+uncounted_lacks schema none = rw none refl
+
+-- a table comes to those whose rows are known
+has_more : (schema : Schema) (table : Table) (held : Trees) (old new : Database)
+    → IsMade schema table old new → held (next_tree schema) ≡ [] → HasRows schema held old
+    → HasRows (created schema table) held new
+has_more schema table held old new made empty has = record {
+  has = made.has;
+  rows = all_and (λ t. new.trees t.tree ≡ held t.tree) schema.tables
       (record table { tree = next_tree schema })
-      (still_empty old.now.trees first.0.trees schema.tables kept blank.empty) fresh in
+      (still_held held old.trees new.trees schema.tables made.others has.rows)
+      (made.empty ∙ sym empty);
+}
+
+-- nothing is held where all is empty
+pub empty_next : (schema : Schema) (tables : List Table) → AreToBeEmpty (λ _. []) schema tables
+empty_next schema [] = tt
+empty_next schema (t ∷ tables) = (refl, empty_next (created schema (unplaced t)) tables)
+
+pub none_made : (db : Database) → MakesEach [] db db
+none_made db schema [] held defined none uncounted empty has = (has, λ sound. sound)
+none_made db schema (t ∷ tables) held defined none uncounted empty has = absurd defined
+
+-- what comes by a text and what comes by those after it
+made_each : (text : List ℕ) (texts : List (List ℕ)) (a b c : Database) → MakesOne text a b
+    → MakesEach texts b c → MakesEach (text ∷ texts) a c
+made_each text texts a b c one each schema [] held defined none uncounted empty has =
+    absurd defined
+made_each text texts a b c one each schema (t ∷ tables) held defined none uncounted empty has =
+    let parts = or_parts t.is_counted (list_any (λ (t : Table). t.is_counted) tables) uncounted in
+    let made = one schema t defined.0 none parts.0 has.has in
+    let all = each (created schema (unplaced t)) tables held defined.1
+    (countless schema.tables (record t { tree = next_tree schema }) none parts.0) parts.1 empty.1
+    (has_more schema (unplaced t) held a b made empty.0 has) in
+    (all.0, λ sound. all.1 made.sound)
+
+-- ---- The loop over the texts
+
+-- Some of the texts were run. What the others make is then all that is made.
+pub record GoesOn (all texts : List (List ℕ)) (old new : State) : Type 0 where
+  pub clean : doubt old.is_clean ≤ doubt new.is_clean
+  pub kept : HasCleanDisk new → KeepsCommit old new
+  pub went : HasCleanDisk new → (texts ≡ all) ⊎ WentOn old new
+  pub made : HasCleanDisk new → (last : Database) → MakesEach texts new.now last
+      → MakesEach all old.now last
+  pub gained : HasCleanDisk new → (last : Schema) → GainsEach texts new.now.schema last
+      → GainsEach all old.now.schema last
+
+module _ {E : Type 0} (all : List (List ℕ)) (old mid new : State) (result : Result (Unit {0}) E)
+    (here : GoesInside mid new result) where
+  was_clean : HasCleanDisk new → HasCleanDisk mid
+  was_clean clean = let less = here.clean in omega (arith, clean, less)
+
+  kept_then : {texts : List (List ℕ)} → GoesOn all texts old mid → HasCleanDisk new
+      → KeepsCommit old new
+  kept_then on clean =
+      let first = on.kept (was_clean clean) in
+      let last = here.kept clean in
       record {
-        has = ap (λ (d : Database). d.schema) now ∙ after;
-        empty = subst (λ (d : Database). AllByRecursion (λ t. d.trees t.tree ≡ [])
-            (created schema table).tables) (sym now) empty;
+        was_open = λ is_open. first.was_open (last.was_open is_open);
+        committed = λ is_open. last.committed is_open ∙ first.committed (last.was_open is_open);
       }
 
-pub office_creates : Creates no_schema make_office (unplaced office_table)
-unfolding understood everything
-office_creates = record {
-  defined = refl;
-  is = refl;
-  whole = refl;
-  plain = (refl, refl);
-  uncounted = refl;
-}
+  went_then : {texts : List (List ℕ)} → GoesOn all texts old mid → HasCleanDisk new
+      → WentOn mid new → WentOn old new
+  went_then on clean went =
+      let first = on.kept (was_clean clean) in
+      record {
+        was_open = first.was_open went.was_open;
+        is_open = went.is_open;
+        committed = went.committed ∙ first.committed went.was_open;
+        live = went.live;
+      }
 
-pub caps_creates : Creates schema_1 make_caps (unplaced caps_table)
-unfolding understood everything
-caps_creates = record {
-  defined = refl;
-  is = refl;
-  whole = refl;
-  plain = (refl, refl);
-  uncounted = refl;
-}
+  goes_to : {texts : List (List ℕ)} → GoesOn all texts old mid → GoesInside old new result
+  goes_to on = record {
+    clean = let less = on.clean in let more = here.clean in omega (arith, less, more);
+    kept = kept_then on;
+    went = λ clean. on_ok result (went_then on clean) (here.went clean);
+  }
 
-pub registries_creates : Creates schema_2 make_registries (unplaced registries_table)
-unfolding understood everything
-registries_creates = record {
-  defined = refl;
-  is = refl;
-  whole = refl;
-  plain = (refl, refl);
-  uncounted = refl;
-}
+module _ {E : Type 0} (all texts : List (List ℕ)) (text : List ℕ) (old mid new : State)
+    (here : GoesInside {E = E} mid new (Ok (tt {0}))) where
+  -- after one text more
+  pub goes_more : GoesOn all (text ∷ texts) old mid
+      → (HasCleanDisk new → MakesOne text mid.now new.now)
+      → (HasCleanDisk new → (table : Table) → Defines text (unplaced table)
+      → same_name table.name table.name ≡ true
+      → Gains (table ∷ []) 1 (length table.uniques) mid.now.schema new.now.schema)
+      → GoesOn all texts old new
+  goes_more on made gained =
+      let through = goes_to all old mid new (Ok (tt {0})) here on in
+      let was = λ (clean : HasCleanDisk new).
+      let less = here.clean in
+      let is : HasCleanDisk mid = omega (arith, clean, less) in
+      is in
+      record {
+        clean = through.clean;
+        kept = through.kept;
+        went = λ clean. inr (through.went clean);
+        made = λ clean last makes. on.made (was clean) last
+            (made_each text texts mid.now new.now last (made clean) makes);
+        gained = λ clean last gains. on.gained (was clean) last
+            (gains_each text texts mid.now.schema new.now.schema last (gained clean) gains);
+      }
 
-pub ranges_creates : Creates schema_3 make_ranges (unplaced ranges_table)
-unfolding understood everything
-ranges_creates = record {
-  defined = refl;
-  is = refl;
-  whole = refl;
-  plain = (refl, refl);
-  uncounted = refl;
-}
-
-pub entries_creates : Creates schema_4 make_entries (unplaced entries_table)
-unfolding understood everything
-entries_creates = record {
-  defined = refl;
-  is = refl;
-  whole = refl;
-  plain = (refl, refl);
-  uncounted = refl;
-}
-
-pub requests_creates : Creates schema_5 make_requests (unplaced requests_table)
-unfolding understood everything
-requests_creates = record {
-  defined = refl;
-  is = refl;
-  whole = refl;
-  plain = (refl, refl);
-  uncounted = refl;
-}
-
-pub queue_creates : Creates schema_6 make_queue (unplaced queue_table)
-unfolding understood everything
-queue_creates = record {
-  defined = refl;
-  is = refl;
-  whole = refl;
-  plain = (refl, refl);
-  uncounted = refl;
-}
-
-pub advice_creates : Creates schema_7 make_advice (unplaced advice_table)
-unfolding understood everything
-advice_creates = record {
-  defined = refl;
-  is = refl;
-  whole = refl;
-  plain = (refl, refl);
-  uncounted = refl;
-}
-
-pub pool_creates : Creates schema_8 make_pool (unplaced pool_table)
-unfolding understood everything
-pool_creates = record {
-  defined = refl;
-  is = refl;
-  whole = refl;
-  plain = (refl, refl);
-  uncounted = refl;
-}
-
-pub blocks_creates : Creates schema_9 make_blocks (unplaced blocks_table)
-unfolding understood everything
-blocks_creates = record {
-  defined = refl;
-  is = refl;
-  whole = refl;
-  plain = (refl, refl);
-  uncounted = refl;
-}
-
-pub all_made : created schema_9 (unplaced blocks_table) ≡ office_schema
-unfolding digits
-all_made = refl
+-- ---- An office
 
 abbrev is_other : Table → Bool
 is_other t = not (t.tree == office_table.tree)
@@ -209,6 +194,14 @@ module _ (old new : Database) (added : AddedRow office_table.tree version_row ol
     empty = others_empty (drop 1 office_schema.tables) refl blank.empty.1;
   }
 
-pub on_ok : {A E : Type 0} {P Q : Type 0} (r : Result A E) → (P → Q) → OnOk r P → OnOk r Q
-on_ok (Ok a) f p = f p
-on_ok (Err e) f p = tt
+-- all tables come to a store without one
+pub all_made : with_tables no_schema office_schema.tables ≡ office_schema
+unfolding digits
+all_made = refl
+
+pub blank_made : (old new : Database) → MakesEach office_texts old new → IsBlank no_schema old
+    → IsBlank office_schema new
+blank_made old new makes blank =
+    let made = (makes no_schema office_schema.tables (λ _. []) all_defined refl all_countless
+    (empty_next no_schema office_schema.tables) (record { has = blank.has; rows = tt })).0 in
+    subst (λ s. IsBlank s new) all_made (record { has = made.has; empty = made.rows })

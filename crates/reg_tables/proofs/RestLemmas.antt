@@ -1,7 +1,7 @@
 -- What a call leaves of a connection that was between two statements.
-use Rattle.std.proofs.Common.{◌≡◌, ◌⊎◌, inl, inr, ◌≤◌, List, ℕ, [], false, Some, None, Option, Ok, Err, Result}
+use Rattle.std.proofs.Common.{◌≡◌, ◌⊎◌, inl, inr, List, ℕ, [], Some, None, Option, Ok, Err, Result}
 use Rattle.std.specs.Prelude.{IfOk}
-use Rattle.std.proofs.Common.{IsTrue, sym, ap, subst, ◌∙◌, arith}
+use Rattle.std.proofs.Common.{sym, ap, subst, ◌∙◌, arith}
 use Rattle.sqlite.specs.Order.{Row}
 use Rattle.sqlite.specs.Tree.{Trees}
 use Rattle.sqlite.specs.declared.error.Error.{Error}
@@ -9,85 +9,42 @@ use Rattle.sqlite.specs.Effect.{Database}
 use Rattle.sqlite.specs.Given.{HasGiven, HasBegun, Returns}
 use Rattle.sqlite.specs.Held.{Held, state}
 use Rattle.sqlite.specs.Listing.{understood, reads_listing, IsSourceOf}
-use Rattle.sqlite.specs.State.{State, HasCleanDisk, IsUnchanged, IsRolledBack, Shown, ShowsRows}
+use Rattle.sqlite.specs.State.{State, IsUnchanged, IsRolledBack, Shown, ShowsRows}
 use Rattle.sqlite.specs.State.{FailsToQuery, FailsToShow, IsNotRun, Survives}
 use Rattle.sqlite.specs.Clock.{timed}
 use Rattle.sqlite.proofs.Callers.{unchanged_then}
-use Rattle.sqlite.specs.Disk.{MoreFaults}
 use Rattle.sqlite.specs.Schema.{Schema}
 use Rattle.sqlite_resolve.specs.declared.compiled.Compiled.{Compiled}
 use Rattle.sqlite_resolve.specs.declared.error.CompileError.{CompileError}
 use Rattle.sqlite_schema.specs.declared.command.Returning.{Returning}
-use Rattle.sqlite.specs.View.{doubt}
 use Rattle.sqlite.specs.Store.{Ghosts}
-use Rattle.reg_tables.specs.Connection.{IsIdle, Stays, Works}
+use Rattle.reg_tables.specs.Connection.{Holds, Stays, Works}
+use Rattle.reg_tables.specs.Selecting.{BeginsWith}
 use Rattle.reg_tables.specs.Kinds.{IsQuery}
-use Rattle.reg_tables.proofs.KindLemmas.{IsPlainly, understood_query}
+use Rattle.reg_tables.proofs.Library.Queries.{IsPlainly, understood_query}
 use Rattle.reg_tables.specs.Lasting.{Lasts}
-
-module _ (old new : State) (idle : IsIdle old) (clean : doubt old.is_clean ≤ doubt new.is_clean)
-  where
-    pub was_clean : HasCleanDisk new → HasCleanDisk old
-    was_clean h = omega arith
-
-    unchanged_worked : IsUnchanged old new → Works new → Works old
-    unchanged_worked u h = record { clean = was_clean h.clean; is_open = u.0.was_open }
-
-    undone_worked : IsRolledBack old new → Works new → Works old
-    undone_worked r h = record { clean = was_clean h.clean; is_open = r.was_open h.is_open }
-
-    stays_at : Works new → IsUnchanged old new ⊎ IsRolledBack old new
-        → Works old × (new.now ≡ old.now) × (new.committed ≡ old.committed)
-    stays_at h (inl u) = (unchanged_worked u h, u.0.now_is, u.0.committed_is)
-    stays_at h (inr r) =
-        let was = undone_worked r h in
-        let back = r.undone h.is_open in
-        (was, back.0 ∙ sym (idle.settled was), back.1)
-
-    module _ (mode : new.in_transaction ≡ false)
-        (rest : HasCleanDisk new → IsUnchanged old new ⊎ IsRolledBack old new) where
-      pub rests_idle : IsIdle new
-      rests_idle = record {
-        autocommit = mode;
-        settled = λ h.
-            let at = stays_at h (rest h.clean) in
-            at.1 ∙ idle.settled at.0 ∙ sym at.2;
-      }
-
-      pub rests_stays : Stays old new
-      rests_stays = record {
-        worked = λ h. (stays_at h (rest h.clean)).0;
-        unchanged = λ h. (stays_at h (rest h.clean)).1;
-        held = λ h.
-            let at = stays_at h.works (rest h.works.clean) in
-            record {
-              works = at.0;
-              tables = ap (λ (d : Database). d.schema) (sym at.1) ∙ h.tables;
-            };
-        same = λ h. (stays_at h.works (rest h.works.clean)).1;
-      }
-
-pub unchanged_undone : (a b c : State) → IsUnchanged a b → IsRolledBack b c → IsRolledBack a c
-unchanged_undone a b c u r = record {
-  was_open = λ h. u.0.was_open;
-  undone = λ h.
-      let back = r.undone h in
-      (back.0 ∙ u.0.committed_is, back.1 ∙ u.0.committed_is);
-  autocommit = r.autocommit;
-  unmarked = r.unmarked;
-  counts = record {
-    changes = r.counts.changes ∙ u.1.changes;
-    last_rowid = r.counts.last_rowid ∙ u.1.last_rowid;
-  };
-}
 
 pub stays_then : (a b c : State) → Stays a b → Stays b c → Stays a c
 stays_then a b c p q = record {
   worked = λ h. p.worked (q.worked h);
   unchanged = λ h. q.unchanged h ∙ p.unchanged (q.worked h);
-  held = λ h. p.held (q.held h);
-  same = λ h. q.same h ∙ p.same (q.held h);
 }
+
+-- the tables are an office's, as they were
+pub stays_held : {old new : State} → Stays old new → Holds new → Holds old
+stays_held stays h = record {
+  works = stays.worked h.works;
+  tables = ap (λ (d : Database). d.schema) (sym (stays.unchanged h.works)) ∙ h.tables;
+}
+
+pub stays_same : {old new : State} → Stays old new → Holds new → new.now ≡ old.now
+stays_same stays h = stays.unchanged h.works
+
+-- the first so many tables are an office's, as they were
+pub stays_begun : {old new : State} (n : ℕ) → Stays old new → Works new
+    → BeginsWith n new.now.schema → BeginsWith n old.now.schema
+stays_begun n stays works =
+    subst (λ (d : Database). BeginsWith n d.schema) (stays.unchanged works)
 
 pub survives_lasts : (old new : State) (P : Trees → Type 0) → Survives old new P → Lasts old new
 survives_lasts old new P s =
@@ -107,30 +64,12 @@ lasts_then a b c p q = record {
       ];
 }
 
--- a store behind which no fault was counted stays open
-pub lasts_open : (old new : State) → Lasts old new → HasCleanDisk new
-    → ¬ MoreFaults old.faults new.faults → IsTrue old.is_open → IsTrue new.is_open
-lasts_open old new l clean none was_open = elim (l.closes clean was_open) [
-  | inl is_open ↦ is_open
-  | inr more ↦ absurd (none more)
-]
-
 module _ (sql : List ℕ) (asks : IsQuery sql) where
   -- a query is without RETURNING, whatever tables there are
   asked : (schema : Schema) (c : Compiled) → understood schema sql ≡ Ok c → c.returning ≡ None
   asked schema c is = (subst (λ r. IfOk r IsPlainly) is (understood_query sql asks schema)).0
 
-  module _ (params : Row) (old new : State) where
-    shown_by : (c : Compiled) → (full : Row) (rows : List Row) → c.returning ≡ None
-        → ShowsRows old new sql c full rows c.returning → IsUnchanged old new
-    shown_by c full rows none s = (rw none at s).3
-
-    -- what shows rows changes nothing
-    pub shown_unchanged : (rows : List Row) → Shown sql params old new rows → IsUnchanged old new
-    unfolding Shown
-    shown_unchanged rows s = shown_by s.0 _ rows (asked old.now.schema s.0 s.1.is) s.2
-
-  -- and rows that are shown later are shown from the start
+  -- rows that are shown later are shown from the start
   pub shown_from : (params : Row) (a b c : State) (rows : List Row) → IsUnchanged a b
       → Shown sql params b c rows → Shown sql params a c rows
   unfolding Shown

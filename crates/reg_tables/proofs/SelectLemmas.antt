@@ -1,12 +1,14 @@
 -- What the rows of a SELECT are.
 use Rattle.std.specs.Prelude.{IfOk, unwrap_or}
 use Rattle.std.proofs.Common.{◌≡◌, ℕ, ◌^◌, nat_le, List, [], ◌∷◌, ◌++◌}
-use Rattle.std.proofs.Common.{map, filter, true, false, cond, None, Ok, Err, Result, refl, sym, ap, subst, ◌∙◌}
+use Rattle.std.proofs.Common.{take, drop, map, filter, true, false, cond, None, Ok, Err, Result, refl, sym, ap, subst, ◌∙◌}
 use Rattle.std.specs.List.{flat_map, range_with_len}
 use Rattle.std.specs.List.Sorted.{IsPermutation}
 use Rattle.std.proofs.lemmas.List.Sorted.{IsPermutation-map}
 use Rattle.sqlite.specs.declared.types.Value.TheVariants.{Null}
 use Rattle.sqlite.specs.Order.{Row, column}
+use Rattle.std.proofs.lemmas.List.{take-append-drop}
+use Rattle.sqlite.specs.Schema.{Schema}
 use Rattle.sqlite.specs.Tree.{Trees}
 use Rattle.sqlite.specs.Term.{Term, Env, col, eval_all}
 use Rattle.sqlite.specs.Query.{Query, Join, inner, end, IsAnswer, matches, output, Output}
@@ -19,8 +21,8 @@ use Rattle.sqlite_resolve.specs.declared.error.CompileError.{CompileError}
 use Rattle.sqlite_schema.specs.declared.program.Program.{Program}
 use Rattle.sqlite_value.specs.declared.keys.Key.{Key}
 use Rattle.reg_tables.specs.Schema.{office_schema}
-use Rattle.reg_tables.proofs.KindLemmas.{IsPlainly, understood_query}
-use Rattle.reg_tables.specs.Selecting.{query_over, select_from, passes, shows, IsTextOf, Selects, columns_of, stored}
+use Rattle.reg_tables.proofs.Library.Queries.{IsPlainly, understood_query}
+use Rattle.reg_tables.specs.Selecting.{BeginsWith, beginning, query_over, select_from, passes, shows, IsTextOf, Selects, columns_of, stored}
 
 -- ---- Any query of this form
 
@@ -63,18 +65,37 @@ plain_query : (r : Result Compiled CompileError) (program : Program) (names : Li
 plain_query (Ok c) program names plain is = plain
 plain_query (Err e) program names plain is = absurd (cc)
 
+-- an office has the first so many of its tables first
+pub office_begins : {schema : Schema} (n : ℕ) → schema ≡ office_schema → BeginsWith n schema
+office_begins n is = record {
+  tables = ap (λ (s : Schema). take n s.tables) is;
+  views = ap (λ (s : Schema). s.views) is;
+}
+
+-- such a schema, written out
+begun : (n : ℕ) (schema : Schema) → BeginsWith n schema
+    → schema ≡ beginning n (drop n schema.tables) schema.indexes
+begun n schema begins =
+    let tables = sym (take-append-drop n schema.tables)
+    ∙ ap (λ front. front ++ drop n schema.tables) begins.tables in
+    λ i. record { tables = tables i; indexes = schema.indexes; views = begins.views i }
+
 -- the rows of a query are what is shown of the matches, in some order
-pub answered_rows : (sql : List ℕ) (from : Join) (tests project : List Term)
+pub answered_rows : {n : ℕ} (sql : List ℕ) (from : Join) (tests project : List Term)
     (order : List (Term × Key)) (params : Row) (old new : State) (rows : List Row)
-    → IsTextOf sql (query_over from tests project order) → old.now.schema ≡ office_schema
+    → IsTextOf n sql (query_over from tests project order) → BeginsWith n old.now.schema
     → Shown sql params old new rows
     → IsPermutation (map (eval_all project) (matches old.now.trees tests from (params ∷ []))) rows
-answered_rows sql from tests project order params old new rows s has h =
+answered_rows {n = n} sql from tests project order params old new rows s begins h =
     let program : Program =
     record { lets = []; body = query_over from tests project order } in
-    let read = reads_as sql params old new office_schema has (Select program s.names) s.is
-    (plain_query _ program s.names (understood_query sql s.plain office_schema) s.is)
-    s.unlisted rows h in
+    let more = drop n old.now.schema.tables in
+    let indexes = old.now.schema.indexes in
+    let schema = beginning n more indexes in
+    let read = reads_as sql params old new schema (begun n old.now.schema begins)
+    (Select program s.names) (s.is more indexes)
+    (plain_query _ program s.names (understood_query sql s.plain schema) (s.is more indexes))
+    (s.unlisted more indexes) rows h in
     subst (λ db. IsPermutation (map (eval_all project) (matches db tests from (params ∷ []))) rows)
     (λ i t. as_kept old.now.trees t i)
     (answered from tests project order params (overlay old.now.trees []) rows (read.answer Null))
@@ -105,14 +126,15 @@ answer_rows t tests project order params db rows a =
     (answered (inner t end) tests project order params db rows a)
 
 -- the rows of a query are what is shown of the rows that pass, in some order
-pub selected : (sql : List ℕ) (t : ℕ) (tests project : List Term) (order : List (Term × Key))
-    (params : Row) (old new : State) (rows : List Row) → Selects sql t tests project order
-    → old.now.schema ≡ office_schema → Shown sql params old new rows
+pub selected : {n : ℕ} (sql : List ℕ) (t : ℕ) (tests project : List Term)
+    (order : List (Term × Key)) (params : Row) (old new : State) (rows : List Row)
+    → Selects n sql t tests project order → BeginsWith n old.now.schema
+    → Shown sql params old new rows
     → IsPermutation (map (shows project params) (filter (passes tests params) (old.now.trees t)))
     rows
-selected sql t tests project order params old new rows s has h =
+selected sql t tests project order params old new rows s begins h =
     subst (λ xs. IsPermutation xs rows) (matched tests project params (old.now.trees t))
-    (answered_rows sql (inner t end) tests project order params old new rows s has h)
+    (answered_rows sql (inner t end) tests project order params old new rows s begins h)
 
 columns_shown : (params row : Row) (places : List ℕ)
     → shows (map (col 1) places) params row ≡ map (column row) places

@@ -7,6 +7,7 @@ pub mod Entries
 pub mod Requests
 pub mod Queue
 pub mod Queued
+pub mod Seats
 pub mod Advice
 pub mod Pool
 pub mod Blocks

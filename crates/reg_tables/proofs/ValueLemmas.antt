@@ -1,6 +1,6 @@
 -- A test by key passes the rows whose columns equal the parameters.
 use Rattle.std.proofs.Common.{◌≡◌, ◌↔◌, ℕ, ℤ, List, [], ◌∷◌, Bool, true, false, ◌&&◌}
-use Rattle.std.proofs.Common.{Some, bytes_eq, refl, ap, ◌∙◌}
+use Rattle.std.proofs.Common.{Some, refl, ap, ◌∙◌}
 use Rattle.std.specs.List.{list_all}
 use Rattle.std.specs.Ordering.{is_eq, nat_cmp}
 use Rattle.std.proofs.lemmas.Map.Text.{is_eq-slice_cmp}
@@ -62,9 +62,6 @@ passes_equals (p ∷ pairs) params row =
     ap (λ b. b && passes (equals pairs) params row) here
     ∙ ap (λ b. same_value (column row p.0) (column params p.1) && b)
     (passes_equals pairs params row)
-
-pub same_value-Text : (s t : List ℕ) → same_value (Text s) (Text t) ≡ bytes_eq s t
-same_value-Text s t = refl
 
 pub same_value-Int : (m n : ℤ) → (same_value (Int m) (Int n) ≡ true) ↔ (m ≡ n)
 same_value-Int m n = Decides-int_eq m n

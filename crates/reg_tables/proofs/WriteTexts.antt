@@ -1,14 +1,15 @@
 -- The texts that write rows of an office do so whatever tables there are.
-use Rattle.std.proofs.Common.{codes, refl}
+use Rattle.std.proofs.Common.{refl}
 use Rattle.sqlite_tied.specs.Compute.{everything}
 use Rattle.reg_tables.specs.Kinds.{WritesRows}
-use Rattle.reg_tables.proofs.EditStatements.{change_advice, change_block, change_entry}
-use Rattle.reg_tables.proofs.EditStatements.{change_request, delete_cap}
-use Rattle.reg_tables.proofs.InsertStatements.{insert_advice, insert_blocks, insert_caps}
-use Rattle.reg_tables.proofs.InsertStatements.{insert_entries, insert_pool, insert_queue}
-use Rattle.reg_tables.proofs.InsertStatements.{insert_ranges, insert_registries, insert_requests}
+use Rattle.reg_tables.specs.Texts.{insert_version}
+use Rattle.reg_tables.specs.Texts.{change_block, change_request, delete_cap}
+use Rattle.reg_tables.specs.Texts.{insert_blocks, insert_caps}
+use Rattle.reg_tables.specs.Texts.{insert_pool, insert_queue}
+use Rattle.reg_tables.specs.Texts.{insert_ranges, insert_registries, insert_requests}
+use Rattle.reg_tables.specs.Texts.{put_advice, put_entry}
 
-pub insert_version_writes : WritesRows (codes "INSERT INTO office (version) VALUES (?1)")
+pub insert_version_writes : WritesRows insert_version
 unfolding everything
 insert_version_writes = refl
 
@@ -24,10 +25,6 @@ pub insert_ranges_writes : WritesRows insert_ranges
 unfolding everything
 insert_ranges_writes = refl
 
-pub insert_entries_writes : WritesRows insert_entries
-unfolding everything
-insert_entries_writes = refl
-
 pub insert_requests_writes : WritesRows insert_requests
 unfolding everything
 insert_requests_writes = refl
@@ -35,10 +32,6 @@ insert_requests_writes = refl
 pub insert_queue_writes : WritesRows insert_queue
 unfolding everything
 insert_queue_writes = refl
-
-pub insert_advice_writes : WritesRows insert_advice
-unfolding everything
-insert_advice_writes = refl
 
 pub insert_pool_writes : WritesRows insert_pool
 unfolding everything
@@ -52,18 +45,18 @@ pub delete_cap_writes : WritesRows delete_cap
 unfolding everything
 delete_cap_writes = refl
 
-pub change_entry_writes : WritesRows change_entry
-unfolding everything
-change_entry_writes = refl
-
 pub change_request_writes : WritesRows change_request
 unfolding everything
 change_request_writes = refl
 
-pub change_advice_writes : WritesRows change_advice
-unfolding everything
-change_advice_writes = refl
-
 pub change_block_writes : WritesRows change_block
 unfolding everything
 change_block_writes = refl
+
+pub put_advice_writes : WritesRows put_advice
+unfolding everything
+put_advice_writes = refl
+
+pub put_entry_writes : WritesRows put_entry
+unfolding everything
+put_entry_writes = refl

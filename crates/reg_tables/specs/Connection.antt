@@ -22,8 +22,6 @@ pub record IsIdle (s : State) : Type 0 where
 pub record Stays (old new : State) : Type 0 where
   pub worked : Works new → Works old
   pub unchanged : Works new → new.now ≡ old.now
-  pub held : Holds new → Holds old
-  pub same : Holds new → new.now ≡ old.now
 
 -- no doubt of the disk and no failure of it is forgotten, and only a failure of it shuts the store
 pub record Endures (old new : State) : Type 0 where

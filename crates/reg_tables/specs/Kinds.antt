@@ -40,7 +40,3 @@ IsQuery text = (is_of_kind is_query (first text) ≡ true) × (is_timeless (firs
 -- the text writes rows
 abbrev pub WritesRows : List ℕ → Type 0
 WritesRows text = is_of_kind is_write (first text) ≡ true
-
--- the text makes a table
-abbrev pub MakesTable : List ℕ → Type 0
-MakesTable text = is_of_kind is_making (first text) ≡ true

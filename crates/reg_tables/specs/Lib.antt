@@ -1,4 +1,5 @@
 pub mod Schema
+pub mod Version
 pub mod Connection
 pub mod Inserting
 pub mod Making
@@ -6,9 +7,11 @@ pub mod Lasting
 pub mod Values
 pub mod Selecting
 pub mod Joining
+pub mod Seats
 pub mod Texts
 pub mod Editing
 pub mod Bare
 pub mod Inside
 pub mod Kinds
 pub mod Having
+pub mod Putting

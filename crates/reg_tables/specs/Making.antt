@@ -1,88 +1,76 @@
--- What a CREATE TABLE leaves, and a store whose tables are all empty.
-use Rattle.std.specs.Prelude.{◌≡◌, ℕ, pos, List, [], ◌∷◌, drop, Ok, false}
-use Rattle.std.specs.List.{AllByRecursion}
+-- What CREATE TABLE texts leave, and a store that holds no more than the version of its tables.
+use Rattle.std.specs.Prelude.{◌≡◌, ℕ, List, [], ◌∷◌, drop, fold, false}
+use Rattle.std.specs.List.{AllByRecursion, list_any}
 use Rattle.sqlite.specs.declared.types.Value.TheVariants.{Int}
 use Rattle.sqlite.specs.Order.{Row, column}
 use Rattle.sqlite.specs.Tree.{Trees}
 use Rattle.sqlite.specs.Table.{Table}
 use Rattle.sqlite.specs.Schema.{Schema}
-use Rattle.sqlite_schema.specs.declared.command.Command.TheVariants.{CreateTable}
-use Rattle.sqlite_catalog.specs.Change.{created}
-use Rattle.sqlite.specs.Compile.{table_defined_by}
-use Rattle.sqlite.specs.Does.{lacks_sequence}
-use Rattle.sqlite.specs.Listing.{understood}
-use Rattle.sqlite.specs.Given.{IsPlain}
-use Rattle.sqlite.specs.Effect.{Database}
-use Rattle.sqlite.proofs.Callers.{command_of, statement_of}
+use Rattle.sqlite_catalog.specs.Change.{created, next_tree, KeepsRows}
+use Rattle.sqlite.specs.Effect.{Database, IsDatabase}
 use Rattle.reg_tables.specs.Editing.{IsOffice}
-use Rattle.reg_tables.specs.Schema.{office_table, caps_table, registries_table, ranges_table}
-use Rattle.reg_tables.specs.Schema.{entries_table, requests_table, queue_table, advice_table}
-use Rattle.reg_tables.specs.Schema.{pool_table, blocks_table, office_schema}
+use Rattle.reg_tables.specs.Having.{AreDefined, Defines, unplaced}
+use Rattle.reg_tables.specs.Schema.{office_table, office_schema}
+use Rattle.reg_tables.specs.Version.{number_of, newest}
 
--- under this schema the text makes this table
-pub record Creates (schema : Schema) (text : List ℕ) (table : Table) : Type 0 where
-  pub defined : table_defined_by text ≡ Ok table
-  pub is : command_of (understood schema text) ≡ CreateTable
-  pub whole : statement_of text (understood schema text) ≡ text
-  pub plain : IsPlain (understood schema text)
-  pub uncounted : lacks_sequence (created schema table) ≡ false
+-- the schema without a table
+abbrev pub no_schema : Schema
+no_schema = record { tables = []; indexes = []; views = [] }
+
+-- the schema with these tables after its own, each in a tree of its own
+abbrev pub with_tables : Schema → List Table → Schema
+with_tables schema tables = fold (λ s t. created s (unplaced t)) schema tables
+
+-- there is no table that counts its rowids
+abbrev pub AreCountless : List Table → Type 0
+AreCountless tables = list_any (λ (t : Table). t.is_counted) tables ≡ false
+
+-- the table came, and is empty; the others have the rows that they had
+pub record IsMade (schema : Schema) (table : Table) (old new : Database) : Type 0 where
+  pub has : new.schema ≡ created schema table
+  pub empty : new.trees (next_tree schema) ≡ []
+  pub others : KeepsRows schema.tables old.trees new.trees
+  pub sound : IsDatabase new
+
+-- so it is of a store of each schema, if the text defines a table
+abbrev pub MakesOne : List ℕ → Database → Database → Type 0
+MakesOne text old new =
+    (schema : Schema) (table : Table) → Defines text (unplaced table) → AreCountless schema.tables
+    → table.is_counted ≡ false → old.schema ≡ schema → IsMade schema (unplaced table) old new
+
+-- the store has this schema, and in each of its tables these rows
+pub record HasRows (schema : Schema) (held : Trees) (db : Database) : Type 0 where
+  pub has : db.schema ≡ schema
+  pub rows : AllByRecursion (λ t. db.trees t.tree ≡ held t.tree) schema.tables
+
+-- in the trees that these tables will have nothing is held
+abbrev pub AreToBeEmpty : Trees → Schema → List Table → Type 0
+AreToBeEmpty held schema [] = Unit {0}
+AreToBeEmpty held schema (t ∷ tables) =
+    (held (next_tree schema) ≡ []) × AreToBeEmpty held (created schema (unplaced t)) tables
+
+-- the tables of these texts came, all empty, and the others have the rows that they had
+abbrev pub MakesEach : List (List ℕ) → Database → Database → Type 0
+MakesEach texts old new =
+    (schema : Schema) (tables : List Table) (held : Trees) → AreDefined texts tables
+    → AreCountless schema.tables → AreCountless tables → AreToBeEmpty held schema tables
+    → HasRows schema held old
+    → HasRows (with_tables schema tables) held new × (IsDatabase old → IsDatabase new)
 
 -- the store has this schema, and each table is empty
 pub record IsBlank (schema : Schema) (db : Database) : Type 0 where
   pub has : db.schema ≡ schema
   pub empty : AllByRecursion (λ t. db.trees t.tree ≡ []) schema.tables
 
--- a table as its text alone defines it, before it has a tree
-abbrev pub unplaced : Table → Table
-unplaced table = record table { tree = 0 }
-
--- the schema without a table, and with the first so many of the office's
-abbrev pub no_schema : Schema
-no_schema = record { tables = []; indexes = []; views = [] }
-
-abbrev pub schema_1 : Schema
-schema_1 = created no_schema (unplaced office_table)
-
-abbrev pub schema_2 : Schema
-schema_2 = created schema_1 (unplaced caps_table)
-
-abbrev pub schema_3 : Schema
-schema_3 = created schema_2 (unplaced registries_table)
-
-abbrev pub schema_4 : Schema
-schema_4 = created schema_3 (unplaced ranges_table)
-
-abbrev pub schema_5 : Schema
-schema_5 = created schema_4 (unplaced entries_table)
-
-abbrev pub schema_6 : Schema
-schema_6 = created schema_5 (unplaced requests_table)
-
-abbrev pub schema_7 : Schema
-schema_7 = created schema_6 (unplaced queue_table)
-
-abbrev pub schema_8 : Schema
-schema_8 = created schema_7 (unplaced advice_table)
-
-abbrev pub schema_9 : Schema
-schema_9 = created schema_8 (unplaced pool_table)
-
--- the first five tables, and the other five
-abbrev pub first_tables : List Table
-first_tables = office_table ∷ caps_table ∷ registries_table ∷ ranges_table ∷ entries_table ∷ []
-
-abbrev pub second_tables : List Table
-second_tables = requests_table ∷ queue_table ∷ advice_table ∷ pool_table ∷ blocks_table ∷ []
-
 -- the columns of the row that says the version of the schema
 abbrev pub version_row : Row
-version_row = Int (pos 1) ∷ []
+version_row = Int (number_of newest) ∷ []
 
--- the table of the office has one row, which says that the schema is the first
+-- the table of the office has one row, which says that the schema is the newest
 pub record IsVersioned (trees : Trees) : Type 0 where
   pub row : Row
   pub only : trees office_table.tree ≡ row ∷ []
-  pub says : column row 1 ≡ Int (pos 1)
+  pub says : column row 1 ≡ Int (number_of newest)
 
 -- the store has the tables of an office, and holds no more than their version
 pub record IsFounded (db : Database) : Type 0 where

@@ -1,4 +1,4 @@
--- The tables of an office, schema 1.
+-- The tables of an office.
 use Rattle.std.specs.Prelude.{ℕ, Bool, true, false, List, [], ◌∷◌, codes, None}
 use Rattle.sqlite.specs.Collation.TheVariants.{Binary}
 use Rattle.sqlite.specs.declared.types.Value.TheVariants.{Null}
@@ -11,6 +11,9 @@ use Rattle.sqlite_schema.specs.declared.schema.Action.TheVariants.{NoAction}
 use Rattle.sqlite_schema.specs.declared.schema.Column.{Column}
 use Rattle.sqlite_schema.specs.declared.schema.Index.{Index}
 use Rattle.sqlite_schema.specs.declared.schema.Reference.{Reference}
+use Rattle.reg_tables.specs.Texts.{make_office, make_caps, make_registries, make_ranges}
+use Rattle.reg_tables.specs.Texts.{make_entries, make_requests, make_queue, make_advice}
+use Rattle.reg_tables.specs.Texts.{make_pool, make_blocks}
 
 -- a column of a STRICT table
 abbrev column : Kind → Bool → List ℕ → Column
@@ -57,9 +60,6 @@ index name tree table columns = record {
   is_unique = true;
 }
 
-abbrev pub make_office : List ℕ
-make_office = codes "CREATE TABLE office (version INTEGER NOT NULL) STRICT"
-
 abbrev pub office_table : Table
 office_table = record {
   name = codes "office";
@@ -77,9 +77,6 @@ office_table = record {
   stamps = record { places = []; terms = []; formats = [] };
   is_counted = false;
 }
-
-abbrev pub make_caps : List ℕ
-make_caps = codes "CREATE TABLE caps (digest TEXT NOT NULL PRIMARY KEY, account TEXT NOT NULL, kind TEXT NOT NULL, until INTEGER NOT NULL) STRICT"
 
 abbrev pub caps_table : Table
 caps_table = record {
@@ -102,9 +99,6 @@ caps_table = record {
   is_counted = false;
 }
 
-abbrev pub make_registries : List ℕ
-make_registries = codes "CREATE TABLE registries (name TEXT NOT NULL PRIMARY KEY, max INTEGER NOT NULL) STRICT"
-
 abbrev pub registries_table : Table
 registries_table = record {
   name = codes "registries";
@@ -123,9 +117,6 @@ registries_table = record {
   stamps = record { places = []; terms = []; formats = [] };
   is_counted = false;
 }
-
-abbrev pub make_ranges : List ℕ
-make_ranges = codes "CREATE TABLE ranges (registry TEXT NOT NULL, lo INTEGER NOT NULL, hi INTEGER NOT NULL, treatment TEXT NOT NULL, note TEXT NOT NULL, PRIMARY KEY (registry, lo), FOREIGN KEY (registry) REFERENCES registries (name)) STRICT"
 
 abbrev pub ranges_table : Table
 ranges_table = record {
@@ -149,9 +140,6 @@ ranges_table = record {
   stamps = record { places = []; terms = []; formats = [] };
   is_counted = false;
 }
-
-abbrev pub make_entries : List ℕ
-make_entries = codes "CREATE TABLE entries (registry TEXT NOT NULL, value INTEGER NOT NULL, label TEXT NOT NULL, assignee TEXT NOT NULL, first INTEGER NOT NULL, expires INTEGER, renewed INTEGER NOT NULL, PRIMARY KEY (registry, value), FOREIGN KEY (registry) REFERENCES registries (name)) STRICT"
 
 abbrev pub entries_table : Table
 entries_table = record {
@@ -177,9 +165,6 @@ entries_table = record {
   stamps = record { places = []; terms = []; formats = [] };
   is_counted = false;
 }
-
-abbrev pub make_requests : List ℕ
-make_requests = codes "CREATE TABLE requests (account TEXT NOT NULL, reference TEXT NOT NULL, kind TEXT NOT NULL, registry TEXT, value INTEGER, least TEXT, label TEXT, contact TEXT, specification TEXT, rfc_number INTEGER, rfc_stream TEXT, rfc_track TEXT, minute TEXT, draft TEXT, stable INTEGER, interest INTEGER, chair TEXT, director TEXT, will_be_rfc INTEGER, size TEXT, organization TEXT, address TEXT, state TEXT NOT NULL, given TEXT, reason TEXT, PRIMARY KEY (account, reference)) STRICT"
 
 abbrev pub requests_table : Table
 requests_table = record {
@@ -223,9 +208,6 @@ requests_table = record {
   is_counted = false;
 }
 
-abbrev pub make_queue : List ℕ
-make_queue = codes "CREATE TABLE queue (account TEXT NOT NULL, reference TEXT NOT NULL, expert TEXT NOT NULL, PRIMARY KEY (account, reference, expert), UNIQUE (expert, account, reference), FOREIGN KEY (account, reference) REFERENCES requests (account, reference)) STRICT"
-
 abbrev pub queue_table : Table
 queue_table = record {
   name = codes "queue";
@@ -246,9 +228,6 @@ queue_table = record {
   stamps = record { places = []; terms = []; formats = [] };
   is_counted = false;
 }
-
-abbrev pub make_advice : List ℕ
-make_advice = codes "CREATE TABLE advice (account TEXT NOT NULL, reference TEXT NOT NULL, expert TEXT NOT NULL, verdict TEXT NOT NULL, text TEXT NOT NULL, PRIMARY KEY (account, reference, expert), FOREIGN KEY (account, reference, expert) REFERENCES queue (account, reference, expert)) STRICT"
 
 abbrev pub advice_table : Table
 advice_table = record {
@@ -273,9 +252,6 @@ advice_table = record {
   is_counted = false;
 }
 
-abbrev pub make_pool : List ℕ
-make_pool = codes "CREATE TABLE pool (prefix INT NOT NULL PRIMARY KEY) STRICT"
-
 abbrev pub pool_table : Table
 pool_table = record {
   name = codes "pool";
@@ -293,9 +269,6 @@ pool_table = record {
   stamps = record { places = []; terms = []; formats = [] };
   is_counted = false;
 }
-
-abbrev pub make_blocks : List ℕ
-make_blocks = codes "CREATE TABLE blocks (first INT NOT NULL PRIMARY KEY, size TEXT NOT NULL, holder TEXT NOT NULL, organization TEXT NOT NULL, address TEXT NOT NULL, private INTEGER NOT NULL, UNIQUE (holder, first)) STRICT"
 
 abbrev pub blocks_table : Table
 blocks_table = record {
@@ -319,6 +292,21 @@ blocks_table = record {
   stamps = record { places = []; terms = []; formats = [] };
   is_counted = false;
 }
+
+-- the texts that make the tables, in order
+abbrev pub office_texts : List (List ℕ)
+office_texts =
+    make_office ∷
+    make_caps ∷
+    make_registries ∷
+    make_ranges ∷
+    make_entries ∷
+    make_requests ∷
+    make_queue ∷
+    make_advice ∷
+    make_pool ∷
+    make_blocks ∷
+    []
 
 abbrev pub office_schema : Schema
 office_schema = record {

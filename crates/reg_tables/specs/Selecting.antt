@@ -1,10 +1,13 @@
 -- What a SELECT over tables of an office answers.
-use Rattle.std.specs.Prelude.{◌≡◌, ℕ, pos, negsuc, Bool, false, List, [], ◌∷◌, map, None}
+use Rattle.std.specs.Prelude.{◌++◌, take, ◌≡◌, ℕ, pos, negsuc, Bool, false, List, [], ◌∷◌, map, None}
 use Rattle.std.specs.List.{list_all, range_with_len}
 use Rattle.sqlite.specs.declared.types.Value.TheVariants.{Int}
 use Rattle.sqlite.specs.Collation.TheVariants.{Binary}
 use Rattle.sqlite.specs.Order.{Row, column}
 use Rattle.sqlite.specs.Term.{Term, lit, col, op2, holds, eval_all}
+use Rattle.sqlite.specs.Schema.{Schema}
+use Rattle.sqlite.specs.Table.{Table}
+use Rattle.sqlite_schema.specs.declared.schema.Index.{Index}
 use Rattle.sqlite.specs.Query.{Query, Join, inner, end}
 use Rattle.sqlite.specs.Command.TheVariants.{Select}
 use Rattle.sqlite.specs.Listing.{understood, reads_listing}
@@ -42,17 +45,32 @@ passes tests params row = list_all (holds (params ∷ row ∷ [])) tests
 abbrev pub shows : List Term → Row → Row → Row
 shows project params row = eval_all project (params ∷ row ∷ [])
 
--- the text is this query over tables of an office
-pub record IsTextOf (sql : List ℕ) (q : Query) : Type 0 where
+-- a schema whose first tables are the office's first so many
+abbrev pub beginning : ℕ → List Table → List Index → Schema
+beginning n more indexes = record {
+  tables = take n office_schema.tables ++ more;
+  indexes = indexes;
+  views = [];
+}
+
+-- the schema is such a one
+pub record BeginsWith (n : ℕ) (schema : Schema) : Type 0 where
+  pub tables : take n schema.tables ≡ take n office_schema.tables
+  pub views : schema.views ≡ []
+
+-- the text is this query wherever those tables come first, whatever others there are
+pub record IsTextOf (n : ℕ) (sql : List ℕ) (q : Query) : Type 0 where
   pub names : List (List ℕ)
-  pub is : command_of (understood office_schema sql)
+  pub is : (more : List Table) (indexes : List Index)
+      → command_of (understood (beginning n more indexes) sql)
       ≡ Select (record { lets = []; body = q }) names
   pub plain : IsQuery sql
-  pub unlisted : reads_listing office_schema sql ≡ false
+  pub unlisted : (more : List Table) (indexes : List Index)
+      → reads_listing (beginning n more indexes) sql ≡ false
 
--- the text is a query over one table of an office
-abbrev pub Selects : List ℕ → ℕ → List Term → List Term → List (Term × Key) → Type 0
-Selects sql t tests project order = IsTextOf sql (select_from t tests project order)
+-- the text is a query over one table of an office, of which the first so many suffice
+abbrev pub Selects : ℕ → List ℕ → ℕ → List Term → List Term → List (Term × Key) → Type 0
+Selects n sql t tests project order = IsTextOf n sql (select_from t tests project order)
 
 -- each of these columns equals a parameter: pairs of their places
 abbrev pub equals : List (ℕ × ℕ) → List Term

@@ -1,77 +1,154 @@
--- The texts of the queries of an office.
-use Rattle.std.specs.Prelude.{ℕ, List, codes}
+-- The texts of the statements of an office.
+use Rattle.std.specs.Prelude.{ℕ, List}
+use Rattle.reg_tables.specs.declared.texts.TheConstants.{MAKE_OFFICE, MAKE_CAPS, MAKE_REGISTRIES}
+use Rattle.reg_tables.specs.declared.texts.TheConstants.{MAKE_RANGES, MAKE_ENTRIES, MAKE_REQUESTS}
+use Rattle.reg_tables.specs.declared.texts.TheConstants.{MAKE_QUEUE, MAKE_ADVICE, MAKE_POOL}
+use Rattle.reg_tables.specs.declared.texts.TheConstants.{MAKE_BLOCKS, SELECT_VERSION, SELECT_CAP}
+use Rattle.reg_tables.specs.declared.texts.TheConstants.{SELECT_REGISTRY}
+use Rattle.reg_tables.specs.declared.texts.TheConstants.{SELECT_REGISTRIES, SELECT_RANGES_OF}
+use Rattle.reg_tables.specs.declared.texts.TheConstants.{SELECT_RANGES, SELECT_ENTRY}
+use Rattle.reg_tables.specs.declared.texts.TheConstants.{SELECT_ENTRIES_OF, SELECT_ENTRIES}
+use Rattle.reg_tables.specs.declared.texts.TheConstants.{SELECT_REQUEST, SELECT_REQUESTS_OF}
+use Rattle.reg_tables.specs.declared.texts.TheConstants.{SELECT_REQUESTS, SELECT_QUEUE_ROW}
+use Rattle.reg_tables.specs.declared.texts.TheConstants.{SELECT_QUEUED}
+use Rattle.reg_tables.specs.declared.texts.TheConstants.{SELECT_SEATS}
+use Rattle.reg_tables.specs.declared.texts.TheConstants.{SELECT_ADVICE_ROW}
+use Rattle.reg_tables.specs.declared.texts.TheConstants.{SELECT_PREFIX, SELECT_POOL}
+use Rattle.reg_tables.specs.declared.texts.TheConstants.{SELECT_BLOCK, SELECT_BLOCKS_OF}
+use Rattle.reg_tables.specs.declared.texts.TheConstants.{SELECT_BLOCKS, INSERT_VERSION, INSERT_CAPS}
+use Rattle.reg_tables.specs.declared.texts.TheConstants.{INSERT_REGISTRIES, INSERT_RANGES}
+use Rattle.reg_tables.specs.declared.texts.TheConstants.{INSERT_REQUESTS, INSERT_QUEUE, INSERT_POOL}
+use Rattle.reg_tables.specs.declared.texts.TheConstants.{INSERT_BLOCKS, PUT_ADVICE, PUT_ENTRY}
+use Rattle.reg_tables.specs.declared.texts.TheConstants.{DELETE_CAP, CHANGE_REQUEST, CHANGE_BLOCK}
+
+abbrev pub make_office : List ℕ
+make_office = MAKE_OFFICE.now
+
+abbrev pub make_caps : List ℕ
+make_caps = MAKE_CAPS.now
+
+abbrev pub make_registries : List ℕ
+make_registries = MAKE_REGISTRIES.now
+
+abbrev pub make_ranges : List ℕ
+make_ranges = MAKE_RANGES.now
+
+abbrev pub make_entries : List ℕ
+make_entries = MAKE_ENTRIES.now
+
+abbrev pub make_requests : List ℕ
+make_requests = MAKE_REQUESTS.now
+
+abbrev pub make_queue : List ℕ
+make_queue = MAKE_QUEUE.now
+
+abbrev pub make_advice : List ℕ
+make_advice = MAKE_ADVICE.now
+
+abbrev pub make_pool : List ℕ
+make_pool = MAKE_POOL.now
+
+abbrev pub make_blocks : List ℕ
+make_blocks = MAKE_BLOCKS.now
 
 abbrev pub select_version : List ℕ
-select_version = codes "SELECT version FROM office"
+select_version = SELECT_VERSION.now
 
 abbrev pub select_cap : List ℕ
-select_cap = codes "SELECT digest, account, kind, until FROM caps WHERE digest = ?1"
-
-abbrev pub select_caps : List ℕ
-select_caps = codes "SELECT digest, account, kind, until FROM caps ORDER BY digest"
+select_cap = SELECT_CAP.now
 
 abbrev pub select_registry : List ℕ
-select_registry = codes "SELECT name, max FROM registries WHERE name = ?1"
+select_registry = SELECT_REGISTRY.now
 
 abbrev pub select_registries : List ℕ
-select_registries = codes "SELECT name, max FROM registries ORDER BY name"
+select_registries = SELECT_REGISTRIES.now
 
 abbrev pub select_ranges_of : List ℕ
-select_ranges_of = codes "SELECT registry, lo, hi, treatment, note FROM ranges WHERE registry = ?1 ORDER BY lo"
+select_ranges_of = SELECT_RANGES_OF.now
 
 abbrev pub select_ranges : List ℕ
-select_ranges = codes "SELECT registry, lo, hi, treatment, note FROM ranges ORDER BY registry, lo"
+select_ranges = SELECT_RANGES.now
 
 abbrev pub select_entry : List ℕ
-select_entry = codes "SELECT registry, value, label, assignee, first, expires, renewed FROM entries WHERE registry = ?1 AND value = ?2"
+select_entry = SELECT_ENTRY.now
 
 abbrev pub select_entries_of : List ℕ
-select_entries_of = codes "SELECT registry, value, label, assignee, first, expires, renewed FROM entries WHERE registry = ?1 ORDER BY value"
+select_entries_of = SELECT_ENTRIES_OF.now
 
 abbrev pub select_entries : List ℕ
-select_entries = codes "SELECT registry, value, label, assignee, first, expires, renewed FROM entries ORDER BY registry, value"
+select_entries = SELECT_ENTRIES.now
 
 abbrev pub select_request : List ℕ
-select_request = codes "SELECT account, reference, kind, registry, value, least, label, contact, specification, rfc_number, rfc_stream, rfc_track, minute, draft, stable, interest, chair, director, will_be_rfc, size, organization, address, state, given, reason FROM requests WHERE account = ?1 AND reference = ?2"
+select_request = SELECT_REQUEST.now
 
 abbrev pub select_requests_of : List ℕ
-select_requests_of = codes "SELECT account, reference, kind, registry, value, least, label, contact, specification, rfc_number, rfc_stream, rfc_track, minute, draft, stable, interest, chair, director, will_be_rfc, size, organization, address, state, given, reason FROM requests WHERE account = ?1 ORDER BY reference"
+select_requests_of = SELECT_REQUESTS_OF.now
 
 abbrev pub select_requests : List ℕ
-select_requests = codes "SELECT account, reference, kind, registry, value, least, label, contact, specification, rfc_number, rfc_stream, rfc_track, minute, draft, stable, interest, chair, director, will_be_rfc, size, organization, address, state, given, reason FROM requests ORDER BY account, reference"
+select_requests = SELECT_REQUESTS.now
 
 abbrev pub select_queue_row : List ℕ
-select_queue_row = codes "SELECT account, reference, expert FROM queue WHERE account = ?1 AND reference = ?2 AND expert = ?3"
+select_queue_row = SELECT_QUEUE_ROW.now
 
 abbrev pub select_queued : List ℕ
-select_queued = codes "SELECT r.account, r.reference, r.kind, r.registry, r.value, r.least, r.label, r.contact, r.specification, r.rfc_number, r.rfc_stream, r.rfc_track, r.minute, r.draft, r.stable, r.interest, r.chair, r.director, r.will_be_rfc, r.size, r.organization, r.address, r.state, r.given, r.reason, a.verdict, a.text FROM queue q JOIN requests r ON r.account = q.account AND r.reference = q.reference LEFT JOIN advice a ON a.account = q.account AND a.reference = q.reference AND a.expert = q.expert WHERE q.expert = ?1 ORDER BY q.account, q.reference"
+select_queued = SELECT_QUEUED.now
 
-abbrev pub select_experts_of : List ℕ
-select_experts_of = codes "SELECT account, reference, expert FROM queue WHERE account = ?1 AND reference = ?2 ORDER BY expert"
-
-abbrev pub select_queue : List ℕ
-select_queue = codes "SELECT account, reference, expert FROM queue ORDER BY account, reference, expert"
+abbrev pub select_seats : List ℕ
+select_seats = SELECT_SEATS.now
 
 abbrev pub select_advice_row : List ℕ
-select_advice_row = codes "SELECT account, reference, expert, verdict, text FROM advice WHERE account = ?1 AND reference = ?2 AND expert = ?3"
-
-abbrev pub select_advice_of : List ℕ
-select_advice_of = codes "SELECT account, reference, expert, verdict, text FROM advice WHERE account = ?1 AND reference = ?2 ORDER BY expert"
-
-abbrev pub select_advice : List ℕ
-select_advice = codes "SELECT account, reference, expert, verdict, text FROM advice ORDER BY account, reference, expert"
+select_advice_row = SELECT_ADVICE_ROW.now
 
 abbrev pub select_prefix : List ℕ
-select_prefix = codes "SELECT prefix FROM pool WHERE prefix = ?1"
+select_prefix = SELECT_PREFIX.now
 
 abbrev pub select_pool : List ℕ
-select_pool = codes "SELECT prefix FROM pool ORDER BY prefix"
+select_pool = SELECT_POOL.now
 
 abbrev pub select_block : List ℕ
-select_block = codes "SELECT first, size, holder, organization, address, private FROM blocks WHERE first = ?1"
+select_block = SELECT_BLOCK.now
 
 abbrev pub select_blocks_of : List ℕ
-select_blocks_of = codes "SELECT first, size, holder, organization, address, private FROM blocks WHERE holder = ?1 ORDER BY first"
+select_blocks_of = SELECT_BLOCKS_OF.now
 
 abbrev pub select_blocks : List ℕ
-select_blocks = codes "SELECT first, size, holder, organization, address, private FROM blocks ORDER BY first"
+select_blocks = SELECT_BLOCKS.now
+
+abbrev pub insert_version : List ℕ
+insert_version = INSERT_VERSION.now
+
+abbrev pub insert_caps : List ℕ
+insert_caps = INSERT_CAPS.now
+
+abbrev pub insert_registries : List ℕ
+insert_registries = INSERT_REGISTRIES.now
+
+abbrev pub insert_ranges : List ℕ
+insert_ranges = INSERT_RANGES.now
+
+abbrev pub insert_requests : List ℕ
+insert_requests = INSERT_REQUESTS.now
+
+abbrev pub insert_queue : List ℕ
+insert_queue = INSERT_QUEUE.now
+
+abbrev pub insert_pool : List ℕ
+insert_pool = INSERT_POOL.now
+
+abbrev pub insert_blocks : List ℕ
+insert_blocks = INSERT_BLOCKS.now
+
+abbrev pub put_advice : List ℕ
+put_advice = PUT_ADVICE.now
+
+abbrev pub put_entry : List ℕ
+put_entry = PUT_ENTRY.now
+
+abbrev pub delete_cap : List ℕ
+delete_cap = DELETE_CAP.now
+
+abbrev pub change_request : List ℕ
+change_request = CHANGE_REQUEST.now
+
+abbrev pub change_block : List ℕ
+change_block = CHANGE_BLOCK.now

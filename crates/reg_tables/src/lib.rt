@@ -4,4 +4,6 @@
 pub mod make;
 mod same;
 pub mod schema;
+pub mod texts;
+pub mod version;
 pub mod write;

@@ -3,11 +3,11 @@
 ghost use Rattle.std.specs.Prelude.{◌≡◌, IsTrue, []};
 ghost use Rattle.std.specs.List.{AllByRecursion};
 ghost use Rattle.reg_tables.specs.Bare.{IsBareColumn, IsBareTable, no_stamps};
-ghost use Rattle.reg_tables.specs.Making.{unplaced};
+ghost use Rattle.reg_tables.specs.Having.{unplaced};
 
 use sqlite_items::Items;
 use sqlite_schema::code::Terms;
-use sqlite_schema::schema::{Column, Index, Reference, Stamps, Table};
+use sqlite_schema::schema::{Column, Reference, Stamps, Table};
 use sqlite_value::keys::Order;
 use sqlite_value::value::{Bytes, Value};
 
@@ -90,19 +90,6 @@ impl Same for Reference {
             && self.on_delete == other.on_delete
             && self.on_update == other.on_update
             && self.is_deferred == other.is_deferred
-    }
-}
-
-impl Same for Index {
-    ghost IsBare = { λ _. Unit {0} };
-
-    fn same(&self, other: &Index) -> bool {
-        self.name.same(&other.name)
-            && self.tree == other.tree
-            && self.table == other.table
-            && self.columns.same(&other.columns)
-            && self.order.same(&other.order)
-            && self.is_unique == other.is_unique
     }
 }
 

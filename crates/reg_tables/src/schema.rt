@@ -1,31 +1,20 @@
 //! Whether a store has the tables of an office.
 
-ghost use Rattle.std.specs.Prelude.{◌≡◌, ◌==◌, false, not, IsTrue, IfOk, [], filter, length};
+ghost use Rattle.std.specs.Prelude.{◌≡◌, ◌==◌, ◌≤◌, false, not, IsTrue, IfOk, [], drop, filter, length, take};
 ghost use Rattle.std.specs.List.{AllByRecursion};
 ghost use Rattle.sqlite_catalog.specs.Change.{is_used};
 ghost use Rattle.reg_tables.specs.Schema.{office_schema};
 ghost use Rattle.reg_tables.specs.Bare.{IsBareTable};
 ghost use Rattle.reg_tables.specs.Connection.{Tells};
-ghost use Rattle.reg_tables.specs.Having.{AreFree, FindsTable, FindsTables};
+ghost use Rattle.reg_tables.specs.Having.{AreFree, AreFreeLater, FindsTable, FindsTablesOf};
+ghost use Rattle.reg_tables.specs.Selecting.{BeginsWith};
 
 use crate::make::make_tables;
 use crate::same::{Same, same_definition};
+use crate::version::Version;
 use sqlite::{Connection, Error};
 use sqlite_schema::schema::{Schema, Table};
 use std::alloc::Global;
-
-/// Whether two schemas are the same, and have no view. Of a table that computes something it may
-/// say that it is another.
-pub fn same_schema(a: &Schema, b: &Schema) -> bool
-    ensures is { IsTrue result → a.now ≡ b.now }
-    ensures all { b.now.views ≡ [] → AllByRecursion IsBareTable b.now.tables
-        → a.now ≡ b.now → IsTrue result }
-{
-    a.views.is_empty()
-        && b.views.is_empty()
-        && a.tables.same(&b.tables)
-        && a.indexes.same(&b.indexes)
-}
 
 /// How many indexes a schema has for the table in a tree.
 fn count_indexes(schema: &Schema, tree: u32) -> usize
@@ -40,9 +29,10 @@ fn count_indexes(schema: &Schema, tree: u32) -> usize
 }
 
 /// Whether the table of this name in a schema is this one, wherever its tree is, with as many
-/// indexes as keys.
+/// indexes as keys. Of a table that computes something it may say that it is another.
 fn finds_table(schema: &Schema, table: &Table) -> bool
-    ensures { IsTrue result → FindsTable schema.now table.now }
+    ensures is { IsTrue result → FindsTable schema.now table.now }
+    ensures all { IsBareTable table.now → FindsTable schema.now table.now → IsTrue result }
 {
     let Some(at) = schema.table_named(table.name.as_slice()) else {
         return false;
@@ -55,7 +45,9 @@ fn finds_table(schema: &Schema, table: &Table) -> bool
 
 /// Whether all these tables are found so.
 fn finds_tables(schema: &Schema, mut tables: &[Table]) -> bool
-    ensures { IsTrue result → AllByRecursion (FindsTable schema.now) tables.entry.now }
+    ensures is { IsTrue result → AllByRecursion (FindsTable schema.now) tables.entry.now }
+    ensures all { AllByRecursion IsBareTable tables.entry.now
+        → AllByRecursion (FindsTable schema.now) tables.entry.now → IsTrue result }
 {
     'tables: while let [table, more @ ..] = tables {
         if !finds_table(schema, table) {
@@ -64,25 +56,6 @@ fn finds_tables(schema: &Schema, mut tables: &[Table]) -> bool
         tables = more;
     }
     true
-}
-
-/// Whether the tables of one schema are found in another.
-fn are_there(schema: &Schema, made: &Schema) -> bool
-    ensures sure { made.now ≡ office_schema → IsTrue result → FindsTables schema.now }
-    ensures exact { made.now ≡ office_schema → schema.now ≡ office_schema → IsTrue result }
-{
-    same_schema(schema, made) || finds_tables(schema, made.tables.as_slice())
-}
-
-/// Whether a schema has the tables that `make_tables` makes, wherever they stand in it. Other
-/// tables may stand beside them.
-pub fn has_tables(alloc: Global, schema: &Schema) -> Result<bool, Error>
-    ensures sure { IfOk result (λ has. IsTrue has → FindsTables schema.now) }
-    ensures exact { IfOk result (λ has. schema.now ≡ office_schema → IsTrue has) }
-{
-    let mut conn = Connection::open_in_memory(alloc)?;
-    make_tables(&mut conn)?;
-    Ok(are_there(schema, conn.schema()))
 }
 
 /// Whether nothing in a schema has a name.
@@ -115,4 +88,51 @@ pub fn has_room(alloc: Global, schema: &Schema) -> Result<bool, Error>
     let mut conn = Connection::open_in_memory(alloc)?;
     make_tables(&mut conn)?;
     Ok(are_free(schema, conn.schema().tables.as_slice()))
+}
+
+/// Whether the first so many of these tables are found in a schema, and nothing in it has the name
+/// of one of the others.
+fn has_part(schema: &Schema, tables: &[Table], count: usize) -> bool
+    requires { count ≤ length tables.now }
+    ensures { AllByRecursion IsBareTable tables.now → Tells result
+        (AllByRecursion (FindsTable schema.now) (take count tables.now)
+        × AllByRecursion (λ table. is_used schema.now table.name ≡ false)
+        (drop count tables.now)) }
+{
+    finds_tables(schema, &tables[..count]) && are_free(schema, &tables[count..])
+}
+
+/// Whether a schema has the tables of a version, wherever they stand in it, and nothing has the
+/// name of a table that the version lacks.
+pub fn has_version(alloc: Global, schema: &Schema, version: Version) -> Result<bool, Error>
+    ensures { IfOk result (λ has. Tells has
+        (FindsTablesOf version schema.now × AreFreeLater version schema.now)) }
+{
+    let mut conn = Connection::open_in_memory(alloc)?;
+    make_tables(&mut conn)?;
+    Ok(has_part(schema, conn.schema().tables.as_slice(), version.tables()))
+}
+
+/// Whether the first table of a schema is the first of an office that was made, in the same tree,
+/// and the schema has no view.
+fn begins_as(schema: &Schema, made: &Schema) -> bool
+    ensures { made.now ≡ office_schema → Tells result (BeginsWith 1 schema.now) }
+{
+    let Some(office) = made.tables.get(0) else {
+        return false;
+    };
+    let Some(first) = schema.tables.get(0) else {
+        return false;
+    };
+    first.same(office) && schema.views.is_empty()
+}
+
+/// Whether the table `office`, which says the version, is the first of a schema without views,
+/// whatever other tables follow: then its row can be read.
+pub fn begins_with_office(alloc: Global, schema: &Schema) -> Result<bool, Error>
+    ensures { IfOk result (λ begins. Tells begins (BeginsWith 1 schema.now)) }
+{
+    let mut conn = Connection::open_in_memory(alloc)?;
+    make_tables(&mut conn)?;
+    Ok(begins_as(schema, conn.schema()))
 }

@@ -27,11 +27,11 @@ use Rattle.sqlite_rules.proofs.RuleLemmas.{keeps_at}
 use Rattle.reg_tables.specs.Schema.{office_schema}
 use Rattle.reg_tables.specs.Selecting.{passes, shows}
 use Rattle.reg_tables.specs.Editing.{AreKeyed, ChangedRows, altered}
-use Rattle.reg_tables.proofs.EditLemmas.Casts.{AreGiven, is_simple, cast_shown}
-use Rattle.reg_tables.proofs.EditLemmas.KeyedRows.{keyed_permuted, keyed-map, left_is}
-use Rattle.reg_tables.proofs.EditLemmas.KeyedRows.{put_moves, put_is}
+use Rattle.reg_tables.proofs.Library.Casts.{AreGiven, is_simple, cast_shown}
+use Rattle.reg_tables.proofs.Library.KeyedRows.{keyed_permuted, keyed-map, left_is}
+use Rattle.reg_tables.proofs.Library.KeyedRows.{put_moves, put_is}
 use Rattle.reg_tables.proofs.EditLemmas.Steps.{finding, enforcing, wrote, EditsFound, edits_found}
-use Rattle.reg_tables.proofs.EditLemmas.Steps.{trees_after}
+use Rattle.reg_tables.proofs.EditLemmas.Steps.{trees_after, office_at}
 
 -- The text changes the rows of a table that pass the tests, and each column is given its own
 -- value or one of its type. The terms are those of the columns.
@@ -46,17 +46,16 @@ pub record Changes (sql : List ℕ) (at : ℕ) (table : Table) (tests project : 
   pub given : AreGiven 1 table.columns params project
 
 -- a row, changed so, is stored as it is shown
-stored_as_shown : (sql : List ℕ) (at : ℕ) (table : Table) (tests project : List Term)
-    (params : Row) (db : Database) → Changes sql at table tests project params
-    → db.schema ≡ office_schema → IsDatabase db → AreKeyed (db.trees table.tree) → (row : Row)
-    → Has (db.trees table.tree) row
+stored_as_shown : (table : Table) (project : List Term) (params : Row) (db : Database)
+    → Has office_schema.tables table → table.key ≡ None → list_all is_simple table.columns ≡ true
+    → AreGiven 1 table.columns params project → db.schema ≡ office_schema → IsDatabase db
+    → AreKeyed (db.trees table.tree) → (row : Row) → Has (db.trees table.tree) row
     → cast_row table (shows (col 1 0 ∷ project) params row) ≡ shows (col 1 0 ∷ project) params row
-stored_as_shown sql at table tests project params db a has sound keyed row there =
-    let listed = has_got office_schema.tables at table a.slot in
+stored_as_shown table project params db listed keyless simple given has sound keyed row there =
     let kept = keeps_at Datatype db.schema db.trees table row (sound.obeys.rules Datatype)
     (rw has listed) there in
-    cast_shown params row table project a.keyless a.simple a.given
-    (keyed.whole row there) (and_parts _ _ kept).0
+    cast_shown params row table project keyless simple given (keyed.whole row there)
+    (and_parts _ _ kept).0
 
 -- the rows that were found are replaced
 module _ (table : Table) (tests project : List Term) (params : Row) (db next : Trees)
@@ -96,6 +95,38 @@ module _ (table : Table) (tests project : List Term) (params : Row) (db next : T
       ∙ put_is rows keyed goes shown (λ r. refl) e.found e.are edit.news cast by (λ r. refl)
       (λ r there passed. stored r there) (given _ (map cast e.found)) fresh up
 
+-- what was found and edited is changed, and each other table is as it was
+pub changed_found : (table : Table) (tests project : List Term) (params : Row) (old new : Database)
+    (next : Trees) → Has office_schema.tables table → table.key ≡ None
+    → list_all is_simple table.columns ≡ true → AreGiven 1 table.columns params project
+    → old.schema ≡ office_schema → IsDatabase old → AreKeyed (old.trees table.tree)
+    → IsDatabase new → new ≡ office_at next
+    → EditsFound table tests (col 1 0 ∷ col 1 0 ∷ project) params 1 (λ rows. rows) old.trees next
+    → ChangedRows table.tree tests (col 1 0 ∷ project) params old new
+changed_found table tests project params old new next listed keyless simple given has sound keyed
+    after is edits =
+    let db = old.trees in
+    let stored = stored_as_shown table project params old listed keyless simple given has sound
+    keyed in
+    let goes = passes tests params in
+    let by = shows (col 1 0 ∷ project) params in
+    let trees = trees_after new next is in
+    let wanted = map (altered goes by) (db table.tree) in
+    let moved = subst (IsPermutation wanted) (sym (trees table.tree))
+    (rows_changed table tests project params db next keyed stored edits) in
+    let keeps = λ (r : Row). cond_both (goes r) (by r) r (λ x. rowid x ≡ rowid r) (λ e. refl)
+    (λ e. refl) in
+    record {
+      schema = ap (λ (d : Database). d.schema) is ∙ sym has;
+      sound = after;
+      rows = moved;
+      in_place = λ up. trees table.tree
+          ∙ changed_in_place table tests project params db next keyed stored edits up;
+      keyed = keyed_permuted wanted (new.trees table.tree) moved
+          (keyed-map (altered goes by) keeps (db table.tree) keyed);
+      others = λ t other unindexed. trees t ∙ edits.applies.others t other unindexed;
+    }
+
 pub changes : (sql : List ℕ) (at : ℕ) (table : Table) (tests project : List Term) (params : Row)
     (old new : State) (count : ℕ) → Changes sql at table tests project params
     → old.now.schema ≡ office_schema → IsDatabase old.now → AreKeyed (old.now.trees table.tree)
@@ -113,22 +144,6 @@ changes sql at table tests project params old new count a has sound keyed h =
     let edit = λ (rows : List Row). edit_of db table (ids_of rows) Given 1 rows in
     let edits = edits_found old.step_limit table tests terms params 1 (λ rows. rows)
     (λ rows. (edit rows).news) db done.0 done.1 in
-    let stored = stored_as_shown sql at table tests project params old.now a has sound keyed in
-    let goes = passes tests params in
-    let by = shows (col 1 0 ∷ project) params in
-    let trees = trees_after new.now done.0.trees done.2 in
-    let wanted = map (altered goes by) (db table.tree) in
-    let moved = subst (IsPermutation wanted) (sym (trees table.tree))
-    (rows_changed table tests project params db done.0.trees keyed stored edits) in
-    let keeps = λ (r : Row). cond_both (goes r) (by r) r (λ x. rowid x ≡ rowid r) (λ e. refl)
-    (λ e. refl) in
-    record {
-      schema = ap (λ (d : Database). d.schema) done.2 ∙ sym has;
-      sound = w.sound;
-      rows = moved;
-      in_place = λ up. trees table.tree
-          ∙ changed_in_place table tests project params db done.0.trees keyed stored edits up;
-      keyed = keyed_permuted wanted (new.now.trees table.tree) moved
-          (keyed-map (altered goes by) keeps (db table.tree) keyed);
-      others = λ t other unindexed. trees t ∙ edits.applies.others t other unindexed;
-    }
+    changed_found table tests project params old.now new.now done.0.trees
+    (has_got office_schema.tables at table a.slot) a.keyless a.simple a.given has sound keyed w.sound
+    done.2 edits

@@ -16,7 +16,7 @@ use Rattle.sqlite_rules.specs.Edit.{edit_of, taken_by}
 use Rattle.reg_tables.specs.Schema.{office_schema}
 use Rattle.reg_tables.specs.Selecting.{passes, shows}
 use Rattle.reg_tables.specs.Editing.{AreKeyed, DeletedRows}
-use Rattle.reg_tables.proofs.EditLemmas.KeyedRows.{keyed-filter, left_is}
+use Rattle.reg_tables.proofs.Library.KeyedRows.{keyed-filter, left_is}
 use Rattle.reg_tables.proofs.EditLemmas.Steps.{finding, enforcing, wrote, edits_found, trees_after}
 
 -- the text deletes the rows of a table that pass the tests

@@ -17,16 +17,18 @@ use Rattle.sqlite_schema.specs.declared.schema.Keys.TheVariants.{Enforced}
 use Rattle.sqlite_rules.specs.Edit.{edit_of, taken_by}
 use Rattle.reg_tables.specs.Schema.{office_schema}
 use Rattle.reg_tables.specs.Editing.{AreTables}
-use Rattle.reg_tables.proofs.InsertLemmas.{quiet_works, quiet_office, went, same_value}
+use Rattle.reg_tables.proofs.Library.QuietReferences.{quiet_works}
+use Rattle.reg_tables.proofs.InsertLemmas.{quiet_office}
+use Rattle.reg_tables.proofs.Library.Parts.{went, same_ok}
 use Rattle.reg_tables.proofs.EditLemmas.Steps.{enforcing, task_on, wrote}
 use Rattle.reg_tables.proofs.EditLemmas.Tables.{tables_after}
 
 -- a table with no AUTOINCREMENT has no count
-uncounts : (task : Task) (db : Trees) (counter : Option Row) (top : ℤ) (next : Trees)
+pub uncounts : (task : Task) (db : Trees) (counter : Option Row) (top : ℤ) (next : Trees)
     → task.table.is_counted ≡ false → Counts task db counter top (Ok next) → next ≡ db
 uncounts task db counter top next e h =
     let plain : ◌≡◌ {A = Result Trees (Option Error)} (Ok next) (Ok db) = rw e at h in
-    same_value plain
+    same_ok plain
 
 kept_by_insert : (limit : Option ℕ) (params : Row) (table : Table) (from : Source) (db : Trees)
     (w : Written) → table.is_counted ≡ false → Inserts (task_on limit params table) from db (Ok w)
@@ -40,7 +42,7 @@ kept_by_insert limit params table from db w uncounted h tables =
     let still = uncounts (task_on limit params table) written.0 counter.0
     (fold higher (count_of counter.0) edit.news) counted.0 uncounted counted.1 in
     let trees : w.trees ≡ written.0 =
-    ap (λ (it : Written). it.trees) (same_value counted.2) ∙ still in
+    ap (λ (it : Written). it.trees) (same_ok counted.2) ∙ still in
     let quiet = quiet_works office_schema Enforced table.tree (taken_by db edit) edit.news
     quiet_office in
     let applies = one_step office_schema Enforced db written.0 edit quiet written.1 in

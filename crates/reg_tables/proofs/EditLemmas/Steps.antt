@@ -22,8 +22,10 @@ use Rattle.sqlite_rules.specs.Edit.{Edit, Applies, edit_of, taken_by}
 use Rattle.reg_tables.specs.Schema.{office_schema}
 use Rattle.reg_tables.specs.Selecting.{select_from, passes, shows}
 use Rattle.reg_tables.proofs.SelectLemmas.{answer_rows, as_kept}
-use Rattle.reg_tables.proofs.InsertLemmas.{quiet_works, quiet_office, went}
-use Rattle.reg_tables.proofs.InsertLemmas.{same_value}
+use Rattle.reg_tables.proofs.Library.QuietReferences.{quiet_works}
+use Rattle.reg_tables.proofs.InsertLemmas.{quiet_office}
+use Rattle.reg_tables.proofs.Library.Parts.{went}
+use Rattle.reg_tables.proofs.Library.Parts.{same_ok}
 
 -- the query by which a statement finds the rows that it edits
 abbrev pub finding : ℕ → List Term → List Term → Program
@@ -56,7 +58,7 @@ wrote limit params db at table command tally after slot does =
     let done = went (subst (λ o. AtPlace (λ (t : Table).
     OnRows (task_on limit params t) enforcing None command db) o (Ok (tally, after)))
     slot does) in
-    (done.0, done.1, ap (λ (p : Tally × Database). p.1) (same_value (went (went done.2).2).2))
+    (done.0, done.1, ap (λ (p : Tally × Database). p.1) (same_ok (went (went done.2).2).2))
 
 -- the rows that were found, and the edit that they led to
 pub record EditsFound (table : Table) (tests project : List Term) (params : Row) (from : ℕ)
@@ -89,7 +91,7 @@ edits_found limit table tests project params from sources told db w h =
     let edit = edit_of db table (ids_of given.0) Given from (sources given.0) in
     let quiet = quiet_works office_schema Enforced table.tree (taken_by db edit) edit.news
     quiet_office in
-    let trees : w.trees ≡ written.0 = ap (λ (it : Written). it.trees) (same_value written.2) in
+    let trees : w.trees ≡ written.0 = ap (λ (it : Written). it.trees) (same_ok written.2) in
     let answer = answer_rows table.tree tests project [] params (overlay db []) given.0
     (given.1.answer Null) in
     record {

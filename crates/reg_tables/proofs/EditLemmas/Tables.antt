@@ -5,15 +5,13 @@ use Rattle.std.specs.Ordering.{is_eq}
 use Rattle.std.specs.List.{AllByRecursion, list_all}
 use Rattle.std.proofs.lemmas.Bool.{and_parts, both_ways, cases_eq, eqb-false, not-true}
 use Rattle.std.proofs.lemmas.Cmp.{tied_back}
-use Rattle.sqlite.specs.Effect.{Database, IsDatabase}
+use Rattle.sqlite.specs.Effect.{Database}
 use Rattle.sqlite.specs.Order.{Row, value_cmp}
 use Rattle.sqlite.specs.Schema.{Schema}
 use Rattle.sqlite.specs.Table.{Table}
 use Rattle.sqlite.specs.Tree.{Trees, rowid, put_row}
 use Rattle.sqlite_value.proofs.OrderLemmas.{value_cmp_total}
-use Rattle.sqlite_trees.specs.Objects.{catalog_tree, IsListed}
-use Rattle.sqlite_trees.specs.declared.store.Shape.{Shape}
-use Rattle.sqlite_trees.specs.View.{IsOrdered, IsShaped, is_int}
+use Rattle.sqlite_trees.specs.View.{is_int}
 use Rattle.sqlite_schema.specs.declared.schema.Index.{Index}
 use Rattle.sqlite_schema.specs.declared.schema.Keys.{Keys}
 use Rattle.sqlite_rules.specs.Edit.{Edit, Applies, IsNoIndex, put_all, is_taken, are_fresh}
@@ -21,10 +19,8 @@ use Rattle.sqlite_rules.specs.Edit.{have_rowids, without_all}
 use Rattle.sqlite_rules.specs.Lists.{Has}
 use Rattle.sqlite_rules.proofs.ListLemmas.{all_has, all_from, some_from, test_has}
 use Rattle.sqlite_rules.proofs.TableLemmas.{put_has, without_all_has}
-use Rattle.sqlite_catalog.proofs.LayoutLemmas.{table_shape}
 use Rattle.reg_tables.specs.Schema.{office_schema}
 use Rattle.reg_tables.specs.Editing.{AreKeyed, AreTables, IsOffice, LosesRows, AltersRows}
-use Rattle.reg_tables.proofs.EditLemmas.KeyedRows.{keyed_from_table}
 
 pub keyed-nil : AreKeyed []
 keyed-nil = record { whole = λ r none. absurd none; one = λ r q none k tie. absurd none }
@@ -137,16 +133,3 @@ office_after_change t alters by old new office altered = record {
   sound = altered.sound;
   tables = tables_with t old.trees new.trees altered.keyed altered.others office.tables;
 }
-
--- a store has the rows of each table in the order of their rowids
-pub tables_of_store : (shape : ℕ → Shape) (reals : ℕ → ℕ) (db : Database)
-    → db.schema ≡ office_schema → IsDatabase db → IsListed (db.trees catalog_tree) shape reals
-    → IsOrdered shape db.trees → AreTables db.trees
-tables_of_store shape reals db has sound listed ordered =
-    let rising = subst (λ s. IsShaped s (db.trees catalog_tree)) listed.itself.0
-    (ordered catalog_tree) in
-    all_from _ office_schema.tables (λ t there.
-    let known = subst (λ (s : Schema). Has s.tables t) (sym has) there in
-    let shaped = table_shape listed rising.0 sound.lists.listed t known in
-    keyed_from_table (db.trees t.tree)
-    (subst (λ s. IsShaped s (db.trees t.tree)) shaped.0 (ordered t.tree)))

@@ -10,17 +10,32 @@ names =
     codes "first" ∷ codes "size" ∷ codes "holder" ∷ codes "organization" ∷ codes "address" ∷
     codes "private" ∷ []
 
-pub block_by_key : Selects select_block 18 (equals ((1, 0) ∷ [])) (columns_of 6)
+pub block_by_key : Selects 10 select_block 18 (equals ((1, 0) ∷ [])) (columns_of 6)
     []
 unfolding understood everything
-block_by_key = record { names = names; is = refl; plain = (refl, refl); unlisted = refl }
+block_by_key = record {
+  names = names;
+  is = λ more indexes. refl;
+  plain = (refl, refl);
+  unlisted = λ more indexes. refl;
+}
 
-pub blocks_of_holder : Selects select_blocks_of 18 (equals ((3, 0) ∷ [])) (columns_of 6)
+pub blocks_of_holder : Selects 10 select_blocks_of 18 (equals ((3, 0) ∷ [])) (columns_of 6)
     (ordered_by (1 ∷ []))
 unfolding understood everything
-blocks_of_holder = record { names = names; is = refl; plain = (refl, refl); unlisted = refl }
+blocks_of_holder = record {
+  names = names;
+  is = λ more indexes. refl;
+  plain = (refl, refl);
+  unlisted = λ more indexes. refl;
+}
 
-pub all_blocks : Selects select_blocks 18 [] (columns_of 6)
+pub all_blocks : Selects 10 select_blocks 18 [] (columns_of 6)
     (ordered_by (1 ∷ []))
 unfolding understood everything
-all_blocks = record { names = names; is = refl; plain = (refl, refl); unlisted = refl }
+all_blocks = record {
+  names = names;
+  is = λ more indexes. refl;
+  plain = (refl, refl);
+  unlisted = λ more indexes. refl;
+}

@@ -2,19 +2,19 @@
 use Rattle.std.proofs.Common.{ℕ, List, [], ◌∷◌, codes, refl}
 use Rattle.sqlite.specs.Listing.{understood}
 use Rattle.sqlite_tied.specs.Compute.{everything}
-use Rattle.reg_tables.specs.Selecting.{Selects, equals, columns_of, ordered_by}
-use Rattle.reg_tables.specs.Texts.{select_cap, select_caps}
+use Rattle.reg_tables.specs.Selecting.{Selects, equals, columns_of}
+use Rattle.reg_tables.specs.Texts.{select_cap}
 
 abbrev names : List (List ℕ)
 names =
     codes "digest" ∷ codes "account" ∷ codes "kind" ∷ codes "until" ∷ []
 
-pub cap_by_key : Selects select_cap 1 (equals ((1, 0) ∷ [])) (columns_of 4)
+pub cap_by_key : Selects 2 select_cap 1 (equals ((1, 0) ∷ [])) (columns_of 4)
     []
 unfolding understood everything
-cap_by_key = record { names = names; is = refl; plain = (refl, refl); unlisted = refl }
-
-pub all_caps : Selects select_caps 1 [] (columns_of 4)
-    (ordered_by (1 ∷ []))
-unfolding understood everything
-all_caps = record { names = names; is = refl; plain = (refl, refl); unlisted = refl }
+cap_by_key = record {
+  names = names;
+  is = λ more indexes. refl;
+  plain = (refl, refl);
+  unlisted = λ more indexes. refl;
+}

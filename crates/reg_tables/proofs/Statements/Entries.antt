@@ -10,17 +10,32 @@ names =
     codes "registry" ∷ codes "value" ∷ codes "label" ∷ codes "assignee" ∷ codes "first" ∷
     codes "expires" ∷ codes "renewed" ∷ []
 
-pub entry_by_key : Selects select_entry 7 (equals ((1, 0) ∷ (2, 1) ∷ [])) (columns_of 7)
+pub entry_by_key : Selects 5 select_entry 7 (equals ((1, 0) ∷ (2, 1) ∷ [])) (columns_of 7)
     []
 unfolding understood everything
-entry_by_key = record { names = names; is = refl; plain = (refl, refl); unlisted = refl }
+entry_by_key = record {
+  names = names;
+  is = λ more indexes. refl;
+  plain = (refl, refl);
+  unlisted = λ more indexes. refl;
+}
 
-pub entries_of_registry : Selects select_entries_of 7 (equals ((1, 0) ∷ [])) (columns_of 7)
+pub entries_of_registry : Selects 5 select_entries_of 7 (equals ((1, 0) ∷ [])) (columns_of 7)
     (ordered_by (2 ∷ []))
 unfolding understood everything
-entries_of_registry = record { names = names; is = refl; plain = (refl, refl); unlisted = refl }
+entries_of_registry = record {
+  names = names;
+  is = λ more indexes. refl;
+  plain = (refl, refl);
+  unlisted = λ more indexes. refl;
+}
 
-pub all_entries : Selects select_entries 7 [] (columns_of 7)
+pub all_entries : Selects 5 select_entries 7 [] (columns_of 7)
     (ordered_by (1 ∷ 2 ∷ []))
 unfolding understood everything
-all_entries = record { names = names; is = refl; plain = (refl, refl); unlisted = refl }
+all_entries = record {
+  names = names;
+  is = λ more indexes. refl;
+  plain = (refl, refl);
+  unlisted = λ more indexes. refl;
+}

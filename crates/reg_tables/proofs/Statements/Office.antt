@@ -9,7 +9,12 @@ abbrev names : List (List ℕ)
 names =
     codes "version" ∷ []
 
-pub office_version : Selects select_version 0 [] (columns_of 1)
+pub office_version : Selects 1 select_version 0 [] (columns_of 1)
     []
 unfolding understood everything
-office_version = record { names = names; is = refl; plain = (refl, refl); unlisted = refl }
+office_version = record {
+  names = names;
+  is = λ more indexes. refl;
+  plain = (refl, refl);
+  unlisted = λ more indexes. refl;
+}

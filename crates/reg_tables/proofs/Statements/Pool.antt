@@ -9,12 +9,22 @@ abbrev names : List (List ℕ)
 names =
     codes "prefix" ∷ []
 
-pub prefix_by_key : Selects select_prefix 16 (equals ((1, 0) ∷ [])) (columns_of 1)
+pub prefix_by_key : Selects 9 select_prefix 16 (equals ((1, 0) ∷ [])) (columns_of 1)
     []
 unfolding understood everything
-prefix_by_key = record { names = names; is = refl; plain = (refl, refl); unlisted = refl }
+prefix_by_key = record {
+  names = names;
+  is = λ more indexes. refl;
+  plain = (refl, refl);
+  unlisted = λ more indexes. refl;
+}
 
-pub all_pool : Selects select_pool 16 [] (columns_of 1)
+pub all_pool : Selects 9 select_pool 16 [] (columns_of 1)
     (ordered_by (1 ∷ []))
 unfolding understood everything
-all_pool = record { names = names; is = refl; plain = (refl, refl); unlisted = refl }
+all_pool = record {
+  names = names;
+  is = λ more indexes. refl;
+  plain = (refl, refl);
+  unlisted = λ more indexes. refl;
+}

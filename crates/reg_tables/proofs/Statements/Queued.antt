@@ -15,6 +15,11 @@ names =
     codes "will_be_rfc" ∷ codes "size" ∷ codes "organization" ∷ codes "address" ∷
     codes "state" ∷ codes "given" ∷ codes "reason" ∷ codes "verdict" ∷ codes "text" ∷ []
 
-pub queued_of_expert : IsTextOf select_queued queued_query
+pub queued_of_expert : IsTextOf 8 select_queued queued_query
 unfolding understood everything
-queued_of_expert = record { names = names; is = refl; plain = (refl, refl); unlisted = refl }
+queued_of_expert = record {
+  names = names;
+  is = λ more indexes. refl;
+  plain = (refl, refl);
+  unlisted = λ more indexes. refl;
+}

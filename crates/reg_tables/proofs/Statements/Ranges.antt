@@ -9,12 +9,22 @@ abbrev names : List (List ℕ)
 names =
     codes "registry" ∷ codes "lo" ∷ codes "hi" ∷ codes "treatment" ∷ codes "note" ∷ []
 
-pub ranges_of_registry : Selects select_ranges_of 5 (equals ((1, 0) ∷ [])) (columns_of 5)
+pub ranges_of_registry : Selects 4 select_ranges_of 5 (equals ((1, 0) ∷ [])) (columns_of 5)
     (ordered_by (2 ∷ []))
 unfolding understood everything
-ranges_of_registry = record { names = names; is = refl; plain = (refl, refl); unlisted = refl }
+ranges_of_registry = record {
+  names = names;
+  is = λ more indexes. refl;
+  plain = (refl, refl);
+  unlisted = λ more indexes. refl;
+}
 
-pub all_ranges : Selects select_ranges 5 [] (columns_of 5)
+pub all_ranges : Selects 4 select_ranges 5 [] (columns_of 5)
     (ordered_by (1 ∷ 2 ∷ []))
 unfolding understood everything
-all_ranges = record { names = names; is = refl; plain = (refl, refl); unlisted = refl }
+all_ranges = record {
+  names = names;
+  is = λ more indexes. refl;
+  plain = (refl, refl);
+  unlisted = λ more indexes. refl;
+}

@@ -9,12 +9,22 @@ abbrev names : List (List ℕ)
 names =
     codes "name" ∷ codes "max" ∷ []
 
-pub registry_by_key : Selects select_registry 3 (equals ((1, 0) ∷ [])) (columns_of 2)
+pub registry_by_key : Selects 3 select_registry 3 (equals ((1, 0) ∷ [])) (columns_of 2)
     []
 unfolding understood everything
-registry_by_key = record { names = names; is = refl; plain = (refl, refl); unlisted = refl }
+registry_by_key = record {
+  names = names;
+  is = λ more indexes. refl;
+  plain = (refl, refl);
+  unlisted = λ more indexes. refl;
+}
 
-pub all_registries : Selects select_registries 3 [] (columns_of 2)
+pub all_registries : Selects 3 select_registries 3 [] (columns_of 2)
     (ordered_by (1 ∷ []))
 unfolding understood everything
-all_registries = record { names = names; is = refl; plain = (refl, refl); unlisted = refl }
+all_registries = record {
+  names = names;
+  is = λ more indexes. refl;
+  plain = (refl, refl);
+  unlisted = λ more indexes. refl;
+}

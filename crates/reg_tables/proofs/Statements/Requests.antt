@@ -14,17 +14,32 @@ names =
     codes "will_be_rfc" ∷ codes "size" ∷ codes "organization" ∷ codes "address" ∷
     codes "state" ∷ codes "given" ∷ codes "reason" ∷ []
 
-pub request_by_key : Selects select_request 9 (equals ((1, 0) ∷ (2, 1) ∷ [])) (columns_of 25)
+pub request_by_key : Selects 6 select_request 9 (equals ((1, 0) ∷ (2, 1) ∷ [])) (columns_of 25)
     []
 unfolding understood everything
-request_by_key = record { names = names; is = refl; plain = (refl, refl); unlisted = refl }
+request_by_key = record {
+  names = names;
+  is = λ more indexes. refl;
+  plain = (refl, refl);
+  unlisted = λ more indexes. refl;
+}
 
-pub requests_of_account : Selects select_requests_of 9 (equals ((1, 0) ∷ [])) (columns_of 25)
+pub requests_of_account : Selects 6 select_requests_of 9 (equals ((1, 0) ∷ [])) (columns_of 25)
     (ordered_by (2 ∷ []))
 unfolding understood everything
-requests_of_account = record { names = names; is = refl; plain = (refl, refl); unlisted = refl }
+requests_of_account = record {
+  names = names;
+  is = λ more indexes. refl;
+  plain = (refl, refl);
+  unlisted = λ more indexes. refl;
+}
 
-pub all_requests : Selects select_requests 9 [] (columns_of 25)
+pub all_requests : Selects 6 select_requests 9 [] (columns_of 25)
     (ordered_by (1 ∷ 2 ∷ []))
 unfolding understood everything
-all_requests = record { names = names; is = refl; plain = (refl, refl); unlisted = refl }
+all_requests = record {
+  names = names;
+  is = λ more indexes. refl;
+  plain = (refl, refl);
+  unlisted = λ more indexes. refl;
+}

@@ -1,9 +1,15 @@
-use Rattle.std.proofs.Common.{pos, ◌∙◌}
+use Rattle.std.proofs.Common.{pos, refl, ◌∙◌}
 use Rattle.sqlite.specs.Held.{state}
 use Rattle.reg_tables.proofs.EditLemmas.Inserting.{tables_after_insert}
 use Rattle.reg_tables.proofs.EditLemmas.Tables.{tables_if_empty}
-use Rattle.reg_tables.proofs.InsertLemmas.{adds, version_adds}
-use Rattle.reg_tables.proofs.KindLemmas.{written_schema}
+use Rattle.reg_tables.proofs.GivenRows.{given_adds}
+use Rattle.reg_tables.proofs.InsertLemmas.{adds}
+use Rattle.reg_tables.proofs.InsertStatements.{adds_version}
+use Rattle.reg_tables.proofs.Library.Casts.{cast_int}
+use Rattle.reg_tables.specs.Making.{version_row}
+use Rattle.reg_tables.specs.Schema.{office_table}
+use Rattle.reg_tables.specs.Texts.{insert_version}
+use Rattle.reg_tables.proofs.Library.Writes.{written_schema}
 use Rattle.reg_tables.proofs.WriteTexts.{insert_version_writes}
 use Rattle.reg_tables.proofs.make.add_version.Goals as goal
 
@@ -11,8 +17,9 @@ pub returns-clause-added : goal.returns-clause-added
 returns-clause-added g c clean blank =
     let old = state g.S.Store c.args.tx.now.conn.now in
     let new = state g.S.Store c.run.new.tx.conn.now in
-    let ran = c.in_ok-run.ensures.ran clean in
-    let a = version_adds (pos 1) in
+    let ran = rw c.number.ensures at (c.in_ok-run.ensures.ran clean) in
+    let a = given_adds insert_version 0 office_table adds_version version_row refl
+    (rw (cast_int (pos 1)) refl) in
     let row = adds _ _ _ _ _ a old new _ blank.has ran in (
       row,
       record {

@@ -1,13 +1,13 @@
-use Rattle.std.proofs.Common.{arith}
-use Rattle.sqlite.specs.Held.{state}
-use Rattle.sqlite.specs.State.{HasCleanDisk}
-use Rattle.reg_tables.proofs.GrowLemmas.{gains_then}
-use Rattle.reg_tables.proofs.MakeLemmas.{on_ok}
+use Rattle.reg_tables.specs.Schema.{office_schema}
+use Rattle.reg_tables.proofs.DefineTexts.{all_defined, all_named}
+use Rattle.reg_tables.proofs.MakeLemmas.{blank_made, on_ok}
 use Rattle.reg_tables.proofs.make.make_all.Goals as goal
+
+pub returns-clause-made : goal.returns-clause-made
+returns-clause-made g c clean =
+    on_ok c.make_each.result (λ makes. blank_made _ _ makes) (c.make_each.ensures.made clean)
 
 pub returns-clause-gained : goal.returns-clause-gained
 returns-clause-gained g c clean =
-    let was : HasCleanDisk (state g.S.Store c.make_first.new.tx.conn.now) =
-    omega (arith, c.make_second.ensures.inside.clean) in
-    on_ok c.make_second.result (λ last. gains_then (c.in_ok-make_first.ensures.gained was) last)
-    (c.make_second.ensures.gained clean)
+    on_ok c.make_each.result (λ gains. gains office_schema.tables all_defined all_named)
+    (c.make_each.ensures.gained clean)

@@ -1,7 +1,7 @@
 use Rattle.std.proofs.Common.{arith}
 use Rattle.sqlite.specs.Held.{state}
 use Rattle.sqlite.specs.State.{HasCleanDisk}
-use Rattle.reg_tables.proofs.GrowLemmas.{gains_as}
+use Rattle.reg_tables.proofs.Library.GrowingSchemas.{gains_as}
 use Rattle.reg_tables.proofs.MakeLemmas.{founded, on_ok}
 use Rattle.reg_tables.proofs.make.make_and_mark.Goals as goal
 

@@ -1,5 +1,5 @@
 -- Rows that are taken out of a table by their rowids and put in again, as lists.
-use Rattle.std.proofs.Common.{◌≡◌, ℤ, List, [], ◌∷◌, ◌++◌, map, filter, inl, inr}
+use Rattle.std.proofs.Common.{length, ◌≡◌, ℤ, List, [], ◌∷◌, ◌++◌, map, filter, inl, inr}
 use Rattle.std.proofs.Common.{Bool, true, false, not, ◌&&◌, ◌||◌, Ordering, Less, Equal, Greater}
 use Rattle.std.proofs.Common.{refl, sym, ap, ap₂, ◌∙◌}
 use Rattle.std.specs.Ordering.{ordering_reverse, match_ordering}
@@ -11,7 +11,8 @@ use Rattle.std.proofs.lemmas.List.Sorted.{IsPermutation-refl, IsPermutation-sym}
 use Rattle.std.proofs.lemmas.List.Sorted.{IsPermutation-trans, IsPermutation-cons}
 use Rattle.std.proofs.lemmas.List.Sorted.{IsPermutation-middle}
 use Rattle.std.proofs.lemmas.List.Sorted.{IsPermutation-append_right, Contains-permutation}
-use Rattle.sqlite.specs.Order.{Row, value_cmp}
+use Rattle.sqlite.specs.declared.types.Value.{Value}
+use Rattle.sqlite.specs.Order.{Row, column, value_cmp}
 use Rattle.sqlite.specs.Tree.{rowid, put_row}
 use Rattle.sqlite_value.proofs.OrderLemmas.{value_cmp_total}
 use Rattle.sqlite_trees.specs.Tree.{IsTable, has_rowid, without_rowid}
@@ -141,3 +142,8 @@ pub map_same : (f g : Row → Row) (xs : List Row) → ((x : Row) → Has xs x �
     → map f xs ≡ map g xs
 map_same f g [] same = refl
 map_same f g (x ∷ xs) same = ap₂ ◌∷◌ (same x (inl refl)) (map_same f g xs (λ y h. same y (inr h)))
+
+-- the column after some
+pub column_after : (xs : Row) (v : Value) (ys : Row) → column (xs ++ v ∷ ys) (length xs) ≡ v
+column_after [] v ys = refl
+column_after (x ∷ xs) v ys = column_after xs v ys

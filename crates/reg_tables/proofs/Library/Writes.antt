@@ -1,8 +1,8 @@
--- What a statement of a kind is, whatever tables there are.
-use Rattle.std.proofs.Common.{◌≡◌, ℕ, Bool, true, false, if◌then◌else◌, List, [], length, ◌==◌, ◌+◌, ◌∙◌}
-use Rattle.std.proofs.Common.{Option, Some, None, Ok, Err, Result, refl, sym, ap, subst}
+-- A text that writes rows does so whatever tables there are, and leaves each table's definition.
+use Rattle.std.proofs.Common.{◌≡◌, ℕ, Bool, true, false, if◌then◌else◌, List, [], length, ◌==◌, ◌+◌}
+use Rattle.std.proofs.Common.{Option, Some, None, Ok, Err, refl, ap, subst}
 use Rattle.std.proofs.Common.{inl, inr, slice_get}
-use Rattle.std.proofs.lemmas.Bool.{cases_Bool, eqb-true}
+use Rattle.std.proofs.lemmas.Bool.{cases_Bool}
 use Rattle.sqlite.proofs.Callers.{through}
 use Rattle.sqlite.specs.Clock.{timed as timed_with}
 use Rattle.sqlite.specs.Does.{Tally, AtPlace, OnTable, OnRows, Concludes, Does}
@@ -12,9 +12,7 @@ use Rattle.sqlite.specs.Order.{Row}
 use Rattle.sqlite.specs.Rows.{Part, Task}
 use Rattle.sqlite.specs.State.{State, Executes, ExecutesIn, Runs, mode_of, shows_rows, text_of}
 use Rattle.sqlite.specs.declared.run.Mode.{Mode}
-use Rattle.reg_tables.proofs.InsertLemmas.{concluded}
 use Rattle.std.specs.Prelude.{IfOk}
-use Rattle.std.proofs.lemmas.List.{nil_from_length}
 use Rattle.sqlite_ast.specs.declared.Conflict.TheVariants as conflict
 use Rattle.sqlite_ast.specs.declared.Expr.{Expr}
 use Rattle.sqlite_ast.specs.declared.Rows.{Rows}
@@ -29,7 +27,7 @@ use Rattle.sqlite_schema.specs.declared.command.Conflict.{Conflict as Way}
 use Rattle.sqlite_schema.specs.declared.command.Conflict.TheVariants.{Abort, Ignore, Replace}
 use Rattle.sqlite_schema.specs.declared.command.Source.{Source}
 use Rattle.sqlite_schema.specs.declared.command.Returning.{Returning}
-use Rattle.sqlite_resolve.specs.Compile.{first, compiled, planned, meaning, command, returning}
+use Rattle.sqlite_resolve.specs.Compile.{first, planned, meaning, command, returning}
 use Rattle.sqlite_resolve.specs.Compile.{timed, shows, insert, insert_or, insert_or_abort, update}
 use Rattle.sqlite_resolve.specs.Compile.{delete, with_command, on_table, target, new_rows, small}
 use Rattle.sqlite_resolve.specs.Body.{table_at}
@@ -39,56 +37,14 @@ use Rattle.sqlite_resolve.specs.Write.{updated, deleted}
 use Rattle.sqlite_resolve.specs.Lowering.{Checked, and_then}
 use Rattle.sqlite_resolve.specs.Scope.{Name}
 use Rattle.sqlite_resolve.specs.declared.compiled.Compiled.{Compiled}
-use Rattle.sqlite_resolve.specs.declared.error.CompileError.{CompileError}
-use Rattle.sqlite_resolve.specs.declared.error.CompileError.TheVariants.{NoSuchTable}
-use Rattle.sqlite.specs.Listing.{understood, reads_listing, if_select, is_select}
-use Rattle.sqlite.specs.Listing.{listing_schema}
+use Rattle.sqlite.specs.Listing.{understood}
 use Rattle.sqlite.specs.Schema.{Schema}
 use Rattle.sqlite.specs.Table.{Table}
-use Rattle.reg_tables.specs.Kinds.{is_query, is_write, is_of_kind, is_timeless, IsQuery, WritesRows}
+use Rattle.reg_tables.specs.Kinds.{is_write, WritesRows}
+use Rattle.reg_tables.proofs.Library.Compiling.{compiled_if, if_then, of_kind, understood_if}
+use Rattle.reg_tables.proofs.Library.Parts.{concluded}
 
--- what follows of each value follows of what is made of it
-pub if_then : {A B : Type 0} (P : B → Type 0) (r : Checked A) (f : A → Checked B)
-    → ((a : A) → IfOk (f a) P) → IfOk (and_then r f) P
-if_then P (Ok a) f all = all a
-if_then P (Err e) f all = tt
-
-selected : (P : Compiled → Type 0) (c : Compiled) (e : CompileError) (b : Bool) → P c
-    → IfOk (if b then Ok c else Err e) P
-selected P c e true p = p
-selected P c e false p = tt
-
-listed : (P : Compiled → Type 0) (r : Result Compiled CompileError) → IfOk r P
-    → IfOk (if_select r) P
-listed P (Ok c) p = selected P c NoSuchTable (is_select c.command) p
-listed P (Err e) p = tt
-
--- what follows under each schema follows of what is understood
-pub understood_if : (P : Compiled → Type 0) (text : List ℕ)
-    → ((schema : Schema) → IfOk (compiled schema text) P) → (schema : Schema)
-    → IfOk (understood schema text) P
-unfolding understood
-understood_if P text all schema = elim (reads_listing schema text) as (λ b.
-    IfOk (if b then if_select (compiled listing_schema text) else compiled schema text) P) [
-      | true ↦ listed P _ (all listing_schema)
-      | false ↦ all schema
-    ]
-
--- what follows of what a text is planned as follows of what it is compiled to
-pub compiled_if : (P : Compiled → Type 0) (text : List ℕ) (schema : Schema) (p : Parsed)
-    → first text ≡ Ok p → ((plan : _) → planned schema p ≡ Ok plan → P (with_command p plan))
-    → IfOk (compiled schema text) P
-unfolding compiled
-compiled_if P text schema p is all =
-    subst (λ (r : Checked Parsed). IfOk (and_then r (λ p. and_then (planned schema p)
-    (λ plan. Ok (with_command p plan)))) P) (sym is) (go (planned schema p) refl)
-  where
-    go : (r : Checked (List Name × (Command × Option Returning))) → planned schema p ≡ r
-        → IfOk (and_then r (λ plan. Ok (with_command p plan))) P
-    go (Ok plan) same = all plan same
-    go (Err e) same = tt
-
--- ---- Writes
+-- ---- The command
 
 -- the command adds, changes or takes away rows
 abbrev pub changes_rows : Command → Bool
@@ -210,11 +166,6 @@ planned_write schema p is plan same =
         subst (λ plan. IsWrite (with_command p plan)) is (changes, refl)
     go (Err e) changes done = absurd (cc)
 
-of_kind : (kind : Statement → Bool) (r : Checked Parsed) → is_of_kind kind r ≡ true
-    → (p : Parsed) × (r ≡ Ok p) × (kind p.statement ≡ true)
-of_kind kind (Ok p) is = (p, refl, is)
-of_kind kind (Err e) is = absurd (cc)
-
 -- a text that writes rows does so whatever tables there are
 pub understood_write : (text : List ℕ) → WritesRows text → (schema : Schema)
     → IfOk (understood schema text) IsWrite
@@ -223,61 +174,7 @@ understood_write text writes =
     understood_if IsWrite text
     (λ schema. compiled_if IsWrite text schema p.0 p.1 (planned_write schema p.0 p.2))
 
--- ---- Queries
-
-abbrev pub IsPlainly : Compiled → Type 0
-IsPlainly c = (c.returning ≡ None) × (c.formats ≡ [])
-
-returns_no_more : (schema : Schema) (base : ℕ) (s : Statement) → is_query s ≡ true
-    → returning schema base s ≡ Ok None
-unfolding returning
-returns_no_more schema base (written.Select q) is = refl
-returns_no_more schema base _ is = absurd (cc)
-
-timed_as : (schema : Schema) (formats : List Name) (s : Statement) → is_query s ≡ true
-    → timed schema formats s ≡ formats
-unfolding timed
-timed_as schema formats (written.Select q) is = refl
-timed_as schema formats _ is = absurd (cc)
-
-planned_query : (schema : Schema) (p : Parsed) → is_query p.statement ≡ true → p.formats ≡ []
-    → (plan : List Name × (Command × Option Returning)) → planned schema p ≡ Ok plan
-    → IsPlainly (with_command p plan)
-unfolding planned meaning
-planned_query schema p is none plan same =
-    go (command schema p.formats base p.statement)
-    (rw (returns_no_more schema base p.statement is) at same)
-  where
-    formats : List Name
-    formats = timed schema p.formats p.statement
-
-    base : ℕ
-    base = small p.names + small formats
-
-    go : (r : Checked Command)
-        → and_then (and_then r (λ c. Ok (c, None))) (λ found. Ok (formats, found)) ≡ Ok plan
-        → IsPlainly (with_command p plan)
-    go (Ok c) done =
-        let same : (formats, (c, None)) ≡ plan = cc in
-        subst (λ plan. IsPlainly (with_command p plan)) same
-        (refl, timed_as schema p.formats p.statement is ∙ none)
-    go (Err e) done = absurd (cc)
-
-timeless : (r : Checked Parsed) (p : Parsed) → r ≡ Ok p → is_timeless r ≡ true → p.formats ≡ []
-timeless r p is none =
-    let len : (length p.formats == 0) ≡ true = subst (λ r. is_timeless r ≡ true) is none in
-    nil_from_length p.formats (eqb-true (length p.formats) 0 len)
-
--- so does a query, and shows its rows and no others
-pub understood_query : (text : List ℕ) → IsQuery text → (schema : Schema)
-    → IfOk (understood schema text) IsPlainly
-understood_query text asks =
-    let p = of_kind is_query (first text) asks.0 in
-    let none = timeless (first text) p.0 p.1 asks.1 in
-    understood_if IsPlainly text
-    (λ schema. compiled_if IsPlainly text schema p.0 p.1 (planned_query schema p.0 p.2 none))
-
--- ---- What they leave of the tables
+-- ---- What it leaves of the tables
 
 at_place : (P : Table → Part (Tally × Database)) (o : Option Table) (done : Tally × Database)
     → AtPlace P o (Ok done) → (t : Table) × P t (Ok done)

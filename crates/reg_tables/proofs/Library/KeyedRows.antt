@@ -13,34 +13,25 @@ use Rattle.sqlite.specs.Order.{Row, value_cmp}
 use Rattle.sqlite.specs.Tree.{rowid}
 use Rattle.sqlite_value.proofs.OrderLemmas.{value_cmp_total}
 use Rattle.sqlite_trees.specs.Tree.{IsTable, has_rowid}
-use Rattle.sqlite_trees.specs.declared.store.Shape.TheVariants.{Table}
-use Rattle.sqlite_trees.specs.View.{is_int, IsShaped}
+use Rattle.sqlite_trees.specs.View.{is_int}
 use Rattle.sqlite_trees.proofs.ListLemmas.{map-map, filter_same, ascending-filter, ascending-map}
 use Rattle.sqlite_trees.proofs.ListLemmas.{ascending_weaker}
 use Rattle.sqlite_rules.specs.Lists.{Has}
 use Rattle.sqlite_rules.specs.Calls.{ids_of}
 use Rattle.sqlite_rules.specs.Edit.{id_in, without_all, put_all, are_fresh}
-use Rattle.sqlite_rules.proofs.ListLemmas.{all_has, all_from, some_has, some_from, has_filtered}
+use Rattle.sqlite_rules.proofs.ListLemmas.{all_from, some_has, some_from, has_filtered}
 use Rattle.sqlite_rules.proofs.ListLemmas.{has_kept}
-use Rattle.sqlite_rules.proofs.PlaceLemmas.{tied_same}
 use Rattle.sqlite_rules.proofs.ProbeLemmas.{has_mapped, mapped_has}
 use Rattle.sqlite_rules.proofs.TableLemmas.{int_is, put_all_has, put_all_keeps, put_all_adds}
 use Rattle.reg_tables.specs.Editing.{AreKeyed, altered}
-use Rattle.reg_tables.proofs.EditLemmas.RowLists.{without_all_is, has_permuted, same_rows}
-use Rattle.reg_tables.proofs.EditLemmas.RowLists.{put_all_table, permutation-put_all, parted}
-use Rattle.reg_tables.proofs.EditLemmas.RowLists.{map_same}
+use Rattle.reg_tables.proofs.Library.RowLists.{without_all_is, has_permuted, same_rows}
+use Rattle.reg_tables.proofs.Library.RowLists.{put_all_table, permutation-put_all, parted}
+use Rattle.reg_tables.proofs.Library.RowLists.{map_same}
 
 equal_is : (o : Ordering) → is_eq o ≡ true → o ≡ Equal
 equal_is Less h = absurd (cc)
 equal_is Equal h = refl
 equal_is Greater h = absurd (cc)
-
--- rows that rise by their rowids are known by them
-pub keyed_from_table : (rows : List Row) → IsShaped Table rows → AreKeyed rows
-keyed_from_table rows shaped = record {
-  whole = λ r h. all_has _ rows r shaped.1 h;
-  one = λ r q h k. tied_same rows r q shaped.0 h k;
-}
 
 pub keyed_permuted : (xs ys : List Row) → IsPermutation xs ys → AreKeyed xs → AreKeyed ys
 keyed_permuted xs ys same keyed =

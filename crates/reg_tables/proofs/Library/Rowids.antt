@@ -18,7 +18,7 @@ use Rattle.sqlite_rules.specs.Lists.{Has}
 use Rattle.sqlite_rules.proofs.ListLemmas.{all_has}
 use Rattle.sqlite_rules.proofs.ProbeLemmas.{mapped_has}
 use Rattle.reg_tables.specs.Editing.{AreKeyed}
-use Rattle.reg_tables.proofs.EditLemmas.RowLists.{has_permuted}
+use Rattle.reg_tables.proofs.Library.RowLists.{has_permuted}
 
 abbrev Differ : Row → Row → Type 0
 Differ a b = value_cmp (rowid a) (rowid b) ≡ Equal → ⊥

@@ -19,11 +19,21 @@ use Rattle.sqlite_schema.specs.Rules.{is_of, suits, are_typed}
 use Rattle.sqlite_rules.specs.Cast.{cast, cast_all, cast_row}
 use Rattle.sqlite_rules.proofs.TableLemmas.{int_is}
 use Rattle.reg_tables.specs.Selecting.{shows}
-use Rattle.reg_tables.proofs.InsertLemmas.{cast_null, cast_int}
+use Rattle.sqlite.specs.Ops.{unary}
+use Rattle.sqlite.specs.Kind.TheVariants.{Integer}
+use Rattle.std.proofs.Common.{ℤ}
 
 either : (b : Bool) (x : Value) → cond b x x ≡ x
 either true x = refl
 either false x = refl
+
+pub cast_null : cast Integer Null ≡ Null
+unfolding unary
+cast_null = either _ Null
+
+pub cast_int : (n : ℤ) → cast Integer (Int n) ≡ Int n
+unfolding unary
+cast_int n = either _ (Int n)
 
 -- a column of texts or of whole numbers
 abbrev pub holds_texts_or_numbers : Kind → Bool
