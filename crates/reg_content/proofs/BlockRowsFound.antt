@@ -9,15 +9,9 @@ use Rattle.reg_core.specs.Holding.{holder_in, holding_row}
 use Rattle.reg_core.specs.Maps.{only_if, same_text, select}
 use Rattle.reg_core.specs.declared.holding.Holder.{Holder}
 use Rattle.reg_core.specs.declared.holding.Holding.{Holding}
-use Rattle.reg_statements.specs.Loading.{IsAscending}
 use Rattle.reg_content.proofs.BlockRowsListed.{pair}
-use Rattle.reg_content.proofs.PoolRows.{tie_decides}
-
--- at most one holding is in any order
-pub one_ascends : (found : Option Holding)
-    → IsAscending (λ a b. block_cmp a.block b.block) (option_to_list found)
-one_ascends None = tt
-one_ascends (Some h) = tt
+use Rattle.reg_content.proofs.BlockRows.{tie_decides}
+use Rattle.reg_content.proofs.Found.{pairs_again}
 
 kept : {X : Type 0} (b : Bool) → b ≡ true → (r : Option X)
     → option_and_then (λ x. only_if b x) r ≡ r
@@ -54,9 +48,10 @@ chosen_row account block (Some h) =
 
 -- of the holdings that begin where a block begins, the one of the block and the account
 pub found_holding : (m : FinMap block_cmp Holder) (account : List ℕ) (block : SizedPrefix)
-    (found : Option Holding) → map pair (option_to_list found)
-    ≡ entries (select (λ k x. only_if (eq_by_cmp nat_cmp (first_address k) (first_address block)) x)
-    m)
+    (found : Option Holding) → option_to_list found
+    ≡ map (λ e. holding_row e.0 e.1)
+    (entries (select (λ k x. only_if (eq_by_cmp nat_cmp (first_address k) (first_address block)) x)
+    m))
     → if_of account block found ≡ option_map (holding_row block)
     (get (select (λ k h. only_if (same_text h.account account) h) m) block)
 found_holding m account block found is =
@@ -64,7 +59,7 @@ found_holding m account block found is =
     only_if (eq_by_cmp nat_cmp (first_address k) (first_address block)) x in
     let here = (tie_decides number_keys (first_address block) (first_address block)).1 refl in
     let same : find block_cmp block (map pair (option_to_list found)) ≡ get m block =
-    ap (find block_cmp block) is ∙ sym (get-entries (select begins m) block)
+    ap (find block_cmp block) (ap (map pair) is ∙ pairs_again pair holding_row (λ e. refl) _) ∙ sym (get-entries (select begins m) block)
     ∙ get-select block_keys begins m block ∙ kept _ here (get m block) in
     chosen_row account block found
     ∙ ap (λ held. option_map (holding_row block) (if_held account held)) same

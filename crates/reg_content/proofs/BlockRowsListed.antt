@@ -4,8 +4,8 @@ use Rattle.std.specs.Prelude.{filter_map}
 use Rattle.std.specs.FinMap.{FinMap, entries}
 use Rattle.reg_blocks.specs.Block.{SizedPrefix, block_cmp}
 use Rattle.reg_core.proofs.MapLaws.{block_keys, entries-select}
-use Rattle.reg_core.specs.Holding.{holder_in, holding_row, listed_row, listed_rows, masked}
-use Rattle.reg_core.specs.Holding.{holding_rows, masked_blocks}
+use Rattle.reg_core.specs.Holding.{holder_in, listed_row, listed_rows, masked}
+use Rattle.reg_core.specs.Holding.{masked_blocks}
 use Rattle.reg_core.specs.Maps.{keyed, only_if, select}
 use Rattle.reg_core.specs.declared.holding.Holder.{Holder}
 use Rattle.reg_core.specs.declared.holding.Holding.{Holding}
@@ -15,15 +15,6 @@ use Rattle.reg_content.proofs.PoolRowsListed.{entries_all}
 -- a holding as an entry
 abbrev pub pair : Holding → SizedPrefix × Holder
 pair h = (h.block, holder_in h)
-
-rows_again : (hs : List Holding) → map (λ e. holding_row e.0 e.1) (map pair hs) ≡ hs
-rows_again [] = refl
-rows_again (h ∷ hs) = ap (λ more. h ∷ more) (rows_again hs)
-
--- holdings that are the entries of a map are its rows
-pub holdings_are : (m : FinMap block_cmp Holder) (hs : List Holding) → map pair hs ≡ entries m
-    → hs ≡ holding_rows m
-holdings_are m hs is = sym (rows_again hs) ∙ ap (map (λ e. holding_row e.0 e.1)) is
 
 shown_again : (hs : List Holding)
     → map (λ e. listed_row e.0 e.1)

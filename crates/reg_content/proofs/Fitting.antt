@@ -1,17 +1,28 @@
 -- What a change that fits has for the rows that it writes.
-use Rattle.std.proofs.Common.{◌≡◌, Bool, true, false, Option, Some, None, IsSome, is_some, option_map, refl, sym, ap, ◌∙◌}
-use Rattle.std.specs.FinMap.{get}
+use Rattle.std.proofs.Common.{◌≡◌, true, Option, Some, None, IsSome, option_map, refl, sym, ap, ◌∙◌}
+use Rattle.std.specs.FinMap.{FinMap, get}
+use Rattle.std.specs.Ordering.{eq_by_cmp}
 use Rattle.reg_core.specs.WellKept.{WellKept}
-use Rattle.reg_core.specs.World.{World, RequestName, in_state, with_state}
+use Rattle.reg_core.specs.World.{World, RequestName, in_state, name_cmp, with_state}
 use Rattle.reg_core.specs.declared.request.Case.{Case}
 use Rattle.reg_core.specs.declared.request.State.{State}
-use Rattle.reg_core.proofs.MapLaws.{get-updated, name_keys}
+use Rattle.reg_core.proofs.MapLaws.{get-updated, name_keys, tied}
 use Rattle.reg_records.specs.Requests.Forms.{gives_its_kind}
 use Rattle.reg_records.proofs.RequestLaws.Kept.{stands_in-gives_its_kind}
 
 there : {X : Type 0} (o : Option X) → IsSome o → (x : X) × (o ≡ Some x)
 there None h = absurd (cc)
 there (Some x) h = (x, refl)
+
+-- where it is of that kind, so it is of the request that is found by the name
+pub can_have : (m : FinMap name_cmp Case) (name : RequestName) (state : State) (case : Case)
+    → get m name ≡ Some case → gives_its_kind case.ask state ≡ true
+    → (other : RequestName) (found : Case) → get m other ≡ Some found
+    → eq_by_cmp name_cmp other name ≡ true → gives_its_kind found.ask state ≡ true
+can_have m name state case there kind other found is same =
+    let here : get m name ≡ Some found = ap (get m) (sym (tied name_keys other name same)) ∙ is in
+    let one : found ≡ case = cc in
+    ap (λ (case : Case). gives_its_kind case.ask state) one ∙ kind
 
 -- the state of a request that leaves a world well kept is of its ask's kind
 pub given_kind : (w after : World) (name : RequestName) (state : State)
@@ -28,12 +39,3 @@ given_kind w after name state some kept same =
       stands_in-gives_its_kind after.entries after.blocks name.0 it.0.ask state
           (kept.given name (in_state state it.0) now),
     )
-
--- nothing is there where it is said that nothing is replaced
-pub absent : {X : Type 0} (o : Option X) (b : Bool) → b ≡ false → b ≡ is_some o → o ≡ None
-absent None b gone is = refl
-absent (Some x) b gone is = let t : true ≡ false = sym is ∙ gone in absurd (cc)
-
-pub present : {X : Type 0} (o : Option X) (b : Bool) → b ≡ true → b ≡ is_some o → IsSome o
-present None b stands is = let t : true ≡ false = sym stands ∙ is in absurd (cc)
-present (Some x) b stands is = refl

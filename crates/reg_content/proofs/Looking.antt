@@ -1,30 +1,69 @@
 -- A call that only looks at the tables leaves an office's rows.
-use Rattle.std.proofs.Common.{◌≡◌, sym, subst, refl, Option, Some, None, option_to_list, slice_get, ap, Ok}
+use Rattle.std.proofs.Common.{◌≡◌, sym, subst, refl, Option, Some, None, option_to_list, slice_get, ap, Ok, Err}
 use Rattle.std.specs.Prelude.{Result, IfOk, IsErr}
 use Rattle.std.proofs.lemmas.Result.{IfOk-from_err, IfOk-weaker}
+use Rattle.sqlite.specs.Effect.{Database}
 use Rattle.sqlite.specs.State.{State}
 use Rattle.reg_core.specs.World.{World}
 use Rattle.reg_tables.specs.Connection.{Endures, Holds, IsIdle, Stays}
-use Rattle.reg_content.specs.Calls.{IsKeeping, Looks}
+use Rattle.reg_content.specs.Calls.{IsKeeping, Looks, LooksAt, LooksIn}
 use Rattle.reg_tables.proofs.Enduring.{endures_then, holds_then, stays_on}
-use Rattle.reg_tables.proofs.RestLemmas.{stays_then}
-use Rattle.reg_statements.specs.Content.{IsStored, content_of, world_in}
+use Rattle.reg_tables.proofs.RestLemmas.{stays_held, stays_same, stays_then}
+use Rattle.reg_statements.specs.Content.{IsStored, assembled, content_of, parts_of, world_in}
+use Rattle.reg_statements.specs.Parts.{Parts}
 
 pub keeps_on : (old new : State) → IsKeeping old → IsIdle new → Stays old new → IsKeeping new
 keeps_on old new keeping idle stays = record {
   idle = idle;
-  stored = λ h. subst IsStored (sym (stays.same h)) (keeping.stored (stays.held h));
+  stored = λ h. subst IsStored (sym (stays_same stays h)) (keeping.stored (stays_held stays h));
 }
 
-pub looks : {T E : Type 0} {old new : State} {result : Result T E} {Gives : World → T → Type 0}
-    → IsKeeping old → IsIdle new → Endures old new → Stays old new
-    → (Holds new → IfOk result (Gives (world_in old))) → Looks old new result Gives
+pub looks : {W T E : Type 0} {seen : Database → W} {old new : State} {result : Result T E}
+    {Gives : W → T → Type 0} → IsKeeping old → IsIdle new → Endures old new → Stays old new
+    → (Holds new → IfOk result (Gives (seen old.now))) → LooksAt seen old new result Gives
 looks {old = old} {new = new} keeping idle endures stays value = record {
   keeping = keeps_on old new keeping idle stays;
   endures = endures;
   stays = stays;
   on = stays_on old new endures stays;
   value = value;
+}
+
+-- what is so of the parts is so of the office
+pub looks_as : {T E : Type 0} {old new : State} {result : Result T E} {F : Parts → T → Type 0}
+    {G : World → T → Type 0} → LooksIn old new result F
+    → ((p : Parts) (x : T) → F p x → G (assembled p) x) → Looks old new result G
+looks_as {old = old} {result = result} {F = F} {G = G} it gives = record {
+  keeping = it.keeping;
+  endures = it.endures;
+  stays = it.stays;
+  on = it.on;
+  value = λ h. IfOk-weaker result (F (parts_of old.now)) (G (content_of old.now))
+      (gives (parts_of old.now)) (it.value h);
+}
+
+-- and of what a later step makes of it, or gives up
+pub looks_if : {T U E F : Type 0} {old new : State} {x : T} {result : Result U E}
+    {G : Parts → T → Type 0} {H : World → U → Type 0} → LooksIn {E = F} old new (Ok x) G
+    → ((p : Parts) → G p x → IfOk result (H (assembled p))) → Looks old new result H
+looks_if {old = old} it gives = record {
+  keeping = it.keeping;
+  endures = it.endures;
+  stays = it.stays;
+  on = it.on;
+  value = λ h. gives (parts_of old.now) (it.value h);
+}
+
+-- and of what is made of it
+pub looks_made : {T U E : Type 0} {old new : State} {x : T} {y : U} {F : Parts → T → Type 0}
+    {G : World → U → Type 0} → LooksIn {E = E} old new (Ok x) F
+    → ((p : Parts) → F p x → G (assembled p) y) → Looks {E = E} old new (Ok y) G
+looks_made {old = old} it gives = record {
+  keeping = it.keeping;
+  endures = it.endures;
+  stays = it.stays;
+  on = it.on;
+  value = λ h. gives (parts_of old.now) (it.value h);
 }
 
 pub first_of : {T : Type 0} (o : Option T) → slice_get (option_to_list o) 0 ≡ o
@@ -42,8 +81,8 @@ looks_then {a = a} {b = b} {c = c} {y = y} {G = G} first second joins = record {
   stays = stays_then a b c first.stays second.stays;
   on = holds_then a b c second.endures first.on second.on;
   value = λ h.
-      let held = second.stays.held h in
-      let same : world_in b ≡ world_in a = ap content_of (first.stays.same held) in
+      let held = stays_held second.stays h in
+      let same : world_in b ≡ world_in a = ap content_of (stays_same first.stays held) in
       joins (world_in a) (first.value held) (subst (λ w. G w y) same (second.value h));
 }
 
@@ -58,8 +97,8 @@ looks_before {a = a} {b = b} {c = c} {result = result} {G = G} {H = H} first sec
   stays = stays_then a b c first.stays second.stays;
   on = holds_then a b c second.endures first.on second.on;
   value = λ h.
-      let held = second.stays.held h in
-      let same : world_in b ≡ world_in a = ap content_of (first.stays.same held) in
+      let held = stays_held second.stays h in
+      let same : world_in b ≡ world_in a = ap content_of (stays_same first.stays held) in
       IfOk-weaker result (G (world_in a)) (H (world_in a))
       (λ y. joins (world_in a) y (first.value held))
       (subst (λ w. IfOk result (G w)) same (second.value h));
@@ -76,3 +115,9 @@ looks_failed {a = a} {b = b} {c = c} {result = result} {H = H} before after fail
   on = holds_then a b c after.endures before.on after.on;
   value = λ h. IfOk-from_err result (H (world_in a)) failed;
 }
+
+-- two facts of one result
+pub with_both : {T E : Type 0} (result : Result T E) (F G H : T → Type 0) → IfOk result F
+    → IfOk result G → ((x : T) → F x → G x → H x) → IfOk result H
+with_both (Ok x) F G H f g both = both x f g
+with_both (Err e) F G H f g both = tt

@@ -1,9 +1,8 @@
 -- The prefixes of a pool in order: a list that ascends is known by what it contains.
-use Rattle.std.proofs.Common.{◌≡◌, ℕ, ◌+◌, ◌≤◌, List, [], ◌∷◌, ◌++◌, map, true, refl, sym}
+use Rattle.std.proofs.Common.{◌≡◌, ℕ, ◌+◌, ◌≤◌, List, [], ◌∷◌, ◌++◌, true, refl, sym}
 use Rattle.std.proofs.Common.{ap, subst, ◌∙◌, arith, inl, inr, ◌⊎◌, ◌↔◌}
 use Rattle.std.specs.Prelude.{Contains, filter_map}
-use Rattle.std.specs.FinMap.{FinMap, entries, keys}
-use Rattle.std.specs.Map.{keys_of}
+use Rattle.std.specs.FinMap.{FinMap, entries}
 use Rattle.std.specs.List.Sorted.{IsStrictlyIncreasing}
 use Rattle.std.specs.Ordering.{nat_cmp}
 use Rattle.std.specs.declared.cmp.Ordering.{Ordering}
@@ -127,12 +126,3 @@ every (e ∷ es) = ap (λ more. e ∷ more) (every es)
 pub entries_all : {K X : Type 0} {R : K → K → Ordering} (o : IsKeyOrder R) (m : FinMap R X)
     → entries (select (λ k x. only_if true x) m) ≡ entries m
 entries_all o m = entries-select o (λ k x. only_if true x) m ∙ every (entries m)
-
-keys_alone : (xs : List ℕ) → keys_of (map (λ x. (x, tt {0})) xs) ≡ xs
-keys_alone [] = refl
-keys_alone (x ∷ xs) = ap (λ more. x ∷ more) (keys_alone xs)
-
--- what was listed are the keys
-pub listed_keys : (m : FinMap nat_cmp (Unit {0})) (xs : List ℕ)
-    → map (λ x. (x, tt {0})) xs ≡ entries (select (λ k x. only_if true x) m) → xs ≡ keys m
-listed_keys m xs is = sym (keys_alone xs) ∙ ap keys_of (is ∙ entries_all number_keys m)

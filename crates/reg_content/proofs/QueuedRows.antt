@@ -1,17 +1,16 @@
 -- What the query on the queue, the requests and the advice finds: the queue of an expert.
-use Rattle.std.proofs.Common.{◌≡◌, ℕ, Bool, true, false, ◌&&◌, cond, List, [], ◌∷◌, ◌++◌, filter}
-use Rattle.std.proofs.Common.{filter_map, refl, sym, ap, ◌∙◌, bytes_eq, inl, inr}
-use Rattle.std.proofs.Common.{Option, Some, None, IsSome, option_map, option_to_list}
-use Rattle.std.specs.List.{AllByRecursion, cons_option, flat_map}
+use Rattle.std.proofs.Common.{◌≡◌, ℕ, Bool, true, false, cond, List, [], ◌∷◌, ◌++◌, filter}
+use Rattle.std.proofs.Common.{filter_map, refl, sym, ap, subst, ◌∙◌, inl, inr}
+use Rattle.std.proofs.Common.{Option, Some, None, option_map, option_to_list}
+use Rattle.std.specs.List.{cons_option, flat_map}
 use Rattle.std.specs.FinMap.{get}
-use Rattle.std.proofs.lemmas.List.Elements.{filter_map-append}
 use Rattle.sqlite.specs.Effect.{Database}
-use Rattle.sqlite.specs.Order.{Row}
+use Rattle.sqlite.specs.Order.{Row, column}
 use Rattle.sqlite.specs.declared.types.Value.TheVariants.{Text}
 use Rattle.reg_core.specs.Maps.{keyed, same_text}
 use Rattle.reg_core.specs.Request.{case_of}
 use Rattle.reg_core.specs.View.{Queued, as_queued}
-use Rattle.reg_core.specs.World.{RequestName, Seat, World, name_cmp, seat_cmp}
+use Rattle.reg_core.specs.World.{RequestName, Seat, World, name_cmp}
 use Rattle.reg_core.specs.declared.advice.Advice.{Advice}
 use Rattle.reg_core.specs.declared.request.Case.{Case}
 use Rattle.reg_core.proofs.MapLaws.{name_keys, seat_keys, text_keys, tied}
@@ -29,12 +28,12 @@ use Rattle.reg_tables.specs.Values.{same_value}
 use Rattle.reg_statements.specs.Content.{IsStored, advice_at, case_at, content_of, seat_at}
 use Rattle.reg_statements.specs.RowMaps.{PassesAt}
 use Rattle.reg_content.specs.Seats.{assigned_to}
-use Rattle.reg_content.proofs.AdviceRows.{advice_key, advised, is_advised}
-use Rattle.reg_content.proofs.RequestRows.{alone, named, named_request}
+use Rattle.reg_content.proofs.JoinedRows.{joined_reads, own_advice_at, was_made}
 use Rattle.reg_statements.proofs.RowMaps.Alone.{AreAlone, alone_at}
-use Rattle.reg_statements.proofs.RowMaps.Items.{items_pass_at}
-use Rattle.reg_statements.proofs.RowMaps.KeyTests.{name_test, text_test}
-use Rattle.reg_content.proofs.SeatRows.{is_seated, seat_has, seat_key, seated}
+use Rattle.reg_statements.proofs.RowMaps.KeyTests.{text_test}
+use Rattle.reg_statements.specs.Office as office
+use Rattle.reg_statements.proofs.Defined.{key_passes, whole_rows}
+use Rattle.reg_statements.proofs.Office as laws
 
 -- a row of the query, as the name of its request and what the expert sees of it
 abbrev pub queued_pair : QueuedRequest → RequestName × Queued
@@ -49,48 +48,22 @@ abbrev pub seen_by : World → List ℕ → Seat × Unit {0} → Option (Request
 seen_by w expert e =
     cond (same_text e.0.1 expert) (keyed e.0.0 (assigned_to expert w e.0.0)) None
 
--- what a pair was made of
-record WasMade {T E : Type 0} (pair : T → E) (o : Option T) (e : E) : Type 0 where
-  item : T
-  is : o ≡ Some item
-  makes : pair item ≡ e
-
-was_made : {T E : Type 0} (pair : T → E) (o : Option T) (e : E) → option_map pair o ≡ Some e
-    → WasMade pair o e
-was_made pair None e is = absurd (cc)
-was_made pair (Some item) e is = record { item = item; is = refl; makes = cc }
-
 -- ---- The rows that agree with a row of the queue
 
 request_at : (row : Row) (s : held.Seat) → seat_in (stored 3 row) ≡ Some s
     → PassesAt name_cmp case_at (request_agrees row) (s.account, s.reference)
-unfolding case_at
 request_at row s is =
-    let seat = is_seated row s is in
-    items_pass_at name_keys named_request (λ row. request_in (stored 25 row)) (request_agrees row)
-    (s.account, s.reference) (λ other r reads.
-    let at = named other r reads in
-    (λ i. same_value (at.account i) (seat.account i)
-    && (same_value (at.reference i) (seat.reference i) && true))
-    ∙ ap (λ b. bytes_eq r.account s.account && b) (alone (bytes_eq r.reference s.reference))
-    ∙ name_test (r.account, r.reference) (s.account, s.reference))
-
-own_advice_at : (row : Row) (s : held.Seat) → seat_in (stored 3 row) ≡ Some s
-    → PassesAt seat_cmp advice_at (advice_agrees row) (seat_key s)
-unfolding advice_at
-own_advice_at row s is =
-    let seat = is_seated row s is in
-    items_pass_at seat_keys advised (λ row. advice_in (stored 5 row)) (advice_agrees row)
-    (seat_key s) (λ other a reads.
-    (λ i. has_all ((1, seat.account i) ∷ (2, seat.reference i) ∷ (3, seat.expert i) ∷ []) other)
-    ∙ seat_has other (advice_key a) (seat_key s) (is_advised other a reads))
+    subst (λ (cs : Row). PassesAt name_cmp case_at (λ other.
+    has_all ((1, column cs 0) ∷ (2, column cs 1) ∷ []) other) (s.account, s.reference))
+    (sym (laws.queue.exact row s is))
+    (key_passes office.requests laws.requests (s.account, s.reference))
 
 -- what is shown of a request and the advice of a seat reads as what its expert sees
 shown_alone : (row : Row) (name : RequestName) (c : Case) → case_at row ≡ Some (name, c)
     → queued_reader (queued_columns row []) ≡ Some (name, as_queued None c)
 unfolding case_at
 shown_alone row name c is =
-    let made = was_made named_request (request_in (stored 25 row)) (name, c) is in
+    let made = was_made office.requests.pair (request_in (stored 25 row)) (name, c) is in
     ap (option_map queued_pair) (queued_alone (stored 25 row) made.item made.is)
     ∙ ap (λ (e : RequestName × Case). Some (e.0, as_queued None e.1)) made.makes
 
@@ -99,8 +72,8 @@ shown_advised : (row other : Row) (name : RequestName) (c : Case) (seat : Seat) 
     → queued_reader (queued_columns row other) ≡ Some (name, as_queued (Some a) c)
 unfolding case_at advice_at
 shown_advised row other name c seat a is at =
-    let made = was_made named_request (request_in (stored 25 row)) (name, c) is in
-    let said = was_made advised (advice_in (stored 5 other)) (seat, a) at in
+    let made = was_made office.requests.pair (request_in (stored 25 row)) (name, c) is in
+    let said = was_made office.advice.pair (advice_in (stored 5 other)) (seat, a) at in
     ap (option_map queued_pair)
     (queued_advised (stored 25 row) (stored 5 other) made.item said.item made.is said.is)
     ∙ ap (λ (e : Seat × Advice). Some (
@@ -140,7 +113,7 @@ module _ (db : Database) (was : IsStored db) where
       (assigned_to s.expert w (s.account, s.reference)))
   at_seat row s is =
       go (filter (request_agrees row) (db.trees 9)) (get w.requests name)
-      (alone_at name_keys (db.trees 9) (request_agrees row) name was.kept.requests
+      (alone_at name_keys (db.trees 9) (request_agrees row) name (whole_rows office.requests laws.requests _ was)
       (request_at row s is))
     where
       name : RequestName
@@ -152,78 +125,44 @@ module _ (db : Database) (was : IsStored db) where
       go : (rows : List Row) (value : Option Case) → AreAlone case_at name value rows
           → filter_map queued_reader (flat_map (with_advice advice) rows)
           ≡ option_to_list (keyed name
-          (option_map (as_queued (get w.advice (seat_key s))) value))
+          (option_map (as_queued (get w.advice (office.queue.pair s).0)) value))
       go rows value (inl none) =
           (λ i. filter_map queued_reader (flat_map (with_advice advice) (none.0 i)))
           ∙ ap (λ o. option_to_list (keyed name
-          (option_map (as_queued (get w.advice (seat_key s))) o))) (sym none.1)
+          (option_map (as_queued (get w.advice (office.queue.pair s).0)) o))) (sym none.1)
       go rows value (inr one) =
           (λ i. filter_map queued_reader (flat_map (with_advice advice) (one.alone i)))
           ∙ ap (filter_map queued_reader) (unfollowed (with_advice advice one.row))
-          ∙ with_own one.row name one.x one.reads (seat_key s) (get w.advice (seat_key s)) advice
-          (alone_at seat_keys (db.trees 14) (advice_agrees row) (seat_key s) was.kept.advice
+          ∙ with_own one.row name one.x one.reads (office.queue.pair s).0 (get w.advice (office.queue.pair s).0) advice
+          (alone_at seat_keys (db.trees 14) (advice_agrees row) (office.queue.pair s).0 (whole_rows office.advice laws.advice _ was)
           (own_advice_at row s is))
           ∙ ap (λ o. option_to_list (keyed name
-          (option_map (as_queued (get w.advice (seat_key s))) o))) (sym one.is)
+          (option_map (as_queued (get w.advice (office.queue.pair s).0)) o))) (sym one.is)
 
   module _ (expert : List ℕ) where
-    onto : {X : Type 0} (o : Option X) (xs : List X)
-        → option_to_list o ++ xs ≡ cons_option o xs
-    onto None xs = refl
-    onto (Some x) xs = refl
-
-    abbrev joined_for : List Row → List Row
-    joined_for seats = flat_map joined_at (filter (is_of (Text expert)) seats)
-
-    -- one row of the queue more
-    joined_more : (row : Row) (s : held.Seat) (rows : List Row)
-        → seat_in (stored 3 row) ≡ Some s
-        → filter_map queued_reader (joined_for (row ∷ rows))
-        ≡ cons_option (seen_by w expert (seated s)) (filter_map queued_reader (joined_for rows))
-    joined_more row s rows is =
-        let rest = filter (is_of (Text expert)) rows in
-        (λ i. filter_map queued_reader (flat_map joined_at
-        (cond (same_value ((is_seated row s is).expert i) (Text expert)) (row ∷ rest) rest)))
+    each : (row : Row) (s : held.Seat) → seat_in (stored 3 row) ≡ Some s
+        → filter_map queued_reader (cond (is_of (Text expert) row) (joined_at row) [])
+        ≡ option_to_list (seen_by w expert (office.queue.pair s))
+    each row s is =
+        (λ i. filter_map queued_reader
+        (cond (same_value (column (laws.queue.exact row s is i) 2) (Text expert)) (joined_at row) []))
         ∙ go (same_text s.expert expert) refl
       where
         name : RequestName
         name = (s.account, s.reference)
 
         go : (b : Bool) → same_text s.expert expert ≡ b
-            → filter_map queued_reader (flat_map joined_at
-            (cond b (row ∷ filter (is_of (Text expert)) rows)
-            (filter (is_of (Text expert)) rows)))
-            ≡ cons_option (cond b (keyed name (assigned_to expert w name)) None)
-            (filter_map queued_reader (joined_for rows))
+            → filter_map queued_reader (cond b (joined_at row) [])
+            ≡ option_to_list (cond b (keyed name (assigned_to expert w name)) None)
         go true t =
             let own : s.expert ≡ expert =
             tied text_keys s.expert expert (sym (text_test s.expert expert) ∙ t) in
-            filter_map-append queued_reader (joined_at row) (joined_for rows)
-            ∙ ap (λ es. es ++ filter_map queued_reader (joined_for rows))
-            (at_seat row s is
-            ∙ ap (λ x. option_to_list (keyed name (assigned_to x w name))) own)
-            ∙ onto (keyed name (assigned_to expert w name))
-            (filter_map queued_reader (joined_for rows))
+            at_seat row s is ∙ ap (λ x. option_to_list (keyed name (assigned_to x w name))) own
         go false t = refl
 
-    joined_all : (rows : List Row) → AllByRecursion (λ row. IsSome (seat_at row)) rows
-        → filter_map queued_reader (joined_for rows)
-        ≡ filter_map (seen_by w expert) (filter_map seat_at rows)
-    unfolding seat_at
-    joined_all [] all = refl
-    joined_all (row ∷ rows) all =
-        elim (seat_in (stored 3 row)) as (λ r. seat_in (stored 3 row) ≡ r
-        → IsSome (option_map seated r)
-        → filter_map queued_reader (joined_for (row ∷ rows))
-        ≡ filter_map (seen_by w expert)
-        (cons_option (option_map seated r) (filter_map seat_at rows))) [
-          | None ↦ λ is some. absurd (cc)
-          | Some s ↦ λ is some.
-              joined_more row s rows is
-              ∙ ap (cons_option (seen_by w expert (seated s))) (joined_all rows all.1)
-        ] refl all.0
-
     -- what is shown of the tables reads as what the expert's seats show
-    pub joined_reads : filter_map queued_reader (queued_rows db.trees (Text expert))
+    pub queue_reads : filter_map queued_reader (queued_rows db.trees (Text expert))
         ≡ filter_map (seen_by w expert) (filter_map seat_at (db.trees 11))
-    joined_reads = joined_all (db.trees 11) was.kept.queue.reads
+    queue_reads =
+        joined_reads queued_reader joined_at (is_of (Text expert)) (seen_by w expert) each
+        (db.trees 11) (whole_rows office.queue laws.queue _ was).reads

@@ -1,11 +1,8 @@
 -- The queue of an expert, told by the rows that the query on it shows.
 use Rattle.std.proofs.Common.{◌≡◌, ℕ, Bool, true, false, ◌&&◌, cond, List, [], ◌∷◌, map, filter_map}
-use Rattle.std.proofs.Common.{refl, sym, ap, subst, ◌∙◌, IsPermutation}
+use Rattle.std.proofs.Common.{refl, sym, ap, ◌∙◌}
 use Rattle.std.proofs.Common.{Option, Some, None, option_and_then}
-use Rattle.std.proofs.lemmas.Simd.{map-map}
-use Rattle.std.proofs.lemmas.List.Sorted.{IsPermutation-sym}
 use Rattle.std.specs.List.{cons_option}
-use Rattle.std.specs.List.Sorted.{IsStrictlySortedBy}
 use Rattle.std.specs.FinMap.{find, get, get-from_entries}
 use Rattle.std.specs.Ordering.{eq_by_cmp}
 use Rattle.std.specs.Cmp.{eq_by_cmp_equiv}
@@ -22,18 +19,15 @@ use Rattle.reg_records.specs.declared.queued.QueuedRequest.{QueuedRequest}
 use Rattle.reg_tables.specs.Joining.{queued_rows}
 use Rattle.reg_tables.specs.Texts.{select_queued}
 use Rattle.reg_tables.proofs.JoinLemmas.{queued_selected}
+use Rattle.reg_tables.proofs.SelectLemmas.{office_begins}
 use Rattle.reg_statements.specs.Content.{IsStored, seat_at, world_in}
 use Rattle.reg_statements.specs.Loading.{IsAscending, ReadAs}
-use Rattle.reg_statements.specs.RowMaps.{AreAscending}
 use Rattle.reg_content.specs.Seats.{assigned_to, seen_row}
-use Rattle.reg_statements.proofs.Neighbours.{strict}
+use Rattle.reg_content.proofs.JoinedRows.{pairs_ascend, shown_at}
 use Rattle.reg_content.proofs.QueueRows.{by_seat}
-use Rattle.reg_content.proofs.QueuedRows.{joined_reads, queued_pair, queued_reader, seen_by}
-use Rattle.reg_statements.proofs.RowMaps.Ascending.{apart_from_ascending, entries_are}
-use Rattle.reg_statements.proofs.RowMaps.Entries.{find_permuted}
-use Rattle.reg_statements.proofs.RowMaps.Items.{read_pairs}
+use Rattle.reg_content.proofs.QueuedRows.{queue_reads, queued_pair, seen_by}
+use Rattle.reg_statements.proofs.RowMaps.Ascending.{entries_are}
 use Rattle.reg_statements.proofs.RowMaps.KeyTests.{pair_test, text_test}
-use Rattle.reg_statements.proofs.RowMaps.Lists.{IsPermutation-filter_map, filter_map-loaded}
 
 -- in the order of the names of requests
 abbrev pub are_queued : List QueuedRequest → Type 0
@@ -107,25 +101,6 @@ module _ (old new : State) (shown : List Row) (was : IsStored old.now) (expert :
   abbrev pairs : List (RequestName × Queued)
   pairs = map queued_pair values
 
-  abbrev joined : List (RequestName × Queued)
-  joined = filter_map queued_reader (queued_rows old.now.trees (Text expert))
-
-  ascending : AreAscending name_cmp pairs
-  ascending =
-      subst (IsStrictlySortedBy name_cmp)
-      (sym (map-map (λ (e : RequestName × Queued). e.0) queued_pair values))
-      (strict name_keys (λ value. (queued_pair value).0) values up)
-
-  -- what the query shows is what the tables have, in some order
-  moved : IsPermutation joined pairs
-  moved =
-      let tables = queued_rows old.now.trees (Text expert) in
-      let loaded = filter_map-loaded queued_reader shown pairs
-      (read_pairs name_keys queued_pair queued_in shown values reads) in
-      subst (IsPermutation joined) loaded
-      (IsPermutation-filter_map queued_reader tables shown
-      (queued_selected (Text expert) old new shown was.office.schema answer))
-
   -- each request that is found is in the queue, and so each that is in it
   each : (name : RequestName)
       → get (queue_of expert (world_in old)) name ≡ find name_cmp name pairs
@@ -135,13 +110,16 @@ module _ (old new : State) (shown : List Row) (was : IsStored old.now) (expert :
       by_seat w expert name
       ∙ ap (seen w expert name) (get-from_entries seat_keys.total seats (name, expert))
       ∙ sym (seats_show w expert name seats)
-      ∙ sym (ap (find name_cmp name) (joined_reads old.now was expert))
-      ∙ sym (find_permuted name_keys name pairs joined (IsPermutation-sym joined pairs moved)
-      (apart_from_ascending name_cmp pairs ascending))
+      ∙ sym (ap (find name_cmp name) (queue_reads old.now was expert))
+      ∙ shown_at name_keys queued_pair queued_in values up
+      (queued_rows old.now.trees (Text expert)) shown
+      (queued_selected (Text expert) old new shown (office_begins 8 was.office.schema) answer) reads
+      name
 
   -- the requests that are assigned to an expert, as the expert sees them
   pub queue_found : map seen_row values ≡ queue_rows (queue_of expert (world_in old))
   queue_found =
       seen_rows values
       ∙ sym (ap (map (λ (e : RequestName × Queued). queue_row e.0 e.1))
-      (entries_are name_keys (queue_of expert (world_in old)) pairs ascending each))
+      (entries_are name_keys (queue_of expert (world_in old)) pairs
+      (pairs_ascend name_keys queued_pair queued_in values up) each))

@@ -1,46 +1,29 @@
 -- The rows of one registry more, and of one range more.
-use Rattle.std.proofs.Common.{◌≡◌, ℕ, ◌<◌, List, [], ◌∷◌, true, false, cond, pos, Some, None}
+use Rattle.std.proofs.Common.{◌≡◌, ℕ, ◌<◌, List, [], ◌∷◌, true, false, cond, Some, None}
 use Rattle.std.proofs.Common.{Option, IsSome, option_map, filter_map, refl, sym, ap, subst}
 use Rattle.std.proofs.Common.{◌∙◌}
 use Rattle.std.specs.FinMap.{FinMap, get, insert, find, get-from_entries}
 use Rattle.std.specs.List.{AllByRecursion, cons_option}
 use Rattle.std.specs.Ordering.{eq_by_cmp}
-use Rattle.sqlite.specs.Cast.{cast_all}
 use Rattle.sqlite.specs.Effect.{Database}
 use Rattle.sqlite.specs.Order.{Row}
 use Rattle.reg_ranges.specs.declared.range.Range.{Range}
 use Rattle.reg_core.specs.Maps.{text_cmp, update}
 use Rattle.reg_core.specs.World.{Place, place_cmp}
 use Rattle.reg_core.proofs.MapLaws.{get-at_insert, place_keys, text_keys, tied}
-use Rattle.reg_records.specs.Ranges.{is_registry_range, range_in, range_values}
-use Rattle.reg_records.specs.Registries.{is_registry, registry_values}
+use Rattle.reg_records.specs.Ranges.{range_in}
 use Rattle.reg_records.specs.declared.ranges.RegistryRange.{RegistryRange}
 use Rattle.reg_records.specs.declared.registries.Registry.{Registry}
-use Rattle.reg_records.proofs.RangeLaws.{range_back}
-use Rattle.reg_records.proofs.RegistryLaws.{registry_back}
-use Rattle.reg_tables.specs.Editing.{IsOffice}
-use Rattle.reg_tables.specs.Inserting.{AddedRow}
-use Rattle.reg_tables.specs.Schema.{ranges_table, registries_table}
+use Rattle.reg_tables.specs.Schema.{ranges_table}
 use Rattle.reg_tables.specs.Selecting.{stored}
-use Rattle.reg_tables.proofs.InsertLemmas.{cast_int}
-use Rattle.reg_statements.specs.Content.{IsStored, content_of, max_at, maxes_in, range_at, ranges_in}
-use Rattle.reg_statements.specs.Content.{registry_table}
+use Rattle.reg_statements.specs.Content.{IsStored, assembled, content_of, parts_of}
+use Rattle.reg_statements.specs.Content.{range_at, registry_table}
+use Rattle.reg_statements.specs.Defined.{IsFree, KeepsTies, with_row}
 use Rattle.reg_content.specs.Registries.{CanFollow, with_range}
 use Rattle.reg_statements.specs.RowMaps.{held_in}
-use Rattle.reg_statements.specs.Tables.{tables_in}
 use Rattle.reg_statements.proofs.RegistryRows.{ranges-at, registry-at}
 use Rattle.reg_content.proofs.RegistryRowsMaps.{AreAtFirst, place_free, range_more, registry_more}
-use Rattle.reg_content.proofs.RegistryRowsTurning.{ranges_turn, registries_turn}
-use Rattle.reg_statements.proofs.RowMaps.Tables.{added}
-
--- what is written for a registry is stored as it is
-pub registry_cast : (r : Registry)
-    → cast_all registries_table.columns (registry_values r) ≡ registry_values r
-registry_cast r = rw (cast_int (pos r.max)) refl
-
-pub range_cast : (r : RegistryRange)
-    → cast_all ranges_table.columns (range_values r) ≡ range_values r
-range_cast r = rw (cast_int (pos r.range.lo), cast_int (pos r.range.hi)) refl
+use Rattle.reg_statements.specs.Office as office
 
 no_more : {X Y : Type 0} (f : X → Y) (r : Option X) → option_map f r ≡ None → r ≡ None
 no_more f None none = refl
@@ -58,28 +41,24 @@ still_there largest name max q there =
     (elim (eq_by_cmp text_cmp q name) as (λ b. IsSome (cond b (Some max) (get largest q)))
     [ true ↦ refl | false ↦ there ])
 
-pub registry_added : (old new : Database) (r : Registry) → is_registry r ≡ true → IsStored old
-    → get (content_of old).registries r.name ≡ None → IsOffice new
-    → AddedRow registries_table.tree (registry_values r) old new
-    → IsStored new × (content_of new ≡ record (content_of old) {
-      registries = insert (content_of old).registries r.name
+-- one registry more
+pub registry_added : (r : Registry) (db : Database) → IsStored db
+    → get (content_of db).registries r.name ≡ None
+    → (IsFree office.registries r (parts_of db)
+    × KeepsTies (with_row office.registries r) (parts_of db))
+    × (assembled (with_row office.registries r (parts_of db)) ≡ record (content_of db) {
+      registries = insert (content_of db).registries r.name
           (record { max = r.max; ranges = [] });
     })
-unfolding max_at
-registry_added old new r form was none office row =
-    let reads : max_at (row.id ∷ registry_values r) ≡ Some (r.name, r.max) =
-    ap (option_map (λ r. (r.name, r.max))) (registry_back r form) in
-    let largest = maxes_in (tables_in old.trees) in
-    let m = ranges_in (tables_in old.trees) in
+registry_added r db was none =
+    let largest = (parts_of db).maxes in
+    let m = (parts_of db).ranges in
     let absent : get largest r.name ≡ None =
     no_more (registry_table m r.name) (get largest r.name)
-    (sym (registry-at largest m r.name) ∙ none) in
-    let turned = registries_turn old new was office (insert largest r.name r.max) row.others
-    (added text_keys was.kept.registries reads absent row.rows)
-    (still_there largest r.name r.max) in (
-      turned.0,
-      turned.1 ∙ ap (λ registries. record (content_of old) { registries = registries })
-          (registry_more largest m r.name r.max absent was.kept.owned),
+    (sym (registry-at largest m r.name) ∙ none) in (
+      (absent, λ tied place there. still_there largest r.name r.max place.0 (tied place there)),
+      ap (λ registries. record (content_of db) { registries = registries })
+          (registry_more largest m r.name r.max absent was.kept.tied),
     )
 
 -- ---- Ranges
@@ -112,31 +91,24 @@ at_first rows place x is =
     first_found place x rows
     (sym (get-from_entries place_keys.total (filter_map range_at rows) place) ∙ is)
 
-pub range_added : (old new : Database) (r : RegistryRange) → is_registry_range r ≡ true
-    → IsStored old → CanFollow (content_of old).registries r.registry r.range → IsOffice new
-    → AddedRow ranges_table.tree (range_values r) old new
-    → IsStored new × (content_of new ≡ record (content_of old) {
-      registries = update (content_of old).registries r.registry (with_range r.range);
+one_range : (r : RegistryRange) (db : Database) → IsStored db
+    → CanFollow (content_of db).registries r.registry r.range
+    → (IsFree office.ranges r (parts_of db) × KeepsTies (with_row office.ranges r) (parts_of db))
+    × (assembled (with_row office.ranges r (parts_of db)) ≡ record (content_of db) {
+      registries = update (content_of db).registries r.registry (with_range r.range);
     })
-unfolding range_at
-range_added old new r form was follows office row =
+one_range r db was follows =
     let place : Place = (r.registry, r.range.lo) in
-    let reads : range_at (row.id ∷ range_values r) ≡ Some (place, r.range) =
-    ap (option_map (λ r. ((r.registry, r.range.lo), r.range))) (range_back r form) in
-    let largest = maxes_in (tables_in old.trees) in
-    let m = ranges_in (tables_in old.trees) in
-    let first = at_first (old.trees ranges_table.tree) in
+    let largest = (parts_of db).maxes in
+    let m = (parts_of db).ranges in
+    let first = at_first (db.trees ranges_table.tree) in
     let low = subst (λ rs. AllByRecursion (λ x. x.lo < r.range.lo) rs)
     (sym (ranges-at largest m r.registry follows.0 follows.1)) follows.2 in
-    let free = place_free m r.registry r.range first low in
     let there : IsSome (get largest r.registry) =
     some_of (registry_table m r.registry) (get largest r.registry) follows.0
-    (sym (registry-at largest m r.registry) ∙ follows.1) in
-    let turned = ranges_turn old new was office (insert m place r.range) row.others
-    (added place_keys was.kept.ranges reads free row.rows)
-    (owned m largest place r.range there was.kept.owned) in (
-      turned.0,
-      turned.1 ∙ ap (λ registries. record (content_of old) { registries = registries })
+    (sym (registry-at largest m r.registry) ∙ follows.1) in (
+      (place_free m r.registry r.range first low, owned m largest place r.range there),
+      ap (λ registries. record (content_of db) { registries = registries })
           (range_more m r.registry r.range first low largest),
     )
   where
@@ -152,3 +124,19 @@ range_added old new r form was follows office row =
               there
           | false ↦ λ t is. all p is
         ] refl (subst IsSome (get-at_insert place_keys m place x p) is)
+
+-- one range more of a registry, which is this one
+pub range_added : (r : RegistryRange) (range : Range) → r.range ≡ range → (db : Database)
+    → IsStored db → CanFollow (content_of db).registries r.registry range
+    → (IsFree office.ranges r (parts_of db) × KeepsTies (with_row office.ranges r) (parts_of db))
+    × (assembled (with_row office.ranges r (parts_of db)) ≡ record (content_of db) {
+      registries = update (content_of db).registries r.registry (with_range range);
+    })
+range_added r range same db was follows =
+    let it = one_range r db was
+    (subst (λ x. CanFollow (content_of db).registries r.registry x) (sym same) follows) in (
+      it.0,
+      it.1 ∙ ap (λ (x : Range). record (content_of db) {
+        registries = update (content_of db).registries r.registry (with_range x);
+      }) same,
+    )

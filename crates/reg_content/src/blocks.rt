@@ -13,6 +13,7 @@ ghost use Rattle.reg_core.specs.World.{World};
 ghost use Rattle.reg_records.specs.Blocks.{is_holding};
 ghost use Rattle.reg_content.specs.Calls.{IsKeeping, Looks, Steps};
 
+use crate::kept::{add, change, find, list};
 use reg_blocks::block::Block;
 use reg_core::holding::{Holding, Listed};
 use reg_core::rows::Rows;
@@ -21,8 +22,9 @@ use reg_keeper::keeper::Fault;
 use reg_ranges::formed::Formed;
 use reg_records::blocks::holding_values;
 use reg_records::column::{flag_value, name_value, whole_value};
-use reg_statements::select::{all, one};
-use reg_statements::write::write;
+use reg_tables::texts::{
+    CHANGE_BLOCK, INSERT_BLOCKS, SELECT_BLOCK, SELECT_BLOCKS, SELECT_BLOCKS_OF,
+};
 use sqlite::{Alter, Connection, Transaction};
 use std::alloc::{AllocError, Global};
 
@@ -32,12 +34,7 @@ pub fn blocks<S: Alter>(alloc: Global, conn: &mut Connection<S>) -> Result<Rows<
     ensures { Looks (state S.Store conn.old) (state S.Store conn.new) result
         (λ w rows. rows ≡ listed_rows (masked_blocks w.blocks)) }
 {
-    let holdings = all::<S, Holding>(
-        alloc,
-        conn,
-        "SELECT first, size, holder, organization, address, private FROM blocks ORDER BY first",
-        &[],
-    )?;
+    let holdings = list::<S, Holding>(alloc, conn, SELECT_BLOCKS, &[])?;
     Ok(listed_all(alloc, holdings)?)
 }
 
@@ -51,13 +48,7 @@ pub fn holdings<S: Alter>(
     ensures { Looks (state S.Store conn.old) (state S.Store conn.new) result
         (λ w rows. rows ≡ holding_rows (holdings_of account.now w)) }
 {
-    let holdings = all::<S, Holding>(
-        alloc,
-        conn,
-        "SELECT first, size, holder, organization, address, private FROM blocks \
-         WHERE holder = ?1 ORDER BY first",
-        &[name_value(account)],
-    )?;
+    let holdings = list::<S, Holding>(alloc, conn, SELECT_BLOCKS_OF, &[name_value(account)])?;
     Ok(Rows::from_vec(holdings))
 }
 
@@ -73,13 +64,7 @@ pub fn holding<S: Alter>(
         (λ w row. row ≡ option_map (holding_row block.now)
         (get (holdings_of account.now w) block.now)) }
 {
-    let found = one::<S, Holding>(
-        alloc,
-        conn,
-        "SELECT first, size, holder, organization, address, private FROM blocks \
-         WHERE first = ?1",
-        &[whole_value(block.first())],
-    )?;
+    let found = find::<S, Holding>(alloc, conn, SELECT_BLOCK, &[whole_value(block.first())])?;
     Ok(if_of(found, account, block))
 }
 
@@ -93,13 +78,7 @@ pub fn add_block<S: Alter>(tx: &mut Transaction<'_, S>, holding: &Holding) -> Re
         }) }
 {
     formed(holding);
-    write(
-        tx,
-        "INSERT INTO blocks (first, size, holder, organization, address, private) \
-         VALUES (?1, ?2, ?3, ?4, ?5, ?6)",
-        &holding_values(holding),
-    )?;
-    Ok(())
+    add::<S, Holding>(tx, INSERT_BLOCKS, &holding_values(holding))
 }
 
 /// Marks a block that was given as private or not. No other block shares an address with it.
@@ -115,12 +94,11 @@ pub fn set_mark<S: Alter>(
         → other ≡ block.now))
         (λ (w : World). record w { blocks = update w.blocks block.now (with_mark private) }) }
 {
-    write(
+    change::<S, Holding>(
         tx,
-        "UPDATE blocks SET private = ?2 WHERE first = ?1",
+        CHANGE_BLOCK,
         &[whole_value(block.first()), flag_value(private)],
-    )?;
-    Ok(())
+    )
 }
 
 /// Does nothing: the parts of a holding have their forms.

@@ -5,14 +5,14 @@ ghost use Rattle.sqlite.specs.Held.{state};
 ghost use Rattle.reg_core.specs.World.{World};
 ghost use Rattle.reg_content.specs.Calls.{IsKeeping, Looks, Steps};
 
+use crate::kept::{add, find, take};
 use reg_core::capability::Cap;
 use reg_core::text::Digest;
 use reg_keeper::keeper::Fault;
 use reg_ranges::formed::Formed;
 use reg_records::caps::Grant;
 use reg_records::column::name_value;
-use reg_statements::select::one;
-use reg_statements::write::write;
+use reg_tables::texts::{DELETE_CAP, INSERT_CAPS, SELECT_CAP};
 use sqlite::{Alter, Connection, Transaction};
 use std::alloc::Global;
 
@@ -26,12 +26,7 @@ pub fn cap<S: Alter>(
     ensures { Looks (state S.Store conn.old) (state S.Store conn.new) result
         (λ w cap. cap ≡ get w.caps digest.now) }
 {
-    let grant = one::<S, Grant>(
-        alloc,
-        conn,
-        "SELECT digest, account, kind, until FROM caps WHERE digest = ?1",
-        &[name_value(digest)],
-    )?;
+    let grant = find::<S, Grant>(alloc, conn, SELECT_CAP, &[name_value(digest)])?;
     Ok(grant.map(|grant| grant.cap))
 }
 
@@ -51,12 +46,7 @@ pub fn add_cap<S: Alter>(
         cap: *cap,
     };
     grant.formed();
-    write(
-        tx,
-        "INSERT INTO caps (digest, account, kind, until) VALUES (?1, ?2, ?3, ?4)",
-        &grant.values(),
-    )?;
-    Ok(())
+    add::<S, Grant>(tx, INSERT_CAPS, &grant.values())
 }
 
 /// Takes the capability at a digest away, if there is one.
@@ -66,10 +56,5 @@ pub fn take_cap<S: Alter>(tx: &mut Transaction<'_, S>, digest: &Digest) -> Resul
         (λ (w : World). Unit {0})
         (λ (w : World). record w { caps = remove w.caps digest.now }) }
 {
-    write(
-        tx,
-        "DELETE FROM caps WHERE digest = ?1",
-        &[name_value(digest)],
-    )?;
-    Ok(())
+    take::<S, Grant>(tx, DELETE_CAP, &[name_value(digest)])
 }

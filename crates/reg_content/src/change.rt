@@ -4,14 +4,13 @@ ghost use Rattle.sqlite.specs.Held.{state};
 ghost use Rattle.reg_core.specs.WellKept.{WellKept, CanApply};
 ghost use Rattle.reg_core.specs.World.{World, applied};
 ghost use Rattle.reg_tables.specs.Connection.{Holds};
-ghost use Rattle.reg_content.specs.Calls.{Alters, IsKeeping, Looks, Steps};
-ghost use Rattle.reg_content.specs.Changing.{Fits, is_replaced};
+ghost use Rattle.reg_content.specs.Calls.{Alters, IsKeeping, Steps};
+ghost use Rattle.reg_content.specs.Changing.{Fits};
 ghost use Rattle.reg_statements.specs.Content.{world_in};
 
-use crate::advice::{add_advice, advice, change_advice};
+use crate::advice::put_advice;
 use crate::blocks::set_mark;
 use crate::caps::{add_cap, take_cap};
-use crate::entries::entry;
 use crate::give::{give_block, give_value, submit};
 use crate::pool::add_prefix;
 use crate::queue::add_seat;
@@ -37,64 +36,19 @@ pub fn apply<S: Alter>(
     ensures { Alters (state S.Store conn.old) (state S.Store conn.new) result
         (λ w. applied w change.now) }
 {
-    let replaces = replaces(alloc, conn, change)?;
-    transact(alloc, conn, change, replaces)
-}
-
-/// Makes a change in a transaction, where it is known whether something is replaced.
-fn transact<S: Alter>(
-    alloc: Global,
-    conn: &mut Connection<S>,
-    change: &Change,
-    replaces: bool,
-) -> Result<(), Fault>
-    requires keeping { IsKeeping (state S.Store conn.old) }
-    requires fits { Holds (state S.Store conn.old)
-        → Fits change.now replaces (world_in (state S.Store conn.old)) }
-    ensures { Alters (state S.Store conn.old) (state S.Store conn.new) result
-        (λ w. applied w change.now) }
-{
     let mut tx = conn.transaction();
-    make(alloc, &mut tx, change, replaces)?;
+    make(alloc, &mut tx, change)?;
     match tx.commit() {
         Ok(()) => Ok(()),
         Err(error) => Err(fault(&error)),
     }
 }
 
-/// Whether an advice or an entry that a change gives stands in the place of another.
-fn replaces<S: Alter>(
-    alloc: Global,
-    conn: &mut Connection<S>,
-    change: &Change,
-) -> Result<bool, Fault>
-    requires { IsKeeping (state S.Store conn.old) }
-    ensures { Looks (state S.Store conn.old) (state S.Store conn.new) result
-        (λ w replaces. replaces ≡ is_replaced w change.now) }
-{
-    match change {
-        Change::Advise(account, reference, expert, _) => {
-            let there = advice(alloc, conn, account, reference, expert)?;
-            Ok(there.is_some())
-        }
-        Change::GiveValue(_, _, given) => {
-            let there = entry(alloc, conn, &given.registry, given.value)?;
-            Ok(there.is_some())
-        }
-        _ => Ok(false),
-    }
-}
-
 /// Makes a change to what a transaction sees.
-fn make<S: Alter>(
-    alloc: Global,
-    tx: &mut Transaction<'_, S>,
-    change: &Change,
-    replaces: bool,
-) -> Result<(), Fault>
+fn make<S: Alter>(alloc: Global, tx: &mut Transaction<'_, S>, change: &Change) -> Result<(), Fault>
     ensures same_reference { tx.new.conn.ghost_name ≡ tx.old.conn.ghost_name }
     ensures steps { Steps (state S.Store tx.old.conn.now) (state S.Store tx.new.conn.now) result
-        (Fits change.now replaces) (λ (w : World). applied w change.now) }
+        (Fits change.now) (λ (w : World). applied w change.now) }
 {
     match change {
         Change::Grant(digest, cap) => add_cap(tx, digest, cap),
@@ -107,14 +61,10 @@ fn make<S: Alter>(
         }
         Change::Assign(account, reference, expert) => add_seat(tx, account, reference, expert),
         Change::Advise(account, reference, expert, advice) => {
-            if replaces {
-                change_advice(tx, account, reference, expert, advice)
-            } else {
-                add_advice(tx, account, reference, expert, advice)
-            }
+            put_advice(tx, account, reference, expert, advice)
         }
         Change::GiveValue(account, reference, entry) => {
-            give_value(alloc, tx, account, reference, entry, replaces)
+            give_value(alloc, tx, account, reference, entry)
         }
         Change::GiveBlock(account, reference, holding) => {
             give_block(alloc, tx, account, reference, holding)

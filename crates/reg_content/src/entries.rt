@@ -1,5 +1,5 @@
 //! Entries in their table.
-ghost use Rattle.std.specs.Prelude.{◌≡◌, true, None, IfOk, IsSome, IsTrue, map, option_map};
+ghost use Rattle.std.specs.Prelude.{◌≡◌, true, IfOk, IsTrue, map, option_map};
 ghost use Rattle.std.specs.FinMap.{get, insert};
 ghost use Rattle.std.specs.List.Sorted.{IsStrictlyIncreasing};
 ghost use Rattle.sqlite.specs.Held.{state};
@@ -14,6 +14,7 @@ ghost use Rattle.reg_content.specs.Calls.{IsKeeping, Looks, Steps};
 ghost use Rattle.reg_statements.specs.Content.{registration_at};
 ghost use Rattle.reg_statements.specs.RowMaps.{IsTable, held_in};
 
+use crate::kept::{find, list, put};
 use reg_core::entry::Entry;
 use reg_core::rows::Rows;
 use reg_core::text::Name;
@@ -21,8 +22,8 @@ use reg_keeper::keeper::Fault;
 use reg_ranges::formed::Formed;
 use reg_records::column::{name_value, number_value};
 use reg_records::entries::entry_values;
-use reg_statements::select::{all, one};
-use reg_statements::write::write;
+use reg_statements::select::all;
+use reg_tables::texts::{PUT_ENTRY, SELECT_ENTRIES, SELECT_ENTRIES_OF, SELECT_ENTRY};
 use sqlite::{Alter, Connection, Transaction};
 use std::alloc::Global;
 
@@ -38,11 +39,10 @@ pub fn entry<S: Alter>(
         (λ w entry. entry ≡
         option_map (entry_row registry.now value) (get w.entries (registry.now, value))) }
 {
-    one::<S, Entry>(
+    find::<S, Entry>(
         alloc,
         conn,
-        "SELECT registry, value, label, assignee, first, expires, renewed FROM entries \
-         WHERE registry = ?1 AND value = ?2",
+        SELECT_ENTRY,
         &[name_value(registry), number_value(value)],
     )
 }
@@ -59,13 +59,7 @@ pub fn entries<S: Alter>(
     ensures ascending { IfOk result
         (λ entries. IsStrictlyIncreasing (map (λ e. e.value) entries)) }
 {
-    let rows = all::<S, Entry>(
-        alloc,
-        conn,
-        "SELECT registry, value, label, assignee, first, expires, renewed FROM entries \
-         WHERE registry = ?1 ORDER BY value",
-        &[name_value(registry)],
-    )?;
+    let rows = list::<S, Entry>(alloc, conn, SELECT_ENTRIES_OF, &[name_value(registry)])?;
     if values_ascend(rows.as_slice()) {
         Ok(Rows::from_vec(rows))
     } else {
@@ -86,53 +80,22 @@ pub fn all_entries<S: Alter>(alloc: Global, conn: &mut Connection<S>) -> Result<
         rows.items ≡ entry_rows (held_in registration_at
         ((state S.Store conn.old).now.trees entries_table.tree))) }
 {
-    all(
-        alloc,
-        conn,
-        "SELECT registry, value, label, assignee, first, expires, renewed FROM entries \
-         ORDER BY registry, value",
-        &[],
-    )
+    all(alloc, conn, SELECT_ENTRIES, &[])
 }
 
-/// Adds an entry at a value of a registry that has none.
-pub fn add_entry<S: Alter>(tx: &mut Transaction<'_, S>, entry: &Entry) -> Result<(), Fault>
+/// Puts an entry in the place of the one at its value of its registry, or adds it where there is
+/// none.
+pub fn put_entry<S: Alter>(tx: &mut Transaction<'_, S>, entry: &Entry) -> Result<(), Fault>
     ensures same_reference { tx.new.conn.ghost_name ≡ tx.old.conn.ghost_name }
     ensures steps { Steps (state S.Store tx.old.conn.now) (state S.Store tx.new.conn.now) result
-        (λ (w : World). get w.entries (entry.now.registry, entry.now.value) ≡ None)
+        (λ (w : World). Unit {0})
         (λ (w : World). record w {
           entries = insert w.entries (entry.now.registry, entry.now.value)
               (registration_in entry.now);
         }) }
 {
     formed(entry);
-    write(
-        tx,
-        "INSERT INTO entries (registry, value, label, assignee, first, expires, renewed) \
-         VALUES (?1, ?2, ?3, ?4, ?5, ?6, ?7)",
-        &entry_values(entry),
-    )?;
-    Ok(())
-}
-
-/// Changes the entry at a value of a registry to this one.
-pub fn change_entry<S: Alter>(tx: &mut Transaction<'_, S>, entry: &Entry) -> Result<(), Fault>
-    ensures same_reference { tx.new.conn.ghost_name ≡ tx.old.conn.ghost_name }
-    ensures steps { Steps (state S.Store tx.old.conn.now) (state S.Store tx.new.conn.now) result
-        (λ (w : World). IsSome (get w.entries (entry.now.registry, entry.now.value)))
-        (λ (w : World). record w {
-          entries = insert w.entries (entry.now.registry, entry.now.value)
-              (registration_in entry.now);
-        }) }
-{
-    formed(entry);
-    write(
-        tx,
-        "UPDATE entries SET label = ?3, assignee = ?4, first = ?5, expires = ?6, renewed = ?7 WHERE \
-         registry = ?1 AND value = ?2",
-        &entry_values(entry),
-    )?;
-    Ok(())
+    put::<S, Entry>(tx, PUT_ENTRY, &entry_values(entry))
 }
 
 /// Whether each entry has a greater value than the one before it.

@@ -1,6 +1,6 @@
 //! Changes that write more than one row.
 ghost use Rattle.std.specs.Prelude.{◌≡◌, true, None, Some};
-ghost use Rattle.std.specs.FinMap.{contains_key, get, insert};
+ghost use Rattle.std.specs.FinMap.{get, insert};
 ghost use Rattle.sqlite.specs.Held.{state};
 ghost use Rattle.reg_core.specs.Entry.{registration_in};
 ghost use Rattle.reg_core.specs.Holding.{holder_in};
@@ -12,7 +12,7 @@ ghost use Rattle.reg_records.specs.Requests.Forms.{gives_its_kind};
 ghost use Rattle.reg_content.specs.Calls.{Steps};
 
 use crate::blocks::add_block;
-use crate::entries::{add_entry, change_entry};
+use crate::entries::put_entry;
 use crate::requests::{add_request, set_state};
 use reg_core::ask::Ask;
 use reg_core::entry::Entry;
@@ -55,14 +55,12 @@ pub fn give_value<S: Alter>(
     account: &Account,
     reference: &Ref,
     entry: &Entry,
-    replaces: bool,
 ) -> Result<(), Fault>
     ensures same_reference { tx.new.conn.ghost_name ≡ tx.old.conn.ghost_name }
     ensures steps { Steps (state S.Store tx.old.conn.now) (state S.Store tx.new.conn.now) result
-        (λ (w : World). ((case : Case)
+        (λ (w : World). (case : Case)
         × (get w.requests (account.now, reference.now) ≡ Some case)
         × (gives_its_kind case.ask (Approved (given.Value entry.now.value)) ≡ true))
-        × (replaces ≡ contains_key w.entries (entry.now.registry, entry.now.value)))
         (λ (w : World). record (with_state w (account.now, reference.now)
         (Approved (given.Value entry.now.value))) {
           entries = insert w.entries (entry.now.registry, entry.now.value)
@@ -70,11 +68,7 @@ pub fn give_value<S: Alter>(
         }) }
 {
     set_state(alloc, tx, account, reference, &entry.approval())?;
-    if replaces {
-        change_entry(tx, entry)?;
-    } else {
-        add_entry(tx, entry)?;
-    }
+    put_entry(tx, entry)?;
     Ok(())
 }
 

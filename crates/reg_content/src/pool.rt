@@ -8,13 +8,13 @@ ghost use Rattle.reg_core.specs.World.{World};
 ghost use Rattle.reg_content.specs.Calls.{IsKeeping, Looks, Steps};
 ghost use Rattle.reg_statements.specs.Loading.{IsAscending};
 
+use crate::kept::{add, find, list};
 use reg_blocks::pool::{Add, Pool};
 use reg_keeper::keeper::Fault;
 use reg_ranges::formed::Formed;
 use reg_records::column::number_value;
 use reg_records::pool::Prefix;
-use reg_statements::select::{all, one};
-use reg_statements::write::write;
+use reg_tables::texts::{INSERT_POOL, SELECT_POOL, SELECT_PREFIX};
 use sqlite::{Alter, Connection, Transaction};
 use std::alloc::Global;
 
@@ -24,7 +24,7 @@ pub fn pool<S: Alter>(alloc: Global, conn: &mut Connection<S>) -> Result<Pool, F
     ensures { Looks (state S.Store conn.old) (state S.Store conn.new) result
         (λ w pool. pool ≡ keys w.pool) }
 {
-    let prefixes = all::<S, Prefix>(alloc, conn, "SELECT prefix FROM pool ORDER BY prefix", &[])?;
+    let prefixes = list::<S, Prefix>(alloc, conn, SELECT_POOL, &[])?;
     pool_of(alloc, prefixes.as_slice())
 }
 
@@ -38,12 +38,7 @@ pub fn is_pooled<S: Alter>(
     ensures { Looks (state S.Store conn.old) (state S.Store conn.new) result
         (λ w pooled. pooled ≡ contains_key w.pool prefix) }
 {
-    let found = one::<S, Prefix>(
-        alloc,
-        conn,
-        "SELECT prefix FROM pool WHERE prefix = ?1",
-        &[number_value(prefix)],
-    )?;
+    let found = find::<S, Prefix>(alloc, conn, SELECT_PREFIX, &[number_value(prefix)])?;
     Ok(found.is_some())
 }
 
@@ -56,12 +51,7 @@ pub fn add_prefix<S: Alter>(tx: &mut Transaction<'_, S>, prefix: u32) -> Result<
 {
     let prefix = Prefix::new(prefix);
     prefix.formed();
-    write(
-        tx,
-        "INSERT INTO pool (prefix) VALUES (?1)",
-        &prefix.values(),
-    )?;
-    Ok(())
+    add::<S, Prefix>(tx, INSERT_POOL, &prefix.values())
 }
 
 /// The pool with these prefixes. One that may not be in a pool is a fault of the store.

@@ -1,21 +1,19 @@
 //! Seats of experts in the table of the queue.
-ghost use Rattle.std.specs.Prelude.{◌≡◌, false, IfOk, map};
+ghost use Rattle.std.specs.Prelude.{◌≡◌, false};
 ghost use Rattle.std.specs.FinMap.{contains_key, insert};
 ghost use Rattle.sqlite.specs.Held.{state};
-ghost use Rattle.reg_core.specs.File.{experts_of};
 ghost use Rattle.reg_core.specs.World.{World};
 ghost use Rattle.reg_content.specs.Calls.{IsKeeping, Looks, Steps};
 
-use reg_core::rows::Rows;
+use crate::kept::{add, find};
 use reg_core::text::{Account, Ref};
 use reg_keeper::keeper::Fault;
 use reg_ranges::formed::Formed;
 use reg_records::column::name_value;
 use reg_records::queue::Seat;
-use reg_statements::select::{all, one};
-use reg_statements::write::write;
+use reg_tables::texts::{INSERT_QUEUE, SELECT_QUEUE_ROW};
 use sqlite::{Alter, Connection, Transaction};
-use std::alloc::{AllocError, Global};
+use std::alloc::Global;
 
 /// Whether a request is assigned to an expert.
 pub fn is_queued<S: Alter>(
@@ -30,11 +28,10 @@ pub fn is_queued<S: Alter>(
         (λ w queued. queued ≡
         contains_key w.queue ((account.now, reference.now), expert.now)) }
 {
-    let seat = one::<S, Seat>(
+    let seat = find::<S, Seat>(
         alloc,
         conn,
-        "SELECT account, reference, expert FROM queue \
-         WHERE account = ?1 AND reference = ?2 AND expert = ?3",
+        SELECT_QUEUE_ROW,
         &[
             name_value(account),
             name_value(reference),
@@ -42,27 +39,6 @@ pub fn is_queued<S: Alter>(
         ],
     )?;
     Ok(seat.is_some())
-}
-
-/// The experts to whom a request is assigned, in order.
-pub fn experts<S: Alter>(
-    alloc: Global,
-    conn: &mut Connection<S>,
-    account: &Account,
-    reference: &Ref,
-) -> Result<Rows<Account>, Fault>
-    requires { IsKeeping (state S.Store conn.old) }
-    ensures { Looks (state S.Store conn.old) (state S.Store conn.new) result
-        (λ w experts. experts ≡ experts_of w (account.now, reference.now)) }
-{
-    let seats = all::<S, Seat>(
-        alloc,
-        conn,
-        "SELECT account, reference, expert FROM queue \
-         WHERE account = ?1 AND reference = ?2 ORDER BY expert",
-        &[name_value(account), name_value(reference)],
-    )?;
-    Ok(Rows::from_vec(experts_at(alloc, seats.as_slice())?))
 }
 
 /// Assigns a request to an expert to whom it is not assigned.
@@ -86,21 +62,5 @@ pub fn add_seat<S: Alter>(
         expert: *expert,
     };
     seat.formed();
-    write(
-        tx,
-        "INSERT INTO queue (account, reference, expert) VALUES (?1, ?2, ?3)",
-        &seat.values(),
-    )?;
-    Ok(())
-}
-
-/// The experts of seats.
-fn experts_at(alloc: Global, seats: &[Seat]) -> Result<Vec<Account>, AllocError>
-    ensures { IfOk result (λ experts. experts.items ≡ map (λ s. s.expert) seats.now) }
-{
-    let mut experts = Vec::new(alloc);
-    for seat in seats {
-        experts.push(seat.expert)?;
-    }
-    Ok(experts)
+    add::<S, Seat>(tx, INSERT_QUEUE, &seat.values())
 }

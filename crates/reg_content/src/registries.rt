@@ -8,6 +8,7 @@ ghost use Rattle.reg_core.specs.World.{World};
 ghost use Rattle.reg_content.specs.Calls.{IsKeeping, Looks, Steps};
 ghost use Rattle.reg_content.specs.Registries.{CanFollow, with_range};
 
+use crate::kept::{add, find, list};
 use reg_core::rows::Rows;
 use reg_core::text::Name;
 use reg_keeper::keeper::Fault;
@@ -17,8 +18,9 @@ use reg_ranges::table::RangeTable;
 use reg_records::column::name_value;
 use reg_records::ranges::RegistryRange;
 use reg_records::registries::Registry;
-use reg_statements::select::{all, one};
-use reg_statements::write::write;
+use reg_tables::texts::{
+    INSERT_RANGES, INSERT_REGISTRIES, SELECT_RANGES_OF, SELECT_REGISTRIES, SELECT_REGISTRY,
+};
 use sqlite::{Alter, Connection, Transaction};
 use std::alloc::{AllocError, Global};
 
@@ -28,12 +30,7 @@ pub fn names<S: Alter>(alloc: Global, conn: &mut Connection<S>) -> Result<Rows<N
     ensures { Looks (state S.Store conn.old) (state S.Store conn.new) result
         (λ w names. names ≡ keys w.registries) }
 {
-    let registries = all::<S, Registry>(
-        alloc,
-        conn,
-        "SELECT name, max FROM registries ORDER BY name",
-        &[],
-    )?;
+    let registries = list::<S, Registry>(alloc, conn, SELECT_REGISTRIES, &[])?;
     Ok(Rows::from_vec(names_of(alloc, registries.as_slice())?))
 }
 
@@ -88,12 +85,7 @@ fn add_name<S: Alter>(tx: &mut Transaction<'_, S>, name: &Name, max: u32) -> Res
 {
     let registry = Registry { name: *name, max };
     registry.formed();
-    write(
-        tx,
-        "INSERT INTO registries (name, max) VALUES (?1, ?2)",
-        &registry.values(),
-    )?;
-    Ok(())
+    add::<S, Registry>(tx, INSERT_REGISTRIES, &registry.values())
 }
 
 /// Adds a range to a registry whose ranges all begin below it.
@@ -110,12 +102,7 @@ fn add_range<S: Alter>(tx: &mut Transaction<'_, S>, name: &Name, range: &Range) 
         range: range.copy()?,
     };
     row.formed();
-    write(
-        tx,
-        "INSERT INTO ranges (registry, lo, hi, treatment, note) VALUES (?1, ?2, ?3, ?4, ?5)",
-        &row.values(),
-    )?;
-    Ok(())
+    add::<S, RegistryRange>(tx, INSERT_RANGES, &row.values())
 }
 
 /// The largest value of a registry.
@@ -124,12 +111,7 @@ fn max<S: Alter>(alloc: Global, conn: &mut Connection<S>, name: &Name) -> Result
     ensures { Looks (state S.Store conn.old) (state S.Store conn.new) result
         (λ w max. max ≡ option_map (λ (t : Table). t.max) (get w.registries name.now)) }
 {
-    let registry = one::<S, Registry>(
-        alloc,
-        conn,
-        "SELECT name, max FROM registries WHERE name = ?1",
-        &[name_value(name)],
-    )?;
+    let registry = find::<S, Registry>(alloc, conn, SELECT_REGISTRY, &[name_value(name)])?;
     Ok(registry.map(|registry| registry.max))
 }
 
@@ -144,12 +126,7 @@ fn ranges_of<S: Alter>(
         (λ w ranges. (t : Table) → get w.registries name.now ≡ Some t
         → ranges.items ≡ t.ranges) }
 {
-    let rows = all::<S, RegistryRange>(
-        alloc,
-        conn,
-        "SELECT registry, lo, hi, treatment, note FROM ranges WHERE registry = ?1 ORDER BY lo",
-        &[name_value(name)],
-    )?;
+    let rows = list::<S, RegistryRange>(alloc, conn, SELECT_RANGES_OF, &[name_value(name)])?;
     Ok(without_registry(alloc, rows)?)
 }
 

@@ -15,6 +15,7 @@ ghost use Rattle.reg_records.specs.Requests.Forms.{gives_its_kind};
 ghost use Rattle.reg_records.specs.Requests.Values.{given_text, state_values};
 ghost use Rattle.reg_content.specs.Calls.{IsKeeping, Looks, Steps};
 
+use crate::kept::{add, change, find, list};
 use reg_core::request::{Request, State};
 use reg_core::rows::Rows;
 use reg_core::text::{Account, Ref};
@@ -22,8 +23,9 @@ use reg_keeper::keeper::Fault;
 use reg_ranges::formed::Formed;
 use reg_records::column::name_value;
 use reg_records::requests::values::{given_text, request_values, state_values};
-use reg_statements::select::{self, one};
-use reg_statements::write::write;
+use reg_tables::texts::{
+    CHANGE_REQUEST, INSERT_REQUESTS, SELECT_REQUEST, SELECT_REQUESTS, SELECT_REQUESTS_OF,
+};
 use sqlite::types::ValueRef;
 use sqlite::{Alter, Connection, Transaction};
 use std::alloc::Global;
@@ -40,10 +42,10 @@ pub fn own_one<S: Alter>(
         (λ w row. row ≡ option_map (request_row (account.now, reference.now))
         (get w.requests (account.now, reference.now))) }
 {
-    one::<S, Request>(
+    find::<S, Request>(
         alloc,
         conn,
-        "SELECT account, reference, kind, registry, value, least, label, contact, specification, rfc_number, rfc_stream, rfc_track, minute, draft, stable, interest, chair, director, will_be_rfc, size, organization, address, state, given, reason FROM requests WHERE account = ?1 AND reference = ?2",
+        SELECT_REQUEST,
         &[name_value(account), name_value(reference)],
     )
 }
@@ -58,15 +60,7 @@ pub fn own<S: Alter>(
     ensures { Looks (state S.Store conn.old) (state S.Store conn.new) result
         (λ w rows. rows ≡ request_rows (requests_of account.now w)) }
 {
-    let requests = select::all::<S, Request>(
-        alloc,
-        conn,
-        "SELECT account, reference, kind, registry, value, least, label, contact, specification, \
-         rfc_number, rfc_stream, rfc_track, minute, draft, stable, interest, chair, director, \
-         will_be_rfc, size, organization, address, state, given, reason FROM requests \
-         WHERE account = ?1 ORDER BY reference",
-        &[name_value(account)],
-    )?;
+    let requests = list::<S, Request>(alloc, conn, SELECT_REQUESTS_OF, &[name_value(account)])?;
     Ok(Rows::from_vec(requests))
 }
 
@@ -76,15 +70,7 @@ pub fn all<S: Alter>(alloc: Global, conn: &mut Connection<S>) -> Result<Rows<Req
     ensures { Looks (state S.Store conn.old) (state S.Store conn.new) result
         (λ w rows. rows ≡ request_rows w.requests) }
 {
-    let requests = select::all::<S, Request>(
-        alloc,
-        conn,
-        "SELECT account, reference, kind, registry, value, least, label, contact, specification, \
-         rfc_number, rfc_stream, rfc_track, minute, draft, stable, interest, chair, director, \
-         will_be_rfc, size, organization, address, state, given, reason FROM requests \
-         ORDER BY account, reference",
-        &[],
-    )?;
+    let requests = list::<S, Request>(alloc, conn, SELECT_REQUESTS, &[])?;
     Ok(Rows::from_vec(requests))
 }
 
@@ -100,12 +86,7 @@ pub fn add_request<S: Alter>(tx: &mut Transaction<'_, S>, request: &Request) -> 
         }) }
 {
     formed(request);
-    write(
-        tx,
-        "INSERT INTO requests (account, reference, kind, registry, value, least, label, contact, specification, rfc_number, rfc_stream, rfc_track, minute, draft, stable, interest, chair, director, will_be_rfc, size, organization, address, state, given, reason) VALUES (?1, ?2, ?3, ?4, ?5, ?6, ?7, ?8, ?9, ?10, ?11, ?12, ?13, ?14, ?15, ?16, ?17, ?18, ?19, ?20, ?21, ?22, ?23, ?24, ?25)",
-        &request_values(request, &None),
-    )?;
-    Ok(())
+    add::<S, Request>(tx, INSERT_REQUESTS, &request_values(request, &None))
 }
 
 /// Puts a request that is there in another state. What is given is what its ask is for.
@@ -126,13 +107,11 @@ pub fn set_state<S: Alter>(
 {
     state.formed();
     let given = given_text(alloc, state)?;
-    write(
+    change::<S, Request>(
         tx,
-        "UPDATE requests SET state = ?3, given = ?4, reason = ?5 \
-         WHERE account = ?1 AND reference = ?2",
+        CHANGE_REQUEST,
         &named_state(account, reference, state, &given),
-    )?;
-    Ok(())
+    )
 }
 
 /// The name of a request, and the columns of its new state. The last argument is what `given_text`

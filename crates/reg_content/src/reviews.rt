@@ -1,27 +1,29 @@
 //! Requests with what experts say of them.
-ghost use Rattle.std.specs.Prelude.{◌≡◌, IfOk, map, option_map};
+ghost use Rattle.std.specs.Prelude.{◌≡◌, IfOk, filter_map, map, option_map};
 ghost use Rattle.std.specs.FinMap.{get};
 ghost use Rattle.sqlite.specs.Held.{state};
-ghost use Rattle.reg_core.specs.File.{file as file_of};
+ghost use Rattle.reg_core.specs.File.{experts_of, file as file_of, opinions_of};
 ghost use Rattle.reg_core.specs.Queue.{queue_row, queue_rows};
 ghost use Rattle.reg_core.specs.Request.{case_of};
 ghost use Rattle.reg_core.specs.View.{as_queued, queue_of};
 ghost use Rattle.reg_content.specs.Calls.{IsKeeping, Looks};
-ghost use Rattle.reg_content.specs.Seats.{assigned_to, seen_row};
+ghost use Rattle.reg_content.specs.Seats.{assigned_to, opinion_at, seen_row};
 
-use crate::advice::{advice, opinions};
-use crate::queue::{experts, is_queued};
+use crate::advice::advice;
+use crate::queue::is_queued;
 use crate::requests::own_one;
-use reg_core::advice::Advice;
+use reg_core::advice::{Advice, Opinion};
 use reg_core::file::File;
 use reg_core::queue::QueueRow;
 use reg_core::request::Request;
 use reg_core::rows::Rows;
 use reg_core::text::{Account, Ref};
 use reg_keeper::keeper::Fault;
+use reg_records::advised::AdvisedSeat;
 use reg_records::column::name_value;
 use reg_records::queued::QueuedRequest;
 use reg_statements::select::all;
+use reg_tables::texts::{SELECT_QUEUED, SELECT_SEATS};
 use sqlite::{Alter, Connection};
 use std::alloc::{AllocError, Global};
 
@@ -37,8 +39,7 @@ pub fn file<S: Alter>(
         (λ w row. row ≡ option_map (file_of w (account.now, reference.now))
         (get w.requests (account.now, reference.now))) }
 {
-    let experts = experts(alloc, conn, account, reference)?;
-    let advice = opinions(alloc, conn, account, reference)?;
+    let (experts, advice) = seats(alloc, conn, account, reference)?;
     let Some(request) = own_one(alloc, conn, account, reference)? else {
         return Ok(None);
     };
@@ -47,6 +48,29 @@ pub fn file<S: Alter>(
         experts,
         advice,
     }))
+}
+
+/// The experts to whom a request is assigned, and all advice on it, by expert.
+fn seats<S: Alter>(
+    alloc: Global,
+    conn: &mut Connection<S>,
+    account: &Account,
+    reference: &Ref,
+) -> Result<(Rows<Account>, Rows<Opinion>), Fault>
+    requires { IsKeeping (state S.Store conn.old) }
+    ensures { Looks (state S.Store conn.old) (state S.Store conn.new) result
+        (λ w seats. (seats.0 ≡ experts_of w (account.now, reference.now))
+        × (seats.1 ≡ opinions_of w (account.now, reference.now))) }
+{
+    let seats = all::<S, AdvisedSeat>(
+        alloc,
+        conn,
+        SELECT_SEATS,
+        &[name_value(account), name_value(reference)],
+    )?;
+    let experts = experts_at(alloc, seats.as_slice())?;
+    let opinions = opinions_at(alloc, seats)?;
+    Ok((Rows::from_vec(experts), Rows::from_vec(opinions)))
 }
 
 /// All requests that are assigned to an expert, with the expert's own advice, by account and then
@@ -60,18 +84,7 @@ pub fn queue<S: Alter>(
     ensures { Looks (state S.Store conn.old) (state S.Store conn.new) result
         (λ w rows. rows ≡ queue_rows (queue_of expert.now w)) }
 {
-    let requests = all::<S, QueuedRequest>(
-        alloc,
-        conn,
-        "SELECT r.account, r.reference, r.kind, r.registry, r.value, r.least, r.label, \
-         r.contact, r.specification, r.rfc_number, r.rfc_stream, r.rfc_track, r.minute, \
-         r.draft, r.stable, r.interest, r.chair, r.director, r.will_be_rfc, r.size, \
-         r.organization, r.address, r.state, r.given, r.reason, a.verdict, a.text \
-         FROM queue q JOIN requests r ON r.account = q.account AND r.reference = q.reference \
-         LEFT JOIN advice a ON a.account = q.account AND a.reference = q.reference \
-         AND a.expert = q.expert WHERE q.expert = ?1 ORDER BY q.account, q.reference",
-        &[name_value(expert)],
-    )?;
+    let requests = all::<S, QueuedRequest>(alloc, conn, SELECT_QUEUED, &[name_value(expert)])?;
     Ok(Rows::from_vec(queued_all(alloc, requests)?))
 }
 
@@ -112,6 +125,33 @@ fn assigned<S: Alter>(
     let advice = advice(alloc, conn, account, reference, expert)?;
     let request = own_one(alloc, conn, account, reference)?;
     Ok(request.map(|request| queued(request, advice)))
+}
+
+// The experts of seats.
+fn experts_at(alloc: Global, seats: &[AdvisedSeat]) -> Result<Vec<Account>, AllocError>
+    ensures { IfOk result (λ experts. experts.items ≡ map (λ s. s.seat.expert) seats.now) }
+{
+    let mut experts = Vec::new(alloc);
+    for row in seats {
+        experts.push(row.seat.expert)?;
+    }
+    Ok(experts)
+}
+
+// What the experts of seats say, where they say something.
+fn opinions_at(alloc: Global, seats: Vec<AdvisedSeat>) -> Result<Vec<Opinion>, AllocError>
+    ensures { IfOk result (λ opinions. opinions.items ≡ filter_map opinion_at seats.items) }
+{
+    seats.into_iter().filter_map(opinion_at).collect(alloc)
+}
+
+// What the expert of a seat says, if anything.
+fn opinion_at(row: AdvisedSeat) -> Option<Opinion>
+    ensures { result ≡ opinion_at row }
+{
+    let expert = row.seat.expert;
+    let advice = row.advice?;
+    Some(Opinion { expert, advice })
 }
 
 // A request that is assigned, as its expert sees it.

@@ -1,11 +1,13 @@
 -- The rows of `advice` keep advice: what is written reads back, and only that reads.
-use Rattle.std.proofs.Common.{◌≡◌, true, Some, refl, subst}
+use Rattle.std.proofs.Common.{◌≡◌, true, Some, refl, ap, subst, ◌∙◌}
 use Rattle.std.proofs.lemmas.Option.{same_Some}
 use Rattle.sqlite.specs.Order.{Row, column}
+use Rattle.sqlite.specs.declared.types.Value.TheVariants.{Text}
 use Rattle.reg_ranges.specs.Texts.{is_text}
+use Rattle.reg_core.specs.Advice.{verdict_word}
 use Rattle.reg_core.specs.Names.{is_name}
 use Rattle.reg_core.proofs.VerdictsReadBack.{verdicts_read}
-use Rattle.reg_records.specs.Advice.{advice_columns, advice_in, advice_values, is_expert_advice}
+use Rattle.reg_records.specs.Advice.{advice_columns, advice_in, advice_values, is_expert_advice, own_advice_in}
 use Rattle.reg_records.specs.Laws.{KeepsRows}
 use Rattle.reg_records.specs.declared.advice.ExpertAdvice.{ExpertAdvice}
 use Rattle.reg_records.proofs.ColumnLaws.{both, column_some, column-at, formed_texts, words}
@@ -42,3 +44,17 @@ advice_formed row advice h = (advice_read row advice h).1
 
 pub advice_kept : KeepsRows advice_columns advice_in advice_values is_expert_advice
 advice_kept = record { back = advice_back; exact = advice_exact; formed = advice_formed }
+
+-- a row that holds an advice holds it in its last columns
+pub own_advice_back : (row : Row) (advice : ExpertAdvice) → advice_in row ≡ Some advice
+    → own_advice_in (column row 3) (column row 4) ≡ Some (Some advice.advice)
+own_advice_back row a is =
+    let cells = advice_exact row a is in
+    let verdict : column row 3 ≡ Text (verdict_word a.advice.verdict) =
+    ap (λ (r : Row). column r 3) cells in
+    let text : column row 4 ≡ Text a.advice.text = ap (λ (r : Row). column r 4) cells in
+    let form : is_text a.advice.text ≡ true =
+    both _ _ (advice_formed row a is) (λ names form. form) in
+    (λ i. own_advice_in (verdict i) (text i))
+    ∙ column-at (words verdicts_read) a.advice.verdict refl _ _ (
+    column-at (formed_texts is_text) a.advice.text form _ _ refl)

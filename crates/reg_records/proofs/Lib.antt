@@ -11,3 +11,4 @@ pub mod HoldingLaws
 pub mod VersionLaws
 pub mod RequestLaws
 pub mod QueuedLaws
+pub mod AdvisedLaws

@@ -1,11 +1,13 @@
 -- Advice as rows of the table `advice`.
-use Rattle.std.specs.Prelude.{Bool, ◌&&◌, [], ◌∷◌, Option, Some}
+use Rattle.std.specs.Prelude.{if◌then◌else◌, Bool, ◌&&◌, [], ◌∷◌, Option, Some, None}
 use Rattle.sqlite.specs.Order.{Row, column}
+use Rattle.sqlite.specs.declared.types.Value.{Value}
 use Rattle.sqlite.specs.declared.types.Value.TheVariants.{Text}
 use Rattle.reg_ranges.specs.Texts.{is_text}
 use Rattle.reg_core.specs.Advice.{has_advice_form, read_verdict, verdict_word}
 use Rattle.reg_core.specs.Names.{is_name}
-use Rattle.reg_records.specs.Columns.{formed_in, given, read_in}
+use Rattle.reg_core.specs.declared.advice.Advice.{Advice}
+use Rattle.reg_records.specs.Columns.{formed_in, given, is_null, read_in}
 use Rattle.reg_records.specs.declared.advice.ExpertAdvice.{ExpertAdvice}
 
 -- the columns that are selected: account, reference, expert, verdict, text
@@ -28,7 +30,16 @@ advice_in row =
       advice = record { verdict = verdict; text = text };
     }))))))
 
--- the row that is written for it
+-- the advice that these two columns hold: none where both are NULL, and else a verdict and a text,
+-- each of its form
+abbrev pub own_advice_in : Value → Value → Option (Option Advice)
+own_advice_in verdict text =
+    if is_null verdict && is_null text then Some None else
+    given (read_in read_verdict verdict) (λ verdict.
+    given (formed_in is_text text) (λ text.
+    Some (Some (record { verdict = verdict; text = text }))))
+
+-- the row that is written for an advice
 abbrev pub advice_values : ExpertAdvice → Row
 advice_values row =
     Text row.account ∷ Text row.reference ∷ Text row.expert

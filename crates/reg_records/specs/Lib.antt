@@ -12,3 +12,4 @@ pub mod Office
 pub mod Laws
 pub mod Requests
 pub mod Queued
+pub mod Advised

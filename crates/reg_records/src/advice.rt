@@ -1,10 +1,11 @@
 //! Advice as rows of the table `advice`.
-ghost use Rattle.std.specs.Prelude.{◌≡◌};
+ghost use Rattle.std.specs.Prelude.{◌≡◌, IfOk};
+ghost use Rattle.sqlite.specs.Order.{column};
 ghost use Rattle.sqlite.specs.Values.{bound};
 ghost use Rattle.reg_core.specs.World.{seat_cmp};
-ghost use Rattle.reg_records.specs.Advice.{advice_in, advice_values};
+ghost use Rattle.reg_records.specs.Advice.{advice_in, advice_values, own_advice_in};
 
-use crate::column::{name, name_value, printable, printable_value, word, word_value};
+use crate::column::{is_null, name, name_value, printable, printable_value, word, word_value};
 use crate::record::{Keyed, Record};
 use reg_core::advice::Advice;
 use reg_core::text::{Account, Ref};
@@ -88,4 +89,27 @@ impl ExpertAdvice {
             printable_value(&self.advice.text),
         ]
     }
+}
+
+/// The advice of which a row has the verdict and the text in these columns: none where both are
+/// NULL.
+pub fn own_advice(
+    alloc: Global,
+    row: &Row,
+    verdict: usize,
+    text: usize,
+) -> Result<Option<Option<Advice>>, AllocError>
+    ensures { IfOk result (λ advice. advice
+        ≡ own_advice_in (column row.now verdict) (column row.now text)) }
+{
+    if is_null(row, verdict) && is_null(row, text) {
+        return Ok(Some(None));
+    }
+    let Some(verdict) = word(row, verdict) else {
+        return Ok(None);
+    };
+    let Some(text) = printable(alloc, row, text)? else {
+        return Ok(None);
+    };
+    Ok(Some(Some(Advice { verdict, text })))
 }

@@ -2,17 +2,19 @@
 ghost use Rattle.std.specs.Prelude.{◌≡◌};
 ghost use Rattle.sqlite.specs.Order.{column};
 ghost use Rattle.sqlite.specs.Values.{bound};
+ghost use Rattle.reg_core.specs.Maps.{text_cmp};
 ghost use Rattle.reg_records.specs.Columns.{number_in};
 ghost use Rattle.reg_records.specs.Caps.{grant_in, grant_values, is_until};
 
 use crate::column::{name, name_value, whole, whole_value, word, word_value};
-use crate::record::Record;
+use crate::record::{Keyed, Record};
 use reg_core::capability::{Cap, Until};
 use reg_core::text::Digest;
 use reg_ranges::formed::Formed;
 use sqlite::Row;
 use sqlite::types::ValueRef;
 use std::alloc::{AllocError, Global};
+use std::cmp::Ordering;
 
 /// A capability with the digest of the token that has it.
 #[derive(Clone, Copy, PartialEq, Eq)]
@@ -26,6 +28,14 @@ impl Record for Grant {
 
     fn read(_: Global, row: &Row) -> Result<Option<Self>, AllocError> {
         Ok(grant_in(row))
+    }
+}
+
+impl Keyed for Grant {
+    ghost order = { λ a b. text_cmp a.digest b.digest };
+
+    fn compare(&self, other: &Self) -> Ordering {
+        self.digest.cmp(&other.digest)
     }
 }
 

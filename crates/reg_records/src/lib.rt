@@ -2,6 +2,7 @@
 #![tactic(auto)]
 
 pub mod advice;
+pub mod advised;
 pub mod blocks;
 pub mod caps;
 pub mod column;

@@ -1,9 +1,8 @@
 //! Requests with an expert's own advice, as rows of the query that joins them.
-ghost use Rattle.std.specs.Prelude.{◌≡◌, IfOk};
 ghost use Rattle.reg_core.specs.World.{name_cmp};
-ghost use Rattle.reg_records.specs.Queued.{own_advice_in, queued_in};
+ghost use Rattle.reg_records.specs.Queued.{queued_in};
 
-use crate::column::{is_null, printable, word};
+use crate::advice::own_advice;
 use crate::record::{Keyed, Record};
 use reg_core::advice::Advice;
 use reg_core::request::Request;
@@ -30,7 +29,7 @@ impl Record for QueuedRequest {
         let Some(request) = Request::read(alloc, row)? else {
             return Ok(None);
         };
-        let Some(advice) = own_advice(alloc, row)? else {
+        let Some(advice) = own_advice(alloc, row, VERDICT, TEXT)? else {
             return Ok(None);
         };
         Ok(Some(QueuedRequest { request, advice }))
@@ -44,20 +43,4 @@ impl Keyed for QueuedRequest {
     fn compare(&self, other: &Self) -> Ordering {
         self.request.compare(&other.request)
     }
-}
-
-// The advice: none where both columns are NULL.
-fn own_advice(alloc: Global, row: &Row) -> Result<Option<Option<Advice>>, AllocError>
-    ensures { IfOk result (λ advice. advice ≡ own_advice_in row.now) }
-{
-    if is_null(row, VERDICT) && is_null(row, TEXT) {
-        return Ok(Some(None));
-    }
-    let Some(verdict) = word(row, VERDICT) else {
-        return Ok(None);
-    };
-    let Some(text) = printable(alloc, row, TEXT)? else {
-        return Ok(None);
-    };
-    Ok(Some(Some(Advice { verdict, text })))
 }

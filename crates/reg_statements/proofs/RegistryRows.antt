@@ -1,51 +1,14 @@
 -- The rows of the registries and of their ranges.
-use Rattle.std.proofs.Common.{◌≡◌, ℕ, List, [], ◌∷◌, Bool, true, false, ◌&&◌, Some, None, Option}
+use Rattle.std.proofs.Common.{◌≡◌, ℕ, List, [], ◌∷◌, Some, None, Option}
 use Rattle.std.proofs.Common.{map, filter_map, refl, sym, ap, ◌∙◌, option_map, option_and_then}
 use Rattle.std.specs.declared.cmp.Ordering.{Ordering}
 use Rattle.std.specs.FinMap.{FinMap, get, entries, keys}
-use Rattle.std.specs.Ordering.{eq_by_cmp}
-use Rattle.sqlite.specs.Order.{Row, column}
-use Rattle.sqlite.specs.declared.types.Value.TheVariants.{Text}
 use Rattle.reg_ranges.specs.Tables.{Table}
 use Rattle.reg_ranges.specs.declared.range.Range.{Range}
-use Rattle.reg_core.specs.Maps.{keyed, same_text, select, text_cmp}
+use Rattle.reg_core.specs.Maps.{keyed, select, text_cmp}
 use Rattle.reg_core.specs.World.{place_cmp}
 use Rattle.reg_core.proofs.MapLaws.{IsKeyOrder, entries-select, get-select, same_at, text_keys}
-use Rattle.reg_records.specs.Ranges.{range_in}
-use Rattle.reg_records.specs.Registries.{registry_in}
-use Rattle.reg_records.specs.declared.ranges.RegistryRange.{RegistryRange}
-use Rattle.reg_records.specs.declared.registries.Registry.{Registry}
-use Rattle.reg_records.proofs.RangeLaws.{range_exact}
-use Rattle.reg_records.proofs.RegistryLaws.{registry_exact}
-use Rattle.reg_tables.specs.Selecting.{equals, passes, stored}
-use Rattle.reg_tables.specs.Values.{same_value}
-use Rattle.reg_tables.proofs.ValueLemmas.{passes_equals}
 use Rattle.reg_statements.specs.Content.{ranges_of, registries_in, registry_table}
-use Rattle.reg_statements.proofs.RowMaps.KeyTests.{text_test}
-
-alone : (b : Bool) → (b && true) ≡ b
-alone true = refl
-alone false = refl
-
--- the name is what the statements ask for
-pub registry_passes : (name : List ℕ) (row : Row) (r : Registry)
-    → registry_in (stored 2 row) ≡ Some r
-    → passes (equals ((1, 0) ∷ [])) (Text name ∷ []) row ≡ eq_by_cmp text_cmp r.name name
-registry_passes name row r is =
-    let cols = registry_exact (stored 2 row) r is in
-    let first : column row 1 ≡ Text r.name = ap (λ (r : Row). column r 0) cols in
-    passes_equals ((1, 0) ∷ []) (Text name ∷ []) row
-    ∙ alone _ ∙ ap (λ v. same_value v (Text name)) first ∙ text_test r.name name
-
--- and of the ranges the name of their registry
-pub range_passes : (name : List ℕ) (row : Row) (r : RegistryRange)
-    → range_in (stored 5 row) ≡ Some r
-    → passes (equals ((1, 0) ∷ [])) (Text name ∷ []) row ≡ same_text r.registry name
-range_passes name row r is =
-    let cols = range_exact (stored 5 row) r is in
-    let first : column row 1 ≡ Text r.registry = ap (λ (r : Row). column r 0) cols in
-    passes_equals ((1, 0) ∷ []) (Text name ∷ []) row
-    ∙ alone _ ∙ ap (λ v. same_value v (Text name)) first
 
 -- ---- The registries that the two tables hold
 

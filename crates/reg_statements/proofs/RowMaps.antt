@@ -8,3 +8,4 @@ pub mod Loads
 pub mod Items
 pub mod KeyTests
 pub mod Alone
+pub mod Present

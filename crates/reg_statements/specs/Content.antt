@@ -30,6 +30,7 @@ use Rattle.reg_records.specs.Registries.{registry_in}
 use Rattle.reg_records.specs.Requests.Reading.{request_in}
 use Rattle.reg_tables.specs.Editing.{IsOffice}
 use Rattle.reg_tables.specs.Selecting.{stored}
+use Rattle.reg_statements.specs.Parts.{Parts}
 use Rattle.reg_statements.specs.RowMaps.{IsTable, held_in}
 use Rattle.reg_statements.specs.Tables.{Tables, tables_in}
 
@@ -86,10 +87,11 @@ registry_table m name max =
 abbrev pub registries_in : FinMap text_cmp ℕ → FinMap place_cmp Range → FinMap text_cmp Table
 registries_in largest m = select (λ name max. Some (registry_table m name max)) largest
 
-abbrev pub content : Tables → World
-content t = record {
+abbrev pub parts_in : Tables → Parts
+parts_in t = record {
   caps = held_in cap_at t.caps;
-  registries = registries_in (maxes_in t) (ranges_in t);
+  maxes = maxes_in t;
+  ranges = ranges_in t;
   entries = held_in registration_at t.entries;
   requests = held_in case_at t.requests;
   queue = held_in seat_at t.queue;
@@ -98,31 +100,51 @@ content t = record {
   blocks = held_in holder_at t.blocks;
 }
 
+-- the world that the parts make
+abbrev pub assembled : Parts → World
+assembled p = record {
+  caps = p.caps;
+  registries = registries_in p.maxes p.ranges;
+  entries = p.entries;
+  requests = p.requests;
+  queue = p.queue;
+  advice = p.advice;
+  pool = p.pool;
+  blocks = p.blocks;
+}
+
+abbrev pub content : Tables → World
+content t = assembled (parts_in t)
+
 -- the table has one row, of this version
 abbrev pub IsVersion : ℕ → List Row → Type 0
 IsVersion version rows =
     (row : Row) × (rows ≡ row ∷ []) × (version_in (stored 1 row) ≡ Some (pos version))
 
--- the version is the first, each row reads back, no two rows of a table have one key, and a range
--- is a registry's that is there
+-- the version is the first, each row reads back, and no two rows of a table have one key
+abbrev pub AreWhole : Tables → Type 0
+AreWhole t =
+    IsVersion 1 t.office × (IsTable text_cmp cap_at t.caps × (IsTable text_cmp max_at t.registries
+    × (IsTable place_cmp range_at t.ranges × (IsTable place_cmp registration_at t.entries
+    × (IsTable name_cmp case_at t.requests × (IsTable seat_cmp seat_at t.queue
+    × (IsTable seat_cmp advice_at t.advice × (IsTable nat_cmp prefix_at t.pool
+    × IsTable block_cmp holder_at t.blocks))))))))
+
+-- a range is a registry's that is there
+abbrev pub AreTied : Parts → Type 0
+AreTied p = (place : Place) → IsSome (get p.ranges place) → IsSome (get p.maxes place.0)
+
 pub record AreKept (t : Tables) : Type 0 where
-  pub version : IsVersion 1 t.office
-  pub caps : IsTable text_cmp cap_at t.caps
-  pub registries : IsTable text_cmp max_at t.registries
-  pub ranges : IsTable place_cmp range_at t.ranges
-  pub entries : IsTable place_cmp registration_at t.entries
-  pub requests : IsTable name_cmp case_at t.requests
-  pub queue : IsTable seat_cmp seat_at t.queue
-  pub advice : IsTable seat_cmp advice_at t.advice
-  pub pool : IsTable nat_cmp prefix_at t.pool
-  pub blocks : IsTable block_cmp holder_at t.blocks
-  pub owned : (place : Place) → IsSome (get (ranges_in t) place)
-      → IsSome (get (maxes_in t) place.0)
+  pub whole : AreWhole t
+  pub tied : AreTied (parts_in t)
 
 -- the tables are the office's ten, and their rows an office's
 pub record IsStored (db : Database) : Type 0 where
   pub office : IsOffice db
   pub kept : AreKept (tables_in db.trees)
+
+abbrev pub parts_of : Database → Parts
+parts_of db = parts_in (tables_in db.trees)
 
 abbrev pub content_of : Database → World
 content_of db = content (tables_in db.trees)

@@ -1,5 +1,8 @@
 pub mod Tables
 pub mod Content
+pub mod Parts
+pub mod Defined
+pub mod Office
 pub mod Loading
 pub mod RowMaps
 pub mod Reading

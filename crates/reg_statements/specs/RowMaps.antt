@@ -1,11 +1,12 @@
 -- What the rows of a table hold, as a finite map. The rows are a list in no known order.
-use Rattle.std.specs.Prelude.{◌≡◌, Bool, List, Option, Some, IsSome, filter_map}
+use Rattle.std.specs.Prelude.{◌≡◌, if◌then◌else◌, Bool, List, Option, Some, IsSome, filter_map}
 use Rattle.std.specs.List.{AllByRecursion, IsDistinct}
 use Rattle.std.specs.List.Sorted.{IsStrictlySortedBy}
 use Rattle.std.specs.Map.{keys_of}
 use Rattle.std.specs.declared.cmp.Ordering.{Ordering}
 use Rattle.std.specs.Ordering.{eq_by_cmp}
 use Rattle.std.specs.FinMap.{FinMap, from_entries}
+use Rattle.reg_core.specs.Maps.{select}
 
 -- the map of the rows, each of which is read as a key and its value
 abbrev pub held_in : {A K X : Type 0} {R : K → K → Ordering} → (A → Option (K × X)) → List A
@@ -37,3 +38,8 @@ abbrev pub PassesWhere : {A K X : Type 0} → (A → Option (K × X)) → (A →
     → Type 0
 PassesWhere {A} {K} {X} of test p =
     (row : A) (key : K) (x : X) → of row ≡ Some (key, x) → test row ≡ p key x
+
+-- the map with the values that pass changed
+abbrev pub changed_where : {K X : Type 0} {R : K → K → Ordering} → (K → X → Bool) → (X → X)
+    → FinMap R X → FinMap R X
+changed_where p f m = select (λ k x. Some (if p k x then f x else x)) m

@@ -1,5 +1,5 @@
 -- The rows of an office's ten tables.
-use Rattle.std.specs.Prelude.{◌≡◌, ◌≢◌, ℕ, List}
+use Rattle.std.specs.Prelude.{◌≡◌, ◌≢◌, ◌==◌, if◌then◌else◌, ℕ, List}
 use Rattle.sqlite.specs.Order.{Row}
 use Rattle.sqlite.specs.Tree.{Trees}
 use Rattle.sqlite_rules.specs.Edit.{IsNoIndex}
@@ -34,3 +34,7 @@ tables_in trees = record {
 -- each tree that is neither this one nor an index's is as it was
 abbrev pub OthersStay : ℕ → Trees → Trees → Type 0
 OthersStay t old new = (u : ℕ) → u ≢ t → IsNoIndex office_schema u → new u ≡ old u
+
+-- with these rows in one tree
+abbrev pub put_tree : ℕ → List Row → Trees → Trees
+put_tree t rows trees = λ u. if u == t then rows else trees u

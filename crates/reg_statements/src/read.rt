@@ -3,7 +3,7 @@ ghost use Rattle.std.specs.Prelude.{◌≡◌, ◌⊎◌, ◌++◌, false, [], �
 ghost use Rattle.sqlite.specs.Held.{state};
 ghost use Rattle.sqlite.specs.State.{HasCleanDisk, IsUnchanged, IsRolledBack, Shown};
 ghost use Rattle.sqlite.specs.Values.{bound};
-ghost use Rattle.reg_tables.specs.Connection.{Endures, Holds, IsIdle, Stays};
+ghost use Rattle.reg_tables.specs.Connection.{Endures, IsIdle, Stays, Works};
 ghost use Rattle.reg_tables.specs.Kinds.{IsQuery};
 ghost use Rattle.reg_tables.specs.Lasting.{Lasts};
 ghost use Rattle.reg_statements.specs.Reading.{AreRead};
@@ -78,7 +78,7 @@ pub fn load<S: Alter, T: Record>(
     ensures idle { IsIdle (state S.Store conn.new) }
     ensures stays { Stays (state S.Store conn.old) (state S.Store conn.new) }
     ensures endures { Endures (state S.Store conn.old) (state S.Store conn.new) }
-    ensures rows { Holds (state S.Store conn.new) → IfOk result (λ o. (rows : _)
+    ensures rows { Works (state S.Store conn.new) → IfOk result (λ o. (rows : _)
         × Shown sql.now (bound params.now) (state S.Store conn.old) (state S.Store conn.new) rows
         × AreRead T.of rows o) }
 {

@@ -3,7 +3,7 @@ ghost use Rattle.std.specs.Prelude.{◌≡◌, ◌↔◌, IfOk, IsTrue, option_t
 ghost use Rattle.sqlite.specs.Held.{state};
 ghost use Rattle.sqlite.specs.State.{Shown};
 ghost use Rattle.sqlite.specs.Values.{bound};
-ghost use Rattle.reg_tables.specs.Connection.{Endures, Holds, IsIdle, Stays};
+ghost use Rattle.reg_tables.specs.Connection.{Endures, IsIdle, Stays, Works};
 ghost use Rattle.reg_tables.specs.Kinds.{IsQuery};
 ghost use Rattle.reg_statements.specs.Loading.{IsAscending, ReadAs};
 
@@ -28,7 +28,7 @@ pub fn one<S: Alter, T: Record>(
     ensures idle { IsIdle (state S.Store conn.new) }
     ensures endures { Endures (state S.Store conn.old) (state S.Store conn.new) }
     ensures stays { Stays (state S.Store conn.old) (state S.Store conn.new) }
-    ensures row { Holds (state S.Store conn.new) → IfOk result (λ o. (rows : _)
+    ensures row { Works (state S.Store conn.new) → IfOk result (λ o. (rows : _)
         × Shown sql.now (bound params.now) (state S.Store conn.old) (state S.Store conn.new) rows
         × ReadAs T.of rows (option_to_list o)) }
 {
@@ -57,7 +57,7 @@ pub fn all<S: Alter, T: Keyed>(
     ensures endures { Endures (state S.Store conn.old) (state S.Store conn.new) }
     ensures stays { Stays (state S.Store conn.old) (state S.Store conn.new) }
     ensures ascending { IfOk result (λ rows. IsAscending T.order rows.items) }
-    ensures rows { Holds (state S.Store conn.new) → IfOk result (λ all. (rows : _)
+    ensures rows { Works (state S.Store conn.new) → IfOk result (λ all. (rows : _)
         × Shown sql.now (bound params.now) (state S.Store conn.old) (state S.Store conn.new) rows
         × ReadAs T.of rows all.items) }
 {

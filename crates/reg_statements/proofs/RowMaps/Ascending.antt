@@ -1,18 +1,16 @@
 -- Entries in the order of their keys.
-use Rattle.std.proofs.Common.{◌≡◌, ℕ, ◌+◌, ◌<◌, Bool, true, false, T, List, [], ◌∷◌, length}
-use Rattle.std.proofs.Common.{map, get_or, refl, sym, ap, subst, ◌∙◌, arith, ◌&&◌}
-use Rattle.std.specs.List.{AllByRecursion, IsDistinct}
-use Rattle.std.specs.List.Sorted.{IsStrictlySortedBy, IsSortedByKey}
+use Rattle.std.proofs.Common.{◌≡◌, Bool, true, false, T, List, [], ◌∷◌}
+use Rattle.std.proofs.Common.{refl, sym, subst, ◌∙◌, ◌&&◌}
+use Rattle.std.specs.List.{AllByRecursion}
+use Rattle.std.specs.List.Sorted.{IsStrictlySortedBy}
 use Rattle.std.specs.Map.{keys_of}
 use Rattle.std.specs.declared.cmp.Ordering.{Ordering}
 use Rattle.std.specs.declared.cmp.Ordering.TheVariants.{Less, Equal, Greater}
-use Rattle.std.specs.Ordering.{is_lt, is_eq, eq_by_cmp, ordering_reverse}
+use Rattle.std.specs.Ordering.{is_lt}
 use Rattle.std.specs.FinMap.{FinMap, get, find, is_sorted, entries, entries_sorted, from_entries}
 use Rattle.std.specs.FinMap.{get-entries, get-from_entries}
 use Rattle.std.specs.FinMap.Entries.{below_all, same_entries}
-use Rattle.std.proofs.lemmas.List.{length-map, get_or-map}
-use Rattle.std.proofs.lemmas.Map.Keys.{IsDistinct-from_sorted, apart_from_distinct}
-use Rattle.std.proofs.lemmas.Map.Keys.{sorted_from_all_adjacent}
+use Rattle.std.proofs.lemmas.Map.Keys.{IsDistinct-from_sorted}
 use Rattle.reg_core.proofs.MapLaws.{IsKeyOrder}
 use Rattle.reg_statements.specs.RowMaps.{AreApart, AreAscending}
 
@@ -77,46 +75,3 @@ module _ {K X : Type 0} {R : K → K → Ordering} (o : IsKeyOrder R) where
       → entries (from_entries {R = R} es) ≡ es
   entries-from_ascending es up =
       entries_are (from_entries es) es up (get-from_entries o.total es)
-
--- ---- Lists that were sorted
-
-module _ {K T : Type 0} {R : K → K → Ordering} (o : IsKeyOrder R) (key : T → K) where
-  lower : (r : Ordering) → is_lt (ordering_reverse r) ≡ false → is_eq r ≡ false → r ≡ Less
-  lower Less f g = refl
-  lower Equal f g = absurd (cc)
-  lower Greater f g = absurd (cc)
-
-  level : (r : Ordering) → is_lt (ordering_reverse r) ≡ false → is_lt r ≡ false → is_eq r ≡ true
-  level Less f g = absurd (cc)
-  level Equal f g = refl
-  level Greater f g = absurd (cc)
-
-  not_above : (items : List T) → IsSortedByKey key R items → (i : ℕ) (d : T)
-      → i + 1 < length items
-      → is_lt (ordering_reverse (R (key (get_or items i d)) (key (get_or items (i + 1) d))))
-      ≡ false
-  not_above items up i d inside =
-      sym (ap is_lt (o.total.antisymm _ _)) ∙ up i d (omega arith) inside
-
-  -- keys that do not fall and differ ascend
-  pub ascending_from_sorted : (items : List T) → IsSortedByKey key R items
-      → IsDistinct (eq_by_cmp R) (map key items) → IsStrictlySortedBy R (map key items)
-  unfolding IsStrictlySortedBy
-  ascending_from_sorted [] up apart = tt
-  ascending_from_sorted (d ∷ items) up apart =
-      let keys = map key (d ∷ items) in
-      let long : length keys ≡ length (d ∷ items) = length-map (d ∷ items) key in
-      sorted_from_all_adjacent o.total keys (key d) (λ i h.
-      let first = get_or-map key (d ∷ items) i d (key d) (omega arith) in
-      let second = get_or-map key (d ∷ items) (i + 1) d (key d) (omega arith) in
-      (λ t. R (first t) (second t))
-      ∙ lower _ (not_above (d ∷ items) up i d (omega arith))
-      (ap is_eq (λ t. R (sym first t) (sym second t))
-      ∙ apart_from_distinct (eq_by_cmp R) keys i (i + 1) (key d) apart (omega arith) h))
-
-  -- of keys that do not fall, two neighbours that do not ascend are one key
-  pub alike_from_sorted : (items : List T) → IsSortedByKey key R items → (i : ℕ) (d : T)
-      → i + 1 < length items
-      → is_lt (R (key (get_or items i d)) (key (get_or items (i + 1) d))) ≡ false
-      → eq_by_cmp R (key (get_or items i d)) (key (get_or items (i + 1) d)) ≡ true
-  alike_from_sorted items up i d inside flat = level _ (not_above items up i d inside) flat

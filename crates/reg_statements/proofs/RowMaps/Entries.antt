@@ -1,8 +1,8 @@
 -- Lists of entries of which no two have one key: what is found in them.
 use Rattle.std.proofs.Common.{◌≡◌, Bool, true, false, cond, List, [], ◌∷◌, map, filter}
 use Rattle.std.proofs.Common.{refl, sym, ap, subst, ◌∙◌, IsPermutation}
-use Rattle.std.proofs.Common.{Option, Some, None, option_map, option_and_then}
-use Rattle.std.specs.List.{AllByRecursion}
+use Rattle.std.proofs.Common.{Option, Some, None, option_and_then, filter_map}
+use Rattle.std.specs.List.{AllByRecursion, cons_option}
 use Rattle.std.specs.Map.{keys_of}
 use Rattle.std.specs.declared.cmp.Ordering.{Ordering}
 use Rattle.std.specs.Ordering.{eq_by_cmp}
@@ -13,7 +13,7 @@ use Rattle.std.proofs.lemmas.List.Sorted.{IsPermutation-cons, IsPermutation-midd
 use Rattle.std.proofs.lemmas.List.Sorted.{IsPermutation-map}
 use Rattle.std.proofs.lemmas.Map.Keys.{IsDistinct-head, IsDistinct-tail, IsDistinct-cons}
 use Rattle.std.proofs.lemmas.Map.Keys.{IsDistinct-IsPermutation}
-use Rattle.reg_core.specs.Maps.{only_if}
+use Rattle.reg_core.specs.Maps.{keyed, only_if}
 use Rattle.reg_core.proofs.MapLaws.{IsKeyOrder, tied}
 use Rattle.reg_statements.specs.RowMaps.{AreApart}
 use Rattle.reg_statements.proofs.RowMaps.Lists.{along_permutation}
@@ -96,6 +96,38 @@ module _ {K X : Type 0} {R : K → K → Ordering} (o : IsKeyOrder R) where
   unfolding Alike
   find_permuted q es fs moved = (alike_permuted q es fs moved).1
 
+  -- ---- Chosen with other values
+
+  -- what a function chooses of entries has for a key what it makes of its value
+  pub find_selected : {Y : Type 0} (f : K → X → Option Y) (q : K) (es : List (K × X))
+      → AreApart R es → find R q (filter_map (λ e. keyed e.0 (f e.0 e.1)) es)
+      ≡ option_and_then (f q) (find R q es)
+  find_selected f q [] apart = refl
+  find_selected {Y = Y} f q (e ∷ es) apart =
+      let rest = find_selected f q es (apart_tail R e es apart) in
+      let more = filter_map (λ (e : K × X). keyed e.0 (f e.0 e.1)) es in
+      elim (eq_by_cmp R q e.0) as (λ b. eq_by_cmp R q e.0 ≡ b
+      → find R q (cons_option (keyed e.0 (f e.0 e.1)) more)
+      ≡ option_and_then (f q) (cond b (Some e.1) (find R q es))) [
+        | true ↦ λ t.
+            let same = tied o q e.0 t in
+            let none = find-free R q es (subst (λ k. IsFree R k es) (sym same)
+            (apart_head R e es apart)) in
+            here (f e.0 e.1) more t (rest ∙ ap (option_and_then (f q)) none)
+            ∙ ap (λ k. f k e.1) (sym same)
+        | false ↦ λ t. there (f e.0 e.1) more t ∙ rest
+      ] refl
+    where
+      here : (o : Option Y) (more : List (K × Y)) → eq_by_cmp R q e.0 ≡ true
+          → find R q more ≡ None → find R q (cons_option (keyed e.0 o) more) ≡ o
+      here None more t none = none
+      here (Some y) more t none = ap (λ b. cond b (Some y) (find R q more)) t
+
+      there : (o : Option Y) (more : List (K × Y)) → eq_by_cmp R q e.0 ≡ false
+          → find R q (cons_option (keyed e.0 o) more) ≡ find R q more
+      there None more t = refl
+      there (Some y) more t = ap (λ b. cond b (Some y) (find R q more)) t
+
   -- ---- Filtered
 
   module _ (p : K → X → Bool) where
@@ -117,66 +149,40 @@ module _ {K X : Type 0} {R : K → K → Ordering} (o : IsKeyOrder R) where
         elim (p e.0 e.1) as (λ b. AreApart R (cond b (e ∷ passing es) (passing es)))
         [ true ↦ apart_more R e (passing es) free rest | false ↦ rest ]
 
-    -- a filter keeps the value of a key that passes
+    -- a filter chooses the values of the keys that pass
+    filter_chooses : (es : List (K × X))
+        → passing es ≡ filter_map (λ e. keyed e.0 (only_if (p e.0 e.1) e.1)) es
+    filter_chooses [] = refl
+    filter_chooses (e ∷ es) =
+        let more = filter_map (λ (e : K × X). keyed e.0 (only_if (p e.0 e.1) e.1)) es in
+        elim (p e.0 e.1) as (λ b. cond b (e ∷ passing es) (passing es)
+        ≡ cons_option (keyed e.0 (only_if b e.1)) more)
+        [ true ↦ ap (λ l. e ∷ l) (filter_chooses es) | false ↦ filter_chooses es ]
+
     pub find_filtered : (q : K) (es : List (K × X)) → AreApart R es
         → find R q (passing es) ≡ option_and_then (λ x. only_if (p q x) x) (find R q es)
-    find_filtered q [] apart = refl
-    find_filtered q (e ∷ es) apart =
-        let rest = find_filtered q es (apart_tail R e es apart) in
-        let kept = passing es in
-        elim (eq_by_cmp R q e.0) as (λ b. eq_by_cmp R q e.0 ≡ b
-        → find R q (cond (p e.0 e.1) (e ∷ kept) kept)
-        ≡ option_and_then (λ x. only_if (p q x) x) (cond b (Some e.1) (find R q es))) [
-          | true ↦ λ t. here e es kept t
-              (rest ∙ ap (option_and_then (λ x. only_if (p q x) x))
-              (find-free R q es (subst (λ k. IsFree R k es) (sym (tied o q e.0 t))
-              (apart_head R e es apart))))
-          | false ↦ λ t. elim (p e.0 e.1) as
-              (λ b. find R q (cond b (e ∷ kept) kept)
-              ≡ option_and_then (λ x. only_if (p q x) x) (find R q es)) [
-                | true ↦ ap (λ b. cond b (Some e.1) (find R q kept)) t ∙ rest
-                | false ↦ rest
-              ]
-        ] refl
-      where
-        here : (e : K × X) (es kept : List (K × X)) → eq_by_cmp R q e.0 ≡ true
-            → find R q kept ≡ None
-            → find R q (cond (p e.0 e.1) (e ∷ kept) kept) ≡ only_if (p q e.1) e.1
-        here e es kept t gone =
-            let alike : p q e.1 ≡ p e.0 e.1 = ap (λ k. p k e.1) (tied o q e.0 t) in
-            elim (p e.0 e.1) as (λ b. p e.0 e.1 ≡ b
-            → find R q (cond b (e ∷ kept) kept) ≡ only_if (p q e.1) e.1) [
-              | true ↦ λ is.
-                  ap (λ b. cond b (Some e.1) (find R q kept)) t
-                  ∙ sym (ap (λ b. only_if b e.1) (alike ∙ is))
-              | false ↦ λ is. gone ∙ sym (ap (λ b. only_if b e.1) (alike ∙ is))
-            ] refl
+    find_filtered q es apart =
+        ap (find R q) (filter_chooses es)
+        ∙ find_selected (λ k x. only_if (p k x) x) q es apart
 
-  -- ---- Changed at a key
+  -- ---- Changed
 
-  module _ (k : K) (f : X → X) where
-    abbrev pub changed_at : K × X → K × X
-    changed_at e = (e.0, cond (eq_by_cmp R e.0 k) (f e.1) e.1)
+  -- each with another value
+  module _ (g : K → X → X) where
+    abbrev pub changed_by : K × X → K × X
+    changed_by e = (e.0, g e.0 e.1)
 
-    pub keys_changed : (es : List (K × X)) → keys_of (map changed_at es) ≡ keys_of es
+    pub keys_changed : (es : List (K × X)) → keys_of (map changed_by es) ≡ keys_of es
     keys_changed [] = refl
     keys_changed (e ∷ es) = ap (λ ks. e.0 ∷ ks) (keys_changed es)
 
-    pushed : (b : Bool) (x : X) → Some (cond b (f x) x) ≡ cond b (Some (f x)) (Some x)
-    pushed true x = refl
-    pushed false x = refl
-
-    pub find_changed : (q : K) (es : List (K × X)) → find R q (map changed_at es)
-        ≡ cond (eq_by_cmp R q k) (option_map f (find R q es)) (find R q es)
-    find_changed q [] = elim (eq_by_cmp R q k) as
-        (λ b. ◌≡◌ {A = Option X} None (cond b None None)) [ true ↦ refl | false ↦ refl ]
+    pub find_changed : (q : K) (es : List (K × X)) → find R q (map changed_by es)
+        ≡ option_and_then (λ x. Some (g q x)) (find R q es)
+    find_changed q [] = refl
     find_changed q (e ∷ es) =
         elim (eq_by_cmp R q e.0) as (λ b. eq_by_cmp R q e.0 ≡ b
-        → cond b (Some (cond (eq_by_cmp R e.0 k) (f e.1) e.1)) (find R q (map changed_at es))
-        ≡ cond (eq_by_cmp R q k) (option_map f (cond b (Some e.1) (find R q es)))
-        (cond b (Some e.1) (find R q es))) [
-          | true ↦ λ t.
-              ap (λ x. Some (cond (eq_by_cmp R x k) (f e.1) e.1)) (sym (tied o q e.0 t))
-              ∙ pushed (eq_by_cmp R q k) e.1
+        → cond b (Some (g e.0 e.1)) (find R q (map changed_by es))
+        ≡ option_and_then (λ x. Some (g q x)) (cond b (Some e.1) (find R q es))) [
+          | true ↦ λ t. ap (λ key. Some (g key e.1)) (sym (tied o q e.0 t))
           | false ↦ λ t. find_changed q es
         ] refl

@@ -1,5 +1,5 @@
 -- When two keys tie, by tests of their parts.
-use Rattle.std.proofs.Common.{◌≡◌, ℕ, ◌==◌, Bool, ◌&&◌, List, refl, sym, ap, ◌∙◌, Option, Some}
+use Rattle.std.proofs.Common.{◌≡◌, ℕ, ◌==◌, Bool, ◌&&◌, List, refl, sym, ◌∙◌}
 use Rattle.std.proofs.Common.{bytes_eq}
 use Rattle.std.specs.declared.cmp.Ordering.{Ordering}
 use Rattle.std.specs.declared.cmp.Ordering.TheVariants.{Less, Equal, Greater}
@@ -9,15 +9,12 @@ use Rattle.std.proofs.lemmas.Map.Text.{is_eq-slice_cmp}
 use Rattle.reg_blocks.specs.Block.{SizedPrefix, block_cmp, first_address}
 use Rattle.reg_blocks.specs.Size.{prefix_bits}
 use Rattle.reg_core.specs.Maps.{text_cmp, pair_cmp}
-use Rattle.reg_core.specs.World.{RequestName, name_cmp, Place, place_cmp, Seat, seat_cmp}
+use Rattle.reg_core.specs.World.{RequestName, name_cmp, Seat, seat_cmp}
 
 both_tie : (x y : Ordering) → (is_eq x && is_eq y) ≡ is_eq (ordering_then x y)
 both_tie Less y = refl
 both_tie Equal y = refl
 both_tie Greater y = refl
-
-pub number_test : (a b : ℕ) → (a == b) ≡ eq_by_cmp nat_cmp a b
-number_test = unsigned_ties
 
 pub text_test : (a b : List ℕ) → bytes_eq a b ≡ eq_by_cmp text_cmp a b
 text_test a b = sym (is_eq-slice_cmp a b)
@@ -33,10 +30,6 @@ pub name_test : (x y : RequestName)
     → (bytes_eq x.0 y.0 && bytes_eq x.1 y.1) ≡ eq_by_cmp name_cmp x y
 name_test x y = pair_test text_cmp text_cmp _ _ x y (text_test x.0 y.0) (text_test x.1 y.1)
 
-pub place_test : (x y : Place)
-    → (bytes_eq x.0 y.0 && (x.1 == y.1)) ≡ eq_by_cmp place_cmp x y
-place_test x y = pair_test text_cmp nat_cmp _ _ x y (text_test x.0 y.0) (number_test x.1 y.1)
-
 pub seat_test : (x y : Seat)
     → ((bytes_eq x.0.0 y.0.0 && bytes_eq x.0.1 y.0.1) && bytes_eq x.1 y.1)
     ≡ eq_by_cmp seat_cmp x y
@@ -50,10 +43,3 @@ block_test x y =
     && unsigned_ties (prefix_bits x.size) (prefix_bits y.size) i)
     ∙ both_tie (nat_cmp (first_address x) (first_address y))
     (nat_cmp (prefix_bits x.size) (prefix_bits y.size))
-
--- what a row reads as, part by part
-pub read_parts : {K X : Type 0} {key k : K} {value x : X}
-    → ◌≡◌ {A = Option (K × X)} (Some (key, value)) (Some (k, x)) → (key ≡ k) × (value ≡ x)
-read_parts {K} {X} {key} {k} {value} {x} is =
-    let same : ◌≡◌ {A = K × X} (key, value) (k, x) = cc in
-    (ap (λ e. e.0) same, ap (λ e. e.1) same)

@@ -1,14 +1,15 @@
 -- What a table holds, told by the rows that were loaded from it.
-use Rattle.std.proofs.Common.{◌≡◌, ℕ, ◌<◌, ◌≤◌, Bool, true, false, cond, List, [], ◌∷◌, map}
-use Rattle.std.proofs.Common.{filter, length, get_or, slice_get, refl, sym, ap, subst, ◌∙◌, arith}
-use Rattle.std.proofs.Common.{Option, Some, None, IsSome, IsPermutation, option_map}
+use Rattle.std.proofs.Common.{◌≡◌, ℕ, ◌<◌, Bool, true, false, cond, List, [], ◌∷◌, map}
+use Rattle.std.proofs.Common.{filter, length, get_or, refl, sym, ap, subst, ◌∙◌, arith}
+use Rattle.std.proofs.Common.{Option, Some, None, IsSome, IsPermutation}
 use Rattle.std.proofs.Common.{option_and_then, option_to_list}
 use Rattle.std.specs.List.{AllByRecursion}
 use Rattle.std.specs.Map.{keys_of}
 use Rattle.std.specs.declared.cmp.Ordering.{Ordering}
 use Rattle.std.specs.Ordering.{eq_by_cmp}
 use Rattle.std.specs.Cmp.{eq_by_cmp_equiv}
-use Rattle.std.specs.FinMap.{FinMap, get, entries, find, from_entries, get-from_entries}
+use Rattle.std.specs.FinMap.{FinMap, get, entries, entries_sorted, find, from_entries}
+use Rattle.std.specs.FinMap.{get-entries, get-from_entries}
 use Rattle.std.proofs.lemmas.List.{length-map, get_or-map}
 use Rattle.std.proofs.lemmas.List.Sorted.{IsPermutation-sym}
 use Rattle.std.proofs.lemmas.Map.Keys.{IsDistinct-head, apart_from_distinct}
@@ -16,7 +17,7 @@ use Rattle.reg_core.specs.Maps.{only_if, keyed, select}
 use Rattle.reg_core.proofs.MapLaws.{IsKeyOrder, tied, get-select}
 use Rattle.reg_statements.specs.RowMaps.{held_in, AreApart, AreAscending, IsTable, PassesAt, PassesWhere}
 use Rattle.reg_statements.proofs.RowMaps.Lists.{filter_map-loaded, reads-loaded}
-use Rattle.reg_statements.proofs.RowMaps.Ascending.{entries-from_ascending, apart_from_ascending}
+use Rattle.reg_statements.proofs.RowMaps.Ascending.{ascending_from_is_sorted, entries-from_ascending, apart_from_ascending}
 use Rattle.reg_statements.proofs.RowMaps.Tables.{same_rows, chosen}
 
 module _ {K X : Type 0} {R : K → K → Ordering} (o : IsKeyOrder R) where
@@ -61,12 +62,16 @@ module _ {K X : Type 0} {R : K → K → Ordering} (o : IsKeyOrder R) where
       ap (λ key. eq_by_cmp R e.0 key) (tied o f.0 k second.0) ∙ first.0 in
       absurd (cc)
 
--- what a list of at most one entry has
-first_of : {K X : Type 0} (k : K) (r : Option X) (es : List (K × X))
-    → es ≡ option_to_list (keyed k r)
-    → (r ≡ option_map (λ e. e.1) (slice_get es 0)) × (length es ≤ 1)
-first_of k None es is = rw is (refl, omega arith)
-first_of k (Some x) es is = rw is (refl, omega arith)
+  -- those that are chosen of one key are its value, or none
+  pub entries_at : (m : FinMap R X) (k : K)
+      → entries (select (λ key x. only_if (eq_by_cmp R key k) x) m)
+      ≡ option_to_list (keyed k (get m k))
+  entries_at m k =
+      let own = λ (key : K) (x : X). only_if (eq_by_cmp R key k) x in
+      let es = entries (select own m) in
+      one_key m k es
+      (apart_from_ascending R es (ascending_from_is_sorted R es (entries_sorted (select own m))))
+      (λ q. sym (get-entries (select own m) q) ∙ get-select o own m q)
 
 module _ {A K X : Type 0} {R : K → K → Ordering} (o : IsKeyOrder R) {of : A → Option (K × X)} where
   -- a whole table that was loaded, in any order
@@ -99,15 +104,6 @@ module _ {A K X : Type 0} {R : K → K → Ordering} (o : IsKeyOrder R) {of : A 
       one_key o (held_in of old) k pairs all.0 (λ q.
       sym (get-from_entries o.total pairs q) ∙ ap (λ m. get m q) (sym all.1)
       ∙ get-select o (λ key x. only_if (eq_by_cmp R key k) x) (held_in of old) q)
-
-  -- so the first is the value, and there is no second
-  pub found : {old rows : List A} (test : A → Bool) (k : K) (pairs : List (K × X))
-      → IsTable R of old → PassesAt R of test k
-      → IsPermutation (filter test old) rows → map of rows ≡ map Some pairs
-      → (get (held_in {R = R} of old) k ≡ option_map (λ e. e.1) (slice_get pairs 0))
-      × (length pairs ≤ 1)
-  found {old} test k pairs table at moved read =
-      first_of k (get (held_in of old) k) pairs (found_pairs test k pairs table at moved read)
 
   -- the rows that pass a test, in the order of their keys
   pub listed : {old rows : List A} (test : A → Bool) (p : K → X → Bool) (pairs : List (K × X))

@@ -10,13 +10,13 @@ use Rattle.std.specs.FinMap.{FinMap, get, insert, remove, empty, find, from_entr
 use Rattle.std.specs.FinMap.{get-from_entries, get-remove}
 use Rattle.reg_core.specs.Maps.{only_if, select, update, replaced}
 use Rattle.reg_core.proofs.MapLaws.{IsKeyOrder, tied, same_at, get-select, get-update}
-use Rattle.reg_statements.specs.RowMaps.{held_in, AreApart, IsTable, PassesAt, PassesWhere}
+use Rattle.reg_statements.specs.RowMaps.{held_in, AreApart, IsTable, PassesAt, PassesWhere, changed_where}
 use Rattle.reg_statements.proofs.RowMaps.Held.{IsHeld, rows_held}
 use Rattle.reg_statements.proofs.RowMaps.Lists.{all_permuted, all_filtered, IsPermutation-filter_map}
 use Rattle.reg_statements.proofs.RowMaps.Lists.{filter_map-filter}
 use Rattle.reg_statements.proofs.RowMaps.Entries.{free_from_none, apart_more, apart_permuted}
 use Rattle.reg_statements.proofs.RowMaps.Entries.{find_permuted, apart_filtered, find_filtered}
-use Rattle.reg_statements.proofs.RowMaps.Entries.{changed_at, keys_changed, find_changed}
+use Rattle.reg_statements.proofs.RowMaps.Entries.{changed_by, keys_changed, find_changed}
 
 -- the table of no rows, which holds nothing
 pub empty_table : {A K X : Type 0} (R : K → K → Ordering) (of : A → Option (K × X))
@@ -34,6 +34,10 @@ module _ {K X : Type 0} {R : K → K → Ordering} (o : IsKeyOrder R) where
 -- a row that passes the test, changed
 abbrev changed_row : {A : Type 0} → (A → Bool) → (A → A) → A → A
 changed_row test put row = if test row then put row else row
+
+-- a value that is changed where it passes
+abbrev changed_value : {K X : Type 0} → (K → X → Bool) → (X → X) → K → X → X
+changed_value p f k x = if p k x then f x else x
 
 without : {X : Type 0} (b : Bool) (r : Option X)
     → option_and_then (λ x. only_if (not b) x) r ≡ cond b None r
@@ -97,7 +101,7 @@ module _ {A K X : Type 0} {R : K → K → Ordering} (o : IsKeyOrder R) {of : A 
             ∙ sym (get-select o (λ k x. only_if (p k x) x) (held_in of old) q)),
       )
 
-  -- ---- One key's row taken away, or changed
+  -- ---- One key's row taken away
 
   -- the rows without those of a key
   pub removed : {old new : List A} (test : A → Bool) (k : K) → IsTable R of old
@@ -114,107 +118,102 @@ module _ {A K X : Type 0} {R : K → K → Ordering} (o : IsKeyOrder R) {of : A 
             ∙ sym (get-remove o.total (held_in of old) k q)),
       )
 
-  module _ (test : A → Bool) (k : K) (put : A → A) (f : X → X) (es : List (K × X))
-      (at : PassesAt R of test k)
-      (puts : (row : A) (x : X) → of row ≡ Some (k, x) → find R k es ≡ Some x
-      → of (put row) ≡ Some (k, f x)) where
-    row_changed : (row : A) (e : K × X) → IsHeld o of es row → of row ≡ Some e
-        → of (changed_row test put row) ≡ Some (changed_at o k f e)
-    row_changed row e held is =
-        ap (λ b. of (cond b (put row) row)) (at row e.0 e.1 is)
-        ∙ elim (eq_by_cmp R e.0 k) as (λ b. eq_by_cmp R e.0 k ≡ b
-        → of (cond b (put row) row) ≡ Some (e.0, cond b (f e.1) e.1)) [
-          | true ↦ λ t.
-              let same = tied o e.0 k t in
-              let here = is ∙ ap (λ key. Some (key, e.1)) same in
-              puts row e.1 here (held k e.1 here)
-              ∙ ap (λ key. Some (key, f e.1)) (sym same)
-          | false ↦ λ t. is
-        ] refl
+  -- ---- Rows changed
 
-    rows_changed : (rows : List A) → AllByRecursion (λ row. IsSome (of row)) rows
-        → AllByRecursion (IsHeld o of es) rows
-        → AllByRecursion (λ row. IsSome (of row)) (map (changed_row test put) rows)
-        × (filter_map of (map (changed_row test put) rows)
-        ≡ map (changed_at o k f) (filter_map of rows))
-    rows_changed [] all held = (tt, refl)
-    rows_changed (row ∷ rows) all held =
-        let rest = rows_changed rows all.1 held.1 in
-        elim (of row) as (λ r. of row ≡ r → IsSome r
-        → AllByRecursion (λ row. IsSome (of row)) (map (changed_row test put) (row ∷ rows))
-        × (filter_map of (map (changed_row test put) (row ∷ rows))
-        ≡ map (changed_at o k f) (cons_option r (filter_map of rows)))) [
-          | None ↦ λ is some. absurd (cc)
-          | Some e ↦ λ is some.
-              let now = row_changed row e held.0 is in
-              ((ap is_some now, rest.0), ap₂ cons_option now rest.1)
-        ] refl all.0
+  module _ (test : A → Bool) (put : A → A) (p : K → X → Bool) (f : X → X) where
+    module _ (es : List (K × X)) (agree : PassesWhere of test p)
+        (puts : (row : A) (k : K) (x : X) → of row ≡ Some (k, x) → find R k es ≡ Some x
+        → p k x ≡ true → of (put row) ≡ Some (k, f x)) where
+      row_changed : (row : A) (e : K × X) → IsHeld o of es row → of row ≡ Some e
+          → of (changed_row test put row) ≡ Some (changed_by o (changed_value p f) e)
+      row_changed row e held is =
+          ap (λ b. of (cond b (put row) row)) (agree row e.0 e.1 is)
+          ∙ elim (p e.0 e.1) as (λ b. p e.0 e.1 ≡ b
+          → of (cond b (put row) row) ≡ Some (e.0, cond b (f e.1) e.1)) [
+            | true ↦ λ t. puts row e.0 e.1 is (held e.0 e.1 is) t
+            | false ↦ λ t. is
+          ] refl
 
-  -- the rows with those of a key changed, each to a row of the same key and another value, where
-  -- the value is the one that the table has
-  pub changed_held : {old new : List A} (test : A → Bool) (k : K) (put : A → A) (f : X → X)
-      → IsTable R of old → PassesAt R of test k
-      → ((row : A) (x : X) → of row ≡ Some (k, x) → get (held_in {R = R} of old) k ≡ Some x
-      → of (put row) ≡ Some (k, f x))
-      → IsPermutation (map (λ row. if test row then put row else row) old) new
-      → IsTable R of new × (held_in {R = R} of new ≡ update (held_in of old) k f)
-  changed_held {old} test k put f table at puts moved =
-      let es = filter_map of old in
-      let now = rows_changed test k put f es at
-      (λ row x is here. puts row x is (get-from_entries o.total es k ∙ here))
-      old table.reads (rows_held o of old table.distinct) in
-      let between : IsTable R of (map (changed_row test put) old) = record {
-        reads = now.0;
-        distinct = subst (AreApart R) (sym now.1)
-            (subst (IsDistinct (eq_by_cmp R)) (sym (keys_changed o k f es)) table.distinct);
-      } in
-      let after = same_rows moved between in (
-        after.0,
-        after.1 ∙ same_at o _ _ (λ q.
-            get-from_entries o.total (filter_map of (map (changed_row test put) old)) q
-            ∙ ap (find R q) now.1 ∙ find_changed o k f q es
-            ∙ in_map q es
-            ∙ sym (get-update o (held_in of old) k f q)),
-      )
+      rows_changed : (rows : List A) → AllByRecursion (λ row. IsSome (of row)) rows
+          → AllByRecursion (IsHeld o of es) rows
+          → AllByRecursion (λ row. IsSome (of row)) (map (changed_row test put) rows)
+          × (filter_map of (map (changed_row test put) rows)
+          ≡ map (changed_by o (changed_value p f)) (filter_map of rows))
+      rows_changed [] all held = (tt, refl)
+      rows_changed (row ∷ rows) all held =
+          let rest = rows_changed rows all.1 held.1 in
+          elim (of row) as (λ r. of row ≡ r → IsSome r
+          → AllByRecursion (λ row. IsSome (of row)) (map (changed_row test put) (row ∷ rows))
+          × (filter_map of (map (changed_row test put) (row ∷ rows))
+          ≡ map (changed_by o (changed_value p f)) (cons_option r (filter_map of rows)))) [
+            | None ↦ λ is some. absurd (cc)
+            | Some e ↦ λ is some.
+                let now = row_changed row e held.0 is in
+                ((ap is_some now, rest.0), ap₂ cons_option now rest.1)
+          ] refl all.0
+
+    -- the rows with those that pass changed, each to a row of its key and of another value, where
+    -- its value is the one that the table has
+    pub changed : {old new : List A} → IsTable R of old → PassesWhere of test p
+        → ((row : A) (k : K) (x : X) → of row ≡ Some (k, x)
+        → get (held_in {R = R} of old) k ≡ Some x → p k x ≡ true → of (put row) ≡ Some (k, f x))
+        → IsPermutation (map (λ row. if test row then put row else row) old) new
+        → IsTable R of new × (held_in {R = R} of new ≡ changed_where p f (held_in of old))
+    changed {old} table agree puts moved =
+        let es = filter_map of old in
+        let now = rows_changed es agree
+        (λ row k x is here. puts row k x is (get-from_entries o.total es k ∙ here))
+        old table.reads (rows_held o of old table.distinct) in
+        let between : IsTable R of (map (changed_row test put) old) = record {
+          reads = now.0;
+          distinct = subst (AreApart R) (sym now.1)
+              (subst (IsDistinct (eq_by_cmp R)) (sym (keys_changed o (changed_value p f) es))
+              table.distinct);
+        } in
+        let after = same_rows moved between in (
+          after.0,
+          after.1 ∙ same_at o _ _ (λ q.
+              get-from_entries o.total (filter_map of (map (changed_row test put) old)) q
+              ∙ ap (find R q) now.1 ∙ find_changed o (changed_value p f) q es
+              ∙ ap (option_and_then (λ x. Some (changed_value p f q x)))
+              (sym (get-from_entries o.total es q))
+              ∙ sym (get-select o (λ k x. Some (changed_value p f k x)) (held_in of old) q)),
+        )
+
+-- ---- A map with the values of one key changed
+
+module _ {K X : Type 0} {R : K → K → Ordering} (o : IsKeyOrder R) (m : FinMap R X) (k : K) where
+  -- where what passes is what a key has, that is another
+  pub changed_alone : (p : K → X → Bool) (f : X → X)
+      → ((q : K) (x : X) → get m q ≡ Some x → p q x ≡ eq_by_cmp R q k)
+      → changed_where p f m ≡ update m k f
+  changed_alone p f only = same_at o _ _ (λ q.
+      get-select o (λ key x. Some (if p key x then f x else x)) m q
+      ∙ at q (get m q) refl ∙ sym (get-update o m k f q))
     where
-      at_key : (q : K) (r s : Option X) → (eq_by_cmp R q k ≡ true → r ≡ s)
-          → cond (eq_by_cmp R q k) (option_map f r) r ≡ cond (eq_by_cmp R q k) (option_map f s) r
-      at_key q r s same = elim (eq_by_cmp R q k) as
-          (λ b. (b ≡ true → r ≡ s) → cond b (option_map f r) r ≡ cond b (option_map f s) r) [
-            | true ↦ λ same. ap (option_map f) (same refl)
-            | false ↦ λ same. refl
-          ] same
+      here : (q : K) (r : Option X) → get m q ≡ r → eq_by_cmp R q k ≡ true
+          → option_map f r ≡ option_map f (get m k)
+      here q r is t = ap (option_map f) (sym is ∙ ap (get m) (tied o q k t))
 
-      in_map : (q : K) (es : List (K × X))
-          → cond (eq_by_cmp R q k) (option_map f (find R q es)) (find R q es)
-          ≡ cond (eq_by_cmp R q k) (option_map f (get (from_entries {R = R} es) k))
-          (get (from_entries {R = R} es) q)
-      in_map q es =
-          at_key q (find R q es) (find R k es) (λ t. ap (λ key. find R key es) (tied o q k t))
-          ∙ (λ i. cond (eq_by_cmp R q k) (option_map f (sym (get-from_entries o.total es k) i))
-          (sym (get-from_entries o.total es q) i))
+      at : (q : K) (r : Option X) → get m q ≡ r
+          → option_and_then (λ x. Some (if p q x then f x else x)) r
+          ≡ cond (eq_by_cmp R q k) (option_map f (get m k)) r
+      at q None is = elim (eq_by_cmp R q k) as (λ b. eq_by_cmp R q k ≡ b
+          → None ≡ cond b (option_map f (get m k)) None)
+          [ true ↦ here q None is | false ↦ λ t. refl ] refl
+      at q (Some x) is =
+          ap (λ b. Some (cond b (f x) x)) (only q x is)
+          ∙ elim (eq_by_cmp R q k) as (λ b. eq_by_cmp R q k ≡ b
+          → Some (cond b (f x) x) ≡ cond b (option_map f (get m k)) (Some x))
+          [ true ↦ here q (Some x) is | false ↦ λ t. refl ] refl
 
-  -- the rows with those of a key changed, each to a row of the same key and another value
-  pub changed : {old new : List A} (test : A → Bool) (k : K) (put : A → A) (f : X → X)
-      → IsTable R of old → PassesAt R of test k
-      → ((row : A) (x : X) → of row ≡ Some (k, x) → of (put row) ≡ Some (k, f x))
-      → IsPermutation (map (λ row. if test row then put row else row) old) new
-      → IsTable R of new × (held_in {R = R} of new ≡ update (held_in of old) k f)
-  changed test k put f table at puts =
-      changed_held test k put f table at (λ row x is there. puts row x is)
-
-  -- the same where each is changed to one value
-  pub changed_to : {old new : List A} (test : A → Bool) (k : K) (put : A → A) (x : X)
-      → IsTable R of old → PassesAt R of test k
-      → ((row : A) (y : X) → of row ≡ Some (k, y) → of (put row) ≡ Some (k, x))
-      → IsSome (get (held_in {R = R} of old) k)
-      → IsPermutation (map (λ row. if test row then put row else row) old) new
-      → IsTable R of new × (held_in {R = R} of new ≡ insert (held_in of old) k x)
-  changed_to {old} test k put x table at puts there moved =
-      let after = changed test k put (λ y. x) table at puts moved in
-      (after.0, after.1 ∙ put_in (held_in of old) (get (held_in of old) k) there)
+  -- and where there is one, it is this one
+  pub changed_to : (x : X) → IsSome (get m k)
+      → changed_where (λ key y. eq_by_cmp R key k) (λ y. x) m ≡ insert m k x
+  changed_to x there =
+      changed_alone (λ key y. eq_by_cmp R key k) (λ y. x) (λ q y is. refl)
+      ∙ put_in (get m k) there
     where
-      put_in : (m : FinMap R X) (r : Option X) → IsSome r
-          → replaced m k (option_map (λ y. x) r) ≡ insert m k x
-      put_in m None there = absurd (cc)
-      put_in m (Some y) there = refl
+      put_in : (r : Option X) → IsSome r → replaced m k (option_map (λ y. x) r) ≡ insert m k x
+      put_in None there = absurd (cc)
+      put_in (Some y) there = refl

@@ -1,21 +1,28 @@
-use Rattle.sqlite.specs.Held.{state}
-use Rattle.reg_tables.proofs.KindLemmas.{written_schema}
+use Rattle.std.proofs.Common.{true, refl, ap}
+use Rattle.reg_core.proofs.MapLaws.{block_keys}
+use Rattle.reg_core.specs.Holding.{with_mark}
 use Rattle.reg_tables.proofs.WriteTexts.{change_block_writes}
-use Rattle.reg_content.proofs.BlockRowsMarked.{block_marked}
+use Rattle.reg_blocks.specs.Block.{first_address}
+use Rattle.reg_statements.specs.Content.{content_of}
+use Rattle.reg_statements.proofs.RowMaps.Tables.{changed_alone}
+use Rattle.reg_content.proofs.BlocksApart.{begins_alone}
+use Rattle.reg_content.proofs.Joining.{steps_in}
+use Rattle.reg_content.proofs.Statements.{begins, changes_mark}
 use Rattle.reg_content.proofs.blocks.set_mark.Goals as goal
+
+pub change-requires : goal.change-requires
+change-requires g c = change_block_writes
 
 pub returns-clause-steps : goal.returns-clause-steps
 returns-clause-steps g c =
-    let old = state g.S.Store c.args.tx.now.conn.now in
-    let new = state g.S.Store c.write.new.tx.conn.now in
-    record {
-      endures = c.write.ensures.endures;
-      kept = c.write.ensures.kept;
-      went = c.in_ok-write.ensures.went;
-      tables = λ clean.
-          written_schema _ _ old new _ change_block_writes (c.in_ok-write.ensures.ran clean);
-      turns = λ clean.
-          let ran = rw (c.whole_value.ensures, c.first.ensures.value, c.flag_value.ensures)
-          at c.in_ok-write.ensures.ran clean in
-          block_marked c.args.block.now c.args.private old new c.in_ok-write.field-0 ran;
-    }
+    let block = c.args.block.now in
+    let first = first_address block in
+    steps_in (c.change.ensures.steps (begins first) (λ holder. true) (with_mark c.args.private)
+    (rw (c.whole_value.ensures, c.first.ensures.value, c.flag_value.ensures)
+    (changes_mark first c.args.private)))
+    (λ db was fits. (
+      ((λ k x is passes. refl), λ tied. tied),
+      ap (λ m. record (content_of db) { blocks = m })
+          (changed_alone block_keys (content_of db).blocks block (begins first) (with_mark c.args.private)
+          (begins_alone (content_of db).blocks block fits.1)),
+    ))

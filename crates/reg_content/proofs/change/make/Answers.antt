@@ -15,11 +15,8 @@ pub returns-in-GiveValue-clause-steps : goal.returns-in-GiveValue-clause-steps
 returns-in-GiveValue-clause-steps g c =
     let it = c.in-GiveValue in
     rw it.is (steps_as c.give_value.ensures.steps (λ w fits. (
-      (
-        given_kind w _ (it.account, it.reference) (Approved (given.Value it.entry.value))
-            fits.can.0 fits.can.1 refl,
-        fits.replaced,
-      ),
+      given_kind w _ (it.account, it.reference) (Approved (given.Value it.entry.value))
+          fits.can.0 fits.can.1 refl,
       refl,
     )))
 

@@ -1,20 +1,18 @@
-use Rattle.std.proofs.Common.{◌∙◌}
-use Rattle.sqlite.specs.Held.{state}
+use Rattle.std.proofs.Common.{map, ap, ◌∙◌}
+use Rattle.std.specs.FinMap.{entries}
+use Rattle.reg_core.specs.Request.{request_row}
+use Rattle.reg_core.proofs.MapLaws.{name_keys}
 use Rattle.reg_tables.proofs.Statements.Requests.{all_requests}
-use Rattle.reg_content.proofs.Looking.{looks}
-use Rattle.reg_content.proofs.RequestRowsListed.{requests_found}
+use Rattle.reg_statements.proofs.RegistryRows.{select-all}
+use Rattle.reg_content.proofs.Looking.{looks_made}
+use Rattle.reg_content.proofs.Statements.{lists_requests}
 use Rattle.reg_content.proofs.requests.all.Goals as goal
 
-pub all-requires-clause-plain : goal.all-requires-clause-plain
-all-requires-clause-plain g c = all_requests.plain
+pub list-requires-clause-plain : goal.list-requires-clause-plain
+list-requires-clause-plain g c = all_requests.plain
 
 pub returns : goal.returns
 returns g c =
-    let old = state g.S.Store c.args.conn.now in
-    let new = state g.S.Store c.all.new.conn in
-    let rs = c.in_ok-requests.requests.items in
-    looks c.requires c.all.ensures.idle c.all.ensures.endures c.all.ensures.stays (λ h.
-    let was = c.requires.stored (c.all.ensures.stays.held h) in
-    let rows = c.in_ok-requests.ensures.rows h in
-    c.from_vec.ensures
-    ∙ requests_found old new rows.0 rs was rows.2 c.in_ok-requests.ensures.ascending rows.1)
+    looks_made c.in_ok-requests.ensures.rows (λ p is.
+    c.from_vec.ensures ∙ is _ lists_requests
+    ∙ ap (λ m. map (λ e. request_row e.0 e.1) (entries m)) (select-all name_keys p.requests))

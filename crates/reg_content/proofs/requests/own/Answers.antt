@@ -1,22 +1,13 @@
 use Rattle.std.proofs.Common.{◌∙◌}
-use Rattle.sqlite.specs.Held.{state}
 use Rattle.reg_tables.proofs.Statements.Requests.{requests_of_account}
-use Rattle.reg_content.proofs.Looking.{looks}
-use Rattle.reg_content.proofs.RequestRowsListed.{own_found}
+use Rattle.reg_content.proofs.Looking.{looks_made}
+use Rattle.reg_content.proofs.Statements.{lists_own}
 use Rattle.reg_content.proofs.requests.own.Goals as goal
 
-pub all-requires-clause-plain : goal.all-requires-clause-plain
-all-requires-clause-plain g c = requests_of_account.plain
+pub list-requires-clause-plain : goal.list-requires-clause-plain
+list-requires-clause-plain g c = requests_of_account.plain
 
 pub returns : goal.returns
 returns g c =
-    let old = state g.S.Store c.args.conn.now in
-    let new = state g.S.Store c.all.new.conn in
-    let rs = c.in_ok-requests.requests.items in
-    looks c.requires c.all.ensures.idle c.all.ensures.endures c.all.ensures.stays (λ h.
-    let was = c.requires.stored (c.all.ensures.stays.held h) in
-    let rows = c.in_ok-requests.ensures.rows h in
-    let shown = rw c.name_value.ensures at rows.1 in
-    c.from_vec.ensures
-    ∙ own_found old new rows.0 rs was rows.2 c.in_ok-requests.ensures.ascending
-    c.args.account.now shown)
+    looks_made c.in_ok-requests.ensures.rows (λ p is.
+    c.from_vec.ensures ∙ is _ (rw c.name_value.ensures (lists_own c.args.account.now)))
