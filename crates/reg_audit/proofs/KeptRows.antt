@@ -26,6 +26,8 @@ use Rattle.reg_core.specs.declared.entry.Entry.{Entry}
 use Rattle.reg_core.specs.declared.holding.Holding.{Holding}
 use Rattle.reg_core.specs.declared.request.Request.{Request}
 use Rattle.reg_core.proofs.MapLaws.{IsKeyOrder, text_keys, number_keys, name_keys, place_keys, seat_keys, block_keys, tied, get-at_insert}
+use Rattle.reg_vacancies.specs.Vacancies.{MayBeOf}
+use Rattle.reg_vacancies.specs.declared.vacancies.Vacancies.{Vacancies}
 use Rattle.reg_audit.specs.Audits.{Keeps, assignee_of, account_of}
 use Rattle.reg_audit.specs.Rows.{with_row, name_of, seat_of, IsInTurn, Fits}
 use Rattle.reg_audit.specs.declared.audit.Audit.{Audit}
@@ -106,6 +108,7 @@ module _ (audit : Audit) (w : World) (keeps : Keeps audit w) where
     holders = keeps.holders;
     requests = keeps.requests;
     assignments = keeps.assignments;
+    free = keeps.free;
   }
 
   pub keeps_registry : (new : BTreeMap (List ℕ) Table) (name : List ℕ) (table : Table)
@@ -120,12 +123,14 @@ module _ (audit : Audit) (w : World) (keeps : Keeps audit w) where
     holders = keeps.holders;
     requests = keeps.requests;
     assignments = keeps.assignments;
+    free = keeps.free;
   }
 
   pub keeps_entry : (new : BTreeMap Place (List ℕ)) (entry : Entry)
       → tree.Updates place_cmp audit.assignees new (place_of entry) (Some entry.assignee)
-      → Keeps (record audit { assignees = new }) (with_row w (row.Entry entry))
-  keeps_entry new entry put = record {
+      → (free : Option Vacancies) → MayBeOf (with_row w (row.Entry entry)) free
+      → Keeps (record audit { assignees = new; free = free }) (with_row w (row.Entry entry))
+  keeps_entry new entry put free left = record {
     caps = keeps.caps;
     registries = keeps.registries;
     assignees = part_put place_keys w.entries (place_of entry) (registration_in entry)
@@ -134,12 +139,14 @@ module _ (audit : Audit) (w : World) (keeps : Keeps audit w) where
     holders = keeps.holders;
     requests = keeps.requests;
     assignments = keeps.assignments;
+    free = left;
   }
 
   pub keeps_prefix : (new : BTreeSet ℕ) (prefix : ℕ)
       → set.Updates nat_cmp audit.prefixes new prefix true
-      → Keeps (record audit { prefixes = new }) (with_row w (row.Prefix prefix))
-  keeps_prefix new prefix put = record {
+      → (free : Option Vacancies) → MayBeOf (with_row w (row.Prefix prefix)) free
+      → Keeps (record audit { prefixes = new; free = free }) (with_row w (row.Prefix prefix))
+  keeps_prefix new prefix put free left = record {
     caps = keeps.caps;
     registries = keeps.registries;
     assignees = keeps.assignees;
@@ -147,12 +154,14 @@ module _ (audit : Audit) (w : World) (keeps : Keeps audit w) where
     holders = keeps.holders;
     requests = keeps.requests;
     assignments = keeps.assignments;
+    free = left;
   }
 
   pub keeps_block : (new : BTreeMap SizedPrefix (List ℕ)) (holding : Holding)
       → tree.Updates block_cmp audit.holders new holding.block (Some holding.holder)
-      → Keeps (record audit { holders = new }) (with_row w (row.Block holding))
-  keeps_block new holding put = record {
+      → (free : Option Vacancies) → MayBeOf (with_row w (row.Block holding)) free
+      → Keeps (record audit { holders = new; free = free }) (with_row w (row.Block holding))
+  keeps_block new holding put free left = record {
     caps = keeps.caps;
     registries = keeps.registries;
     assignees = keeps.assignees;
@@ -161,6 +170,7 @@ module _ (audit : Audit) (w : World) (keeps : Keeps audit w) where
         audit.holders new put keeps.holders;
     requests = keeps.requests;
     assignments = keeps.assignments;
+    free = left;
   }
 
   pub keeps_request : (new : BTreeSet RequestName) (request : Request)
@@ -175,6 +185,7 @@ module _ (audit : Audit) (w : World) (keeps : Keeps audit w) where
     requests = key_put name_keys w.requests (name_of request) (case_of request) audit.requests
         new put keeps.requests;
     assignments = keeps.assignments;
+    free = keeps.free;
   }
 
   -- nobody was assigned to it, and nobody has advised yet
@@ -202,6 +213,7 @@ module _ (audit : Audit) (w : World) (keeps : Keeps audit w) where
         (eq_by_cmp seat_cmp q (seat_of account reference expert)) tt (get w.queue q)
         ∙ sym (ap (option_map (λ there. is_some (get w.advice q)))
         (get-at_insert seat_keys w.queue (seat_of account reference expert) tt q));
+    free = keeps.free;
   }
 
   -- the request is assigned to the expert, who has advised now
@@ -227,6 +239,7 @@ module _ (audit : Audit) (w : World) (keeps : Keeps audit w) where
         assigned)
         ∙ sym (ap (λ o. option_map (λ there. is_some o) (get w.queue q))
         (get-at_insert seat_keys w.advice seat advice q));
+    free = keeps.free;
   }
 
   -- where no memory was there, what was kept is
@@ -240,6 +253,7 @@ module _ (audit : Audit) (w : World) (keeps : Keeps audit w) where
     holders = keeps.holders;
     requests = keeps.requests;
     assignments = λ q. ap (lookup (is_at (seat_cmp q))) same ∙ keeps.assignments q;
+    free = keeps.free;
   }
 
 -- ---- No rows
@@ -255,8 +269,9 @@ none_in_set R s none q = ap (list_any (is_at (R q))) none
 -- maps and sets without rows keep a world without rows
 pub keeps_none : (audit : Audit) → set.IsEmpty audit.caps → tree.IsEmpty audit.registries
     → tree.IsEmpty audit.assignees → set.IsEmpty audit.prefixes → tree.IsEmpty audit.holders
-    → set.IsEmpty audit.requests → tree.IsEmpty audit.assignments → Keeps audit empty_world
-keeps_none audit caps registries assignees prefixes holders requests assignments = record {
+    → set.IsEmpty audit.requests → tree.IsEmpty audit.assignments → MayBeOf empty_world audit.free
+    → Keeps audit empty_world
+keeps_none audit caps registries assignees prefixes holders requests assignments free = record {
   caps = λ q. none_in_set text_cmp audit.caps caps q ∙ sym (ap is_some (get-empty text_cmp q));
   registries = λ q.
       none_in_map text_cmp audit.registries registries q ∙ sym (get-empty text_cmp q);
@@ -274,4 +289,5 @@ keeps_none audit caps registries assignees prefixes holders requests assignments
       none_in_map seat_cmp audit.assignments assignments q
       ∙ sym (ap (option_map (λ there. is_some (get empty_world.advice q)))
       (get-empty seat_cmp q));
+  free = free;
 }

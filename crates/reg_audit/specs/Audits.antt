@@ -10,6 +10,7 @@ use Rattle.reg_core.specs.WellKept.{WellKept}
 use Rattle.reg_core.specs.World.{World, Place, RequestName, Seat, name_cmp, place_cmp, seat_cmp}
 use Rattle.reg_core.specs.declared.entry.Registration.{Registration}
 use Rattle.reg_core.specs.declared.holding.Holder.{Holder}
+use Rattle.reg_vacancies.specs.Vacancies.{MayBeOf}
 use Rattle.reg_audit.specs.Rows.{with_row, IsNew, IsInTurn}
 use Rattle.reg_audit.specs.declared.audit.Audit.{Audit}
 use Rattle.reg_audit.specs.declared.row.Row.{Row}
@@ -25,8 +26,8 @@ abbrev pub advised_at : World → Seat → Option Bool
 advised_at w seat = option_map (λ there. is_some (get w.advice seat)) (get w.queue seat)
 
 -- the keys of the world's capabilities, its registries and its pool, the assignees of its entries,
--- the accounts that hold its blocks, the names of its requests, and which of its assignments were
--- advised
+-- the accounts that hold its blocks, the names of its requests, which of its assignments were
+-- advised, and what is free in it, where there was memory for that
 pub record Keeps (audit : Audit) (w : World) : Type 0 where
   pub caps : (digest : List ℕ)
       → set.contains text_cmp audit.caps digest ≡ contains_key w.caps digest
@@ -42,6 +43,7 @@ pub record Keeps (audit : Audit) (w : World) : Type 0 where
       → set.contains name_cmp audit.requests name ≡ contains_key w.requests name
   pub assignments : (seat : Seat)
       → tree.get seat_cmp audit.assignments seat ≡ advised_at w seat
+  pub free : MayBeOf w audit.free
 
 -- what the audit says of the rows that it was fed
 abbrev pub is_well_kept : Audit → Bool

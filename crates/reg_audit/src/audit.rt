@@ -1,18 +1,26 @@
 //! The audit of an office's rows.
 ghost use Rattle.std.specs.Prelude.{◌≡◌, ◌↔◌, IsTrue, OnOk, OnErr};
 ghost use Rattle.std.specs.BTreeMap.{get};
+ghost use Rattle.std.specs.FinMap.{contains_key};
+ghost use Rattle.reg_blocks.specs.Block.{leading_24};
 ghost use Rattle.reg_core.specs.WellKept.{WellKept};
 ghost use Rattle.reg_core.specs.World.{World, empty_world, seat_cmp};
+ghost use Rattle.reg_vacancies.specs.Vacancies.{MayBeOf};
 ghost use Rattle.reg_audit.specs.Rows.{with_row, seat_of, IsNew, IsInTurn, Fits};
+ghost use Rattle.reg_audit.specs.declared.row.Row.TheVariants as row;
 
 use crate::blocks::{Holders, is_apart, leading_bits};
+use crate::free::{with_block, with_prefix, with_value};
 use crate::maps::{add_key, set_row};
 use crate::requests::{Assignees, stands};
 use crate::row::Row;
 use crate::values::{Registries, is_open};
 use reg_blocks::pool::is_pool_prefix;
+use reg_core::entry::Entry;
+use reg_core::holding::Holding;
 use reg_core::text::{Account, Digest, Ref};
 use reg_ranges::formed::Formed;
+use reg_vacancies::vacancies::Vacancies;
 use std::alloc::{AllocError, Global};
 use std::collections::{BTreeMap, BTreeSet};
 
@@ -31,6 +39,8 @@ pub struct Audit {
     requests: BTreeSet<(Account, Ref)>,
     // Whether the expert gave an advice.
     assignments: BTreeMap<((Account, Ref), Account), bool>,
+    // What the entries, the prefixes and the blocks leave free; none where there was no memory.
+    free: Option<Vacancies>,
     // Whether all rows were new and fitted.
     well_kept: bool,
 }
@@ -50,6 +60,7 @@ impl Audit {
             holders: BTreeMap::new(alloc),
             requests: BTreeSet::new(alloc),
             assignments: BTreeMap::new(alloc),
+            free: Some(Vacancies::new(alloc)),
             well_kept: true,
         }
     }
@@ -73,6 +84,14 @@ impl Audit {
         ensures world { (w : World) → Audits self.now w → IsTrue result ↔ WellKept w }
     {
         self.well_kept
+    }
+
+    /// What the rows that were fed leave free, if there was memory to keep it.
+    pub fn into_free(self) -> Option<Vacancies>
+        ensures { (w : World) → Audits self w → WellKept w → MayBeOf w result }
+    {
+        let Audit { free, .. } = self;
+        free
     }
 
     // Whether the rows before make a well kept office, and do so with this one, which is new.
@@ -157,13 +176,9 @@ impl Audit {
         match row {
             Row::Cap(digest, _) => add_key(&mut self.caps, digest),
             Row::Registry(name, table) => set_row(&mut self.registries, name, table),
-            Row::Entry(entry) => set_row(
-                &mut self.assignees,
-                (entry.registry, entry.value),
-                entry.assignee,
-            ),
-            Row::Prefix(prefix) => add_key(&mut self.prefixes, prefix),
-            Row::Block(holding) => set_row(&mut self.holders, holding.block, holding.holder),
+            Row::Entry(entry) => self.keep_entry(&entry),
+            Row::Prefix(prefix) => self.keep_prefix(prefix),
+            Row::Block(holding) => self.keep_block(&holding),
             Row::Request(request) => {
                 add_key(&mut self.requests, (request.account, request.reference))
             }
@@ -174,5 +189,46 @@ impl Audit {
                 set_row(&mut self.assignments, ((account, reference), expert), true)
             }
         }
+    }
+
+    // Keeps the assignee of an entry, whose value is free no more.
+    fn keep_entry(&mut self, entry: &Entry) -> Result<(), AllocError>
+        ensures ok { OnOk result ((w : World) → Keeps self.old w
+            → Keeps self.new (with_row w (row.Entry entry.now))) }
+        ensures err { OnErr result ((w : World) → Keeps self.old w → Keeps self.new w) }
+        ensures same { self.new.well_kept ≡ self.old.well_kept }
+    {
+        set_row(
+            &mut self.assignees,
+            (entry.registry, entry.value),
+            entry.assignee,
+        )?;
+        self.free = with_value(self.free.take(), entry);
+        Ok(())
+    }
+
+    // Keeps a prefix that may be in a pool, and the places in it.
+    fn keep_prefix(&mut self, prefix: u32) -> Result<(), AllocError>
+        ensures ok { OnOk result ((w : World) → Keeps self.old w
+            → Keeps self.new (with_row w (row.Prefix prefix))) }
+        ensures err { OnErr result ((w : World) → Keeps self.old w → Keeps self.new w) }
+        ensures same { self.new.well_kept ≡ self.old.well_kept }
+    {
+        add_key(&mut self.prefixes, prefix)?;
+        self.free = with_prefix(self.free.take(), prefix);
+        Ok(())
+    }
+
+    // Keeps the account of a block of the pool, whose place is free no more.
+    fn keep_block(&mut self, holding: &Holding) -> Result<(), AllocError>
+        ensures ok { OnOk result ((w : World) → Keeps self.old w
+            → IsTrue (contains_key w.pool (leading_24 holding.now.block))
+            → Keeps self.new (with_row w (row.Block holding.now))) }
+        ensures err { OnErr result ((w : World) → Keeps self.old w → Keeps self.new w) }
+        ensures same { self.new.well_kept ≡ self.old.well_kept }
+    {
+        set_row(&mut self.holders, holding.block, holding.holder)?;
+        self.free = with_block(self.free.take(), holding);
+        Ok(())
     }
 }

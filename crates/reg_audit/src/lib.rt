@@ -3,6 +3,7 @@
 
 pub mod audit;
 mod blocks;
+mod free;
 pub mod laws;
 mod maps;
 mod requests;

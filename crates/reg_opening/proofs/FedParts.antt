@@ -7,7 +7,7 @@ use Rattle.sqlite.specs.State.{State}
 use Rattle.reg_core.specs.World.{World}
 use Rattle.reg_audit.specs.declared.audit.Audit.{Audit}
 use Rattle.reg_tables.proofs.Enduring.{endures_then}
-use Rattle.reg_tables.proofs.RestLemmas.{stays_then}
+use Rattle.reg_tables.proofs.RestLemmas.{stays_held, stays_same, stays_then}
 use Rattle.reg_statements.specs.Content.{content_of, world_in}
 use Rattle.reg_opening.specs.Feeding.{FeedsPart, FeedsTable, TellsTable}
 use Rattle.reg_statements.specs.Tables.{Tables, tables_in}
@@ -39,10 +39,10 @@ module _ (F G : World → Type 0) (H I : Tables → Type 0) (f g : Tables → Wo
     endures = endures_then old mid new first.endures second.endures;
     stays = stays_then old mid new first.stays second.stays;
     tells = λ h.
-        let before = second.stays.held h in
+        let before = stays_held second.stays h in
         let later = subst (λ (db : Database). IfOk result
         (TellsTable G (I (tables_in db.trees)) (g (tables_in db.trees)) (content_of db) b c))
-        (first.stays.same before) (second.tells h) in
+        (stays_same first.stays before) (second.tells h) in
         IfOk-weaker result _ _ (λ said told. then_told (tables_in old.now.trees) (world_in old) a b c said
         (made k is (first.tells before)) told) later;
   }

@@ -33,7 +33,8 @@ use Rattle.reg_opening.specs.Partitions.{IsEither, IsFedPartitions, ranges_named
 use Rattle.reg_statements.specs.RowMaps.{AreApart, IsTable}
 use Rattle.reg_statements.specs.Tables.{Tables}
 use Rattle.reg_opening.specs.declared.partitions.Partition.{Partition}
-use Rattle.reg_opening.proofs.FedTables.{IsPart, apart_from_new, new_from_apart, turns, with_all}
+use Rattle.reg_opening.proofs.FedTables.{apart_from_new, new_from_apart, turns, with_all}
+use Rattle.reg_opening.specs.Feeding.{IsPart}
 use Rattle.reg_statements.proofs.Neighbours.{strict}
 use Rattle.reg_statements.proofs.RegistryRows.{registry-at}
 use Rattle.reg_statements.proofs.RowMaps.Entries.{IsFree, apart_head, apart_tail, find-free}

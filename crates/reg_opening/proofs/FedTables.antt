@@ -1,26 +1,35 @@
 -- What an audit says of the rows of a table of the office that it was fed.
-use Rattle.std.proofs.Common.{◌≡◌, ℕ, Bool, true, false, List, [], ◌∷◌, map, refl, sym, ap, subst, ◌∙◌, Option, Some, None, IsSome, is_some, IsPermutation, option_map}
+use Rattle.std.proofs.Common.{◌≡◌, ℕ, ℤ, ◌+◌, Bool, true, false, List, [], ◌∷◌, map, refl, sym, ap, subst, ◌∙◌, Option, Some, None, IsSome, IsPermutation, option_map}
 use Rattle.std.specs.List.{AllByRecursion, IsDistinct}
 use Rattle.std.specs.declared.cmp.Ordering.{Ordering}
 use Rattle.std.specs.FinMap.{FinMap, get, insert, empty, find, from_entries, get-from_entries}
 use Rattle.std.specs.Prelude.{Result, Ok, Err, IfOk}
-use Rattle.sqlite.specs.Order.{Row as SqlRow}
+use Rattle.sqlite.specs.Order.{Row as SqlRow, column}
 use Rattle.sqlite.specs.State.{State, Shown}
 use Rattle.sqlite.specs.Term.{Term}
-use Rattle.sqlite.specs.Tree.{Trees}
 use Rattle.sqlite_value.specs.declared.keys.Key.{Key}
-use Rattle.reg_tables.specs.Connection.{Endures, Holds, IsIdle, Stays}
-use Rattle.reg_tables.proofs.SelectLemmas.{selected, shows_columns}
+use Rattle.sqlite.specs.Tree.{rowid}
+use Rattle.reg_records.specs.Columns.{int_in}
+use Rattle.reg_tables.specs.Connection.{Endures, IsIdle, Stays, Works}
+use Rattle.reg_tables.specs.Editing.{AreKeyed}
+use Rattle.reg_tables.specs.Schema.{office_schema}
+use Rattle.reg_tables.proofs.RestLemmas.{stays_held}
+use Rattle.reg_tables.proofs.SelectLemmas.{office_begins, selected, shows_columns}
 use Rattle.reg_statements.specs.Content.{world_in}
-use Rattle.reg_statements.specs.Tables.{Tables, tables_in}
+use Rattle.reg_statements.specs.Tables.{tables_in}
 use Rattle.reg_core.proofs.MapLaws.{IsKeyOrder}
 use Rattle.reg_core.specs.World.{World}
 use Rattle.reg_audit.specs.Audits.{Audits}
-use Rattle.reg_audit.specs.Rows.{with_row, IsInTurn, IsNew}
+use Rattle.reg_audit.specs.Rows.{with_row, IsInTurn}
 use Rattle.reg_audit.specs.declared.audit.Audit.{Audit}
 use Rattle.reg_audit.specs.declared.row.Row.{Row}
-use Rattle.reg_tables.specs.Selecting.{Selects, columns_of, shows, stored}
-use Rattle.reg_opening.specs.Feeding.{FeedsPart, FeedsRows, FeedsTable, IsFed, TellsTable, AreInTurn, AreNew, with_rows}
+use Rattle.reg_tables.specs.Selecting.{BeginsWith, Selects, columns_of, shows, stored}
+use Rattle.reg_statements.specs.Defined.{IsDefined}
+use Rattle.reg_statements.specs.Parts.{TableDef}
+use Rattle.reg_opening.specs.Numbered.{ShowsNumbered, numbered_columns, numbered_in}
+use Rattle.reg_opening.specs.declared.numbered.Numbered.{Numbered}
+use Rattle.reg_opening.proofs.RowidLemmas.{keyed_at, risen, rowids_read}
+use Rattle.reg_opening.specs.Feeding.{IsPart, FeedsPart, FeedsRows, FeedsTable, IsFed, TellsTable, AreInTurn, AreNew, with_rows}
 use Rattle.reg_statements.specs.RowMaps.{AreApart, IsTable, held_in}
 use Rattle.reg_statements.proofs.RowMaps.Entries.{apart_head, apart_more, apart_tail, find-free, free_from_none}
 use Rattle.reg_statements.proofs.RowMaps.Items.{read_pairs}
@@ -28,50 +37,37 @@ use Rattle.reg_statements.proofs.RowMaps.Lists.{all_permuted, shown_rows, filter
 use Rattle.reg_statements.proofs.RowMaps.Loads as rows
 
 -- the rows that a query of a whole table shows are those that are stored
-pub all_shown : (n : ℕ) (sql : List ℕ) (t : ℕ) (order : List (Term × Key)) (old new : State)
-    (shown : List SqlRow) → Selects sql t [] (columns_of n) order → Holds old
+pub all_shown : (m n : ℕ) (sql : List ℕ) (t : ℕ) (order : List (Term × Key)) (old new : State)
+    (shown : List SqlRow) → Selects m sql t [] (columns_of n) order → BeginsWith m old.now.schema
     → Shown sql [] old new shown → IsPermutation (map (stored n) (old.now.trees t)) shown
-all_shown n sql t order old new shown selects holds answer =
+all_shown m n sql t order old new shown selects begins answer =
     let found =
-    selected sql t [] (columns_of n) order [] old new shown selects holds.tables answer in
+    selected sql t [] (columns_of n) order [] old new shown selects begins answer in
     let same : shows (columns_of n) [] ≡ stored n = λ i r. shows_columns n [] r i in
     let whole = filter_true (old.now.trees t) in
     subst (λ f. IsPermutation (map f (old.now.trees t)) shown) same
     (subst (λ rs. IsPermutation (map (shows (columns_of n) []) rs) shown) whole found)
 
-module _ {T K X : Type 0} (pair : T → K × X) (n : ℕ) (read : SqlRow → Option T) where
+module _ {T K X : Type 0} (pair : T → K × X) (shows : SqlRow → SqlRow)
+    (read : SqlRow → Option T) where
   some : (r : Option T) → IsSome (option_map pair r) → IsSome r
   some None is = absurd (cc)
   some (Some t) is = refl
 
   each_reads : (rs : List SqlRow)
-      → AllByRecursion (λ r. IsSome (option_map pair (read (stored n r)))) rs
-      → AllByRecursion (λ r. IsSome (read r)) (map (stored n) rs)
+      → AllByRecursion (λ r. IsSome (option_map pair (read (shows r)))) rs
+      → AllByRecursion (λ r. IsSome (read r)) (map shows rs)
   each_reads [] all = tt
-  each_reads (r ∷ rs) all = (some (read (stored n r)) all.0, each_reads rs all.1)
+  each_reads (r ∷ rs) all = (some (read (shows r)) all.0, each_reads rs all.1)
 
   -- where one of them does not read, they are no table
   pub unread_table : {R : K → K → Ordering} (table shown : List SqlRow)
-      → IsPermutation (map (stored n) table) shown
+      → IsPermutation (map shows table) shown
       → ¬ AllByRecursion (λ r. IsSome (read r)) shown
-      → ¬ IsTable R (λ r. option_map pair (read (stored n r))) table
+      → ¬ IsTable R (λ r. option_map pair (read (shows r))) table
   unread_table table shown moved unread held =
-      unread (all_permuted (λ r. IsSome (read r)) (map (stored n) table) shown moved
+      unread (all_permuted (λ r. IsSome (read r)) (map shows table) shown moved
       (each_reads table held.reads))
-
--- the rows that make a part of the world, in which none of them is before
-pub record IsPart {T K X : Type 0} {R : K → K → Ordering} (pair : T → K × X) (row : T → Row)
-    (field : World → FinMap R X) (put : World → FinMap R X → World) (Before : World → Type 0)
-    : Type 0 where
-  pub got : (w : World) (m : FinMap R X) → field (put w m) ≡ m
-  pub over : (w : World) (m n : FinMap R X) → put (put w m) n ≡ put w n
-  pub same : (w : World) → put w (field w) ≡ w
-  pub with : (w : World) (t : T)
-      → with_row w (row t) ≡ put w (insert (field w) (pair t).0 (pair t).1)
-  pub free : (w : World) (t : T) → IsNew w (row t) → get (field w) (pair t).0 ≡ None
-  pub new : (w : World) (t : T) → get (field w) (pair t).0 ≡ None → IsNew w (row t)
-  pub none : (w : World) → Before w → field w ≡ empty
-  pub turn : (w : World) (m : FinMap R X) (t : T) → Before w → IsInTurn (put w m) (row t)
 
 module _ {T K X : Type 0} {R : K → K → Ordering} (o : IsKeyOrder R) (pair : T → K × X)
     (row : T → Row) (field : World → FinMap R X) (put : World → FinMap R X → World)
@@ -135,56 +131,101 @@ module _ {T K X : Type 0} {R : K → K → Ordering} (o : IsKeyOrder R) (pair : 
     stays = feeds.stays;
   }
 
-  module _ (n : ℕ) (read : SqlRow → Option T) where
-    abbrev of_row : SqlRow → Option T
-    of_row r = read (stored n r)
+-- rows that a query of a table showed, each with its rowid
+module _ {T K X : Type 0} (d : TableDef T K X) (l : IsDefined d) (of : SqlRow → Option T)
+    (reads : (r : SqlRow) → of (shows (numbered_columns d.width) [] r) ≡ d.read (stored d.width r))
+    (behind : (r : SqlRow) → column (shows (numbered_columns d.width) [] r) d.width ≡ rowid r)
+    (row : T → Row) (field : World → FinMap d.key.order X)
+    (put : World → FinMap d.key.order X → World) (Before : World → Type 0)
+    (part : IsPart d.pair row field put Before) where
+  abbrev seen : SqlRow → SqlRow
+  seen = shows (numbered_columns d.width) []
 
-    abbrev reader : SqlRow → Option (K × X)
-    reader r = option_map pair (read (stored n r))
+  abbrev numbered : SqlRow → Option (Numbered T)
+  numbered = numbered_in of d.width
 
-    -- rows that a query of the whole table showed
-    pub told : (whole : World) (old new : Audit) (table shown : List SqlRow) (k : Bool)
-        → IsPermutation (map (stored n) table) shown → IsFed read row shown old new k
-        → TellsTable Before (IsTable R reader table) (λ w. put w (held_in reader table)) whole
-        old new k
-    told whole old new table shown true moved fed =
-        let taken = shown_rows (stored n) read fed.0 moved fed.1 in
-        fed_table reader old new table taken.0 fed.0 taken.1
-        (read_pairs o pair of_row taken.0 fed.0 taken.2) fed.2
-    told whole old new table shown false moved unread = λ held kept.
-        unread_table pair n read table shown moved unread held
+  abbrev pair_of : Numbered T → K × X
+  pair_of n = d.pair n.value
 
-    -- a call that feeds the rows of a whole table
-    pub feeds_part : {E : Type 0} (sql : List ℕ) (t : ℕ) (order : List (Term × Key))
-        (part_of : Tables → List SqlRow) (old new : State) (before after : Audit)
-        (result : Result Bool E) → Selects sql t [] (columns_of n) order
-        → ((trees : Trees) → part_of (tables_in trees) ≡ trees t) → IsIdle new → Endures old new → Stays old new
-        → (Holds new → IfOk result (λ k. (shown : List SqlRow) × Shown sql [] old new shown
-        × IsFed read row shown before after k))
-        → FeedsPart Before (λ tables. IsTable R reader (part_of tables))
-        (λ tables w. put w (held_in reader (part_of tables))) old new before after result
-    feeds_part sql t order part_of old new before after result selects same now endures stays
-        rows = record {
-          idle = now;
-          endures = endures;
-          stays = stays;
-          tells = λ h. each result (rows h) h;
+  abbrev row_of : Numbered T → Row
+  row_of n = row n.value
+
+  -- what a row has by its key is the same without its rowid
+  same_at : (λ (r : SqlRow). option_map pair_of (numbered (seen r))) ≡ d.at
+  same_at =
+      (λ i r.
+      (without (of (seen r)) (int_in (column (seen r) d.width)) ∙ ap (option_map d.pair) (reads r)) i)
+      ∙ sym l.at
+    where
+      without : (value : Option T) (id : Option ℤ)
+          → option_map pair_of (option_map (λ value. record { value = value; rowid = id }) value)
+          ≡ option_map d.pair value
+      without None id = refl
+      without (Some value) id = refl
+
+  numbered_part : IsPart pair_of row_of field put Before
+  numbered_part = record {
+    got = part.got;
+    over = part.over;
+    same = part.same;
+    with = λ w n. part.with w n.value;
+    free = λ w n. part.free w n.value;
+    new = λ w n. part.new w n.value;
+    none = part.none;
+    turn = λ w m n. part.turn w m n.value;
+  }
+
+  module _ (whole : World) (before after : Audit) where
+    -- of these rows, and as they are read so
+    abbrev Told : (SqlRow → Option (K × X)) → List SqlRow → Bool → Type 0
+    Told at table k =
+        TellsTable Before (IsTable d.key.order at table × AreKeyed table)
+        (λ w. put w (held_in at table)) whole before after k
+
+    told : (table shown : List SqlRow) (k : Bool) → IsPermutation (map seen table) shown
+        → IsFed numbered row_of shown before after k
+        → Told (λ r. option_map pair_of (numbered (seen r))) table k
+    told table shown true moved fed =
+        let taken = shown_rows seen numbered fed.0 moved fed.1 in
+        let feeds = fed_table l.key.keys pair_of row_of field put Before numbered_part
+        (λ r. option_map pair_of (numbered (seen r))) before after table taken.0 fed.0 taken.1
+        (read_pairs l.key.keys pair_of (λ r. numbered (seen r)) taken.0 fed.0 taken.2) fed.3 in
+        let ids = risen fed.0 fed.2 in
+        let keyed = keyed_at seen d.width behind table shown ids.0 moved
+        (rowids_read of d.width shown fed.0 fed.1 ∙ ids.1) ids.2 in
+        record {
+          audits = λ w audits none held. feeds.audits w audits none held.0;
+          held = λ w audits none kept. (feeds.held w audits none kept, keyed);
+          stays = feeds.stays;
         }
-      where
-        each : {E : Type 0} (result : Result Bool E) → IfOk result (λ k. (shown : List SqlRow)
-            × Shown sql [] old new shown × IsFed read row shown before after k) → Holds new
-            → IfOk result (TellsTable Before (IsTable R reader (part_of (tables_in old.now.trees)))
-            (λ w. put w (held_in reader (part_of (tables_in old.now.trees)))) (world_in old)
-            before after)
-        each (Ok k) was h =
-            subst (λ table. TellsTable Before (IsTable R reader table)
-            (λ w. put w (held_in reader table)) (world_in old) before after k)
-            (sym (same old.now.trees))
-            (told (world_in old) before after (old.now.trees t) was.0 k
-            (all_shown n sql t order old new was.0 selects (stays.held h) was.1) was.2)
-        each (Err e) was h = tt
+    told table shown false moved unread = λ held kept.
+        unread_table pair_of seen numbered table shown moved unread held.0
 
--- a key that is not in a set has no value there
-pub none_there : {X : Type 0} (r : Option X) → is_some r ≡ false → r ≡ None
-none_there None none = refl
-none_there (Some x) none = absurd (cc)
+  module _ (sql : List ℕ) (all : ShowsNumbered d sql) (old new : State) (before after : Audit) where
+    each_told : {E : Type 0} (result : Result Bool E) → IfOk result (λ k. (shown : List SqlRow)
+        × Shown sql [] old new shown × IsFed numbered row_of shown before after k)
+        → old.now.schema ≡ office_schema
+        → IfOk result (Told (world_in old) before after d.at (d.rows (tables_in old.now.trees)))
+    each_told (Ok k) was has =
+        let table = old.now.trees d.table.tree in
+        let found = selected sql d.table.tree [] (numbered_columns d.width) all.order [] old new was.0
+        all.selects (office_begins (d.slot + 1) has) was.1 in
+        let moved = subst (λ rs. IsPermutation (map seen rs) was.0) (filter_true table) found in
+        subst (λ rows. Told (world_in old) before after d.at rows k) (sym (l.rows old.now.trees))
+        (subst (λ at. Told (world_in old) before after at table k) same_at
+        (told (world_in old) before after table was.0 k moved was.2))
+    each_told (Err e) was has = tt
+
+    -- a call that feeds the rows of a table
+    pub feeds_part : {E : Type 0} (result : Result Bool E) → IsIdle new → Endures old new
+        → Stays old new
+        → (Works new → IfOk result (λ k. (shown : List SqlRow) × Shown sql [] old new shown
+        × IsFed numbered row_of shown before after k))
+        → FeedsPart Before (λ t. IsTable d.key.order d.at (d.rows t) × AreKeyed (d.rows t))
+        (λ t w. put w (held_in d.at (d.rows t))) old new before after result
+    feeds_part result now endures stays rows = record {
+      idle = now;
+      endures = endures;
+      stays = stays;
+      tells = λ h. each_told result (rows h.works) (stays_held stays h).tables;
+    }

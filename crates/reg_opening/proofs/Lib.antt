@@ -1,5 +1,6 @@
 pub mod Feeding
 pub mod FedTables
+pub mod FedRows
 pub mod SharedOut
 pub mod FedRegistries
 pub mod FedParts

@@ -1,30 +1,39 @@
 -- What the version and the rows of tables tell of a store.
-use Rattle.std.proofs.Common.{◌≡◌, ℤ, pos, Bool, List, [], ◌∷◌, map, length, refl, sym, ap, subst, ◌∙◌, arith}
-use Rattle.std.proofs.Common.{IsPermutation, Some, IsSome, is_some}
-use Rattle.std.specs.Prelude.{◌↔◌, IfOk, IsTrue, Ok, Err, Result}
+use Rattle.std.proofs.Common.{◌≡◌, ℤ, pos, List, [], ◌∷◌, map, length, refl, sym, ap, subst, ◌∙◌, arith}
+use Rattle.std.proofs.Common.{IsPermutation, Option, Some, None, IsSome, is_some}
+use Rattle.std.specs.Prelude.{IfOk, Ok, Result}
 use Rattle.std.specs.List.{AllByRecursion}
+use Rattle.std.proofs.lemmas.Result.{IfOk-weaker}
 use Rattle.std.proofs.lemmas.List.{length-map}
 use Rattle.std.proofs.lemmas.List.Sorted.{IsPermutation-sym, length_permutation}
 use Rattle.sqlite.specs.Effect.{Database}
 use Rattle.sqlite.specs.Order.{Row}
 use Rattle.sqlite.specs.State.{State, IsLive}
-use Rattle.reg_audit.specs.Audits.{Audits, is_well_kept}
+use Rattle.reg_audit.specs.Audits.{Audits}
 use Rattle.reg_audit.specs.declared.audit.Audit.{Audit}
 use Rattle.reg_core.specs.WellKept.{WellKept}
-use Rattle.reg_core.specs.World.{World, empty_world}
+use Rattle.reg_core.specs.World.{empty_world}
 use Rattle.reg_records.specs.Office.{version_in}
-use Rattle.reg_tables.specs.Connection.{Holds, Stays, Tells, Works}
-use Rattle.reg_tables.specs.Editing.{AreTables}
-use Rattle.reg_tables.specs.Having.{FindsTables}
+use Rattle.reg_tables.specs.Connection.{Endures, Holds, IsIdle, Stays, Works}
+use Rattle.reg_tables.specs.Having.{AreFreeLater, FindsTablesOf}
 use Rattle.reg_tables.specs.Schema.{office_schema}
-use Rattle.reg_tables.specs.Selecting.{stored}
-use Rattle.reg_statements.specs.Content.{content, content_of}
+use Rattle.reg_tables.specs.Selecting.{BeginsWith, stored}
+use Rattle.reg_tables.specs.Version.{newest}
+use Rattle.reg_tables.proofs.HavingLemmas.{version_found}
+use Rattle.reg_tables.proofs.Enduring.{endures_then}
+use Rattle.reg_tables.proofs.RestLemmas.{stays_held, stays_then}
+use Rattle.reg_statements.specs.Content.{content, content_of, world_in}
 use Rattle.reg_opening.specs.Feeding.{FeedsTable}
 use Rattle.reg_statements.specs.Loading.{ReadAs}
-use Rattle.reg_opening.specs.Opening.{Decides, HasVersion, IsFoundAs, IsOurs, IsVerdict, IsVersionOf}
-use Rattle.reg_opening.specs.Opening.{Judges, only}
-use Rattle.reg_opening.specs.declared.open.Verdict.{Verdict}
-use Rattle.reg_opening.specs.declared.open.Verdict.TheVariants.{NotOurs, OtherVersion, Ours}
+use Rattle.reg_opening.specs.Opening.{AreRowsOf, HasVersion, IsFoundAs, IsFreeBy, IsOurs}
+use Rattle.reg_opening.specs.Opening.{Finds, IsReadAs, IsVersionOf, LeaveFree, Reads, free_in}
+use Rattle.reg_opening.specs.Opening.{only, verdict_of}
+use Rattle.reg_opening.specs.Rowids.{AreOrderedKeyed}
+use Rattle.reg_opening.specs.declared.open.Found.{Found}
+use Rattle.reg_opening.specs.declared.open.Found.TheVariants as found
+use Rattle.reg_vacancies.specs.Vacancies.{MayBeOf}
+use Rattle.reg_vacancies.specs.declared.vacancies.Vacancies.{Vacancies}
+use Rattle.reg_opening.specs.declared.open.Verdict.TheVariants.{NotOurs}
 use Rattle.reg_opening.specs.Partitions.{AreRegistries}
 use Rattle.reg_opening.specs.Parts.{AreParts, IsBlank, with_parts}
 use Rattle.reg_statements.specs.Tables.{Tables, tables_in}
@@ -90,99 +99,171 @@ one_version m n rows a b =
 
 -- ---- The rows
 
--- what an audit says that was fed all rows
-pub rows_tell : (t : Tables) (old new : Audit) (r : Bool) → Audits old empty_world
-    → FeedsTable IsBlank (AreParts t) (with_parts t) old new → r ≡ is_well_kept new
-    → ((w : World) → Audits new w → IsTrue r ↔ WellKept w)
-    → Tells r (AreParts t × WellKept (content t))
-rows_tell t old new r audits feeds says tells = record {
-  sure = λ yes.
-      let held = feeds.held empty_world audits blank (sym says ∙ yes) in
-      (held, (tells (content t) (feeds.audits empty_world audits blank held)).0 yes);
-  exact = λ both.
-      (tells (content t) (feeds.audits empty_world audits blank both.0)).1 both.1;
+blank : IsBlank empty_world
+blank = record {
+  assigned = record { caps = refl; registries = refl; entries = refl; requests = refl };
+  given = record { pool = refl; blocks = refl; requests = refl; queue = refl };
+  reviewed = record { queue = refl; advice = refl };
 }
-  where
-    blank : IsBlank empty_world
-    blank = record {
-      assigned = record { caps = refl; registries = refl; entries = refl; requests = refl };
-      given = record { pool = refl; blocks = refl; requests = refl; queue = refl };
-      reviewed = record { queue = refl; advice = refl };
-    }
+
+-- what an audit says that was fed all rows
+pub rows_leave : (t : Tables) (old new : Audit) (free : Option Vacancies) → Audits old empty_world
+    → FeedsTable IsBlank (AreParts t) (with_parts t) old new → IsFreeBy new free
+    → LeaveFree t free
+rows_leave t old new None audits feeds are = λ both.
+    are (content t) (feeds.audits empty_world audits blank both.0) both.1
+rows_leave t old new (Some free) audits feeds are =
+    let held = feeds.held empty_world audits blank are.0 in
+    let left = are.1 (content t) (feeds.audits empty_world audits blank held) in
+    ((held, left.0), left.1)
 
 -- ---- The store
 
-pub is_ours : (s : State) → IsLive s → Holds s → AreTables s.now.trees
-    → HasVersion (pos 1) (tables_in s.now.trees).office → AreParts (tables_in s.now.trees)
-    → WellKept (content_of s.now) → IsOurs s.now
-is_ours s live h keyed version parts kept = (
-  record {
-    office = record {
-      schema = h.tables;
-      sound = (live h.works.is_open).0;
-      tables = keyed;
-    };
-    kept = record {
-      version = version;
-      caps = parts.0.0;
-      registries = parts.0.1.0.registries;
-      ranges = parts.0.1.0.ranges;
-      entries = parts.0.1.1;
-      requests = parts.1.0.1.1;
-      queue = parts.1.1.0;
-      advice = parts.1.1.1;
-      pool = parts.1.0.0;
-      blocks = parts.1.0.1.0;
-      owned = parts.0.1.0.owned;
-    };
-  },
-  kept,
-)
+pub is_ours : (s : State) → IsLive s → Holds s → HasVersion (pos 1) (tables_in s.now.trees).office
+    → AreOrderedKeyed s.now.trees → AreParts (tables_in s.now.trees) → WellKept (content_of s.now)
+    → IsOurs s.now
+is_ours s live h version keyed parts kept =
+    let assigned = parts.0 in
+    let given = parts.1.0 in
+    let reviewed = parts.1.1 in (
+      record {
+        office = record {
+          schema = h.tables;
+          sound = (live h.works.is_open).0;
+          tables = (
+            keyed.0,
+            (
+              assigned.0.1,
+              (
+                keyed.1.0,
+                (
+                  keyed.1.1.0,
+                  (
+                    assigned.1.1.1,
+                    (given.1.1.1, (reviewed.0.1, (reviewed.1.1, (given.0.1, (given.1.0.1, tt))))),
+                  ),
+                ),
+              ),
+            ),
+          );
+        };
+        kept = record {
+          whole = (
+            version,
+            (
+              assigned.0.0,
+              (
+                assigned.1.0.registries,
+                (
+                  assigned.1.0.ranges,
+                  (
+                    assigned.1.1.0,
+                    (
+                      given.1.1.0,
+                      (
+                        reviewed.0.0,
+                        (
+                          reviewed.1.0,
+                          (given.0.0, given.1.0.0),
+                        ),
+                      ),
+                    ),
+                  ),
+                ),
+              ),
+            ),
+          );
+          tied = assigned.1.0.owned;
+        };
+      },
+      kept,
+    )
 
 pub ours_parts : (db : Database) → IsOurs db → AreParts (tables_in db.trees) × WellKept (content_of db)
 ours_parts db ours =
-    let t = ours.0.kept in
+    let t = ours.0.kept.whole in
+    let keyed = ours.0.office.tables in
     let registries : AreRegistries (tables_in db.trees) =
-    record { registries = t.registries; ranges = t.ranges; owned = t.owned } in (
-      ((t.caps, (registries, t.entries)), ((t.pool, (t.blocks, t.requests)), (t.queue, t.advice))),
+    record { registries = t.1.1.0; ranges = t.1.1.1.0; owned = ours.0.kept.tied } in (
+      (
+        ((t.1.0, keyed.1.0), (registries, (t.1.1.1.1.0, keyed.1.1.1.1.0))),
+        (
+          (
+            (t.1.1.1.1.1.1.1.1.0, keyed.1.1.1.1.1.1.1.1.0),
+            ((t.1.1.1.1.1.1.1.1.1, keyed.1.1.1.1.1.1.1.1.1.0), (t.1.1.1.1.1.0, keyed.1.1.1.1.1.0)),
+          ),
+          ((t.1.1.1.1.1.1.0, keyed.1.1.1.1.1.1.0), (t.1.1.1.1.1.1.1.0, keyed.1.1.1.1.1.1.1.0)),
+        ),
+      ),
       ours.1,
     )
 
--- ---- Whatever tables there are
+-- a store that has not an office's tables
+pub lacks_tables : (s : State)
+    → (¬ (FindsTablesOf newest s.now.schema × AreFreeLater newest s.now.schema))
+    → IsReadAs s.now found.NotOurs
+lacks_tables s lacks is = absurd (lacks (version_found newest s.now.schema is))
 
-module _ (old new : State) (stays : Stays old new) where
-  -- where its tables are the office's and no others
-  holds_at : Works new → old.now.schema ≡ office_schema → Holds new
-  holds_at works is = record {
-    works = works;
-    tables = ap (λ (db : Database). db.schema) (stays.unchanged works) ∙ is;
-  }
+module _ (old new : State) (stays : Stays old new) (live : IsLive old)
+    (first : BeginsWith 1 old.now.schema)
+    (version : Works new → HasVersion (pos 1) (tables_in old.now.trees).office) where
+  as_ours : (free : Vacancies) → Works new → old.now.schema ≡ office_schema
+      → AreRowsOf old.now (found.Ours free) → IsOurs old.now
+  as_ours free works is rows =
+      is_ours old live (record { works = stays.worked works; tables = is }) (version works) rows.0
+      rows.1.0.0 rows.1.0.1
 
-  found_as : (v : Verdict) → FindsTables old.now.schema → (Holds new → IsVerdict old.now v)
-      → Works new → IsFoundAs old.now v
-  found_as Ours has verdict works = (has, λ is. verdict (holds_at works is))
-  found_as (OtherVersion n) has verdict works = (has, λ is. verdict (holds_at works is))
-  found_as NotOurs has verdict works = (
-    λ ours. (verdict (holds_at works ours.0.office.schema)).0 ours,
-    λ n is. (verdict (holds_at works is.0)).1 n is,
+  -- what the rows of a store of this version tell
+  pub read_as : (f : Found) → Works new → IsReadAs old.now f → IsFoundAs old.now (verdict_of f)
+  read_as (found.Ours free) works read = (read.0, λ is. as_ours free works is (read.1 is))
+  read_as (found.OtherVersion n) works read = absurd read
+  read_as found.NotOurs works read = (
+    λ ours. read ours.0.office.schema (ours_parts old.now ours),
+    λ n is. one_version n (pos 1) (tables_in old.now.trees).office is.1 (version works),
   )
 
-  each_found : {E : Type 0} (result : Result Verdict E) → FindsTables old.now.schema
-      → (Holds new → IfOk result (IsVerdict old.now)) → Works new
-      → IfOk result (IsFoundAs old.now)
-  each_found (Ok v) has verdict works = found_as v has verdict works
-  each_found (Err e) has verdict works = tt
+  pub read_free : (f : Found) → Holds new → IsReadAs old.now f → MayBeOf (world_in old) (free_in f)
+  read_free (found.Ours free) h read = (read.1 (stays_held stays h).tables).1.1
+  read_free (found.OtherVersion n) h read = absurd read
+  read_free found.NotOurs h read = tt
 
--- what is told of an office's tables is so of those that have others beside them
-pub decides : {E : Type 0} (old new : State) (result : Result Verdict E)
-    → FindsTables old.now.schema → Judges old new result → Decides old new result
-decides old new result has judges = record {
-  rest = judges.rest;
-  endures = judges.endures;
-  stays = judges.stays;
-  verdict = each_found old new judges.stays result has judges.verdict;
+-- ---- What is found, call after call
+
+-- the rows were read of a store that says this version
+pub read_finds : {E : Type 0} (old mid new : State) (result : Result Found E) → IsLive old
+    → BeginsWith 1 old.now.schema → Endures old mid → Stays old mid
+    → (Works mid → HasVersion (pos 1) (tables_in old.now.trees).office) → Reads mid new result
+    → Finds old new result
+read_finds old mid new result live first endures stays version reads =
+    let both = stays_then old mid new stays reads.stays in
+    let says : Works new → HasVersion (pos 1) (tables_in old.now.trees).office =
+    λ works. version (reads.stays.worked works) in
+    let found : Works new → IfOk result (IsReadAs old.now) =
+    λ works. subst (λ db. IfOk result (IsReadAs db)) (stays.unchanged (reads.stays.worked works))
+    (reads.found works) in
+    record {
+      rest = reads.rest;
+      endures = endures_then old mid new endures reads.endures;
+      stays = both;
+      verdict = λ works.
+          IfOk-weaker result _ _ (λ f read. read_as old new both live first says f works read)
+          (found works);
+      free = λ h.
+          IfOk-weaker result _ _ (λ f read. read_free old new both live first says f h read)
+          (found h.works);
+    }
+
+-- the store says no version
+pub none_finds : {E : Type 0} (old new : State) → IsIdle new → Endures old new → Stays old new
+    → (Works new → (n : ℤ) → ¬ HasVersion n (tables_in old.now.trees).office)
+    → Finds {E = E} old new (Ok found.NotOurs)
+none_finds old new rest endures stays none = record {
+  rest = rest;
+  endures = endures;
+  stays = stays;
+  verdict = λ works. (
+    λ ours. none works (pos 1) ours.0.kept.whole.0,
+    λ n is. absurd (none works n is.1),
+  );
+  free = λ h. tt;
 }
-
--- a store without them is none of an office's
-pub found_none : (db : Database) → ¬ (db.schema ≡ office_schema) → IsFoundAs db NotOurs
-found_none db not = (λ ours. absurd (not ours.0.office.schema), λ n is. absurd (not is.0))

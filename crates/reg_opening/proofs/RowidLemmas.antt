@@ -1,13 +1,15 @@
 -- A table whose rowids a query shows, each below the next, has its rows by rowids.
-use Rattle.std.proofs.Common.{◌≡◌, ℕ, ℤ, List, [], ◌∷◌, map, true, refl, ap, subst, ◌∙◌}
-use Rattle.std.proofs.Common.{Some, IsPermutation}
+use Rattle.std.proofs.Common.{◌≡◌, ℕ, ℤ, List, [], ◌∷◌, map, true, refl, sym, ap, subst, ◌∙◌}
+use Rattle.std.proofs.Common.{Option, Some, None, IsSome, is_some, option_map, IsPermutation}
+use Rattle.std.proofs.lemmas.List.Sorted.{IsPermutation-map}
+use Rattle.std.proofs.lemmas.Simd.{map-map}
 use Rattle.std.specs.Cmp.{int_cmp_total}
 use Rattle.std.specs.FinMap.{int_cmp-IsAntisymmetric}
 use Rattle.std.specs.List.{AllByRecursion}
 use Rattle.std.specs.List.Sorted.{IsStrictlySortedBy}
 use Rattle.std.specs.Ordering.{int_cmp}
 use Rattle.std.specs.declared.cmp.Ordering.TheVariants.{Less}
-use Rattle.sqlite.specs.Order.{Row, value_cmp}
+use Rattle.sqlite.specs.Order.{Row, column, value_cmp}
 use Rattle.sqlite.specs.State.{State, Shown}
 use Rattle.sqlite.specs.Term.{Term, col}
 use Rattle.sqlite.specs.Tree.{rowid}
@@ -22,10 +24,12 @@ use Rattle.reg_records.specs.Columns.{int_in}
 use Rattle.reg_tables.specs.Editing.{AreKeyed}
 use Rattle.reg_tables.specs.Schema.{office_schema}
 use Rattle.reg_tables.specs.Selecting.{shows}
-use Rattle.reg_tables.proofs.EditLemmas.Rowids.{keyed_if_shown}
-use Rattle.reg_tables.proofs.SelectLemmas.{selected}
+use Rattle.reg_tables.proofs.Library.Rowids.{keyed_if_shown}
+use Rattle.reg_tables.proofs.SelectLemmas.{office_begins, selected}
 use Rattle.reg_statements.specs.Loading.{IsAscending, ReadAs}
+use Rattle.reg_opening.specs.Numbered.{IsRising, either_cmp, numbered_in}
 use Rattle.reg_opening.specs.Rowids.{SelectsRowids, rowid_in}
+use Rattle.reg_opening.specs.declared.numbered.Numbered.{Numbered}
 use Rattle.reg_statements.proofs.Neighbours.{strict}
 use Rattle.reg_statements.proofs.RowMaps.Lists.{filter_true}
 
@@ -70,13 +74,82 @@ rise (r ∷ rows) (n ∷ ids) read up =
     let rest : map rowid_in rows ≡ map Some ids = cc in
     (above r n rows ids (is_whole (rowid r) n first) rest up.0, rise rows ids rest up.1)
 
+-- where the rowid of each row stands at one place of what a query shows of it
+pub keyed_at : (f : Row → Row) (at : ℕ) → ((r : Row) → column (f r) at ≡ rowid r)
+    → (table shown : List Row) (ids : List ℤ) → IsPermutation (map f table) shown
+    → map (λ r. int_in (column r at)) shown ≡ map Some ids → IsAscending int_cmp ids
+    → AreKeyed table
+keyed_at f at same table shown ids moved read up =
+    let first : Row → Row = λ r. column r at ∷ [] in
+    let shows = map first shown in
+    let all = subst (λ rs. IsPermutation rs shows) (map-map first f table)
+    (IsPermutation-map first (map f table) shown moved) in
+    let reads : ReadAs rowid_in shows ids = map-map rowid_in first shown ∙ read in
+    keyed_if_shown (λ r. first (f r)) same table shows all
+    (rise shows ids reads (strict int_keys (λ n. n) ids up), whole shows ids reads)
+
 pub keyed_shown : (sql : List ℕ) (t : ℕ) (order : List (Term × Key)) (old new : State)
     (rows : List Row) (ids : List ℤ) → SelectsRowids sql t order
     → old.now.schema ≡ office_schema → Shown sql [] old new rows → ReadAs rowid_in rows ids
     → IsAscending int_cmp ids → AreKeyed (old.now.trees t)
 keyed_shown sql t order old new rows ids selects schema answer read up =
-    let found = selected sql t [] (col 1 0 ∷ []) order [] old new rows selects schema answer in
+    let found = selected sql t [] (col 1 0 ∷ []) order [] old new rows selects
+    (office_begins 4 schema) answer in
     let all = subst (λ rs. IsPermutation (map (shows (col 1 0 ∷ []) []) rs) rows)
     (filter_true (old.now.trees t)) found in
-    keyed_if_shown (shows (col 1 0 ∷ []) []) (λ r. refl) (old.now.trees t) rows all
-    (rise rows ids read (strict int_keys (λ n. n) ids up), whole rows ids read)
+    keyed_at (shows (col 1 0 ∷ []) []) 0 (λ r. refl) (old.now.trees t) rows ids all read up
+
+-- ---- Rows that are read with their rowids
+
+either_less : (a b : Option ℤ) → either_cmp a b ≡ Less
+    → (n : ℤ) × (a ≡ Some n) × (m : ℤ) × (b ≡ Some m) × (int_cmp n m ≡ Less)
+either_less None b less = absurd (cc)
+either_less (Some n) None less = absurd (cc)
+either_less (Some n) (Some m) less = (n, refl, m, refl, less)
+
+module _ {T : Type 0} where
+  abbrev rowids_of : List (Numbered T) → List (Option ℤ)
+  rowids_of = map (λ row. row.rowid)
+
+  -- those that rise are whole numbers that ascend
+  pub risen : (rows : List (Numbered T)) → IsRising rows
+      → (ids : List ℤ) × (rowids_of rows ≡ map Some ids) × IsAscending int_cmp ids
+  risen [] rising = ([], refl, tt)
+  risen (row ∷ []) rising = one row.rowid refl rising.0
+    where
+      one : (id : Option ℤ) → row.rowid ≡ id → IsSome row.rowid
+          → (ids : List ℤ) × (row.rowid ∷ [] ≡ map Some ids) × IsAscending int_cmp ids
+      one None is there = absurd (cc)
+      one (Some n) is there = (n ∷ [], ap (λ id. id ∷ []) is, tt)
+  risen (row ∷ next ∷ rows) rising =
+      let less = either_less row.rowid next.rowid rising.1.0 in
+      let there : IsSome next.rowid = ap is_some less.3 in
+      let rest = risen (next ∷ rows) (there, rising.1.1) in
+      more less.0 less.2 less.1 less.3 less.4 rest.0 rest.1 rest.2
+    where
+      more : (n m : ℤ) → row.rowid ≡ Some n → next.rowid ≡ Some m → int_cmp n m ≡ Less
+          → (ids : List ℤ) → rowids_of (next ∷ rows) ≡ map Some ids → IsAscending int_cmp ids
+          → (ids : List ℤ) × (rowids_of (row ∷ next ∷ rows) ≡ map Some ids) × IsAscending int_cmp ids
+      more n m first second less [] is up = absurd (cc)
+      more n m first second less (id ∷ ids) is up =
+          let head : next.rowid ≡ Some id = cc in
+          let same : m ≡ id = cc in
+          (n ∷ id ∷ ids, (λ i. first i ∷ is i), (ap (int_cmp n) (sym same) ∙ less, up))
+
+  -- and stand where they were read
+  pub rowids_read : (read : Row → Option T) (at : ℕ) (shown : List Row) (rows : List (Numbered T))
+      → ReadAs (numbered_in read at) shown rows
+      → map (λ r. int_in (column r at)) shown ≡ rowids_of rows
+  rowids_read read at [] [] is = refl
+  rowids_read read at [] (row ∷ rows) is = absurd (cc)
+  rowids_read read at (r ∷ shown) [] is = absurd (cc)
+  rowids_read read at (r ∷ shown) (row ∷ rows) is =
+      let first : numbered_in read at r ≡ Some row = cc in
+      let rest : map (numbered_in read at) shown ≡ map Some rows = cc in
+      λ i. one (read r) first i ∷ rowids_read read at shown rows rest i
+    where
+      one : (value : Option T)
+          → option_map (λ value. record { value = value; rowid = int_in (column r at) }) value ≡ Some row
+          → int_in (column r at) ≡ row.rowid
+      one None is = absurd (cc)
+      one (Some value) is = cc

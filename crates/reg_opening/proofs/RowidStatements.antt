@@ -1,12 +1,13 @@
 -- What the queries of the rowids select.
 use Rattle.std.proofs.Common.{ℕ, List, [], ◌∷◌, codes, refl}
+use Rattle.std.specs.List.{AllByRecursion}
 use Rattle.sqlite.specs.Listing.{understood}
+use Rattle.sqlite.specs.Table.{Table}
 use Rattle.sqlite_tied.specs.Compute.{everything}
-use Rattle.reg_tables.specs.Schema.{office_table, caps_table, registries_table, ranges_table}
-use Rattle.reg_tables.specs.Schema.{entries_table, requests_table, queue_table, advice_table}
-use Rattle.reg_tables.specs.Schema.{pool_table, blocks_table}
+use Rattle.reg_tables.specs.Kinds.{IsQuery}
+use Rattle.reg_tables.specs.Schema.{office_table, registries_table, ranges_table}
 use Rattle.reg_tables.specs.Selecting.{ordered_by}
-use Rattle.reg_opening.specs.Rowids.{SelectsRowids}
+use Rattle.reg_opening.specs.Rowids.{AreRowids, SelectsRowids, ordered_tables}
 
 abbrev names : List (List ℕ)
 names = codes "rowid" ∷ []
@@ -14,49 +15,48 @@ names = codes "rowid" ∷ []
 pub office_rowids : SelectsRowids (codes "SELECT rowid FROM office ORDER BY rowid") office_table.tree
     (ordered_by (0 ∷ []))
 unfolding understood everything
-office_rowids = record { names = names; is = refl; plain = (refl, refl); unlisted = refl }
-
-pub caps_rowids : SelectsRowids (codes "SELECT rowid FROM caps ORDER BY rowid") caps_table.tree
-    (ordered_by (0 ∷ []))
-unfolding understood everything
-caps_rowids = record { names = names; is = refl; plain = (refl, refl); unlisted = refl }
+office_rowids = record {
+  names = names;
+  is = λ more indexes. refl;
+  plain = (refl, refl);
+  unlisted = λ more indexes. refl;
+}
 
 pub registries_rowids : SelectsRowids (codes "SELECT rowid FROM registries ORDER BY rowid") registries_table.tree
     (ordered_by (0 ∷ []))
 unfolding understood everything
-registries_rowids = record { names = names; is = refl; plain = (refl, refl); unlisted = refl }
+registries_rowids = record {
+  names = names;
+  is = λ more indexes. refl;
+  plain = (refl, refl);
+  unlisted = λ more indexes. refl;
+}
 
 pub ranges_rowids : SelectsRowids (codes "SELECT rowid FROM ranges ORDER BY rowid") ranges_table.tree
     (ordered_by (0 ∷ []))
 unfolding understood everything
-ranges_rowids = record { names = names; is = refl; plain = (refl, refl); unlisted = refl }
+ranges_rowids = record {
+  names = names;
+  is = λ more indexes. refl;
+  plain = (refl, refl);
+  unlisted = λ more indexes. refl;
+}
 
-pub entries_rowids : SelectsRowids (codes "SELECT rowid FROM entries ORDER BY rowid") entries_table.tree
-    (ordered_by (0 ∷ []))
-unfolding understood everything
-entries_rowids = record { names = names; is = refl; plain = (refl, refl); unlisted = refl }
+abbrev pub rowid_texts : List (List ℕ)
+rowid_texts =
+    codes "SELECT rowid FROM office ORDER BY rowid" ∷
+    codes "SELECT rowid FROM registries ORDER BY rowid" ∷
+    codes "SELECT rowid FROM ranges ORDER BY rowid" ∷
+    []
 
-pub requests_rowids : SelectsRowids (codes "SELECT rowid FROM requests ORDER BY rowid") requests_table.tree
-    (ordered_by (0 ∷ []))
-unfolding understood everything
-requests_rowids = record { names = names; is = refl; plain = (refl, refl); unlisted = refl }
+pub all_rowids : AreRowids rowid_texts ordered_tables
+all_rowids = (office_rowids, (registries_rowids, (ranges_rowids, tt)))
 
-pub queue_rowids : SelectsRowids (codes "SELECT rowid FROM queue ORDER BY rowid") queue_table.tree
-    (ordered_by (0 ∷ []))
-unfolding understood everything
-queue_rowids = record { names = names; is = refl; plain = (refl, refl); unlisted = refl }
-
-pub advice_rowids : SelectsRowids (codes "SELECT rowid FROM advice ORDER BY rowid") advice_table.tree
-    (ordered_by (0 ∷ []))
-unfolding understood everything
-advice_rowids = record { names = names; is = refl; plain = (refl, refl); unlisted = refl }
-
-pub pool_rowids : SelectsRowids (codes "SELECT rowid FROM pool ORDER BY rowid") pool_table.tree
-    (ordered_by (0 ∷ []))
-unfolding understood everything
-pool_rowids = record { names = names; is = refl; plain = (refl, refl); unlisted = refl }
-
-pub blocks_rowids : SelectsRowids (codes "SELECT rowid FROM blocks ORDER BY rowid") blocks_table.tree
-    (ordered_by (0 ∷ []))
-unfolding understood everything
-blocks_rowids = record { names = names; is = refl; plain = (refl, refl); unlisted = refl }
+-- each is a query
+pub plain_rowids : (texts : List (List ℕ)) (tables : List Table) → AreRowids texts tables
+    → AllByRecursion IsQuery texts
+plain_rowids [] [] rowids = tt
+plain_rowids [] (t ∷ tables) rowids = absurd rowids
+plain_rowids (text ∷ texts) [] rowids = absurd rowids
+plain_rowids (text ∷ texts) (t ∷ tables) rowids =
+    (rowids.0.plain, plain_rowids texts tables rowids.1)

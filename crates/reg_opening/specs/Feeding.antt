@@ -1,5 +1,7 @@
 -- What an audit is fed of the rows of a table.
-use Rattle.std.specs.Prelude.{Result, IfOk, List, [], ◌∷◌, map, Bool, true, false, IsTrue, IsSome, Option}
+use Rattle.std.specs.FinMap.{FinMap, get, insert, empty}
+use Rattle.std.specs.declared.cmp.Ordering.{Ordering}
+use Rattle.std.specs.Prelude.{◌≡◌, None, Result, IfOk, List, [], ◌∷◌, map, Bool, true, false, IsTrue, IsSome, Option}
 use Rattle.std.specs.List.{AllByRecursion}
 use Rattle.sqlite.specs.Order.{Row as SqlRow}
 use Rattle.sqlite.specs.State.{State}
@@ -10,6 +12,8 @@ use Rattle.reg_audit.specs.Rows.{with_row, IsInTurn, IsNew}
 use Rattle.reg_audit.specs.declared.audit.Audit.{Audit}
 use Rattle.reg_audit.specs.declared.row.Row.{Row}
 use Rattle.reg_tables.specs.Connection.{Endures, Holds, IsIdle, Stays}
+use Rattle.reg_opening.specs.Numbered.{IsRising}
+use Rattle.reg_opening.specs.declared.numbered.Numbered.{Numbered}
 use Rattle.reg_statements.specs.Content.{world_in}
 use Rattle.reg_statements.specs.Loading.{ReadAs}
 use Rattle.reg_statements.specs.Tables.{Tables, tables_in}
@@ -38,11 +42,13 @@ pub record FeedsRows (old new : Audit) (rows : List Row) : Type 0 where
       → AreNew w rows
   pub stays : IsTrue (is_well_kept new) → IsTrue (is_well_kept old)
 
--- whether each row reads, and where each does, the audit was fed what they read as
-abbrev pub IsFed : {T : Type 0} → (SqlRow → Option T) → (T → Row) → List SqlRow → Audit → Audit
-    → Bool → Type 0
+-- whether each row reads, and where each does, their rowids rise, and the audit was fed what they
+-- read as
+abbrev pub IsFed : {T : Type 0} → (SqlRow → Option (Numbered T)) → (Numbered T → Row)
+    → List SqlRow → Audit → Audit → Bool → Type 0
 IsFed {T} of row rows old new true =
-    (values : List T) × ReadAs of rows values × FeedsRows old new (map row values)
+    (values : List (Numbered T)) × ReadAs of rows values × IsRising values
+    × FeedsRows old new (map row values)
 IsFed of row rows old new false = ¬ AllByRecursion (λ r. IsSome (of r)) rows
 
 -- an audit that was fed the rows of a part of the office: whether they are the table of the part,
@@ -70,3 +76,17 @@ pub record FeedsPart {E : Type 0} (Before : World → Type 0) (IsHeld : Tables �
   pub tells : Holds new → IfOk result
       (TellsTable Before (IsHeld (tables_in old.now.trees)) (with (tables_in old.now.trees))
       (world_in old) before after)
+
+-- the rows that make a part of the world, in which none of them is before
+pub record IsPart {T K X : Type 0} {R : K → K → Ordering} (pair : T → K × X) (row : T → Row)
+    (field : World → FinMap R X) (put : World → FinMap R X → World) (Before : World → Type 0)
+    : Type 0 where
+  pub got : (w : World) (m : FinMap R X) → field (put w m) ≡ m
+  pub over : (w : World) (m n : FinMap R X) → put (put w m) n ≡ put w n
+  pub same : (w : World) → put w (field w) ≡ w
+  pub with : (w : World) (t : T)
+      → with_row w (row t) ≡ put w (insert (field w) (pair t).0 (pair t).1)
+  pub free : (w : World) (t : T) → IsNew w (row t) → get (field w) (pair t).0 ≡ None
+  pub new : (w : World) (t : T) → get (field w) (pair t).0 ≡ None → IsNew w (row t)
+  pub none : (w : World) → Before w → field w ≡ empty
+  pub turn : (w : World) (m : FinMap R X) (t : T) → Before w → IsInTurn (put w m) (row t)

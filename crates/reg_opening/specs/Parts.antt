@@ -1,10 +1,12 @@
--- The parts of an office in the order in which an audit is fed them.
+-- The parts of an office in the order in which an audit is fed them, each with its rows by rowids,
+-- but for the registries and their ranges.
 use Rattle.std.specs.Prelude.{◌≡◌}
 use Rattle.std.specs.FinMap.{empty}
 use Rattle.std.specs.Ordering.{nat_cmp}
 use Rattle.reg_blocks.specs.Block.{block_cmp}
 use Rattle.reg_core.specs.Maps.{text_cmp}
 use Rattle.reg_core.specs.World.{World, name_cmp, place_cmp, seat_cmp}
+use Rattle.reg_tables.specs.Editing.{AreKeyed}
 use Rattle.reg_statements.specs.Content.{cap_at, registration_at, case_at, seat_at, advice_at, prefix_at}
 use Rattle.reg_statements.specs.Content.{content, holder_at, maxes_in, ranges_in, registries_in}
 use Rattle.reg_opening.specs.Partitions.{AreRegistries}
@@ -15,8 +17,8 @@ use Rattle.reg_statements.specs.Tables.{Tables}
 
 abbrev pub AreAssigned : Tables → Type 0
 AreAssigned t =
-    IsTable text_cmp cap_at t.caps
-    × (AreRegistries t × IsTable place_cmp registration_at t.entries)
+    (IsTable text_cmp cap_at t.caps × AreKeyed t.caps)
+    × (AreRegistries t × (IsTable place_cmp registration_at t.entries × AreKeyed t.entries))
 
 abbrev pub with_assigned : Tables → World → World
 with_assigned t w = record w {
@@ -36,8 +38,9 @@ pub record NoneAssigned (w : World) : Type 0 where
 
 abbrev pub AreGiven : Tables → Type 0
 AreGiven t =
-    IsTable nat_cmp prefix_at t.pool
-    × (IsTable block_cmp holder_at t.blocks × IsTable name_cmp case_at t.requests)
+    (IsTable nat_cmp prefix_at t.pool × AreKeyed t.pool)
+    × ((IsTable block_cmp holder_at t.blocks × AreKeyed t.blocks)
+    × (IsTable name_cmp case_at t.requests × AreKeyed t.requests))
 
 abbrev pub with_given : Tables → World → World
 with_given t w = record w {
@@ -55,7 +58,9 @@ pub record NoneGiven (w : World) : Type 0 where
 -- ---- Assignments and advice
 
 abbrev pub AreReviewed : Tables → Type 0
-AreReviewed t = IsTable seat_cmp seat_at t.queue × IsTable seat_cmp advice_at t.advice
+AreReviewed t =
+    (IsTable seat_cmp seat_at t.queue × AreKeyed t.queue)
+    × (IsTable seat_cmp advice_at t.advice × AreKeyed t.advice)
 
 abbrev pub with_reviewed : Tables → World → World
 with_reviewed t w = record w {

@@ -1,12 +1,23 @@
 //! The rows of a table, fed to an audit.
 ghost use Rattle.std.specs.Prelude.{◌≡◌, [], IfOk, map};
+ghost use Rattle.std.specs.FinMap.{FinMap};
 ghost use Rattle.sqlite.specs.Held.{state};
+ghost use Rattle.sqlite.specs.Order.{Row as SqlRow, column};
 ghost use Rattle.sqlite.specs.State.{Shown};
+ghost use Rattle.sqlite.specs.Tree.{rowid};
+ghost use Rattle.reg_core.specs.World.{World};
 ghost use Rattle.reg_audit.specs.declared.row.Row.{Row as AuditRow};
-ghost use Rattle.reg_tables.specs.Connection.{Endures, Holds, IsIdle, Stays};
+ghost use Rattle.reg_tables.specs.Connection.{Endures, IsIdle, Stays, Works};
+ghost use Rattle.reg_tables.specs.Editing.{AreKeyed};
 ghost use Rattle.reg_tables.specs.Kinds.{IsQuery};
-ghost use Rattle.reg_opening.specs.Feeding.{FeedsRows, IsFed};
+ghost use Rattle.reg_tables.specs.Selecting.{shows, stored};
+ghost use Rattle.reg_statements.specs.Defined.{IsDefined};
+ghost use Rattle.reg_statements.specs.Parts.{TableDef};
+ghost use Rattle.reg_statements.specs.RowMaps.{IsTable, held_in};
+ghost use Rattle.reg_opening.specs.Feeding.{FeedsPart, FeedsRows, IsFed, IsPart};
+ghost use Rattle.reg_opening.specs.Numbered.{ShowsNumbered, numbered_columns, numbered_in};
 
+use crate::numbered::{Numbered, rise};
 use reg_audit::audit::Audit;
 use reg_audit::row::Row;
 use reg_keeper::keeper::Fault;
@@ -25,6 +36,45 @@ pub trait Fed: Drop {
         ensures { result ≡ row_of self };
 }
 
+/// A row of a table that is a part of the office by itself.
+pub trait FedRow: Record + Fed {
+    /// What its key is, and what a key has.
+    ghost Key: { Type 0 };
+
+    ghost Value: { Type 0 };
+
+    /// The definition of its table.
+    ghost table: { TableDef Self Key Value };
+
+    /// The part of the world that the rows of the table are, and the world with another one.
+    ghost field: { World → FinMap table.key.order Value };
+
+    ghost put: { World → FinMap table.key.order Value → World };
+
+    /// What the world has before any of them is fed.
+    ghost Before: { World → Type 0 };
+
+    /// The query of all rows of the table, each with its rowid behind its columns.
+    fn all() -> &'static str
+        ensures { ShowsNumbered table result.now };
+
+    /// How many columns the table has.
+    fn width() -> usize
+        ensures { result ≡ table.width };
+
+    /// The definition is right, rows are read by it from what the query shows of them, behind which
+    /// the rowid stands, and they are that part.
+    ghost defined: { IsDefined table };
+
+    ghost reads: { (row : SqlRow) → Self.of (shows (numbered_columns table.width) [] row)
+        ≡ table.read (stored table.width row) };
+
+    ghost behind: { (row : SqlRow)
+        → column (shows (numbered_columns table.width) [] row) table.width ≡ rowid row };
+
+    ghost fed: { IsPart table.pair Self.row_of field put Before };
+}
+
 /// Feeds values to an audit, from the last to the first.
 pub fn feed_all<T: Fed>(audit: &mut Audit, mut values: Vec<T>) -> Result<(), AllocError>
     ensures { IfOk result (λ _. FeedsRows audit.old audit.new (map T.row_of values.items)) }
@@ -35,8 +85,9 @@ pub fn feed_all<T: Fed>(audit: &mut Audit, mut values: Vec<T>) -> Result<(), All
     Ok(())
 }
 
-/// Feeds the rows of a query to an audit, where each has its form, and tells whether each has.
-pub fn feed_table<S: Alter, T: Record + Fed>(
+/// Feeds the rows of a query to an audit, where each has its form, and tells whether each has. Rows
+/// whose rowids do not rise are a fault of the store.
+fn feed_table<S: Alter, T: FedRow>(
     alloc: Global,
     conn: &mut Connection<S>,
     audit: &mut Audit,
@@ -47,15 +98,33 @@ pub fn feed_table<S: Alter, T: Record + Fed>(
     ensures idle { IsIdle (state S.Store conn.new) }
     ensures stays { Stays (state S.Store conn.old) (state S.Store conn.new) }
     ensures endures { Endures (state S.Store conn.old) (state S.Store conn.new) }
-    ensures rows { Holds (state S.Store conn.new) → IfOk result (λ read. (rows : _)
+    ensures rows { Works (state S.Store conn.new) → IfOk result (λ read. (rows : _)
         × Shown sql.now [] (state S.Store conn.old) (state S.Store conn.new) rows
-        × IsFed T.of T.row_of rows audit.old audit.new read) }
+        × IsFed (numbered_in T.of T.table.width) (λ numbered. T.row_of numbered.value) rows
+        audit.old audit.new read) }
 {
-    match load::<S, T>(alloc, conn, sql, &[])? {
-        Some(values) => {
-            feed_all(audit, values)?;
-            Ok(true)
-        }
-        None => Ok(false),
+    let Some(values) = load::<S, Numbered<T>>(alloc, conn, sql, &[])? else {
+        return Ok(false);
+    };
+    if !rise(values.as_slice()) {
+        return Err(Fault::Store);
     }
+    feed_all(audit, values)?;
+    Ok(true)
+}
+
+/// Feeds the rows of a table to an audit, where each has its form, and tells whether each has. Rows
+/// whose rowids do not rise are a fault of the store.
+pub fn feed<S: Alter, T: FedRow>(
+    alloc: Global,
+    conn: &mut Connection<S>,
+    audit: &mut Audit,
+) -> Result<bool, Fault>
+    requires { IsIdle (state S.Store conn.old) }
+    ensures { FeedsPart T.Before (λ t. IsTable T.table.key.order T.table.at (T.table.rows t)
+        × AreKeyed (T.table.rows t))
+        (λ t w. T.put w (held_in T.table.at (T.table.rows t)))
+        (state S.Store conn.old) (state S.Store conn.new) audit.old audit.new result }
+{
+    feed_table::<S, T>(alloc, conn, audit, T::all())
 }

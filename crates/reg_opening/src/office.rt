@@ -6,12 +6,17 @@ ghost use Rattle.reg_opening.specs.Parts.{AreAssigned, AreGiven, AreParts, AreRe
 ghost use Rattle.reg_opening.specs.Parts.{NoneAssigned, NoneGiven, NoneReviewed, with_assigned};
 ghost use Rattle.reg_opening.specs.Parts.{with_given, with_parts, with_reviewed};
 
+use crate::feed::feed;
 use crate::partitions::feed_registries;
-use crate::parts::{
-    feed_advice, feed_blocks, feed_caps, feed_entries, feed_pool, feed_queue, feed_requests,
-};
 use reg_audit::audit::Audit;
+use reg_core::entry::Entry;
+use reg_core::holding::Holding;
+use reg_core::request::Request;
 use reg_keeper::keeper::Fault;
+use reg_records::advice::ExpertAdvice;
+use reg_records::caps::Grant;
+use reg_records::pool::Prefix;
+use reg_records::queue::Seat;
 use sqlite::{Alter, Connection};
 use std::alloc::Global;
 
@@ -25,13 +30,13 @@ fn feed_assigned<S: Alter>(
     ensures { FeedsPart NoneAssigned AreAssigned with_assigned
         (state S.Store conn.old) (state S.Store conn.new) audit.old audit.new result }
 {
-    if !feed_caps(alloc, conn, audit)? {
+    if !feed::<S, Grant>(alloc, conn, audit)? {
         return Ok(false);
     }
     if !feed_registries(alloc, conn, audit)? {
         return Ok(false);
     }
-    feed_entries(alloc, conn, audit)
+    feed::<S, Entry>(alloc, conn, audit)
 }
 
 /// Feeds the pool, the blocks and the requests.
@@ -44,13 +49,13 @@ fn feed_given<S: Alter>(
     ensures { FeedsPart NoneGiven AreGiven with_given
         (state S.Store conn.old) (state S.Store conn.new) audit.old audit.new result }
 {
-    if !feed_pool(alloc, conn, audit)? {
+    if !feed::<S, Prefix>(alloc, conn, audit)? {
         return Ok(false);
     }
-    if !feed_blocks(alloc, conn, audit)? {
+    if !feed::<S, Holding>(alloc, conn, audit)? {
         return Ok(false);
     }
-    feed_requests(alloc, conn, audit)
+    feed::<S, Request>(alloc, conn, audit)
 }
 
 /// Feeds the assignments and the advice.
@@ -63,10 +68,10 @@ fn feed_reviewed<S: Alter>(
     ensures { FeedsPart NoneReviewed AreReviewed with_reviewed
         (state S.Store conn.old) (state S.Store conn.new) audit.old audit.new result }
 {
-    if !feed_queue(alloc, conn, audit)? {
+    if !feed::<S, Seat>(alloc, conn, audit)? {
         return Ok(false);
     }
-    feed_advice(alloc, conn, audit)
+    feed::<S, ExpertAdvice>(alloc, conn, audit)
 }
 
 /// Feeds all rows of an office.

@@ -2,13 +2,14 @@
 ghost use Rattle.std.specs.Prelude.{◌≡◌, IfOk};
 ghost use Rattle.sqlite.specs.Held.{state};
 ghost use Rattle.sqlite.specs.State.{IsLive};
-ghost use Rattle.reg_core.specs.WellKept.{WellKept};
-ghost use Rattle.reg_tables.specs.Connection.{Endures, Holds, IsIdle, Stays, Tells};
-ghost use Rattle.reg_tables.specs.Editing.{AreTables};
-ghost use Rattle.reg_statements.specs.Content.{world_in};
-ghost use Rattle.reg_opening.specs.Opening.{Decides, IsVersionOf, Judges, only};
-ghost use Rattle.reg_opening.specs.Parts.{AreParts};
+ghost use Rattle.reg_tables.specs.Connection.{Endures, Holds, IsIdle, Stays, Tells, Works};
+ghost use Rattle.reg_tables.specs.Having.{AreFreeLater, FindsTablesOf};
+ghost use Rattle.reg_tables.specs.Selecting.{BeginsWith};
+ghost use Rattle.reg_tables.specs.Version.{newest};
 ghost use Rattle.reg_statements.specs.Tables.{tables_in};
+ghost use Rattle.reg_opening.specs.Opening.{AreRowsOf, Decides, Finds, IsFreeBy, IsOwn, IsVersionOf};
+ghost use Rattle.reg_opening.specs.Opening.{LeaveFree, Reads, only, verdict_of};
+ghost use Rattle.reg_opening.specs.Rowids.{AreOrderedKeyed};
 
 use crate::office::feed_parts;
 use crate::rowids::check_rowids;
@@ -17,7 +18,10 @@ use reg_keeper::keeper::Fault;
 use reg_records::office::Version;
 use reg_statements::read::load;
 use reg_statements::write::fault;
-use reg_tables::schema::has_tables;
+use reg_tables::schema::{begins_with_office, has_version};
+use reg_tables::texts::SELECT_VERSION;
+use reg_tables::version::NEWEST;
+use reg_vacancies::vacancies::Vacancies;
 use sqlite::{Alter, Connection};
 use std::alloc::Global;
 
@@ -29,10 +33,34 @@ const VERSION: i64 = 1;
 pub enum Verdict {
     /// An office's store, whose content is well kept.
     Ours,
-    /// The tables of an office, of this version and not of the first.
+    /// An office's, of this version and not of the first.
     OtherVersion(i64),
     /// Anything else.
     NotOurs,
+}
+
+/// What a store is, and of an office's what is free in it.
+#[derive(Drop)]
+pub enum Found {
+    /// An office's store, whose content is well kept, and what is free in it.
+    Ours(Vacancies),
+    /// An office's, of this version and not of the first.
+    OtherVersion(i64),
+    /// Anything else.
+    NotOurs,
+}
+
+impl Found {
+    /// What the store is.
+    fn verdict(self) -> Verdict
+        ensures { result ≡ verdict_of self }
+    {
+        match self {
+            Found::Ours(_) => Verdict::Ours,
+            Found::OtherVersion(version) => Verdict::OtherVersion(version),
+            Found::NotOurs => Verdict::NotOurs,
+        }
+    }
 }
 
 /// Tells what a store is. The tables of an office are looked for by their names, and those beside
@@ -41,29 +69,89 @@ pub fn check<S: Alter>(alloc: Global, conn: &mut Connection<S>) -> Result<Verdic
     requires { IsIdle (state S.Store conn.old) }
     ensures { Decides (state S.Store conn.old) (state S.Store conn.new) result }
 {
-    match has_tables(alloc, conn.schema()) {
-        Ok(true) => check_office(alloc, conn),
-        Ok(false) => Ok(Verdict::NotOurs),
+    Ok(find(alloc, conn)?.verdict())
+}
+
+/// Tells what a store is, and finds what is free in an office's. Each row is read once. The version
+/// is read before any other table is looked at, where its table is the first.
+pub fn find<S: Alter>(alloc: Global, conn: &mut Connection<S>) -> Result<Found, Fault>
+    requires { IsIdle (state S.Store conn.old) }
+    ensures { Finds (state S.Store conn.old) (state S.Store conn.new) result }
+{
+    match begins_with_office(alloc, conn.schema()) {
+        Ok(true) => find_first(alloc, conn),
+        Ok(false) => find_beside(alloc, conn),
         Err(error) => Err(fault(&error)),
     }
 }
 
-/// Tells what the tables of an office are.
-fn check_office<S: Alter>(alloc: Global, conn: &mut Connection<S>) -> Result<Verdict, Fault>
+/// Tells what a store is whose first table is that of the version, and which has no view.
+fn find_first<S: Alter>(alloc: Global, conn: &mut Connection<S>) -> Result<Found, Fault>
     requires idle { IsIdle (state S.Store conn.old) }
     requires live { IsLive (state S.Store conn.old) }
-    ensures { Judges (state S.Store conn.old) (state S.Store conn.new) result }
+    requires first { BeginsWith 1 (state S.Store conn.old).now.schema }
+    ensures { Finds (state S.Store conn.old) (state S.Store conn.new) result }
 {
     match version(alloc, conn)? {
-        Some(VERSION) => {
-            if check_rows(alloc, conn)? {
-                Ok(Verdict::Ours)
-            } else {
-                Ok(Verdict::NotOurs)
-            }
-        }
-        Some(other) => Ok(Verdict::OtherVersion(other)),
-        None => Ok(Verdict::NotOurs),
+        Some(VERSION) => find_office(alloc, conn),
+        Some(other) => Ok(Found::OtherVersion(other)),
+        None => Ok(Found::NotOurs),
+    }
+}
+
+/// Tells what a store of this version is.
+fn find_office<S: Alter>(alloc: Global, conn: &mut Connection<S>) -> Result<Found, Fault>
+    requires { IsIdle (state S.Store conn.old) }
+    ensures { Reads (state S.Store conn.old) (state S.Store conn.new) result }
+{
+    if !has_office(alloc, conn)? {
+        return Ok(Found::NotOurs);
+    }
+    find_rows(alloc, conn)
+}
+
+/// Tells what a store is that begins with another table, or has views. An office's tables are looked
+/// for by their names.
+fn find_beside<S: Alter>(alloc: Global, conn: &mut Connection<S>) -> Result<Found, Fault>
+    requires idle { IsIdle (state S.Store conn.old) }
+    requires beside { ¬ BeginsWith 1 (state S.Store conn.old).now.schema }
+    ensures { Finds (state S.Store conn.old) (state S.Store conn.new) result }
+{
+    if !has_office(alloc, conn)? {
+        return Ok(Found::NotOurs);
+    }
+    match version(alloc, conn)? {
+        Some(VERSION) => find_rows(alloc, conn),
+        Some(other) => Ok(Found::OtherVersion(other)),
+        None => Ok(Found::NotOurs),
+    }
+}
+
+/// Whether a store has the tables of an office, wherever they stand.
+fn has_office<S: Alter>(alloc: Global, conn: &Connection<S>) -> Result<bool, Fault>
+    ensures { IfOk result (λ has. Tells has
+        (FindsTablesOf newest (state S.Store conn.now).now.schema
+        × AreFreeLater newest (state S.Store conn.now).now.schema)) }
+{
+    match has_version(alloc, conn.schema(), NEWEST) {
+        Ok(has) => Ok(has),
+        Err(error) => Err(fault(&error)),
+    }
+}
+
+/// Whether the rows of an office's tables are those of one that is well kept.
+fn find_rows<S: Alter>(alloc: Global, conn: &mut Connection<S>) -> Result<Found, Fault>
+    requires { IsIdle (state S.Store conn.old) }
+    ensures idle { IsIdle (state S.Store conn.new) }
+    ensures endures { Endures (state S.Store conn.old) (state S.Store conn.new) }
+    ensures stays { Stays (state S.Store conn.old) (state S.Store conn.new) }
+    ensures rows { Holds (state S.Store conn.new)
+        → IfOk result (AreRowsOf (state S.Store conn.old).now) }
+    ensures own { IfOk result IsOwn }
+{
+    match read_rows(alloc, conn)? {
+        Some(free) => Ok(Found::Ours(free)),
+        None => Ok(Found::NotOurs),
     }
 }
 
@@ -73,10 +161,11 @@ fn version<S: Alter>(alloc: Global, conn: &mut Connection<S>) -> Result<Option<i
     ensures idle { IsIdle (state S.Store conn.new) }
     ensures endures { Endures (state S.Store conn.old) (state S.Store conn.new) }
     ensures stays { Stays (state S.Store conn.old) (state S.Store conn.new) }
-    ensures version { Holds (state S.Store conn.new) → IfOk result
+    ensures version { BeginsWith 1 (state S.Store conn.old).now.schema
+        → Works (state S.Store conn.new) → IfOk result
         (IsVersionOf (tables_in (state S.Store conn.old).now.trees).office) }
 {
-    match load::<S, Version>(alloc, conn, "SELECT version FROM office", &[])? {
+    match load::<S, Version>(alloc, conn, SELECT_VERSION, &[])? {
         Some(rows) => Ok(only(rows.as_slice())),
         None => Ok(None),
     }
@@ -92,22 +181,34 @@ fn only(versions: &[Version]) -> Option<i64>
     }
 }
 
-/// Whether the rows of the tables make an office that is well kept.
-fn check_rows<S: Alter>(alloc: Global, conn: &mut Connection<S>) -> Result<bool, Fault>
+/// What the rows of the tables leave free, if they make an office that is well kept.
+fn read_rows<S: Alter>(alloc: Global, conn: &mut Connection<S>) -> Result<Option<Vacancies>, Fault>
     requires { IsIdle (state S.Store conn.old) }
     ensures idle { IsIdle (state S.Store conn.new) }
     ensures endures { Endures (state S.Store conn.old) (state S.Store conn.new) }
     ensures stays { Stays (state S.Store conn.old) (state S.Store conn.new) }
     ensures keyed { Holds (state S.Store conn.new)
-        → IfOk result (λ _. AreTables (state S.Store conn.old).now.trees) }
-    ensures tells { Holds (state S.Store conn.new) → IfOk result (λ ours. Tells ours
-        (AreParts (tables_in (state S.Store conn.old).now.trees)
-        × WellKept (world_in (state S.Store conn.old)))) }
+        → IfOk result (λ _. AreOrderedKeyed (state S.Store conn.old).now.trees) }
+    ensures tells { Holds (state S.Store conn.new) → IfOk result
+        (LeaveFree (tables_in (state S.Store conn.old).now.trees)) }
 {
     check_rowids(alloc, conn)?;
     let mut audit = Audit::new(alloc);
     if !feed_parts(alloc, conn, &mut audit)? {
-        return Ok(false);
+        return Ok(None);
     }
-    Ok(audit.is_well_kept())
+    free_of(audit)
+}
+
+/// What the rows that an audit was fed leave free, if they make an office that is well kept.
+fn free_of(audit: Audit) -> Result<Option<Vacancies>, Fault>
+    ensures { IfOk result (IsFreeBy audit) }
+{
+    if !audit.is_well_kept() {
+        return Ok(None);
+    }
+    match audit.into_free() {
+        Some(free) => Ok(Some(free)),
+        None => Err(Fault::Memory),
+    }
 }

@@ -19,6 +19,7 @@ use reg_records::ranges::RegistryRange;
 use reg_records::registries::Registry;
 use reg_statements::read::load;
 use reg_statements::select::are_ascending;
+use reg_tables::texts::{SELECT_RANGES, SELECT_REGISTRIES};
 use sqlite::{Alter, Connection};
 use std::alloc::{AllocError, Global};
 use std::marker::Model;
@@ -131,22 +132,10 @@ pub fn feed_registries<S: Alter>(
         (λ t w. record w { registries = registries_in (maxes_in t) (ranges_in t) })
         (state S.Store conn.old) (state S.Store conn.new) audit.old audit.new result }
 {
-    let Some(registries) = load::<S, Registry>(
-        alloc,
-        conn,
-        "SELECT name, max FROM registries ORDER BY name",
-        &[],
-    )?
-    else {
+    let Some(registries) = load::<S, Registry>(alloc, conn, SELECT_REGISTRIES, &[])? else {
         return Ok(false);
     };
-    let Some(rows) = load::<S, RegistryRange>(
-        alloc,
-        conn,
-        "SELECT registry, lo, hi, treatment, note FROM ranges ORDER BY registry, lo",
-        &[],
-    )?
-    else {
+    let Some(rows) = load::<S, RegistryRange>(alloc, conn, SELECT_RANGES, &[])? else {
         return Ok(false);
     };
     feed_partitions(alloc, audit, registries.as_slice(), rows.as_slice())

@@ -1,13 +1,14 @@
 //! The rowids of the rows of the tables.
-ghost use Rattle.std.specs.Prelude.{◌≡◌, ℕ, List, [], IfOk};
+ghost use Rattle.std.specs.Prelude.{◌≡◌, ℕ, List, [], IfOk, map};
+ghost use Rattle.std.specs.List.{AllByRecursion};
 ghost use Rattle.std.specs.Ordering.{int_cmp};
 ghost use Rattle.sqlite.specs.Held.{state};
 ghost use Rattle.sqlite.specs.Term.{Term};
 ghost use Rattle.sqlite_value.specs.declared.keys.Key.{Key};
 ghost use Rattle.reg_tables.specs.Connection.{Endures, Holds, IsIdle, Stays};
-ghost use Rattle.reg_tables.specs.Editing.{AreKeyed, AreTables};
+ghost use Rattle.reg_tables.specs.Editing.{AreKeyed};
 ghost use Rattle.reg_tables.specs.Kinds.{IsQuery};
-ghost use Rattle.reg_opening.specs.Rowids.{AreFirstKeyed, AreLastKeyed, SelectsRowids, rowid_in};
+ghost use Rattle.reg_opening.specs.Rowids.{AreOrderedKeyed, KeysEach, SelectsRowids, rowid_in};
 
 use reg_keeper::keeper::Fault;
 use reg_records::column::int;
@@ -74,47 +75,44 @@ fn check_table<S: Alter>(alloc: Global, conn: &mut Connection<S>, sql: &str) -> 
     Ok(())
 }
 
-/// Checks those of five tables.
-fn check_first<S: Alter>(alloc: Global, conn: &mut Connection<S>) -> Result<(), Fault>
-    requires { IsIdle (state S.Store conn.old) }
+/// The queries of the rowids of the tables whose rows are read in another order than theirs.
+const QUERIES: [&str; 3] = [
+    "SELECT rowid FROM office ORDER BY rowid",
+    "SELECT rowid FROM registries ORDER BY rowid",
+    "SELECT rowid FROM ranges ORDER BY rowid",
+];
+
+/// Checks those of tables, one after the other.
+fn check_each<S: Alter>(
+    alloc: Global,
+    conn: &mut Connection<S>,
+    mut texts: &[&str],
+) -> Result<(), Fault>
+    requires idle { IsIdle (state S.Store conn.old) }
+    requires plain { AllByRecursion IsQuery (map (λ text. text.now) texts.now) }
     ensures idle { IsIdle (state S.Store conn.new) }
     ensures endures { Endures (state S.Store conn.old) (state S.Store conn.new) }
     ensures stays { Stays (state S.Store conn.old) (state S.Store conn.new) }
     ensures keyed { Holds (state S.Store conn.new)
-        → IfOk result (λ _. AreFirstKeyed (state S.Store conn.old).now.trees) }
+        → IfOk result (λ _. KeysEach (map (λ text. text.now) texts.entry.now)
+        (state S.Store conn.old).now.trees) }
 {
-    check_table(alloc, conn, "SELECT rowid FROM office ORDER BY rowid")?;
-    check_table(alloc, conn, "SELECT rowid FROM caps ORDER BY rowid")?;
-    check_table(alloc, conn, "SELECT rowid FROM registries ORDER BY rowid")?;
-    check_table(alloc, conn, "SELECT rowid FROM ranges ORDER BY rowid")?;
-    check_table(alloc, conn, "SELECT rowid FROM entries ORDER BY rowid")
+    'texts: while let [text, more @ ..] = texts {
+        check_table(alloc, conn, text)?;
+        texts = more;
+    }
+    Ok(())
 }
 
-/// Checks those of other five.
-fn check_last<S: Alter>(alloc: Global, conn: &mut Connection<S>) -> Result<(), Fault>
-    requires { IsIdle (state S.Store conn.old) }
-    ensures idle { IsIdle (state S.Store conn.new) }
-    ensures endures { Endures (state S.Store conn.old) (state S.Store conn.new) }
-    ensures stays { Stays (state S.Store conn.old) (state S.Store conn.new) }
-    ensures keyed { Holds (state S.Store conn.new)
-        → IfOk result (λ _. AreLastKeyed (state S.Store conn.old).now.trees) }
-{
-    check_table(alloc, conn, "SELECT rowid FROM requests ORDER BY rowid")?;
-    check_table(alloc, conn, "SELECT rowid FROM queue ORDER BY rowid")?;
-    check_table(alloc, conn, "SELECT rowid FROM advice ORDER BY rowid")?;
-    check_table(alloc, conn, "SELECT rowid FROM pool ORDER BY rowid")?;
-    check_table(alloc, conn, "SELECT rowid FROM blocks ORDER BY rowid")
-}
-
-/// Checks that the rowids of each table rise; if not, it is a fault of the store.
+/// Checks that the rowids rise of the version, the registries and their ranges; if not, it is a fault
+/// of the store. Those of the other tables are read with their rows.
 pub fn check_rowids<S: Alter>(alloc: Global, conn: &mut Connection<S>) -> Result<(), Fault>
     requires { IsIdle (state S.Store conn.old) }
     ensures idle { IsIdle (state S.Store conn.new) }
     ensures endures { Endures (state S.Store conn.old) (state S.Store conn.new) }
     ensures stays { Stays (state S.Store conn.old) (state S.Store conn.new) }
     ensures keyed { Holds (state S.Store conn.new)
-        → IfOk result (λ _. AreTables (state S.Store conn.old).now.trees) }
+        → IfOk result (λ _. AreOrderedKeyed (state S.Store conn.old).now.trees) }
 {
-    check_first(alloc, conn)?;
-    check_last(alloc, conn)
+    check_each(alloc, conn, &QUERIES)
 }

@@ -9,7 +9,7 @@ use Rattle.reg_core.specs.declared.entry.Entry.{Entry}
 use Rattle.reg_core.specs.declared.holding.Holding.{Holding}
 use Rattle.reg_vacancies.specs.declared.vacancies.Vacancies.{Vacancies}
 use Rattle.reg_vacancies.proofs.Carrying.{holders_are_changed}
-use Rattle.reg_sql.specs.Keeping.{AreVacanciesOf}
+use Rattle.reg_vacancies.specs.Vacancies.{AreVacanciesOf}
 
 -- what a call gives that went through
 pub went : {T E P : Type 0} (result : Result T E) → OnOk result P → IsTrue (is_ok result) → P

@@ -2,7 +2,6 @@
 use Rattle.std.proofs.Common.{◌≡◌, List, [], refl, sym, ap, subst, ◌∙◌}
 use Rattle.std.specs.Prelude.{Option, Some, None, IsSome, is_some, option_and_then}
 use Rattle.std.specs.declared.cmp.Ordering.{Ordering}
-use Rattle.std.specs.List.{IsDistinct}
 use Rattle.std.specs.FinMap.{empty, get-empty}
 use Rattle.sqlite.specs.Effect.{Database}
 use Rattle.sqlite.specs.Order.{Row}
@@ -12,7 +11,7 @@ use Rattle.reg_core.specs.WellKept.{WellKept}
 use Rattle.reg_core.specs.World.{empty_world, place_cmp}
 use Rattle.reg_core.proofs.Keeping.RunsKeepWell.{first_worlds_kept}
 use Rattle.reg_core.proofs.MapLaws.{IsKeyOrder, get-select, same_at, text_keys}
-use Rattle.reg_vacancies.specs.Vacancies.{AreVacancies}
+use Rattle.reg_vacancies.specs.Vacancies.{AreVacancies, AreVacanciesOf}
 use Rattle.reg_vacancies.specs.declared.vacancies.Vacancies.{Vacancies}
 use Rattle.reg_tables.specs.Connection.{Holds, IsIdle}
 use Rattle.reg_tables.specs.Having.{Gains}
@@ -20,8 +19,10 @@ use Rattle.reg_tables.specs.Making.{IsBlank, IsFounded, no_schema}
 use Rattle.reg_tables.specs.Schema.{office_schema}
 use Rattle.reg_tables.proofs.GrowLemmas.{none_before}
 use Rattle.reg_statements.specs.Content.{AreKept, IsStored, IsVersion, content, content_of, registry_table}
+use Rattle.reg_statements.specs.RowMaps.{IsTable}
 use Rattle.reg_statements.specs.Tables.{Tables, tables_in}
-use Rattle.reg_sql.specs.Keeping.{AreVacanciesOf, KeepsOffice}
+use Rattle.reg_statements.proofs.RowMaps.Tables.{empty_table}
+use Rattle.reg_sql.specs.Keeping.{KeepsOffice}
 use Rattle.reg_sql.specs.Opening.{HasNoTables}
 
 -- tables that are empty but for the version
@@ -65,20 +66,13 @@ select-empty {R = R} o f = same_at o _ _ (λ q.
 no_range : {P : Type 0} {A : Type 0} (o : Option A) → o ≡ None → IsSome o → P
 no_range o none some = let gone = ap is_some none in absurd (cc)
 
+none : {K X : Type 0} {R : K → K → Ordering} {of : Row → Option (K × X)} → IsTable R of []
+none {R = R} {of = of} = (empty_table R of).0
+
 bare_kept : (rows : List Row) → IsVersion 1 rows → AreKept (bare rows)
-unfolding IsDistinct
 bare_kept rows version = record {
-  version = version;
-  caps = record { reads = tt; distinct = tt };
-  registries = record { reads = tt; distinct = tt };
-  ranges = record { reads = tt; distinct = tt };
-  entries = record { reads = tt; distinct = tt };
-  requests = record { reads = tt; distinct = tt };
-  queue = record { reads = tt; distinct = tt };
-  advice = record { reads = tt; distinct = tt };
-  pool = record { reads = tt; distinct = tt };
-  blocks = record { reads = tt; distinct = tt };
-  owned = λ place some. no_range _ (get-empty place_cmp place) some;
+  whole = (version, (none, (none, (none, (none, (none, (none, (none, (none, none)))))))));
+  tied = λ place some. no_range _ (get-empty place_cmp place) some;
 }
 
 bare_content : (rows : List Row) → content (bare rows) ≡ empty_world

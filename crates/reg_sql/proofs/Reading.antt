@@ -14,16 +14,15 @@ use Rattle.reg_core.specs.World.{World}
 use Rattle.reg_core.specs.declared.entry.Entry.{Entry}
 use Rattle.reg_core.specs.declared.holding.Listed.{Listed}
 use Rattle.reg_vacancies.specs.Pool.{prefix_set}
-use Rattle.reg_vacancies.specs.Vacancies.{AreVacancies, Pool}
+use Rattle.reg_vacancies.specs.Vacancies.{AreVacancies, Pool, AreVacanciesOf}
 use Rattle.reg_vacancies.specs.Values.{Entries}
 use Rattle.reg_vacancies.specs.declared.vacancies.Vacancies.{Vacancies}
 use Rattle.reg_vacancies.proofs.Carrying.{keys_decide}
 use Rattle.reg_tables.specs.Connection.{Holds}
 use Rattle.reg_tables.proofs.Enduring.{endures_then, holds_then}
-use Rattle.reg_tables.proofs.RestLemmas.{stays_then}
+use Rattle.reg_tables.proofs.RestLemmas.{stays_held, stays_same, stays_then}
 use Rattle.reg_content.specs.Calls.{Looks}
 use Rattle.reg_statements.specs.Content.{content_of, world_in}
-use Rattle.reg_sql.specs.Keeping.{AreVacanciesOf}
 use Rattle.reg_sql.specs.Listed.{given, registrations}
 use Rattle.reg_sql.proofs.ListedRows.{each_in_pool, given_listed, prefixes_listed, registrations_listed}
 
@@ -39,7 +38,7 @@ looks_next {a = a} {b = b} {c = c} {second = second} {Gives = Gives} one two = r
   stays = stays_then a b c one.stays two.stays;
   on = holds_then a b c two.endures one.on two.on;
   value = λ h. subst (λ db. IfOk second (Gives (content_of db)))
-      (one.stays.same (two.stays.held h)) (two.value h);
+      (stays_same one.stays (stays_held two.stays h)) (two.value h);
 }
 
 -- after a call that looked, another answer

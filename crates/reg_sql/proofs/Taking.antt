@@ -1,11 +1,10 @@
 -- What an opening makes of a store, in each way that it can go.
-use Rattle.std.proofs.Common.{◌≡◌, ℤ, Bool, inl, inr, true, arith, Ok, Err, Result, refl, sym, ap, subst, ◌∙◌}
+use Rattle.std.proofs.Common.{◌≡◌, ℤ, Bool, inl, inr, true, Ok, Err, Result, refl, sym, ap, subst, ◌∙◌}
 use Rattle.std.specs.Prelude.{IfErr, IfOk, IsTrue, Some}
 use Rattle.sqlite.specs.Effect.{Database}
 use Rattle.sqlite.specs.Schema.{Schema}
 use Rattle.sqlite.specs.State.{State, HasCleanDisk}
 use Rattle.sqlite_schema.specs.Names.{same_name}
-use Rattle.reg_core.specs.WellKept.{WellKept}
 use Rattle.reg_core.specs.World.{empty_world}
 use Rattle.reg_keeper.specs.declared.keeper.Fault.{Fault as KeeperFault}
 use Rattle.reg_vacancies.specs.declared.vacancies.Vacancies.{Vacancies}
@@ -14,12 +13,13 @@ use Rattle.reg_tables.specs.Having.{AreFree, HasTables}
 use Rattle.reg_tables.specs.Making.{no_schema}
 use Rattle.reg_tables.specs.Schema.{office_schema}
 use Rattle.reg_tables.proofs.HavingLemmas.{all_has}
-use Rattle.reg_content.specs.Calls.{Looks}
+use Rattle.reg_tables.proofs.RestLemmas.{stays_held, stays_same}
 use Rattle.reg_statements.specs.Content.{content_of, world_in}
-use Rattle.reg_opening.specs.Opening.{Decides, IsFoundAs, IsOurs}
-use Rattle.reg_opening.specs.declared.open.Verdict.{Verdict}
-use Rattle.reg_opening.specs.declared.open.Verdict.TheVariants.{NotOurs, OtherVersion, Ours}
-use Rattle.reg_sql.specs.Keeping.{AreVacanciesOf, KeepsOffice}
+use Rattle.reg_opening.specs.Opening.{Finds, IsFoundAs, IsOurs, free_in, verdict_of}
+use Rattle.reg_opening.specs.declared.open.Found.{Found}
+use Rattle.reg_opening.specs.declared.open.Found.TheVariants as finding
+use Rattle.reg_vacancies.specs.Vacancies.{AreVacanciesOf, MayBeOf}
+use Rattle.reg_sql.specs.Keeping.{KeepsOffice}
 use Rattle.reg_sql.specs.Opening.{HasNoTables, IsRefused, IsTakenOver, TakesOver}
 use Rattle.reg_sql.specs.declared.open.OpenFault.{OpenFault}
 use Rattle.reg_sql.specs.declared.open.OpenFault.TheVariants as refusals
@@ -92,48 +92,45 @@ none_there : (schema : Schema) → schema ≡ no_schema → ¬ HasTables schema
 none_there schema is has =
     let named = (subst HasTables is has).0.named in absurd (cc)
 
-module _ (fresh : Bool) (old mid : State) {E : Type 0} (verdict : Verdict)
-    (decides : Decides {E = E} old mid (Ok verdict)) where
-  -- what is told holds of the store as it is after the check
-  pub ours_at : verdict ≡ Ours → Holds mid → IsOurs mid.now
-  ours_at is h =
-      let told = subst (IsFoundAs old.now) is (decides.verdict h.works) in
-      subst IsOurs (sym (decides.stays.same h)) (told.1 (decides.stays.held h).tables)
+module _ (fresh : Bool) (old new : State) {E : Type 0} (f : Found)
+    (finds : Finds {E = E} old new (Ok f)) where
+  -- what was found is told of the store as it was
+  told : (g : Found) → f ≡ g → Works new → IsFoundAs old.now (verdict_of g)
+  told g is w = subst (λ f. IsFoundAs old.now (verdict_of f)) is (finds.verdict w)
 
-  pub version_over : (n : ℤ) → verdict ≡ OtherVersion n
-      → TakesOver fresh old mid (Err (refusals.Version n))
+  pub version_over : (n : ℤ) → f ≡ finding.OtherVersion n
+      → TakesOver fresh old new (Err (refusals.Version n))
   version_over n is =
-      refused_over fresh old mid (refusals.Version n) decides.stays.worked decides.stays.unchanged
+      refused_over fresh old new (refusals.Version n) finds.stays.worked finds.stays.unchanged
       (λ w.
-      let told = subst (IsFoundAs old.now) is (decides.verdict w) in
-      (all_has old.now.schema office_schema.tables told.0, told.1))
+      let other = told (finding.OtherVersion n) is w in (
+        other.0,
+        elim other.1 [
+          | inl first ↦ inl first
+          | inr beside ↦
+              inr (beside.0, all_has old.now.schema office_schema.tables beside.1)
+        ],
+      ))
 
-  pub not_ours_over : verdict ≡ NotOurs → (fresh ≡ true → ¬ AreFree old.now.schema)
-      → TakesOver fresh old mid (Err refusals.NotOurs)
+  pub not_ours_over : f ≡ finding.NotOurs → (fresh ≡ true → ¬ AreFree old.now.schema)
+      → TakesOver fresh old new (Err refusals.NotOurs)
   not_ours_over is taken =
-      refused_over fresh old mid refusals.NotOurs decides.stays.worked decides.stays.unchanged
+      refused_over fresh old new refusals.NotOurs finds.stays.worked finds.stays.unchanged
       (λ w.
-      let told = subst (IsFoundAs old.now) is (decides.verdict w) in
-      (told.0, told.1, taken))
+      let none = told finding.NotOurs is w in
+      (none.0, none.1, taken))
 
-  module _ (new : State) {D : Type 0} (result : Result Vacancies D)
-      (looks : Looks mid new result AreVacanciesOf) where
-    worked_over : Works new → Works old
-    worked_over w = decides.stays.worked (looks.stays.worked w)
+  module _ (free : Vacancies) (is : f ≡ finding.Ours free) where
+    ours_was : Holds new → IsOurs old.now
+    ours_was h = (told (finding.Ours free) is h.works).1 (stays_held finds.stays h).tables
 
-    same_over : Works new → new.now ≡ old.now
-    same_over w = looks.stays.unchanged w ∙ decides.stays.unchanged (looks.stays.worked w)
+    ours_at : Holds new → IsOurs new.now
+    ours_at h = subst IsOurs (sym (stays_same finds.stays h)) (ours_was h)
 
-    -- an error of the store
-    pub unread_over : (fault : KeeperFault) → TakesOver fresh old new (Err (refusals.Fault fault))
-    unread_over fault =
-        refused_over fresh old new (refusals.Fault fault) worked_over same_over (λ w. tt)
-
-    ours_taken : verdict ≡ Ours → Works new → IsTakenOver fresh old.now new.now
-    ours_taken is w =
-        let same = same_over w in
-        let told = subst (IsFoundAs old.now) is (decides.verdict (looks.stays.worked w)) in
-        let has = all_has old.now.schema office_schema.tables told.0 in
+    ours_taken : Works new → IsTakenOver fresh old.now new.now
+    ours_taken w =
+        let same = finds.stays.unchanged w in
+        let has = all_has old.now.schema office_schema.tables (told (finding.Ours free) is w).0 in
         record {
           has = subst (λ (db : Database). HasTables db.schema) (sym same) has;
           from = inl same;
@@ -144,37 +141,25 @@ module _ (fresh : Bool) (old mid : State) {E : Type 0} (verdict : Verdict)
           was_alone = λ is. inl (ap (λ (db : Database). db.schema) (sym same) ∙ is);
         }
 
-    ours_kept : verdict ≡ Ours → (v : Vacancies) → (Holds new → AreVacanciesOf (world_in mid) v)
-        → KeepsOffice (Some v) new
-    ours_kept is v are = record {
-      keeping = looks.keeping;
-      kept = λ h. subst (λ (db : Database). WellKept (content_of db)) (sym (looks.stays.same h))
-          (ours_at is (looks.stays.held h)).1;
-      follows = λ h. subst (λ (db : Database). AreVacanciesOf (content_of db) v)
-          (sym (looks.stays.same h)) (are h);
+    ours_kept : KeepsOffice (Some free) new
+    ours_kept = record {
+      keeping = record { idle = finds.rest; stored = λ h. (ours_at h).0 };
+      kept = λ h. (ours_at h).1;
+      follows = λ h. subst (λ (db : Database). AreVacanciesOf (content_of db) free)
+          (sym (stays_same finds.stays h))
+          (subst (λ f. MayBeOf (world_in old) (free_in f)) is (finds.free h));
     }
 
-    pub ours_over : verdict ≡ Ours → (v : Vacancies) → result ≡ Ok v
-        → TakesOver fresh old new (Ok v)
-    ours_over is v read = record {
-      worked = worked_over;
-      keeps = ours_kept is v (λ h. subst (λ r. IfOk r (AreVacanciesOf (world_in mid))) read
-          (looks.value h));
-      taken = ours_taken is;
-      opened = λ h.
-          let was = looks.stays.held h in
-          inl (
-            subst IsOurs (decides.stays.same was) (ours_at is was),
-            ap content_of (same_over h.works),
-          );
-      live = λ honest.
-          let less = looks.endures.faults in
-          let was_clean = looks.endures.clean honest.clean in (
-            decides.endures.clean was_clean,
-            λ is_open.
-                looks.endures.stays_open honest.clean honest.unfailed
-                (decides.endures.stays_open was_clean (omega (arith, less, honest.unfailed)) is_open),
-          );
+    pub ours_over : TakesOver fresh old new (Ok free)
+    ours_over = record {
+      worked = finds.stays.worked;
+      keeps = ours_kept;
+      taken = ours_taken;
+      opened = λ h. inl (ours_was h, ap content_of (stays_same finds.stays h));
+      live = λ honest. (
+        finds.endures.clean honest.clean,
+        finds.endures.stays_open honest.clean honest.unfailed,
+      );
       refused = λ auto w. tt;
       unchanged = λ w. tt;
     }

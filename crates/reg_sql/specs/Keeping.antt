@@ -1,21 +1,12 @@
 -- What a keeper over tables has beside its connection.
-use Rattle.std.specs.Prelude.{◌≡◌, Option, IfSome}
+use Rattle.std.specs.Prelude.{◌≡◌, Option}
 use Rattle.sqlite.specs.State.{State, HasCleanDisk}
 use Rattle.reg_core.specs.WellKept.{WellKept}
-use Rattle.reg_core.specs.World.{World}
-use Rattle.reg_vacancies.specs.Vacancies.{AreVacancies}
+use Rattle.reg_vacancies.specs.Vacancies.{MayBeOf}
 use Rattle.reg_vacancies.specs.declared.vacancies.Vacancies.{Vacancies}
 use Rattle.reg_tables.specs.Connection.{Holds}
 use Rattle.reg_content.specs.Calls.{IsKeeping}
 use Rattle.reg_statements.specs.Content.{world_in}
-
--- they are the vacancies of the world's entries, pool and blocks
-abbrev pub AreVacanciesOf : World → Vacancies → Type 0
-AreVacanciesOf w vacancies = AreVacancies vacancies w.entries w.pool w.blocks
-
--- so they are, where they are there
-abbrev pub MayBeOf : World → Option Vacancies → Type 0
-MayBeOf w vacancies = IfSome vacancies (AreVacanciesOf w)
 
 -- the disk has returned what was written, and did not fail
 pub record IsHonest (s : State) : Type 0 where

@@ -15,6 +15,7 @@ use Rattle.reg_tables.specs.Connection.{Holds, Works}
 use Rattle.reg_tables.specs.Having.{AreFree, HasTables}
 use Rattle.reg_tables.specs.Making.{no_schema}
 use Rattle.reg_tables.specs.Schema.{office_schema}
+use Rattle.reg_tables.specs.Selecting.{BeginsWith}
 use Rattle.reg_statements.specs.Content.{content_of, world_in}
 use Rattle.reg_opening.specs.Opening.{IsOfVersion, IsOurs}
 use Rattle.reg_sql.specs.Keeping.{IsHonest, KeepsOffice}
@@ -53,7 +54,7 @@ pub record IsTakenOver (fresh : Bool) (old new : Database) : Type 0 where
 -- why it is refused
 abbrev pub IsRefused : Bool → Database → OpenFault → Type 0
 IsRefused fresh db (Version n) =
-    HasTables db.schema × (db.schema ≡ office_schema → IsOfVersion n db × (n ≢ pos 1))
+    (n ≢ pos 1) × (IsOfVersion n db ⊎ ((¬ BeginsWith 1 db.schema) × HasTables db.schema))
 IsRefused fresh db NotOurs =
     (¬ IsOurs db) × ((n : ℤ) → IsOfVersion n db → n ≡ pos 1)
     × (fresh ≡ true → ¬ AreFree db.schema)

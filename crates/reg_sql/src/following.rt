@@ -2,7 +2,7 @@
 ghost use Rattle.std.specs.Prelude.{IsTrue};
 ghost use Rattle.reg_core.specs.WellKept.{WellKept, CanApply};
 ghost use Rattle.reg_core.specs.World.{World, applied};
-ghost use Rattle.reg_sql.specs.Keeping.{AreVacanciesOf, MayBeOf};
+ghost use Rattle.reg_vacancies.specs.Vacancies.{AreVacanciesOf, MayBeOf};
 
 use reg_blocks::pool::is_pool_prefix;
 use reg_core::change::Change;

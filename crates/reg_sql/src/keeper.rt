@@ -45,9 +45,9 @@ use std::marker::Model;
 /// A row by its key takes a statement by that key, and a list one by the first columns of a key; that
 /// of a queue joins its assignments with their requests and advice. A change is one transaction, with
 /// a statement for each row that it touches. What is free is kept beside the tables: the least value
-/// without an entry takes O(log n) for each range of its policy, the block due O(log n). It is made
-/// from the rows when the office is opened, follows each change, and is made anew after one that was
-/// not made.
+/// without an entry takes O(log n) for each range of its policy, the block due O(log n). It is found
+/// with the rows when the office is opened, follows each change, and is made anew of the rows after
+/// one that was not made.
 #[derive(Drop)]
 pub struct SqlKeeper<S: Alter> {
     tables: Tables<S>,

@@ -18,9 +18,8 @@ ghost use Rattle.reg_sql.specs.Opening.{StandsAlone, TakesOver, refusal_of};
 ghost use Rattle.reg_sql.specs.declared.open.OpenFault.TheVariants as refusals;
 
 use crate::keeper::SqlKeeper;
-use crate::vacancies::read_vacancies;
 use reg_keeper::keeper::Fault;
-use reg_opening::open::{Verdict, check};
+use reg_opening::open::{Found, find};
 use reg_statements::write::fault;
 use reg_tables::make::make_office;
 use reg_tables::schema::has_room;
@@ -31,7 +30,7 @@ use std::alloc::{AllocError, Global};
 /// Why no office is opened. The store is as it was.
 #[derive(Clone, Copy, Debug, PartialEq, Eq)]
 pub enum OpenFault {
-    /// The tables are an office's, of this version and not of the first.
+    /// The store is an office's, of this version and not of the first.
     Version(i64),
     /// Anything else than an office's tables with rows of a well kept office in them.
     NotOurs,
@@ -99,10 +98,10 @@ fn take_over<S: Alter>(
     if is_to_found(alloc, conn, fresh)? {
         return found(alloc, conn);
     }
-    match check(alloc, conn)? {
-        Verdict::Ours => Ok(read_vacancies(alloc, conn)?),
-        Verdict::OtherVersion(version) => Err(OpenFault::Version(version)),
-        Verdict::NotOurs => Err(OpenFault::NotOurs),
+    match find(alloc, conn)? {
+        Found::Ours(vacancies) => Ok(vacancies),
+        Found::OtherVersion(version) => Err(OpenFault::Version(version)),
+        Found::NotOurs => Err(OpenFault::NotOurs),
     }
 }
 

@@ -9,9 +9,9 @@ ghost use Rattle.reg_tables.specs.Connection.{Holds};
 ghost use Rattle.reg_content.specs.Calls.{IsKeeping, Looks};
 ghost use Rattle.reg_statements.specs.Content.{world_in};
 ghost use Rattle.reg_vacancies.specs.Pool.{prefix_set};
-ghost use Rattle.reg_vacancies.specs.Vacancies.{AreVacancies, Pool as Prefixes};
+ghost use Rattle.reg_vacancies.specs.Vacancies.{AreVacancies, Pool as Prefixes, AreVacanciesOf};
 ghost use Rattle.reg_vacancies.specs.Values.{Entries};
-ghost use Rattle.reg_sql.specs.Keeping.{AreVacanciesOf, KeepsOffice};
+ghost use Rattle.reg_sql.specs.Keeping.{KeepsOffice};
 ghost use Rattle.reg_sql.specs.Listed.{given, registrations};
 
 use reg_content::blocks::blocks;

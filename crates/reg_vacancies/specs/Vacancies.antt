@@ -1,7 +1,8 @@
 -- What is free in an office: values of registries, and places of the pool.
-use Rattle.std.specs.Prelude.{◌≡◌, ◌↔◌}
+use Rattle.std.specs.Prelude.{◌≡◌, ◌↔◌, Option, IfSome}
 use Rattle.std.specs.FinSet.{FinSet}
 use Rattle.std.specs.Ordering.{nat_cmp}
+use Rattle.reg_core.specs.World.{World}
 use Rattle.reg_vacancies.specs.Places.{AreLeftBy, Blocks, pool_in}
 use Rattle.reg_vacancies.specs.Values.{AreTakenBy, Entries}
 use Rattle.reg_vacancies.specs.declared.places.FreePlaces.{FreePlaces}
@@ -26,6 +27,14 @@ pub record AreVacancies (vacancies : Vacancies) (entries : Entries) (pool : Pool
   pub taken : AreTakenBy (taken_in vacancies) entries
   pub pooled : pool_in (free_in vacancies) ≡ pool
   pub left : AreLeftBy (free_in vacancies) blocks
+
+-- they are the vacancies of the world's entries, pool and blocks
+abbrev pub AreVacanciesOf : World → Vacancies → Type 0
+AreVacanciesOf w vacancies = AreVacancies vacancies w.entries w.pool w.blocks
+
+-- so they are, where they are there
+abbrev pub MayBeOf : World → Option Vacancies → Type 0
+MayBeOf w vacancies = IfSome vacancies (AreVacanciesOf w)
 
 -- it holds of all entries, pools and blocks of which these are the vacancies
 abbrev pub OfAll : Vacancies → (Entries → Pool → Blocks → Type 0) → Type 0

@@ -11,14 +11,14 @@ Rest w = (w.registries ≡ empty) × (w.entries ≡ empty) × (w.requests ≡ em
 
 pub returns : goal.returns
 returns g c =
-    let first = state g.S.Store c.feed_caps.new.conn in
+    let first = state g.S.Store c.feed.new.conn in
     let second = state g.S.Store c.feed_registries.new.conn in
-    let last = state g.S.Store c.feed_entries.new.conn in
-    let one : c.in_ok-feed_caps.field-0 ≡ true = search rules in
+    let last = state g.S.Store c.feed-2.new.conn in
+    let one : c.in_ok-feed.field-0 ≡ true = search rules in
     let two : c.in_ok-feed_registries.field-0 ≡ true = search rules in
     feeds_then _ _ _ _ _ _ _ (λ t w none. (none.caps, (none.registries, none.entries, none.requests)))
-    (state g.S.Store c.args.conn.now) first last c.args.audit.now c.feed_caps.new.audit
-    c.feed_entries.new.audit _ c.feed_entries.result one c.in_ok-feed_caps.ensures
+    (state g.S.Store c.args.conn.now) first last c.args.audit.now c.feed.new.audit
+    c.feed-2.new.audit _ c.feed-2.result one c.in_ok-feed.ensures
     (feeds_then _ _ _ _ _ _ Rest (λ t w none. ((none.0, none.1), (none.1, none.2)))
-    first second last c.feed_caps.new.audit c.feed_registries.new.audit c.feed_entries.new.audit _
-    c.feed_entries.result two c.in_ok-feed_registries.ensures c.feed_entries.ensures)
+    first second last c.feed.new.audit c.feed_registries.new.audit c.feed-2.new.audit _
+    c.feed-2.result two c.in_ok-feed_registries.ensures c.feed-2.ensures)

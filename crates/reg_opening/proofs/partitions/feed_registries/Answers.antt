@@ -7,7 +7,8 @@ use Rattle.reg_records.specs.Ranges.{range_in}
 use Rattle.reg_records.specs.Registries.{registry_in}
 use Rattle.reg_tables.specs.Selecting.{stored}
 use Rattle.reg_tables.proofs.Enduring.{endures_then}
-use Rattle.reg_tables.proofs.RestLemmas.{stays_then}
+use Rattle.reg_tables.proofs.RestLemmas.{stays_held, stays_same, stays_then}
+use Rattle.reg_tables.proofs.SelectLemmas.{office_begins}
 use Rattle.reg_tables.proofs.Statements.Ranges.{all_ranges}
 use Rattle.reg_tables.proofs.Statements.Registries.{all_registries}
 use Rattle.reg_statements.specs.Content.{max_at, range_at}
@@ -30,9 +31,10 @@ returns-in_default g c =
       endures = loaded.endures;
       stays = loaded.stays;
       tells = λ h held kept.
-          let found = rw c.in_default.is at (loaded.rows h) in
-          unread_table (λ r. (r.name, r.max)) 2 registry_in (tables_in old.now.trees).registries found.0
-          (all_shown 2 _ 3 _ old new found.0 all_registries (loaded.stays.held h) found.1)
+          let found = rw c.in_default.is at (loaded.rows h.works) in
+          unread_table (λ r. (r.name, r.max)) (stored 2) registry_in (tables_in old.now.trees).registries found.0
+          (all_shown 3 2 _ 3 _ old new found.0 all_registries
+          (office_begins 3 (stays_held loaded.stays h).tables) found.1)
           found.2 held.registries;
     }
 
@@ -52,10 +54,11 @@ returns-in_default-2 g c =
       endures = endures_then old mid new first.endures second.endures;
       stays = stays_then old mid new first.stays second.stays;
       tells = λ h held kept.
-          let found = rw c.in_default-2.is at (second.rows h) in
-          let still = first.stays.same (second.stays.held h) in
-          let shown = all_shown 5 _ 5 _ mid new found.0 all_ranges (second.stays.held h) found.1 in
-          unread_table (λ r. ((r.registry, r.range.lo), r.range)) 5 range_in (tables_in old.now.trees).ranges found.0
+          let found = rw c.in_default-2.is at (second.rows h.works) in
+          let still = stays_same first.stays (stays_held second.stays h) in
+          let shown = all_shown 4 5 _ 5 _ mid new found.0 all_ranges
+          (office_begins 4 (stays_held second.stays h).tables) found.1 in
+          unread_table (λ r. ((r.registry, r.range.lo), r.range)) (stored 5) range_in (tables_in old.now.trees).ranges found.0
           (subst (λ (db : Database). IsPermutation (map (stored 5) (db.trees 5)) found.0) still shown)
           found.2 held.ranges;
     }
@@ -72,12 +75,14 @@ returns g c =
       endures = endures_then old mid new first.endures second.endures;
       stays = stays_then old mid new first.stays second.stays;
       tells = λ h.
-          let before = second.stays.held h in
-          let found = rw c.in-Some.is at (first.rows before) in
-          let places = rw c.in-Some-2.is at (second.rows h) in
-          let still = first.stays.same before in
-          let moved = all_shown 2 _ 3 _ old mid found.0 all_registries (first.stays.held before) found.1 in
-          let along = all_shown 5 _ 5 _ mid new places.0 all_ranges before places.1 in
+          let before = stays_held second.stays h in
+          let found = rw c.in-Some.is at (first.rows before.works) in
+          let places = rw c.in-Some-2.is at (second.rows h.works) in
+          let still = stays_same first.stays before in
+          let moved = all_shown 3 2 _ 3 _ old mid found.0 all_registries
+          (office_begins 3 (stays_held first.stays before).tables) found.1 in
+          let along = all_shown 4 5 _ 5 _ mid new places.0 all_ranges
+          (office_begins 4 before.tables) places.1 in
           let fed = rw (c.as_slice.ensures.value, c.as_slice-2.ensures.value) at c.feed_partitions.ensures in
           IfOk-weaker c.feed_partitions.result _ _ (λ k is.
           registries_told (tables_in old.now.trees) c.args.audit.now c.feed_partitions.new.audit

@@ -6,7 +6,7 @@ use Rattle.reg_core.specs.WellKept.{CanApply}
 use Rattle.reg_core.specs.World.{applied}
 use Rattle.reg_core.specs.declared.change.Change.{Change}
 use Rattle.reg_vacancies.proofs.Fitting.{may_be_given}
-use Rattle.reg_sql.specs.Keeping.{AreVacanciesOf}
+use Rattle.reg_vacancies.specs.Vacancies.{AreVacanciesOf}
 use Rattle.reg_sql.proofs.Changing.{left_free, went}
 use Rattle.reg_sql.proofs.following.follow.Goals as goal
 

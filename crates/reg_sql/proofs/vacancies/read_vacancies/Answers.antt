@@ -3,6 +3,7 @@ use Rattle.std.specs.FinMap.{keys}
 use Rattle.sqlite.specs.Held.{state}
 use Rattle.reg_core.specs.Page.{entry_rows}
 use Rattle.reg_vacancies.specs.Pool.{prefix_set}
+use Rattle.reg_tables.proofs.RestLemmas.{stays_held}
 use Rattle.reg_content.specs.Calls.{Looks}
 use Rattle.reg_statements.specs.Content.{world_in}
 use Rattle.reg_content.proofs.Looking.{looks}
@@ -26,12 +27,12 @@ returns g c =
     let three = looks_next {first = Ok c.in_ok-pool.pool} {second = Ok c.in_ok-blocks.blocks} two
     c.in_ok-blocks.ensures in
     looks_so three (λ h.
-    let h2 = c.in_ok-blocks.ensures.stays.held h in
-    let h1 = c.in_ok-pool.ensures.stays.held h2 in
+    let h2 = stays_held c.in_ok-blocks.ensures.stays h in
+    let h1 = stays_held c.in_ok-pool.ensures.stays h2 in
     let registered : entries ≡ entry_rows w.entries = one.value h1 in
     let pool : prefixes ≡ keys w.pool = c.prefixes.ensures.value ∙ two.value h2 in
     let blocks = c.into_vec.ensures ∙ three.value h in
-    let lie = listed_in_pool w (c.requires.kept (three.stays.held h)) prefixes rows pool blocks in
+    let lie = listed_in_pool w (c.requires.kept (stays_held three.stays h)) prefixes rows pool blocks in
     listed_leave w c.give_blocks.new.vacancies entries prefixes rows registered pool blocks
     (c.in_ok-give_blocks.ensures (registrations entries) (prefix_set prefixes) lie
     (c.in_ok-add_prefixes.ensures (registrations entries)

@@ -1,5 +1,5 @@
 use Rattle.std.proofs.lemmas.Result.{on_err_weaker, on_ok_weaker}
-use Rattle.reg_audit.proofs.KeptRows.{keeps_advice, keeps_assignment, keeps_block, keeps_cap, keeps_entry, keeps_prefix, keeps_registry, keeps_request, keeps_still, of_row}
+use Rattle.reg_audit.proofs.KeptRows.{keeps_advice, keeps_assignment, keeps_cap, keeps_registry, keeps_request, keeps_still, of_row}
 use Rattle.reg_audit.proofs.audit.Audit.keep.Goals as goal
 
 pub returns-in-Cap-clause-ok : goal.returns-in-Cap-clause-ok
@@ -19,24 +19,21 @@ returns-in-Registry-clause-ok c =
 
 pub returns-in-Entry-clause-ok : goal.returns-in-Entry-clause-ok
 returns-in-Entry-clause-ok c =
-    on_ok_weaker c.set_row-in-Entry.result
-    (λ put w keeps. of_row w c.args.row _ c.in-Entry.is (λ turn fits.
-    keeps_entry c.args.self.now w keeps c.set_row-in-Entry.new.map c.in-Entry.entry put))
-    c.set_row-in-Entry.ensures.ok
+    on_ok_weaker c.keep_entry.result
+    (λ kept w keeps. of_row w c.args.row _ c.in-Entry.is (λ turn fits. kept w keeps))
+    c.keep_entry.ensures.ok
 
 pub returns-in-Prefix-clause-ok : goal.returns-in-Prefix-clause-ok
 returns-in-Prefix-clause-ok c =
-    on_ok_weaker c.add_key-in-Prefix.result
-    (λ put w keeps. of_row w c.args.row _ c.in-Prefix.is (λ turn fits.
-    keeps_prefix c.args.self.now w keeps c.add_key-in-Prefix.new.keys c.in-Prefix.prefix put))
-    c.add_key-in-Prefix.ensures.ok
+    on_ok_weaker c.keep_prefix.result
+    (λ kept w keeps. of_row w c.args.row _ c.in-Prefix.is (λ turn fits. kept w keeps))
+    c.keep_prefix.ensures.ok
 
 pub returns-in-Block-clause-ok : goal.returns-in-Block-clause-ok
 returns-in-Block-clause-ok c =
-    on_ok_weaker c.set_row-in-Block.result
-    (λ put w keeps. of_row w c.args.row _ c.in-Block.is (λ turn fits.
-    keeps_block c.args.self.now w keeps c.set_row-in-Block.new.map c.in-Block.holding put))
-    c.set_row-in-Block.ensures.ok
+    on_ok_weaker c.keep_block.result
+    (λ kept w keeps. of_row w c.args.row _ c.in-Block.is (λ turn fits. kept w keeps fits.0))
+    c.keep_block.ensures.ok
 
 pub returns-in-Request-clause-ok : goal.returns-in-Request-clause-ok
 returns-in-Request-clause-ok c =

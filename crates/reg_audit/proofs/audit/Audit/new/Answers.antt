@@ -1,4 +1,4 @@
-use Rattle.std.proofs.Common.{true, refl}
+use Rattle.std.proofs.Common.{true, refl, Some}
 use Rattle.reg_core.proofs.Keeping.RunsKeepWell.{first_worlds_kept}
 use Rattle.reg_audit.specs.declared.audit.Audit.{Audit}
 use Rattle.reg_audit.proofs.KeptRows.{keeps_none}
@@ -14,11 +14,12 @@ returns c =
       holders = c.new-5.result;
       requests = c.new-6.result;
       assignments = c.new-7.result;
+      free = Some c.new-8.result;
       well_kept = true;
     } in record {
       says = ((λ h. first_worlds_kept.0), (λ h. refl));
       keeps = λ h.
           keeps_none audit c.new.ensures.empty c.new-2.ensures.empty c.new-3.ensures.empty
           c.new-4.ensures.empty c.new-5.ensures.empty c.new-6.ensures.empty
-          c.new-7.ensures.empty;
+          c.new-7.ensures.empty c.new-8.ensures;
     }

@@ -2,7 +2,7 @@ use Rattle.std.proofs.Common.{rules, ◌≡◌, subst}
 use Rattle.sqlite.specs.Held.{state}
 use Rattle.reg_statements.specs.Content.{world_in}
 use Rattle.reg_core.specs.BlockDue.{due_in}
-use Rattle.reg_sql.specs.Keeping.{AreVacanciesOf}
+use Rattle.reg_vacancies.specs.Vacancies.{AreVacanciesOf}
 use Rattle.reg_sql.proofs.keeper.Tables.due.Goals as goal
 
 pub returns : goal.returns

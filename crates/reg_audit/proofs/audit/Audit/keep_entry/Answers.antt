@@ -1,0 +1,10 @@
+use Rattle.std.proofs.Common.{subst, sym}
+use Rattle.reg_vacancies.specs.Vacancies.{MayBeOf}
+use Rattle.reg_audit.proofs.KeptRows.{keeps_entry}
+use Rattle.reg_audit.proofs.audit.Audit.keep_entry.Goals as goal
+
+pub returns-clause-ok : goal.returns-clause-ok
+returns-clause-ok c = λ w keeps.
+    keeps_entry c.args.self.now w keeps c.set_row.new.map c.args.entry.now
+    c.in_ok-set_row.ensures.ok c.with_value.result
+    (c.with_value.ensures w (subst (MayBeOf w) (sym c.take.ensures.value) keeps.free))

@@ -1,0 +1,7 @@
+use Rattle.std.proofs.Common.{subst}
+use Rattle.reg_vacancies.specs.Vacancies.{MayBeOf}
+use Rattle.reg_audit.proofs.free.with_prefix.Goals as goal
+
+pub returns-in-Ok : goal.returns-in-Ok
+returns-in-Ok c = λ w are.
+    c.in-Ok.ensures.ok w.entries w.pool w.blocks (subst (MayBeOf w) c.in_ok-free.was are)

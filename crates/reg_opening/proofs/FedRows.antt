@@ -1,0 +1,133 @@
+-- The queries of all rows of a table, each with its rowid.
+use Rattle.std.proofs.Common.{List, ℕ, [], ◌∷◌, codes, refl}
+use Rattle.sqlite.specs.Listing.{understood}
+use Rattle.sqlite.specs.Term.{Term}
+use Rattle.sqlite_value.specs.declared.keys.Key.{Key}
+use Rattle.sqlite_tied.specs.Compute.{everything}
+use Rattle.reg_tables.specs.Selecting.{ordered_by}
+use Rattle.reg_statements.specs.Office as office
+use Rattle.reg_opening.specs.Numbered.{ShowsNumbered}
+
+-- in the order of the rowids
+abbrev by_rowid : List (Term × Key)
+by_rowid = ordered_by (0 ∷ [])
+
+abbrev pub caps_text : List ℕ
+caps_text = codes "SELECT digest, account, kind, until, rowid FROM caps ORDER BY rowid"
+
+pub shows_caps : ShowsNumbered office.caps caps_text
+unfolding understood everything
+shows_caps = record {
+  order = by_rowid;
+  selects = record {
+    names =
+        codes "digest" ∷ codes "account" ∷ codes "kind" ∷ codes "until" ∷ codes "rowid" ∷ [];
+    is = λ more indexes. refl;
+    plain = (refl, refl);
+    unlisted = λ more indexes. refl;
+  };
+}
+
+abbrev pub entries_text : List ℕ
+entries_text = codes "SELECT registry, value, label, assignee, first, expires, renewed, rowid FROM entries ORDER BY rowid"
+
+pub shows_entries : ShowsNumbered office.entries entries_text
+unfolding understood everything
+shows_entries = record {
+  order = by_rowid;
+  selects = record {
+    names =
+        codes "registry" ∷ codes "value" ∷ codes "label" ∷ codes "assignee" ∷ codes "first" ∷
+        codes "expires" ∷ codes "renewed" ∷ codes "rowid" ∷ [];
+    is = λ more indexes. refl;
+    plain = (refl, refl);
+    unlisted = λ more indexes. refl;
+  };
+}
+
+abbrev pub pool_text : List ℕ
+pool_text = codes "SELECT prefix, rowid FROM pool ORDER BY rowid"
+
+pub shows_pool : ShowsNumbered office.pool pool_text
+unfolding understood everything
+shows_pool = record {
+  order = by_rowid;
+  selects = record {
+    names =
+        codes "prefix" ∷ codes "rowid" ∷ [];
+    is = λ more indexes. refl;
+    plain = (refl, refl);
+    unlisted = λ more indexes. refl;
+  };
+}
+
+abbrev pub blocks_text : List ℕ
+blocks_text = codes "SELECT first, size, holder, organization, address, private, rowid FROM blocks ORDER BY rowid"
+
+pub shows_blocks : ShowsNumbered office.blocks blocks_text
+unfolding understood everything
+shows_blocks = record {
+  order = by_rowid;
+  selects = record {
+    names =
+        codes "first" ∷ codes "size" ∷ codes "holder" ∷ codes "organization" ∷ codes "address" ∷
+        codes "private" ∷ codes "rowid" ∷ [];
+    is = λ more indexes. refl;
+    plain = (refl, refl);
+    unlisted = λ more indexes. refl;
+  };
+}
+
+abbrev pub requests_text : List ℕ
+requests_text = codes "SELECT account, reference, kind, registry, value, least, label, contact, specification, rfc_number, rfc_stream, rfc_track, minute, draft, stable, interest, chair, director, will_be_rfc, size, organization, address, state, given, reason, rowid FROM requests ORDER BY rowid"
+
+pub shows_requests : ShowsNumbered office.requests requests_text
+unfolding understood everything
+shows_requests = record {
+  order = by_rowid;
+  selects = record {
+    names =
+        codes "account" ∷ codes "reference" ∷ codes "kind" ∷ codes "registry" ∷ codes "value" ∷
+        codes "least" ∷ codes "label" ∷ codes "contact" ∷ codes "specification" ∷
+        codes "rfc_number" ∷ codes "rfc_stream" ∷ codes "rfc_track" ∷ codes "minute" ∷
+        codes "draft" ∷ codes "stable" ∷ codes "interest" ∷ codes "chair" ∷ codes "director" ∷
+        codes "will_be_rfc" ∷ codes "size" ∷ codes "organization" ∷ codes "address" ∷
+        codes "state" ∷ codes "given" ∷ codes "reason" ∷ codes "rowid" ∷ [];
+    is = λ more indexes. refl;
+    plain = (refl, refl);
+    unlisted = λ more indexes. refl;
+  };
+}
+
+abbrev pub queue_text : List ℕ
+queue_text = codes "SELECT account, reference, expert, rowid FROM queue ORDER BY rowid"
+
+pub shows_queue : ShowsNumbered office.queue queue_text
+unfolding understood everything
+shows_queue = record {
+  order = by_rowid;
+  selects = record {
+    names =
+        codes "account" ∷ codes "reference" ∷ codes "expert" ∷ codes "rowid" ∷ [];
+    is = λ more indexes. refl;
+    plain = (refl, refl);
+    unlisted = λ more indexes. refl;
+  };
+}
+
+abbrev pub advice_text : List ℕ
+advice_text = codes "SELECT account, reference, expert, verdict, text, rowid FROM advice ORDER BY rowid"
+
+pub shows_advice : ShowsNumbered office.advice advice_text
+unfolding understood everything
+shows_advice = record {
+  order = by_rowid;
+  selects = record {
+    names =
+        codes "account" ∷ codes "reference" ∷ codes "expert" ∷ codes "verdict" ∷ codes "text" ∷
+        codes "rowid" ∷ [];
+    is = λ more indexes. refl;
+    plain = (refl, refl);
+    unlisted = λ more indexes. refl;
+  };
+}
