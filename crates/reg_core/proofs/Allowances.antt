@@ -1,7 +1,7 @@
 -- What is allowed: a value without an entry that is assigned one by one, an own early allocation
 -- for longer, or the block that is due.
-use Rattle.std.proofs.Common.{◌≡◌, ℕ, Bool, true, false, List, [], refl, sym, ap, subst, ◌∙◌}
-use Rattle.std.specs.Prelude.{Some, None, Result, Ok, Err, is_some, option_and_then}
+use Rattle.std.proofs.Common.{◌≡◌, ◌<◌, ℕ, Bool, true, false, List, [], refl, sym, ap, subst, ◌∙◌}
+use Rattle.std.specs.Prelude.{Some, None, Result, Ok, Err, Contains, is_some, option_and_then}
 use Rattle.std.specs.FinMap.{get}
 use Rattle.std.specs.Cmp.{second_so}
 use Rattle.reg_ranges.specs.FreeValues.{IsLeastFree, least_value}
@@ -17,7 +17,7 @@ use Rattle.reg_core.specs.Allowance.{Ground, or_refusal, policy_for, is_met, is_
 use Rattle.reg_core.specs.Award.{Allowance, AwardedEntry, renewed, settled, awarded_entry, new_holding, given_in, entry_on}
 use Rattle.reg_core.specs.LeastFree.{values_in}
 use Rattle.reg_core.specs.Laws.{IsOfAsk}
-use Rattle.reg_core.specs.MayBeGiven.{IsWanted, IsUnder, MayBeGiven, MayBeGivenEarly, MayBeRenewed, MayBeSettled, IsAskedDuly, IsDuly}
+use Rattle.reg_core.specs.MayBeGiven.{NoneIsFreeBelow, IsWanted, IsUnder, MayBeGiven, MayBeGivenEarly, MayBeRenewed, MayBeSettled, IsAskedDuly, IsDuly}
 use Rattle.reg_core.specs.Names.{is_name}
 use Rattle.reg_core.specs.Registry.{has_table_form}
 use Rattle.reg_core.specs.View.{published}
@@ -40,7 +40,7 @@ use Rattle.reg_core.specs.declared.request.Given.{Given}
 use Rattle.reg_core.proofs.Blocks.{due_is_due}
 use Rattle.reg_core.proofs.Cases.{by_test}
 use Rattle.reg_core.proofs.Terms.{renews, settles}
-use Rattle.reg_core.proofs.ValuesIn.{no_entry}
+use Rattle.reg_core.proofs.ValuesIn.{has_entry, no_entry}
 use Rattle.reg_core.proofs.Checks.{went_on, was_some, not_some, own_is, opened, value_policy, least_policy, all_met, all_met_early, table_partition}
 
 -- ---- What is allowed
@@ -279,6 +279,18 @@ module _ (w : World) (kept : WellKept w) (registry : List ℕ) (table : Table)
       subst (IsLeastFree table least taken) is
       (least_value_is_least table (table_partition table form) least taken)
 
+  -- so each value below it under its policy has an entry
+  none_below : (least policy : Policy) (v : ℕ) → least ≡ policy
+      → ((u : ℕ) → u < v → treatment_of table u ≡ Some (Under least)
+      → Contains (values_in registry w.entries) u)
+      → NoneIsFreeBelow w registry policy v
+  none_below least policy v asked taken u low under =
+      let both : Some table ≡ Some under.table = sym is_there ∙ under.is_there in
+      let same : table ≡ under.table = cc in
+      let range : treatment_of table u ≡ Some (Under least) =
+      ap (λ t. treatment_of t u) same ∙ under.range ∙ ap (λ p. Some (Under p)) (sym asked) in
+      (has_entry registry w.entries u).1 (taken u low range)
+
   -- a value that is named lies under its policy
   named_under : (v : ℕ) (policy : Policy) → policy_for table (Value v) ≡ Ok policy
       → IsUnder w registry v policy
@@ -289,7 +301,7 @@ module _ (w : World) (kept : WellKept w) (registry : List ℕ) (table : Table)
   -- a value that is chosen lies under the policy, is wanted, and has no entry
   chosen_under : (want : Want) (policy : Policy) (v : ℕ) → policy_for table want ≡ Ok policy
       → value_for (value_ground (published w) registry want) table want ≡ Ok v
-      → IsUnder w registry v policy × IsWanted want policy v
+      → IsUnder w registry v policy × IsWanted w registry want policy v
       × (get w.entries (registry, v) ≡ None)
   chosen_under (Value u) policy v by h =
       by_test
@@ -313,7 +325,7 @@ module _ (w : World) (kept : WellKept w) (registry : List ℕ) (table : Table)
           range = facts.0 ∙ ap (λ p. Some (Under p)) asked.0;
           one_by_one = asked.1;
         },
-        asked.0,
+        (asked.0, none_below least policy v asked.0 facts.2),
         no_entry registry w.entries v facts.1,
       )
 

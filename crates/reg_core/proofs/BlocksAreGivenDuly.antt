@@ -187,12 +187,7 @@ module _ (w : World) (n : FinMap block_cmp Holder) (caller : Option (List ℕ))
   same_view =
       let me = by (cap_at w caller) refl in
       λ i. record {
-        published = record {
-          registries = w.registries;
-          entries = w.entries;
-          pool = w.pool;
-          blocks = masked_alike i;
-        };
+        published = record (published w) { blocks = masked_alike i };
         me = me i;
       }
     where
@@ -201,14 +196,8 @@ module _ (w : World) (n : FinMap block_cmp Holder) (caller : Option (List ℕ))
       by None is_there = refl
       by (Some cap) is_there =
           let held = own_alike cap is_there in
-          ap (λ (m : FinMap block_cmp Holder). Some (
-            cap,
-            record {
-              requests = (personal cap.account w).requests;
-              holdings = m;
-              queue = (personal cap.account w).queue;
-            },
-          )) held
+          ap (λ (m : FinMap block_cmp Holder).
+          Some (cap, record (personal cap.account w) { holdings = m })) held
 
 pub private_hidden : (digest_of : List ℕ → List ℕ) → PrivateHoldersAreHidden digest_of
 private_hidden digest_of w v caller moment command kept_w kept_v not_clerk differ =

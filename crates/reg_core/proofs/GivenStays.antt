@@ -1,12 +1,14 @@
 -- What a well kept world has stays in every run.
-use Rattle.std.proofs.Common.{◌≡◌, ℕ, Bool, true, false, cond, List, [], ◌∷◌, refl, sym, ap, subst, ◌∙◌, inl}
+use Rattle.std.proofs.Common.{◌≡◌, ℕ, Bool, true, false, cond, List, [], ◌∷◌, refl, sym, ap, subst, ◌∙◌}
 use Rattle.std.specs.Prelude.{Option, Some, None, is_some, option_map}
 use Rattle.std.specs.Cmp.{first_so, second_so}
 use Rattle.std.specs.declared.cmp.Ordering.{Ordering}
 use Rattle.std.specs.Ordering.{eq_by_cmp}
 use Rattle.std.specs.FinMap.{FinMap, get, insert, remove}
 use Rattle.std.specs.FinSet.{FinSet}
-use Rattle.reg_early.specs.Moment.{utc_day}
+use Rattle.reg_early.specs.Calendar.{IsDay}
+use Rattle.reg_early.specs.Moment.{is_in_clock, utc_day}
+use Rattle.reg_early.proofs.MomentsHaveDays.{IsDay-utc_day}
 use Rattle.reg_ranges.specs.Tables.{Table}
 use Rattle.reg_core.specs.Command.{has_command_form}
 use Rattle.reg_core.specs.Entry.{registration_in}
@@ -37,7 +39,7 @@ use Rattle.reg_core.proofs.MapLaws.{IsKeyOrder, number_keys, text_keys, name_key
 use Rattle.reg_core.specs.declared.change.Change.TheVariants.{Grant, Revoke, Define, AddPool, Submit, Close, Assign, Advise, GiveValue, GiveBlock, SetPrivate}
 use Rattle.reg_core.proofs.Blocks.{due_is_new}
 use Rattle.reg_core.proofs.Outcomes.Dues.{WasPending, Due, each_step}
-use Rattle.reg_core.proofs.TermsStand.{term_stands_on, given_duly, still_given}
+use Rattle.reg_core.proofs.TermsStand.{term_stands, term_stands_on, given_duly, still_given}
 
 -- ---- Nothing goes away
 
@@ -49,7 +51,7 @@ stands_itself Withdrawn = refl
 
 given_itself : (a : Registration) (existing : Option Registration) → existing ≡ Some a
     → StillGiven a existing
-given_itself a existing is = subst (StillGiven a) (sym is) (refl, refl, inl refl)
+given_itself a existing is = subst (StillGiven a) (sym is) (refl, refl, term_stands a.term)
 
 held_itself : (h : Holder) (existing : Option Holder) → existing ≡ Some h → StillHeld h existing
 held_itself h existing is = subst (StillHeld h) (sym is) (refl, refl, refl)
@@ -276,10 +278,10 @@ close_stays w name state was = record {
 }
 
 -- an entry is given at a place that has none, or in place of the same entry in another term
-give_stays : (w : World) (name : RequestName) (today : ℕ) (ask : Ask) (entry : Entry)
-    → WasPending w name → IsDuly w today name.0 ask entry
+give_stays : (w : World) → WellKept w → (name : RequestName) (today : ℕ) → IsDay today → (ask : Ask)
+    (entry : Entry) → WasPending w name → IsDuly w today name.0 ask entry
     → Stays w (applied w (GiveValue name.0 name.1 entry))
-give_stays w name today ask entry was duly = record {
+give_stays w kept name today day ask entry was duly = record {
   registries = λ name table is. is;
   entries = λ place a is.
       subst (StillGiven a)
@@ -295,7 +297,7 @@ give_stays w name today ask entry was duly = record {
         → eq_by_cmp place_cmp place (place_of entry) ≡ b
         → StillGiven a (cond b (Some (registration_in entry)) (get w.entries place))
     by place a is true t =
-        still_given w today name.0 entry ask duly a
+        still_given w today name.0 entry kept day ask duly a
         (ap (get w.entries) (sym (tied place_keys place (place_of entry) t)) ∙ is)
     by place a is false t = given_itself a (get w.entries place) is
 
@@ -339,7 +341,8 @@ mark_stays w block private = record {
 -- ---- Each change of a step
 
 -- a line for each change
-module _ (w : World) (kept : WellKept w) (caller : Option (List ℕ)) (moment : ℕ) where
+module _ (w : World) (kept : WellKept w) (caller : Option (List ℕ)) (moment : ℕ)
+    (is_open : is_in_clock moment ≡ true) where
   due_stays : (change : Change) → Due w caller moment change → Stays w (applied w change)
   due_stays (Grant digest cap) due =
       registers_stay w (insert w.caps digest cap) w.queue w.advice
@@ -359,7 +362,8 @@ module _ (w : World) (kept : WellKept w) (caller : Option (List ℕ)) (moment : 
       (advised_review w (account, reference) due.1 expert advice)
   due_stays (GiveValue account reference entry) due =
       let is = given_duly w kept (utc_day moment) account reference entry due.1 in
-      give_stays w (account, reference) (utc_day moment) is.ask entry due.1.pending is.duly
+      give_stays w kept (account, reference) (utc_day moment) (IsDay-utc_day moment is_open) is.ask entry
+      due.1.pending is.duly
   due_stays (GiveBlock account reference holding) due =
       let is = due.1 in
       give_block_stays w (account, reference) holding is.pending
@@ -372,7 +376,7 @@ module _ (digest_of : List ℕ → List ℕ) where
   step_stays : (w : World) → WellKept w → (e : Event) → Stays w (step_of digest_of w e).world
   step_stays w kept e =
       each_step digest_of w e.caller e.moment e.command (λ change. Stays w (applied_if w change))
-      (stays_itself w) (λ change is. due_stays w kept e.caller e.moment change is.due)
+      (stays_itself w) (λ change is. due_stays w kept e.caller e.moment is.is_open change is.due)
 
   pub runs_stay : GivesDigests digest_of → GivenStays digest_of
   runs_stay digests w [] kept forms = stays_itself w

@@ -13,6 +13,7 @@ pub mod ValuesIn
 pub mod Terms
 pub mod Checks
 pub mod Allowances
+pub mod FirstRefusals
 pub mod Outcomes
 pub mod Fitting
 pub mod Keeping

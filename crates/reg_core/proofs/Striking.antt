@@ -18,7 +18,7 @@ use Rattle.reg_core.proofs.Striking.Answers.{same_answer, answer_at}
 use Rattle.reg_core.proofs.Striking.Lists.{answer_plain}
 use Rattle.reg_core.proofs.Striking.Untouched.{kept_apart, left_if}
 use Rattle.reg_core.proofs.Striking.Views.{show_same}
-use Rattle.reg_core.proofs.Striking.Worlds.{agree_itself, agree_if, agree_hidden_if, NoSeat, IsQuiet, IsOfHidden, no_seat_if, Unaware}
+use Rattle.reg_core.proofs.Striking.Worlds.{agree_itself, agree_if, agree_hidden_if, Blind, IsQuiet, IsOfHidden, blind_if, Unaware}
 pub mod Maps
 pub mod Worlds
 pub mod Views
@@ -73,8 +73,8 @@ module _ (digest_of : List ℕ → List ℕ) (account : List ℕ) (hidden : Requ
         subst (λ change. Unaware account hidden (after w e) (applied_if v change)) same (record {
           agree = agree_if hidden w v un.agree made;
           not_own = un.not_own;
-          no_seat_w = no_seat_if account hidden w un.no_seat_w made quiet;
-          no_seat_v = no_seat_if account hidden v un.no_seat_v made quiet;
+          blind_w = blind_if account hidden w un.blind_w made quiet;
+          blind_v = blind_if account hidden v un.blind_v made quiet;
         })
 
     -- after an event that is struck the first world has changed in a hidden request alone
@@ -90,8 +90,8 @@ module _ (digest_of : List ℕ → List ℕ) (account : List ℕ) (hidden : Requ
         record {
           agree = agree_hidden_if hidden w v un.agree account made of_hidden quiet;
           not_own = un.not_own;
-          no_seat_w = no_seat_if account hidden w un.no_seat_w made quiet;
-          no_seat_v = un.no_seat_v;
+          blind_w = blind_if account hidden w un.blind_w made quiet;
+          blind_v = un.blind_v;
         }
 
     -- an event that stays is alike in both runs
@@ -156,12 +156,13 @@ unseen_leave_no_trace digest_of account w events =
     list_any (λ s. reveals_if account name s.change) (stages digest_of w events) in
     let none = λ (name : RequestName) (h : unseen name ≡ true).
     three_false (same_text name.0 account) (contains_key w.queue (name, account)) (shown name) h in
-    let free : NoSeat account unseen w = λ name h. is_none _ (none name h).1 in
+    let blind : Blind account unseen w =
+    record { no_seat = λ name h. is_none _ (none name h).1 } in
     let un : Unaware account unseen w w = record {
       agree = agree_itself unseen w;
       not_own = λ name h. (none name h).0;
-      no_seat_w = free;
-      no_seat_v = free;
+      blind_w = blind;
+      blind_v = blind;
     } in
     let runs = followed digest_of account unseen events w w un (λ name h. (none name h).2) in
     record { each_event = runs.each_event; end = runs.end }

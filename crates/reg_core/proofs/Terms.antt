@@ -1,5 +1,5 @@
 -- The terms of entries: what a renewal and a settlement make of them, and that they keep to days.
-use Rattle.std.proofs.Common.{◌≡◌, ℕ, Bool, true, false, refl, subst, arith}
+use Rattle.std.proofs.Common.{◌≡◌, ℕ, max, Bool, true, false, refl, subst, arith}
 use Rattle.std.specs.Prelude.{Option, Some, None, Ok, Err, IfSome, is_some, if◌then◌else◌}
 use Rattle.std.specs.Cmp.{first_so, second_so}
 use Rattle.std.specs.Cmp.Derive.{both_true}
@@ -93,6 +93,13 @@ days_from term h = (
 
 days_form : (term : Term) → HasDays term → has_term_form term ≡ true
 days_form term h = both_true (day_form term.first h.0) (expiry_form term.expires h.1)
+
+-- the later of the expiry day and another is a day
+pub latest_day : (term : Term) (expiry day : ℕ) → has_term_form term ≡ true → IsDay day
+    → term.expires ≡ Some expiry → IsDay (max expiry day)
+latest_day term expiry day form h is =
+    let its : IsDay expiry = subst (λ e. IfSome e IsDay) is (days_from term form).1 in
+    (omega (arith, its, h), omega (arith, its, h))
 
 -- the terms of entries that are given on a day have days
 pub permanent_form : (today : ℕ) → is_day today ≡ true → has_term_form (permanent_term today) ≡ true

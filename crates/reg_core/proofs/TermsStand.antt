@@ -1,15 +1,17 @@
 -- What is given is given duly; and where an entry stands, it is this entry, in a term that it may
 -- have come to.
-use Rattle.std.proofs.Common.{◌≡◌, ℕ, Bool, true, false, List, refl, sym, ap, subst, ◌∙◌, inl, inr}
-use Rattle.std.specs.Prelude.{Some, None, Ok, Err, is_some, if◌then◌else◌}
+use Rattle.std.proofs.Common.{◌≡◌, ℕ, ◌≤◌, max, Bool, true, false, List, ◌⊎◌, refl, sym, ap, subst, ◌∙◌, inl, inr, arith}
+use Rattle.std.specs.Prelude.{Option, Some, None, Ok, Err, IsSome, is_some, option_map, if◌then◌else◌}
 use Rattle.std.specs.FinMap.{get}
+use Rattle.reg_early.specs.Calendar.{IsDay, year_after}
+use Rattle.reg_early.specs.Forms.{has_term_form}
 use Rattle.reg_early.specs.Terms.{renewed_term, renewal, settled_term, settlement}
 use Rattle.reg_early.specs.declared.term.RenewFault.TheVariants as renew_fault
 use Rattle.reg_early.specs.declared.term.SettleFault.TheVariants as settle_fault
 use Rattle.reg_early.specs.declared.term.Term.{Term}
 use Rattle.reg_core.specs.EarlyAllocations.{MovesTerm}
 use Rattle.reg_core.specs.Entry.{registration_in}
-use Rattle.reg_core.specs.Laws.{IsRenewal, TermStands, StillGiven}
+use Rattle.reg_core.specs.Laws.{IsYearOn, TermStands, StillGiven}
 use Rattle.reg_core.specs.MayBeGiven.{IsDuly, IsOwnEntry, IsEntry, IsGivenDuly, place_of}
 use Rattle.reg_core.specs.WellKept.{WellKept}
 use Rattle.reg_core.specs.World.{World, Place, pending}
@@ -19,13 +21,88 @@ use Rattle.reg_core.specs.declared.entry.Entry.{Entry}
 use Rattle.reg_core.specs.declared.entry.Registration.{Registration}
 use Rattle.reg_core.proofs.Allowances.{allowed_duly}
 use Rattle.reg_core.proofs.Outcomes.Dues.{Gives}
-use Rattle.reg_core.proofs.Terms.{renewal_is, settlement_is}
+use Rattle.reg_core.proofs.Keeping.Entries.{standing_term}
+use Rattle.reg_core.proofs.Terms.{renewal_is, settlement_is, latest_day}
+use Rattle.reg_early.proofs.YearAfter.{no_earlier}
 
 -- ---- Terms
 
+-- a term may have come to itself
+pub term_stands : (term : Term) → TermStands term term
+term_stands term = record {
+  first = refl;
+  permanent = λ none. refl;
+  renewed = λ h. h;
+  once = λ h. inl refl;
+  expires = λ was is at_was at_is.
+      let both : Some was ≡ Some is = sym at_was ∙ at_is in
+      let same : is ≡ was = cc in (omega (arith, same), inl (same, refl));
+}
+
+-- a day that a year leads to, by way of another
+year_on : (was mid is : ℕ) → was ≤ mid → IsYearOn mid is → IsYearOn was is
+year_on was mid is low on = record {
+  from = on.from;
+  is_day = on.is_day;
+  no_earlier = omega (arith, low, on.no_earlier);
+  year = on.year;
+}
+
+-- what a term has come to goes on
+module _ (before now later : Term) (h : TermStands before now) (k : TermStands now later) where
+  -- where it once has no expiry it never has one again
+  gone : now.expires ≡ None → later.expires ≡ None
+  gone none = ap (λ (t : Term). t.expires) (k.permanent none) ∙ none
+
+  once_on : before.renewed ≡ true → (later.expires ≡ before.expires) ⊎ (later.expires ≡ None)
+  once_on was =
+      elim (h.once was) [
+        | inr none ↦ inr (gone none)
+        | inl same ↦
+            elim (k.once (h.renewed was)) [ inl again ↦ inl (again ∙ same) | inr none ↦ inr none ]
+      ]
+
+  moved_on : (was mid is : ℕ) → before.expires ≡ Some was → now.expires ≡ Some mid
+      → later.expires ≡ Some is
+      → (was ≤ is) × (((is ≡ was) × (later.renewed ≡ before.renewed))
+      ⊎ ((later.renewed ≡ true) × IsYearOn was is))
+  moved_on was mid is at_was at_mid at_is =
+      let first = h.expires was mid at_was at_mid in
+      let second = k.expires mid is at_mid at_is in
+      let low : was ≤ is = omega (arith, first.0, second.0) in
+      elim second.1 [
+        | inr moved ↦ (low, inr (moved.0, year_on was mid is first.0 moved.1))
+        | inl same ↦
+            elim first.1 [
+              | inl before ↦ (low, inl (same.0 ∙ before.0, same.1 ∙ before.1))
+              | inr moved ↦
+                  (low, inr (same.1 ∙ moved.0, subst (IsYearOn was) (sym same.0) moved.1))
+            ]
+      ]
+
+  expires_on : (mid : Option ℕ) → now.expires ≡ mid → (was is : ℕ) → before.expires ≡ Some was
+      → later.expires ≡ Some is
+      → (was ≤ is) × (((is ≡ was) × (later.renewed ≡ before.renewed))
+      ⊎ ((later.renewed ≡ true) × IsYearOn was is))
+  expires_on None none was is at_was at_is = let never = gone none in absurd (cc)
+  expires_on (Some mid) at_mid was is at_was at_is = moved_on was mid is at_was at_mid at_is
+
+  pub term_stands_on : TermStands before later
+  term_stands_on = record {
+    first = k.first ∙ h.first;
+    permanent = λ none.
+        let same = h.permanent none in
+        k.permanent (ap (λ (t : Term). t.expires) same ∙ none) ∙ same;
+    renewed = λ was. k.renewed (h.renewed was);
+    once = once_on;
+    expires = expires_on now.expires refl;
+  }
+
+-- ---- An approval
+
 -- a term that is renewed expires, and was not renewed before
 renewed_from : (before now : Term) (day : ℕ) → renewal before day ≡ Ok now
-    → (is_some before.expires ≡ true) × (before.renewed ≡ false)
+    → IsSome before.expires × (before.renewed ≡ false)
 renewed_from before now day = by (is_some before.expires) before.renewed
   where
     by : (expires renewed : Bool)
@@ -37,7 +114,7 @@ renewed_from before now day = by (is_some before.expires) before.renewed
     by false renewed h = absurd (cc)
 
 -- a term that is settled expires
-settled_from : (before now : Term) → settlement before ≡ Ok now → is_some before.expires ≡ true
+settled_from : (before now : Term) → settlement before ≡ Ok now → IsSome before.expires
 settled_from before now = by (is_some before.expires)
   where
     by : (expires : Bool)
@@ -46,71 +123,66 @@ settled_from before now = by (is_some before.expires)
     by true h = refl
     by false h = absurd (cc)
 
--- so it is renewed once
-not_again : (before now later : Term) → IsRenewal before now → IsRenewal now later → ⊥
-not_again before now later once again =
-    let first = ap (λ (t : Term). t.renewed) (renewal_is before once.0 now once.1) in
-    let second = (renewed_from now later again.0 again.1).1 in
-    absurd (cc)
+-- what expires is not permanent
+not_permanent : {P : Type 0} (expires : Option ℕ) → IsSome expires → expires ≡ None → P
+not_permanent expires some none = let gone = ap is_some none in absurd (cc)
 
--- and what was settled stays as it is
-settled_last : (before now later : Term) → settlement before ≡ Ok now → TermStands now later
-    → later ≡ now
-settled_last before now later settled = by
+renewed_stands : (before now : Term) (today : ℕ) → has_term_form before ≡ true → IsDay today
+    → renewal before today ≡ Ok now → TermStands before now
+renewed_stands before now today form day is =
+    subst (TermStands before) (renewal_is before today now is) (record {
+      first = refl;
+      permanent = not_permanent before.expires from.0;
+      renewed = λ h. refl;
+      once = λ was. let fresh = from.1 in absurd (cc);
+      expires = moved;
+    })
   where
-    endless : is_some now.expires ≡ false
-    endless = ap (λ (t : Term). is_some t.expires) (sym (settlement_is before now settled))
+    from : IsSome before.expires × (before.renewed ≡ false)
+    from = renewed_from before now today is
 
-    no_renewal : (next : Term) → IsRenewal now next → ⊥
-    no_renewal next is =
-        let none = endless in let expires = (renewed_from now next is.0 is.1).0 in absurd (cc)
+    moved : (was is : ℕ) → before.expires ≡ Some was
+        → (renewed_term before today).expires ≡ Some is
+        → (was ≤ is) × (((is ≡ was) × (true ≡ before.renewed)) ⊎ ((true ≡ true) × IsYearOn was is))
+    moved was is at_was at_is =
+        let latest : IsDay (max was today) = latest_day before was today form day at_was in
+        let to : Some (year_after (max was today)) ≡ Some is =
+        ap (option_map (λ expiry. year_after (max expiry today))) (sym at_was) ∙ at_is in
+        let year : is ≡ year_after (max was today) = cc in
+        let later = no_earlier (max was today) latest in (
+          omega (arith, year, later),
+          inr (
+            refl,
+            record {
+              from = max was today;
+              is_day = latest;
+              no_earlier = omega arith;
+              year = year;
+            },
+          ),
+        )
 
-    by : TermStands now later → later ≡ now
-    by (inl same) = same
-    by (inr (inl is)) = absurd (no_renewal later is)
-    by (inr (inr (inl is))) =
-        let none = endless in let expires = settled_from now later is in absurd (cc)
-    by (inr (inr (inr both))) = absurd (no_renewal both.0 both.1)
-
--- what a term has come to goes on
-pub term_stands_on : (before now later : Term) → TermStands before now → TermStands now later
-    → TermStands before later
-term_stands_on before now later (inl same) k = subst (λ t. TermStands t later) same k
-term_stands_on before now later (inr (inl renewed)) (inl same) =
-    inr (inl (subst (IsRenewal before) (sym same) renewed))
-term_stands_on before now later (inr (inl renewed)) (inr (inl again)) =
-    absurd (not_again before now later renewed again)
-term_stands_on before now later (inr (inl renewed)) (inr (inr (inl settled))) =
-    inr (inr (inr (now, renewed, settled)))
-term_stands_on before now later (inr (inl renewed)) (inr (inr (inr both))) =
-    absurd (not_again before now both.0 renewed both.1)
-term_stands_on before now later (inr (inr (inl settled))) k =
-    inr (inr (inl (settled ∙ ap Ok (sym (settled_last before now later settled k)))))
-term_stands_on before now later (inr (inr (inr both))) k =
-    inr (inr (inr (both.0, both.1, both.2 ∙ ap Ok (sym (settled_last both.0 now later both.2 k)))))
-
--- its first day stays
-renewed_first : (before now : Term) → IsRenewal before now → now.first ≡ before.first
-renewed_first before now is = ap (λ (t : Term). t.first) (sym (renewal_is before is.0 now is.1))
-
-settled_first : (before now : Term) → settlement before ≡ Ok now → now.first ≡ before.first
-settled_first before now is = ap (λ (t : Term). t.first) (sym (settlement_is before now is))
-
-pub term_keeps_first : (before now : Term) → TermStands before now → now.first ≡ before.first
-term_keeps_first before now (inl same) = ap (λ (t : Term). t.first) same
-term_keeps_first before now (inr (inl is)) = renewed_first before now is
-term_keeps_first before now (inr (inr (inl is))) = settled_first before now is
-term_keeps_first before now (inr (inr (inr both))) =
-    settled_first both.0 now both.2 ∙ renewed_first before both.0 both.1
+settled_stands : (before now : Term) → settlement before ≡ Ok now → TermStands before now
+settled_stands before now is =
+    subst (TermStands before) (settlement_is before now is) (record {
+      first = refl;
+      permanent = not_permanent before.expires (settled_from before now is);
+      renewed = λ was. was;
+      once = λ was. inr refl;
+      expires = λ was is at_was at_is. absurd (cc);
+    })
 
 -- a term that an approval moves may have come to that
-pub moved_term_stands : (place : Place) (today : ℕ) (ask : Ask) (before now : Term)
-    → MovesTerm place today ask before now → TermStands before now
-moved_term_stands place today (Code ask) before now moves = absurd moves
-moved_term_stands place today (Early ask) before now moves = absurd moves
-moved_term_stands place today (Renew ask) before now moves = inr (inl (today, moves.1))
-moved_term_stands place today (Permanent ask) before now moves = inr (inr (inl moves.1))
-moved_term_stands place today (Block ask) before now moves = absurd moves
+moved_term_stands : (place : Place) (today : ℕ) (ask : Ask) (before now : Term)
+    → has_term_form before ≡ true → IsDay today → MovesTerm place today ask before now
+    → TermStands before now
+moved_term_stands place today (Code ask) before now form day moves = absurd moves
+moved_term_stands place today (Early ask) before now form day moves = absurd moves
+moved_term_stands place today (Renew ask) before now form day moves =
+    renewed_stands before now today form day moves.1
+moved_term_stands place today (Permanent ask) before now form day moves =
+    settled_stands before now moves.1
+moved_term_stands place today (Block ask) before now form day moves = absurd moves
 
 -- ---- What is given
 
@@ -190,11 +262,13 @@ module _ (w : World) (today : ℕ) (account : List ℕ) (entry : Entry) where
   given_moves (Block ask) duly a is = absurd duly
 
   -- so what stood there is still given
-  pub still_given : (ask : Ask) → IsDuly w today account ask entry → (a : Registration)
-      → get w.entries (place_of entry) ≡ Some a → StillGiven a (Some (registration_in entry))
-  still_given ask duly a is =
-      let moves = given_moves ask duly a is in (
+  pub still_given : WellKept w → IsDay today → (ask : Ask) → IsDuly w today account ask entry
+      → (a : Registration) → get w.entries (place_of entry) ≡ Some a
+      → StillGiven a (Some (registration_in entry))
+  still_given kept day ask duly a is =
+      let moves = given_moves ask duly a is in
+      let form = standing_term w kept account entry (place_of entry) a is in (
         moves.label,
         moves.assignee,
-        moved_term_stands (place_of entry) today ask a.term entry.term moves.term,
+        moved_term_stands (place_of entry) today ask a.term entry.term form day moves.term,
       )

@@ -99,12 +99,7 @@ module _ (account : List ℕ) (w v : World) (kept_w : WellKept w) (kept_v : Well
       ∙ sym (queue_same account v n kept_v in_v) in
       record {
         published = alike.published;
-        personal =
-            λ i. record {
-              requests = requests i;
-              holdings = holdings_alike i;
-              queue = queues i;
-            };
+        personal = λ i. record (alike.personal i) { requests = requests i; queue = queues i };
       }
 
   submit_alike : (reference : List ℕ) (ask : Ask)
@@ -138,12 +133,7 @@ module _ (account : List ℕ) (w v : World) (kept_w : WellKept w) (kept_v : Well
       ∙ sym (queue_advised account v name advice) in
       record {
         published = alike.published;
-        personal =
-            λ i. record {
-              requests = requests_alike i;
-              holdings = holdings_alike i;
-              queue = queues i;
-            };
+        personal = λ i. record (alike.personal i) { queue = queues i };
       }
 
   mark_alike : (block : SizedPrefix) (private : Bool) (h : Holder) → get w.blocks block ≡ Some h
@@ -158,17 +148,8 @@ module _ (account : List ℕ) (w v : World) (kept_w : WellKept w) (kept_v : Well
       (λ block h. only_if (same_text h.account account) h) w.blocks v.blocks block
       (with_mark private) same holdings_alike in
       record {
-        published = λ i. record {
-          registries = (alike.published i).registries;
-          entries = (alike.published i).entries;
-          pool = (alike.published i).pool;
-          blocks = shown i;
-        };
-        personal = λ i. record {
-          requests = requests_alike i;
-          holdings = held i;
-          queue = queues_alike i;
-        };
+        published = λ i. record (alike.published i) { blocks = shown i };
+        personal = λ i. record (alike.personal i) { holdings = held i };
       }
 
 -- ---- The views after the step

@@ -3,12 +3,14 @@ use Rattle.std.proofs.Common.{◌≡◌, ℕ, true, List, refl, sym, ap, subst, 
 use Rattle.std.specs.Prelude.{Option, Some, None}
 use Rattle.std.specs.FinMap.{get}
 use Rattle.std.proofs.lemmas.Slice.Eq.{bytes_eq-Decides}
+use Rattle.reg_early.specs.Calendar.{IsDay}
+use Rattle.reg_early.proofs.MomentsHaveDays.{IsDay-utc_day}
 use Rattle.reg_core.specs.Entry.{registration_in}
 use Rattle.reg_core.specs.Laws.{GivesDigests, StillGiven}
 use Rattle.reg_core.specs.Run.{Event, world_after}
 use Rattle.reg_core.specs.MayBeGiven.{IsDuly, AsksMeetTheirPolicy, IsSameEntry, NoValueIsGivenTwice, place_of}
 use Rattle.reg_core.specs.Step.{step}
-use Rattle.reg_core.specs.WellKept.{is_registered_to, is_registered_at, stands_in}
+use Rattle.reg_core.specs.WellKept.{WellKept, is_registered_to, is_registered_at, stands_in}
 use Rattle.reg_core.specs.World.{World, applied, applied_if}
 use Rattle.reg_core.specs.declared.ask.Ask.{Ask}
 use Rattle.reg_core.specs.declared.change.Change.TheVariants.{GiveValue}
@@ -19,7 +21,7 @@ use Rattle.reg_core.proofs.GivenStays.{runs_stay}
 use Rattle.reg_core.proofs.Keeping.RunsKeepWell.{step_keeps_well, runs_keep}
 use Rattle.reg_core.proofs.MapLaws.{place_keys, get-inserted}
 use Rattle.reg_core.proofs.Outcomes.Dues.{changes_due}
-use Rattle.reg_core.proofs.TermsStand.{term_keeps_first, given_duly, still_given}
+use Rattle.reg_core.proofs.TermsStand.{given_duly, still_given}
 
 -- an entry of this account is there
 registered : (account : List ℕ) (existing : Option Registration)
@@ -44,10 +46,10 @@ asks_meet_their_policy digest_of = record {
 }
 
 -- what is given duly where an entry stands, which was given before, is the same entry
-given_again : (w : World) (today : ℕ) (account : List ℕ) (ask : Ask) (entry other : Entry)
+given_again : (w : World) → WellKept w → (today : ℕ) → IsDay today → (account : List ℕ) (ask : Ask) (entry other : Entry)
     → place_of entry ≡ place_of other → IsDuly w today account ask other
     → StillGiven (registration_in entry) (get w.entries (place_of entry)) → IsSameEntry entry other
-given_again w today account ask entry other same duly =
+given_again w kept today day account ask entry other same duly =
     by (get w.entries (place_of entry)) refl
   where
     by : (existing : Option Registration) → get w.entries (place_of entry) ≡ existing
@@ -55,12 +57,11 @@ given_again w today account ask entry other same duly =
     by None is still = absurd still
     by (Some a) is still =
         let there = ap (get w.entries) (sym same) ∙ is in
-        let again = still_given w today account other ask duly a there in
+        let again = still_given w today account other kept day ask duly a there in
         record {
           label = again.0 ∙ still.0;
           assignee = again.1 ∙ still.1;
-          first = term_keeps_first a.term other.term again.2
-              ∙ term_keeps_first entry.term a.term still.2;
+          first = again.2.first ∙ still.2.first;
         }
 
 pub no_value_is_given_twice : (digest_of : List ℕ → List ℕ) → GivesDigests digest_of
@@ -78,7 +79,7 @@ no_value_is_given_twice digest_of digests w caller later_caller moment later_mom
     let there : get u.entries (place_of entry) ≡ Some (registration_in entry) =
     ap (λ (x : World). get x.entries (place_of entry)) given
     ∙ get-inserted place_keys w.entries (place_of entry) (registration_in entry) in
-    let duly = given_duly v v_kept _ other_account other_reference other
-    (changes_due digest_of v later_caller later_moment later _ again).due.1 in
-    given_again v _ other_account duly.ask entry other same duly.duly
+    let due = changes_due digest_of v later_caller later_moment later _ again in
+    let duly = given_duly v v_kept _ other_account other_reference other due.due.1 in
+    given_again v v_kept _ (IsDay-utc_day later_moment due.is_open) other_account duly.ask entry other same duly.duly
     (stays.entries (place_of entry) (registration_in entry) there)

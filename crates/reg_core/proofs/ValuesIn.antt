@@ -12,12 +12,13 @@ use Rattle.std.proofs.lemmas.Map.Keys.{IsStrictlyIncreasing-from_sorted}
 use Rattle.std.proofs.lemmas.Simd.{map-map}
 use Rattle.std.proofs.lemmas.Slice.Eq.{bytes_eq-Decides}
 use Rattle.reg_ranges.proofs.LeastGap.{has_cases}
-use Rattle.reg_core.specs.Entry.{entry_row}
+use Rattle.reg_core.specs.Entry.{entry_row, page_entry}
 use Rattle.reg_core.specs.LeastFree.{values_in}
 use Rattle.reg_core.specs.Maps.{same_text, only_if, text_cmp}
 use Rattle.reg_core.specs.Page.{entry_rows}
 use Rattle.reg_core.specs.View.{entries_of}
 use Rattle.reg_core.specs.World.{Place, place_cmp}
+use Rattle.reg_core.specs.declared.entry.PageEntry.{PageEntry}
 use Rattle.reg_core.specs.declared.entry.Registration.{Registration}
 use Rattle.reg_core.proofs.MapLaws.{place_keys, text_keys, get-select, All-entries, ascending-keys, Contains-map, Contains-entries}
 use Rattle.reg_core.proofs.SamenessIsDecided.{same_text-itself}
@@ -36,18 +37,34 @@ module _ (registry : List ℕ) (m : FinMap place_cmp Registration) where
       chosen false t e = absurd (cc)
 
   -- and stands at its value
-  at_value : (place : Place) (a : Registration) → get (entries_of registry m) place ≡ Some a
-      → contains_key m (registry, place.1) ≡ true
-  at_value place a found =
+  pub own_found : (place : Place) (a : Registration) → get (entries_of registry m) place ≡ Some a
+      → get m (registry, place.1) ≡ Some a
+  own_found place a found =
       from (get m place) refl (sym (get-select place_keys _ m place) ∙ found)
     where
+      kept : (b : Bool) (old : Registration) → only_if b old ≡ Some a → old ≡ a
+      kept true old e = cc
+      kept false old e = absurd (cc)
+
       from : (at : Option Registration) → get m place ≡ at
           → option_and_then (λ a. only_if (same_text place.0 registry) a) at ≡ Some a
-          → contains_key m (registry, place.1) ≡ true
+          → get m (registry, place.1) ≡ Some a
       from None is e = absurd (cc)
       from (Some old) is e =
-          ap (λ name. is_some (get m (name, place.1))) (sym (is_own place a (Some old) e))
-          ∙ ap is_some is
+          ap (λ name. get m (name, place.1)) (sym (is_own place a (Some old) e))
+          ∙ is ∙ ap Some (kept (same_text place.0 registry) old e)
+
+  at_value : (place : Place) (a : Registration) → get (entries_of registry m) place ≡ Some a
+      → contains_key m (registry, place.1) ≡ true
+  at_value place a found = ap is_some (own_found place a found)
+
+  -- one that stands at a value of the registry is its own
+  pub found_own : (v : ℕ) (a : Registration) → get m (registry, v) ≡ Some a
+      → get (entries_of registry m) (registry, v) ≡ Some a
+  found_own v a is =
+      get-select place_keys (λ place a. only_if (same_text place.0 registry) a) m (registry, v)
+      ∙ ap (option_and_then (λ a. only_if (same_text registry registry) a)) is
+      ∙ ap (λ b. only_if b a) (same_text-itself registry)
 
   at_values : (es : List (Place × Registration)) (v : ℕ)
       → AllByRecursion (λ e. contains_key m (registry, e.0.1) ≡ true) es
@@ -64,13 +81,9 @@ module _ (registry : List ℕ) (m : FinMap place_cmp Registration) where
       → Contains (values_in registry m) v
   among v None is some = absurd (cc)
   among v (Some a) is some =
-      let kept : get (entries_of registry m) (registry, v) ≡ Some a =
-      get-select place_keys (λ place a. only_if (same_text place.0 registry) a) m (registry, v)
-      ∙ ap (option_and_then (λ a. only_if (same_text registry registry) a)) is
-      ∙ ap (λ b. only_if b a) (same_text-itself registry) in
       Contains-map (λ (e : Place × Registration). e.0.1) (entries (entries_of registry m))
       ((registry, v), a)
-      (Contains-entries place_keys (entries_of registry m) (registry, v) a kept)
+      (Contains-entries place_keys (entries_of registry m) (registry, v) a (found_own v a is))
 
   pub has_entry : (v : ℕ)
       → IsTrue (contains_key m (registry, v)) ↔ Contains (values_in registry m) v
@@ -122,12 +135,22 @@ module _ (registry : List ℕ) (m : FinMap place_cmp Registration) where
       (IsStrictlyIncreasing-from_sorted (map (λ k. k.1) (keys own))
       (rising (keys own) (ascending-keys own) places_are_own))
 
-  -- so do those of its entries as rows
+  -- so do those of its entries as rows, with their places and on a page
   pub rows_ascend : IsStrictlyIncreasing (map (λ e. e.value) (entry_rows (entries_of registry m)))
   rows_ascend =
       let own = entries_of registry m in
       subst IsStrictlyIncreasing
       (sym (map-map (λ e. e.value) (λ e. entry_row e.0.0 e.0.1 e.1) (entries own)))
+      values_ascend
+
+  pub page_ascends : (today : ℕ) → IsStrictlyIncreasing
+      (map (λ (row : PageEntry). row.value)
+      (map (λ e. page_entry today e.0.1 e.1) (entries (entries_of registry m))))
+  page_ascends today =
+      let own = entries_of registry m in
+      subst IsStrictlyIncreasing
+      (sym (map-map (λ (row : PageEntry). row.value) (λ e. page_entry today e.0.1 e.1)
+      (entries own)))
       values_ascend
 
   -- a value that is not among them has no entry

@@ -1,10 +1,9 @@
 -- The laws of the office.
-use Rattle.std.specs.Prelude.{◌≡◌, ◌<◌, ◌↔◌, ◌⊎◌, ℕ, Bool, true, false, List, map, Option, Some, None, Ok, IsTrue, All, Contains, codes}
+use Rattle.std.specs.Prelude.{◌≡◌, ◌<◌, ◌≤◌, ◌↔◌, ◌⊎◌, ℕ, Bool, true, false, List, Option, Some, None, Ok, IsTrue, codes}
 use Rattle.std.specs.FinMap.{get, contains_key, keys}
-use Rattle.std.specs.List.Sorted.{IsStrictlySortedBy}
-use Rattle.reg_blocks.specs.Block.{SizedPrefix, block_cmp}
+use Rattle.reg_blocks.specs.Block.{SizedPrefix}
 use Rattle.reg_blocks.specs.Pool.{is_pool_prefix}
-use Rattle.reg_early.specs.Terms.{renewal, settlement}
+use Rattle.reg_early.specs.Calendar.{IsDay, year_after}
 use Rattle.reg_early.specs.declared.term.Term.{Term}
 use Rattle.reg_early.specs.Moment.{is_in_clock, utc_day}
 use Rattle.reg_core.specs.Allowance.{allowance_on, allowed, ground_of, needs_advice}
@@ -13,18 +12,15 @@ use Rattle.reg_core.specs.Award.{Award, for_good, early, renewed, settled, award
 use Rattle.reg_ranges.specs.Tables.{Table}
 use Rattle.reg_core.specs.Capability.{last_until}
 use Rattle.reg_core.specs.Command.{kind_of, has_command_form}
-use Rattle.reg_core.specs.File.{experts_of, opinions_of}
-use Rattle.reg_core.specs.Holding.{holder_in, holding_row, holding_rows, listed_rows}
+use Rattle.reg_core.specs.Lists.{Shows, BlockList, IsRow, IsOwnRow, IsFile, IsItem, OwnList, HasHoldingOf, HoldingList, QueueList}
 use Rattle.reg_core.specs.Names.{is_token, is_digest}
-use Rattle.reg_core.specs.Queue.{queue_rows}
-use Rattle.reg_core.specs.Request.{case_of, is_pending, request_rows, word_of}
-use Rattle.reg_core.specs.Page.{page_entries}
+use Rattle.reg_core.specs.Request.{is_pending, request_rows}
 use Rattle.reg_core.specs.Rules.{change_to_give}
 use Rattle.reg_core.specs.Run.{Event, have_forms, world_after}
 use Rattle.reg_core.specs.Step.{answer_to, step}
-use Rattle.reg_core.specs.View.{published, requests_of, holdings_of, queue_of, cap_at, view_of}
+use Rattle.reg_core.specs.View.{published, cap_at, view_of}
 use Rattle.reg_core.specs.WellKept.{WellKept, CanApply}
-use Rattle.reg_core.specs.World.{World, Place, RequestName, name_cmp, empty_world, applied}
+use Rattle.reg_core.specs.World.{World, Place, RequestName, empty_world, applied}
 use Rattle.reg_core.specs.declared.advice.Advice.{Advice}
 use Rattle.reg_core.specs.declared.advice.Verdict.TheVariants.{For}
 use Rattle.reg_core.specs.declared.ask.Ask.{Ask}
@@ -42,11 +38,7 @@ use Rattle.reg_core.specs.declared.command.ClerkCommand.TheVariants.{AllRequests
 use Rattle.reg_core.specs.declared.command.PublicCommand.TheVariants.{Registries, Registry, RegistryListing, PoolList, BlockListing}
 use Rattle.reg_core.specs.declared.content.Content.{Content}
 use Rattle.reg_core.specs.declared.content.Content.TheVariants.{Names, Page, Listing, Pool, Blocks, Made, Row, Rows, Held, Holdings, Item, Items, Desk, Desks, Filed, Defined, Pooled, Granted, Revoked}
-use Rattle.reg_core.specs.declared.file.File.{File}
 use Rattle.reg_core.specs.declared.holding.Holder.{Holder}
-use Rattle.reg_core.specs.declared.holding.Holding.{Holding}
-use Rattle.reg_core.specs.declared.page.Page.{Page as PageOf}
-use Rattle.reg_core.specs.declared.queue.QueueRow.{QueueRow}
 use Rattle.reg_core.specs.declared.refusal.Refusal.{Refusal}
 use Rattle.reg_core.specs.declared.reply.Reply.{Reply}
 use Rattle.reg_core.specs.declared.reply.Reply.TheVariants.{Accepted, Refused}
@@ -101,92 +93,8 @@ RunsKeepWell digest_of =
 
 -- ---- What is answered was done
 
-abbrev pub HasRow : World → Request → Type 0
-HasRow w row = get w.requests (row.account, row.reference) ≡ Some (case_of row)
-
-abbrev pub HasRowOf : World → List ℕ → Request → Type 0
-HasRowOf w account row = (row.account ≡ account) × HasRow w row
-
--- the page shows the registry of this name as it is on the day
-abbrev pub Shows : World → List ℕ → ℕ → PageOf → Type 0
-Shows w name today page =
-    (page.name ≡ name) × (get w.registries name ≡ Some page.table)
-    × (page.entries ≡ page_entries (published w) name today)
-
--- the row is of the request of this name
-abbrev pub IsRow : World → List ℕ → List ℕ → Request → Type 0
-IsRow w account reference row =
-    (row.account ≡ account) × (row.reference ≡ reference) × HasRow w row
-
--- the file is of the request of this name, with all its experts and all advice on it
-abbrev pub IsFile : World → List ℕ → List ℕ → File → Type 0
-IsFile w account reference file =
-    IsRow w account reference file.request
-    × (file.experts ≡ experts_of w (account, reference))
-    × (file.advice ≡ opinions_of w (account, reference))
-
--- the row is of the request of this name, as this expert sees it to whom it is assigned
-abbrev pub IsItem : World → List ℕ → List ℕ → List ℕ → QueueRow → Type 0
-IsItem w expert account reference row =
-    (row.account ≡ account) × (row.reference ≡ reference)
-    × (contains_key w.queue ((account, reference), expert) ≡ true)
-    × (row.advice ≡ get w.advice ((account, reference), expert))
-    × (case : Case) × (get w.requests (account, reference) ≡ Some case) × (row.ask ≡ case.ask)
-    × (row.word ≡ word_of case.state)
-
--- the rows are an account's own list
-pub record OwnList (w : World) (account : List ℕ) (rows : List Request) : Type 0 where
-  -- they are the requests of the account, as its view has them
-  pub viewed : rows ≡ request_rows (requests_of account w)
-  -- each is of a request of the account
-  pub own : All (HasRowOf w account) rows
-  -- each request of the account has its row among them
-  pub every : (reference : List ℕ) (case : Case)
-      → get w.requests (account, reference) ≡ Some case
-      → (row : Request) × Contains rows row × IsRow w account reference row
-  -- they ascend by reference, so no request has two
-  pub ascending : IsStrictlySortedBy name_cmp (map (λ row. (row.account, row.reference)) rows)
-
--- the block of the row has its holder
-abbrev pub HasHolding : World → Holding → Type 0
-HasHolding w row = get w.blocks row.block ≡ Some (holder_in row)
-
-abbrev pub HasHoldingOf : World → List ℕ → Holding → Type 0
-HasHoldingOf w account row = (row.holder ≡ account) × HasHolding w row
-
--- the rows are the blocks that an account holds
-pub record HoldingList (w : World) (account : List ℕ) (rows : List Holding) : Type 0 where
-  -- they are the blocks of the account, as its view has them
-  pub viewed : rows ≡ holding_rows (holdings_of account w)
-  -- each is of a block that the account holds
-  pub own : All (HasHoldingOf w account) rows
-  -- each block that the account holds has its row among them
-  pub every : (block : SizedPrefix) (h : Holder) → get w.blocks block ≡ Some h
-      → h.account ≡ account → Contains rows (holding_row block h)
-  -- they ascend by first address, so no block has two
-  pub ascending : IsStrictlySortedBy block_cmp (map (λ row. row.block) rows)
-
--- the rows are an expert's queue
-pub record QueueList (w : World) (expert : List ℕ) (rows : List QueueRow) : Type 0 where
-  -- they are the queue of the expert, as its view has it
-  pub viewed : rows ≡ queue_rows (queue_of expert w)
-  -- each is of a request that is assigned to the expert, with the expert's own advice
-  pub assigned : All (λ row. IsItem w expert row.account row.reference row) rows
-  -- each request that is assigned to the expert has its row among them
-  pub every : (account reference : List ℕ) (case : Case)
-      → get w.requests (account, reference) ≡ Some case
-      → contains_key w.queue ((account, reference), expert) ≡ true
-      → (row : QueueRow) × Contains rows row × IsItem w expert account reference row
-  -- they ascend by account and reference, so no request has two
-  pub ascending : IsStrictlySortedBy name_cmp (map (λ row. (row.account, row.reference)) rows)
-
 abbrev pub IsApproved : State → Type 0
 IsApproved state = (given : Given) × (state ≡ Approved given)
-
--- the row is of the request of this reference of the caller's own, who gave the command with this
--- capability
-abbrev pub IsOwnRow : World → Option Cap → List ℕ → Request → Type 0
-IsOwnRow w by reference row = (cap : Cap) × (by ≡ Some cap) × IsRow w cap.account reference row
 
 -- the world after a command on a day, by a caller with this capability or with none, has what the
 -- caller is told, and that is about what was asked
@@ -197,7 +105,7 @@ IsDone digest_of w by today (Public (RegistryListing name)) (Listing page) =
     Shows w name today page
 IsDone digest_of w by today (Public PoolList) (Pool prefixes) = prefixes ≡ keys w.pool
 IsDone digest_of w by today (Public BlockListing) (Blocks rows) =
-    rows ≡ listed_rows (published w).blocks
+    BlockList w rows
 IsDone digest_of w by today (Applicant Own) (Rows rows) =
     (cap : Cap) × (by ≡ Some cap) × OwnList w cap.account rows
 IsDone digest_of w by today (Applicant (OwnOne reference)) (Row row) = IsOwnRow w by reference row
@@ -347,16 +255,24 @@ RepeatsActOnce digest_of =
 
 -- ---- What was given stays
 
--- the term is renewed on a day
-abbrev pub IsRenewal : Term → Term → Type 0
-IsRenewal before now = (day : ℕ) × (renewal before day ≡ Ok now)
+-- the day is a year after another one, which is no earlier than the old expiry day
+pub record IsYearOn (was is : ℕ) : Type 0 where
+  pub from : ℕ
+  pub is_day : IsDay from
+  pub no_earlier : was ≤ from
+  pub year : is ≡ year_after from
 
--- what a term has come to: it is the same, or was renewed, once; or it was made permanent, before
--- or after that
-abbrev pub TermStands : Term → Term → Type 0
-TermStands before now =
-    (now ≡ before) ⊎ (IsRenewal before now ⊎ ((settlement before ≡ Ok now)
-    ⊎ ((between : Term) × IsRenewal before between × (settlement between ≡ Ok now))))
+-- what a term has come to: its first day stays; what is permanent stays as it is; what was renewed
+-- stays renewed, and expires as before or never; and an expiry day moves by renewal alone, to a year
+-- after a day that is no earlier, or goes away for good
+pub record TermStands (before now : Term) : Type 0 where
+  pub first : now.first ≡ before.first
+  pub permanent : before.expires ≡ None → now ≡ before
+  pub renewed : before.renewed ≡ true → now.renewed ≡ true
+  pub once : before.renewed ≡ true → (now.expires ≡ before.expires) ⊎ (now.expires ≡ None)
+  pub expires : (was is : ℕ) → before.expires ≡ Some was → now.expires ≡ Some is
+      → (was ≤ is)
+      × (((is ≡ was) × (now.renewed ≡ before.renewed)) ⊎ ((now.renewed ≡ true) × IsYearOn was is))
 
 -- an entry keeps its label and its assignee, and its term is what it may have come to
 abbrev pub StillGiven : Registration → Option Registration → Type 0

@@ -13,7 +13,9 @@ pub mod File
 pub mod View
 pub mod Queue
 pub mod Page
+pub mod FirstRefusals
 pub mod LeastFree
+pub mod Lists
 pub mod BlockDue
 pub mod Award
 pub mod Allowance

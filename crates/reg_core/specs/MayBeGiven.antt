@@ -1,5 +1,5 @@
 -- What is so of a value that is given, in the words of its registry and of the policy of its range.
-use Rattle.std.specs.Prelude.{◌≡◌, ℕ, List, [], true, false, Option, Some, None, Ok}
+use Rattle.std.specs.Prelude.{◌≡◌, ◌<◌, ℕ, List, [], true, false, Option, Some, None, Ok, IsSome}
 use Rattle.std.specs.FinMap.{get}
 use Rattle.reg_early.specs.EarlyRequirements.{early_unmet}
 use Rattle.reg_early.specs.Moment.{utc_day}
@@ -34,11 +34,6 @@ use Rattle.reg_core.specs.declared.request.State.TheVariants.{Approved}
 
 -- ---- Values
 
--- the value asked for, or one under the policy that is asked for
-abbrev pub IsWanted : Want → Policy → ℕ → Type 0
-IsWanted (Value asked) policy v = asked ≡ v
-IsWanted (Least asked) policy v = asked ≡ policy
-
 -- the value lies in a range of the registry, under a policy by which values are assigned one by one
 pub record IsUnder (w : World) (registry : List ℕ) (v : ℕ) (policy : Policy) : Type 0 where
   pub table : Table
@@ -46,13 +41,24 @@ pub record IsUnder (w : World) (registry : List ℕ) (v : ℕ) (policy : Policy)
   pub range : treatment_of table v ≡ Some (Under policy)
   pub one_by_one : is_closed_policy policy ≡ false
 
+-- each value of the registry below this one that lies under the policy has an entry
+abbrev pub NoneIsFreeBelow : World → List ℕ → Policy → ℕ → Type 0
+NoneIsFreeBelow w registry policy v =
+    (u : ℕ) → u < v → IsUnder w registry u policy → IsSome (get w.entries (registry, u))
+
+-- the value is the one asked for, or the least without an entry under the policy that is asked for
+abbrev pub IsWanted : World → List ℕ → Want → Policy → ℕ → Type 0
+IsWanted w registry (Value asked) policy v = asked ≡ v
+IsWanted w registry (Least asked) policy v =
+    (asked ≡ policy) × NoneIsFreeBelow w registry policy v
+
 -- the value is wanted, and lies under a policy by which values are assigned one by one; nothing is
 -- missing of the evidence that this policy asks for (RFC 8126 section 4); and no entry stands at
 -- the value
 pub record MayBeGiven (w : World) (ask : CodeAsk) (v : ℕ) : Type 0 where
   pub policy : Policy
   pub under : IsUnder w ask.registry v policy
-  pub wanted : IsWanted ask.want policy v
+  pub wanted : IsWanted w ask.registry ask.want policy v
   pub evidence : unmet policy ask.evidence ≡ []
   pub free : get w.entries (ask.registry, v) ≡ None
 
@@ -61,7 +67,7 @@ pub record MayBeGiven (w : World) (ask : CodeAsk) (v : ℕ) : Type 0 where
 pub record MayBeGivenEarly (w : World) (ask : EarlyAsk) (v : ℕ) : Type 0 where
   pub policy : Policy
   pub under : IsUnder w ask.registry v policy
-  pub wanted : IsWanted ask.want policy v
+  pub wanted : IsWanted w ask.registry ask.want policy v
   pub evidence : early_unmet policy ask.evidence ≡ []
   pub free : get w.entries (ask.registry, v) ≡ None
 

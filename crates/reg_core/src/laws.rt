@@ -7,6 +7,7 @@ ghost use Rattle.reg_core.specs.Ask.{same_ask};
 ghost use Rattle.reg_core.specs.BlocksGiven.{BlockAsksAreServedDuly, BlocksAreApart, BlocksDueAreLeast, ForeignBlocksAreHidden, PrivateHoldersAreHidden};
 ghost use Rattle.reg_core.specs.Capability.{same_cap, same_kind};
 ghost use Rattle.reg_core.specs.EarlyAllocations.{ExpiredValuesAreTaken, ForeignEntriesAreHidden, TermsMoveDuly};
+ghost use Rattle.reg_core.specs.FirstRefusals.{FirstRefusalsAreAnswered};
 ghost use Rattle.reg_core.specs.Laws.{AnswersAreDone, ApprovalsAreAdvised, ApprovalsGiveWhatIsAllowed, ApprovalsStand, ChangesFit, DecidesSame, FirstWorldsAreWellKept, GivenStays, GivesDigests, RefusalsChangeNothing, RepeatsActOnce, RunsKeepWell, SubmissionsStand, TwoWorlds};
 ghost use Rattle.reg_core.specs.MayBeGiven.{AsksMeetTheirPolicy, NoValueIsGivenTwice};
 ghost use Rattle.reg_core.specs.Striking.{StagesAreOfRun, UnseenLeaveNoTrace};
@@ -39,7 +40,8 @@ pub fn runs_keep_well()
 {}
 
 /// What is answered was done: the world after a command has what the reply says, and the reply is
-/// about what was asked.
+/// about what was asked. Lists, pages and listings are whole; each entry is shown with its status on
+/// the day, and each holder who is not private with organization and address.
 pub fn answers_are_done()
     ensures { (digest_of : List ℕ → List ℕ) → AnswersAreDone digest_of }
 {}
@@ -55,11 +57,18 @@ pub fn approvals_are_advised()
     ensures { (digest_of : List ℕ → List ℕ) → ApprovalsAreAdvised digest_of }
 {}
 
+/// The first refusal is answered: of the refusals that apply to an ask, each by itself, it gets the
+/// one that stands first in the order of all refusals; and none applies to an ask that is allowed.
+pub fn first_refusals_are_answered()
+    ensures { FirstRefusalsAreAnswered }
+{}
+
 /// Asks meet their policy: a request is taken in, and approved, only for a value of its registry's
 /// ranges under a policy by which values are assigned one by one, with all evidence that this
 /// policy (RFC 8126 section 4), or an early allocation under it (RFC 7120 section 2), asks for, and
-/// at which no entry stands; or, to renew it or to make it permanent, an entry of the applicant's
-/// own; and what was approved has its entry, of the applicant's account.
+/// at which no entry stands, the least one where that is asked for; or, to renew it or to make it
+/// permanent, an entry of the applicant's own; and what was approved has its entry, of the
+/// applicant's account.
 pub fn asks_meet_their_policy()
     ensures { (digest_of : List ℕ → List ℕ) → AsksMeetTheirPolicy digest_of }
 {}

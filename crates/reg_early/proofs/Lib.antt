@@ -6,4 +6,5 @@ pub mod JiffYears
 pub mod DayTexts
 pub mod MomentsHaveDays
 pub mod TermsHaveDays
+pub mod TermsInWords
 mod KnownDays

@@ -1,9 +1,10 @@
 -- The year after a date and after a day.
-use Rattle.std.proofs.Common.{◌≡◌, ◌≢◌, ℕ, ◌+◌, ◌-◌, ◌<◌, ◌≤◌, ◌⊎◌, inl, inr, Bool, true, false, get_or, pos, refl, ap, ◌∙◌, arith, rules, if◌then◌else◌}
+use Rattle.std.proofs.Common.{◌≡◌, ◌≢◌, ℕ, ◌+◌, ◌-◌, ◌<◌, ◌≤◌, ◌⊎◌, inl, inr, Bool, true, false, get_or, pos, refl, ap, subst, ◌∙◌, arith, rules, if◌then◌else◌}
 use Rattle.std.proofs.lemmas.Bool.{cases_lt, cases_eq}
 use Rattle.std.proofs.lemmas.Bool.Decides.{nat_tests}
 use Rattle.jiff.specs.Words.{days_in_month}
 use Rattle.reg_early.specs.Calendar.{CivilDate, civil_date, IsDate, IsDay, is_leap_year, leap_years_before, month_lengths, start_of_year, start_of_month, day_number, date_of, date_a_year_after, year_after}
+use Rattle.reg_early.specs.Laws.{IsYearAfter}
 use Rattle.reg_early.proofs.DaysAreDates.{IsDate-date_of, day_number-date_of, date_of-day_number, placed}
 use Rattle.reg_early.proofs.CalendarIsJiffs.{length_of_month}
 
@@ -187,6 +188,16 @@ year_begins_later date h low =
     rw (year-a_year_after date low) there.year_began in
     omega (arith, began, here.year_ends)
 
+-- a year after a day is no earlier, and later but for the last of all
+pub no_earlier : (day : ℕ) → IsDay day → day ≤ year_after day
+unfolding year_after
+no_earlier day h =
+    elim (cases_lt (date_of day).year 9999) [
+      | inl before ↦ let begins = year_begins_later (date_of day) (IsDate-date_of day h) before in
+          omega (arith, begins, day_number-date_of day h)
+      | inr high ↦ omega (arith, h, year_after-last day high, last_number)
+    ]
+
 pub later : (day : ℕ) → IsDay day → day < 2932896 → day < year_after day
 unfolding year_after
 later day h low =
@@ -195,3 +206,29 @@ later day h low =
           omega (arith, begins, day_number-date_of day h)
       | inr high ↦ omega (arith, year_after-last day high, last_number)
     ]
+
+-- the date of the year after a day, in words
+date_of-year_after : (day : ℕ) → IsDay day → date_of (year_after day) ≡ date_a_year_after (date_of day)
+unfolding year_after
+date_of-year_after day h =
+    date_of-day_number (date_a_year_after (date_of day))
+    (IsDate-a_year_after (date_of day) (IsDate-date_of day h))
+
+leap_day_before_9999 : (date : CivilDate) → IsDate date → (date.month ≡ 2) × (date.day ≡ 29)
+    → date.year < 9999
+leap_day_before_9999 date h leap =
+    before_9999 date.year (subst IsDate (λ i. civil_date date.year (leap.0 i) (leap.1 i)) h)
+
+pub IsYearAfter-year_after : (day : ℕ) → IsDay day → IsYearAfter day (year_after day)
+IsYearAfter-year_after day h =
+    let date = date_of day in
+    let is = date_of-year_after day h in (
+      IsDay-year_after day h,
+      record {
+        same = λ before other. is ∙ other_day date before (other_from_not date other);
+        leap_day = λ leap.
+            let before = leap_day_before_9999 date (IsDate-date_of day h) leap in
+            is ∙ leap_day date before leap.0 leap.1;
+        last_year = λ last. is ∙ last_year date (omega (arith, last));
+      },
+    )

@@ -1,10 +1,15 @@
 -- The laws of the calendar and of terms.
-use Rattle.std.specs.Prelude.{◌≡◌, true, ℕ, ◌+◌, ◌<◌, pos}
+use Rattle.std.specs.Prelude.{◌≡◌, ◌↔◌, true, false, ℕ, ◌+◌, ◌<◌, ◌≤◌, pos, Some, None, Ok, Err, IsSome}
 use Rattle.jiff.specs.Types.{Date}
 use Rattle.jiff.specs.Words.{epoch_day}
 use Rattle.reg_early.specs.declared.term.Term.{Term}
+use Rattle.reg_early.specs.declared.term.Status.TheVariants as status
+use Rattle.reg_early.specs.declared.term.RenewFault.{RenewFault}
+use Rattle.reg_early.specs.declared.term.RenewFault.TheVariants as renew_fault
+use Rattle.reg_early.specs.declared.term.SettleFault.{SettleFault}
+use Rattle.reg_early.specs.declared.term.SettleFault.TheVariants as settle_fault
 use Rattle.reg_early.specs.Moment.{is_in_clock, utc_day}
-use Rattle.reg_early.specs.Terms.{HasDays, permanent_term, early_term, renewed_term, settled_term}
+use Rattle.reg_early.specs.Terms.{HasDays, status_on, permanent_term, early_term, renewed_term, renewal, renewable, settled_term, settlement, settleable}
 use Rattle.reg_early.specs.Calendar.{IsDay, CivilDate, civil_date, IsDate, day_number, date_of, year_after}
 
 -- each day has one date, and each date is that of one day
@@ -43,6 +48,7 @@ pub record YearAfterIsTheSameDate : Type 0 where
   pub last_year : (month day : ℕ) → IsDate (civil_date 9999 month day)
       → year_after (day_number (civil_date 9999 month day)) ≡ day_number (civil_date 9999 12 31)
   pub is_day : (day : ℕ) → IsDay day → IsDay (year_after day)
+  pub no_earlier : (day : ℕ) → IsDay day → day ≤ year_after day
   pub later : (day : ℕ) → IsDay day → day < 2932896 → day < year_after day
 
 -- a moment of the clock's years has a day of the calendar
@@ -56,3 +62,70 @@ pub record TermsHaveDays : Type 0 where
   pub renewed : (term : Term) (approval : ℕ) → HasDays term → IsDay approval
       → HasDays (renewed_term term approval)
   pub settled : (term : Term) → HasDays term → HasDays (settled_term term)
+
+-- ---- Terms, in words of dates
+
+-- a date and the same date a year later: 28 February for 29 February, and the last of all for a
+-- date of 9999
+pub record IsYearLater (date later : CivilDate) : Type 0 where
+  pub same : date.year < 9999 → ¬ ((date.month ≡ 2) × (date.day ≡ 29))
+      → later ≡ civil_date (date.year + 1) date.month date.day
+  pub leap_day : (date.month ≡ 2) × (date.day ≡ 29) → later ≡ civil_date (date.year + 1) 2 28
+  pub last_year : date.year ≡ 9999 → later ≡ civil_date 9999 12 31
+
+-- a day and the day of the same date a year later
+abbrev pub IsYearAfter : ℕ → ℕ → Type 0
+IsYearAfter day later = IsDay later × IsYearLater (date_of day) (date_of later)
+
+-- an entry is Temporary on each day before its expiry, and Expired on that day and on each day
+-- after it; one without expiry is Assigned on every day
+pub record StatusesFollowTheExpiry : Type 0 where
+  pub assigned : (term : Term) (day : ℕ) → term.expires ≡ None
+      → status_on term day ≡ status.Assigned
+  pub temporary : (term : Term) (expiry day : ℕ) → term.expires ≡ Some expiry → day < expiry
+      → status_on term day ≡ status.Temporary
+  pub expired : (term : Term) (expiry day : ℕ) → term.expires ≡ Some expiry → expiry ≤ day
+      → status_on term day ≡ status.Expired
+
+-- the term begins on the day, and was not renewed
+abbrev pub BeginsOn : ℕ → Term → Type 0
+BeginsOn first term = (term.first ≡ first) × (term.renewed ≡ false)
+
+-- what is assigned for good has no expiry, and what is allocated early expires a year later
+pub record EarlyTermsLastAYear : Type 0 where
+  pub permanent : (first : ℕ) → BeginsOn first (permanent_term first)
+      × ((permanent_term first).expires ≡ None)
+  pub early : (first : ℕ) → IsDay first → BeginsOn first (early_term first)
+      × (expiry : ℕ) × IsYearAfter first expiry × ((early_term first).expires ≡ Some expiry)
+
+-- the term now expires a year after a day, is marked as renewed, and is the same in all else
+abbrev pub IsRenewedFrom : ℕ → Term → Term → Type 0
+IsRenewedFrom day before now =
+    (expiry : ℕ) × IsYearAfter day expiry
+    × (now ≡ record before { expires = Some expiry; renewed = true })
+
+-- a renewal before the expiry day runs to a year after that day, a later one to a year after its
+-- own; and nothing is renewed that has no expiry, or a second time
+pub record RenewalsLastAYear : Type 0 where
+  pub permanent : (term : Term) (today : ℕ) → term.expires ≡ None
+      → renewal term today ≡ Err renew_fault.Permanent
+  pub again : (term : Term) (today : ℕ) → IsSome term.expires → term.renewed ≡ true
+      → renewal term today ≡ Err renew_fault.Renewed
+  pub in_time : (term : Term) (expiry today : ℕ) → term.expires ≡ Some expiry
+      → term.renewed ≡ false → IsDay expiry → today ≤ expiry
+      → (now : Term) × (renewal term today ≡ Ok now) × IsRenewedFrom expiry term now
+  pub late : (term : Term) (expiry today : ℕ) → term.expires ≡ Some expiry
+      → term.renewed ≡ false → IsDay today → expiry ≤ today
+      → (now : Term) × (renewal term today ≡ Ok now) × IsRenewedFrom today term now
+  -- whether it can be is known before the day is
+  pub known : (term : Term) (today : ℕ) (fault : RenewFault)
+      → (renewable term ≡ Err fault) ↔ (renewal term today ≡ Err fault)
+
+-- what expires loses its expiry and keeps all else
+pub record SettledTermsAreForGood : Type 0 where
+  pub permanent : (term : Term) → term.expires ≡ None
+      → settlement term ≡ Err settle_fault.Permanent
+  pub settled : (term : Term) → IsSome term.expires
+      → settlement term ≡ Ok (record term { expires = None })
+  pub known : (term : Term) (fault : SettleFault)
+      → (settleable term ≡ Err fault) ↔ (settlement term ≡ Err fault)

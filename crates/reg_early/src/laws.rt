@@ -1,5 +1,5 @@
 //! Laws of the calendar and of terms. Each function does nothing; what it ensures is the law.
-ghost use Rattle.reg_early.specs.Laws.{DaysAreDates, CalendarIsJiffs, YearAfterIsTheSameDate, MomentsHaveDays, TermsHaveDays};
+ghost use Rattle.reg_early.specs.Laws.{DaysAreDates, CalendarIsJiffs, YearAfterIsTheSameDate, MomentsHaveDays, TermsHaveDays, StatusesFollowTheExpiry, EarlyTermsLastAYear, RenewalsLastAYear, SettledTermsAreForGood};
 
 /// Each day from 2000-01-01 to 9999-12-31 has one date, and each date of these years is that of one
 /// day.
@@ -26,4 +26,28 @@ pub fn moments_have_days()
 /// Terms that begin and are renewed on these days keep to them.
 pub fn terms_have_days()
     ensures { TermsHaveDays }
+{}
+
+/// An entry is Temporary on each day before its expiry, and Expired on that day and on each day
+/// after it; one without expiry is Assigned on every day.
+pub fn statuses_follow_the_expiry()
+    ensures { StatusesFollowTheExpiry }
+{}
+
+/// What is allocated early expires on the same date of the next year, or on 28 February for 29
+/// February; what is assigned for good has no expiry.
+pub fn early_terms_last_a_year()
+    ensures { EarlyTermsLastAYear }
+{}
+
+/// A renewal before the expiry day runs to the same date a year after that day, and a later one to
+/// that a year after its own day; all else of the term stays. What has no expiry is not renewed, nor
+/// what was renewed before.
+pub fn renewals_last_a_year()
+    ensures { RenewalsLastAYear }
+{}
+
+/// What is settled has no expiry, and keeps all else; what has none is not settled.
+pub fn settled_terms_are_for_good()
+    ensures { SettledTermsAreForGood }
 {}

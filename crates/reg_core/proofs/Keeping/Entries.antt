@@ -74,7 +74,7 @@ module _ (w : World) (kept : WellKept w) (account : List ℕ) (entry : Entry) wh
       (first_so (is_text a.label && is_name a.assignee) (has_term_form a.term)
       (standing_form place a is))
 
-  standing_term : (place : Place) (a : Registration) → get w.entries place ≡ Some a
+  pub standing_term : (place : Place) (a : Registration) → get w.entries place ≡ Some a
       → has_term_form a.term ≡ true
   standing_term place a is =
       second_so (is_text a.label && is_name a.assignee) (has_term_form a.term)

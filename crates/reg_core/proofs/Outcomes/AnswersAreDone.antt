@@ -32,7 +32,7 @@ use Rattle.reg_core.specs.declared.content.Content.{Content}
 use Rattle.reg_core.proofs.Outcomes.Deciding.{Rule, Decides}
 use Rattle.reg_core.specs.declared.change.Change.TheVariants as change
 use Rattle.reg_core.proofs.Outcomes.Accepted.{Comes, CommandSo, accepted}
-use Rattle.reg_core.proofs.Outcomes.WholeLists.{own_list, holding_list, queue_list}
+use Rattle.reg_core.proofs.Outcomes.WholeLists.{entry_list, block_list, own_list, holding_list, queue_list}
 
 -- ---- The forms of an outcome
 
@@ -98,11 +98,13 @@ module _ (digest_of : List ℕ → List ℕ) (w : World) (caller : Option (List 
       → Done command o
   done (Public Registries) o so = subst (Done (Public Registries)) (sym so) refl
   done (Public (Registry name)) o so =
-      subst (Done (Public (Registry name))) (sym so.so) (refl, so.is, refl)
+      subst (Done (Public (Registry name))) (sym so.so)
+      (refl, so.is, entry_list w name (utc_day moment))
   done (Public (RegistryListing name)) o so =
-      subst (Done (Public (RegistryListing name))) (sym so.so) (refl, so.is, refl)
+      subst (Done (Public (RegistryListing name))) (sym so.so)
+      (refl, so.is, entry_list w name (utc_day moment))
   done (Public PoolList) o so = subst (Done (Public PoolList)) (sym so) refl
-  done (Public BlockListing) o so = subst (Done (Public BlockListing)) (sym so) refl
+  done (Public BlockListing) o so = subst (Done (Public BlockListing)) (sym so) (block_list w)
   done (Applicant Own) o so =
       subst (Done (Applicant Own)) (sym so.1)
       (so.0.cap, so.0.is_there, own_list w so.0.cap.account)

@@ -1,23 +1,118 @@
--- An account's own list, its holdings and an expert's queue are whole.
-use Rattle.std.proofs.Common.{ℕ, List, refl, sym, ap, ◌∙◌}
+-- Pages and listings, an account's own list, its holdings and an expert's queue are whole.
+use Rattle.std.proofs.Common.{◌≡◌, ℕ, List, not, refl, sym, ap, subst, ◌∙◌}
+use Rattle.std.specs.Prelude.{Option, Some, None, option_and_then}
 use Rattle.std.specs.FinMap.{FinMap, get, entries}
 use Rattle.std.proofs.lemmas.List.Elements.{All-map}
-use Rattle.reg_core.specs.Laws.{HasRowOf, HasHoldingOf, HoldingList, IsItem, OwnList, QueueList}
-use Rattle.reg_core.specs.Holding.{holding_row, holding_rows}
+use Rattle.reg_core.specs.Lists.{EntryList, ShowsEntry, ShowsStanding, BlockList, ShowsHolder, ShowsHeld, HasRowOf, HasHoldingOf, HoldingList, IsItem, OwnList, QueueList}
+use Rattle.reg_early.proofs.TermsInWords.{assigned, temporary, expired}
+use Rattle.reg_core.specs.Entry.{page_entry}
+use Rattle.reg_core.specs.Maps.{only_if}
+use Rattle.reg_core.specs.Page.{page_entries}
+use Rattle.reg_core.specs.Holding.{Shown, masked, masked_blocks, listed_row, listed_rows, holding_row, holding_rows}
 use Rattle.reg_blocks.specs.Block.{SizedPrefix, block_cmp}
 use Rattle.reg_core.specs.declared.holding.Holder.{Holder}
 use Rattle.reg_core.specs.declared.holding.Holding.{Holding}
 use Rattle.reg_core.specs.Queue.{queue_row, queue_rows}
 use Rattle.reg_core.specs.Request.{request_row, request_rows}
-use Rattle.reg_core.specs.View.{Queued, as_queued, requests_of, holdings_of, queue_of}
-use Rattle.reg_core.specs.World.{World, RequestName, name_cmp}
+use Rattle.reg_core.specs.View.{published, entries_of, Queued, as_queued, requests_of, holdings_of, queue_of}
+use Rattle.reg_core.specs.World.{World, Place, RequestName, name_cmp, place_cmp}
+use Rattle.reg_core.specs.declared.entry.PageEntry.{PageEntry}
+use Rattle.reg_core.specs.declared.entry.Registration.{Registration}
+use Rattle.reg_core.specs.declared.holding.Listed.{Listed}
 use Rattle.reg_core.specs.declared.queue.QueueRow.{QueueRow}
 use Rattle.reg_core.specs.declared.request.Case.{Case}
 use Rattle.reg_core.specs.declared.request.Request.{Request}
-use Rattle.reg_core.proofs.MapLaws.{name_keys, block_keys, All-entries, Contains-map, Contains-entries, ascending-entries}
+use Rattle.reg_core.proofs.MapLaws.{name_keys, place_keys, block_keys, get-select, All-entries, Contains-map, Contains-entries, ascending-entries}
 use Rattle.reg_core.proofs.Blocks.{holding_found, own_holding}
+use Rattle.reg_core.proofs.ValuesIn.{own_found, found_own, page_ascends}
 use Rattle.reg_core.proofs.Queues.{IsQueued, queued_found, found_queued}
 use Rattle.reg_core.proofs.Stepping.{own_request, own_row_found, own_row_is_own}
+
+-- ---- Registers
+
+module _ (w : World) (name : List ℕ) (today : ℕ) where
+  abbrev registered : FinMap place_cmp Registration
+  registered = entries_of name w.entries
+
+  abbrev page_row : Place × Registration → PageEntry
+  page_row e = page_entry today e.0.1 e.1
+
+  shows_entry : (v : ℕ) (a : Registration) → ShowsEntry today a (page_entry today v a)
+  shows_entry v a = record {
+    label = refl;
+    assignee = refl;
+    term = refl;
+    assigned = assigned a.term today;
+    temporary = λ expiry. temporary a.term expiry today;
+    expired = λ expiry. expired a.term expiry today;
+  }
+
+  pub entry_list : EntryList w name today (page_entries (published w) name today)
+  entry_list = record {
+    viewed = refl;
+    standing = All-map (ShowsStanding w name today) page_row (entries registered)
+        (All-entries place_keys.total (λ e. ShowsStanding w name today (page_row e)) registered
+        (λ place a found. (a, own_found name w.entries place a found, shows_entry place.1 a)));
+    every = λ v a is. (
+      page_entry today v a,
+      Contains-map page_row (entries registered) ((name, v), a)
+          (Contains-entries place_keys registered (name, v) a (found_own name w.entries v a is)),
+      refl,
+      shows_entry v a,
+    );
+    ascending = page_ascends name w.entries today;
+  }
+
+module _ (w : World) where
+  abbrev given : FinMap block_cmp Shown
+  given = masked_blocks w.blocks
+
+  abbrev given_row : SizedPrefix × Shown → Listed
+  given_row e = listed_row e.0 e.1
+
+  shows_holder : (block : SizedPrefix) (h : Holder) → ShowsHolder h (listed_row block (masked h))
+  shows_holder block h = record {
+    listed = λ is. (
+      ap (λ b. only_if (not b) h.organization) is,
+      ap (λ b. only_if (not b) h.address) is,
+    );
+    hidden = λ is. (
+      ap (λ b. only_if (not b) h.organization) is,
+      ap (λ b. only_if (not b) h.address) is,
+    );
+  }
+
+  -- what is shown at a block is its holder, as the public sees it
+  held_there : (block : SizedPrefix) (shown : Shown) (existing : Option Holder)
+      → get w.blocks block ≡ existing
+      → option_and_then (λ h. Some (masked h)) existing ≡ Some shown
+      → ShowsHeld w (listed_row block shown)
+  held_there block shown None is e = absurd (cc)
+  held_there block shown (Some h) is e =
+      let same : masked h ≡ shown = cc in
+      (h, is, subst (λ s. ShowsHolder h (listed_row block s)) same (shows_holder block h))
+
+  shown_at : (block : SizedPrefix)
+      → get given block ≡ option_and_then (λ h. Some (masked h)) (get w.blocks block)
+  shown_at block = get-select block_keys (λ block h. Some (masked h)) w.blocks block
+
+  pub block_list : BlockList w (listed_rows given)
+  block_list = record {
+    viewed = refl;
+    given = All-map (ShowsHeld w) given_row (entries given)
+        (All-entries block_keys.total (λ e. ShowsHeld w (given_row e)) given
+        (λ block shown found.
+        held_there block shown (get w.blocks block) refl (sym (shown_at block) ∙ found)));
+    every = λ block h is. (
+      listed_row block (masked h),
+      Contains-map given_row (entries given) (block, masked h)
+          (Contains-entries block_keys given block (masked h)
+          (shown_at block ∙ ap (option_and_then (λ h. Some (masked h))) is)),
+      refl,
+      shows_holder block h,
+    );
+    ascending = ascending-entries block_cmp given_row (λ row. row.block) (λ e. refl) given;
+  }
 
 module _ (w : World) (account : List ℕ) where
   -- ---- Its own list

@@ -14,7 +14,8 @@ use Rattle.reg_core.specs.Capability.{same_kind}
 use Rattle.reg_core.specs.Command.{kind_of}
 use Rattle.reg_core.specs.File.{file}
 use Rattle.reg_core.specs.Queue.{queue_rows}
-use Rattle.reg_core.specs.Laws.{is_refused, IsStillValid, MayRepeat, IsDone, IsRow, IsOwnRow, RepeatsActOnce}
+use Rattle.reg_core.specs.Laws.{is_refused, IsStillValid, MayRepeat, IsDone, RepeatsActOnce}
+use Rattle.reg_core.specs.Lists.{IsRow, IsOwnRow}
 use Rattle.reg_core.specs.Maps.{same_text}
 use Rattle.reg_blocks.specs.Block.{SizedPrefix}
 use Rattle.reg_core.specs.Request.{case_of, request_rows}

@@ -4,7 +4,8 @@ use Rattle.std.specs.Prelude.{Option, Some, None}
 use Rattle.std.specs.FinMap.{get}
 use Rattle.reg_early.specs.Moment.{utc_day}
 use Rattle.reg_core.specs.Answer.{change_of, reply_of, unchanged, desk_row}
-use Rattle.reg_core.specs.Laws.{GivesDigests, IsApproved, IsDone, IsLater, IsOwnRow, IsRow, StillAsks, StillStands, SubmissionsStand, ApprovalsStand}
+use Rattle.reg_core.specs.Laws.{GivesDigests, IsApproved, IsDone, IsLater, StillAsks, StillStands, SubmissionsStand, ApprovalsStand}
+use Rattle.reg_core.specs.Lists.{IsOwnRow, IsRow}
 use Rattle.reg_core.specs.Request.{case_of, request_row}
 use Rattle.reg_core.specs.Run.{Event}
 use Rattle.reg_core.specs.Step.{answer_to, step}

@@ -53,7 +53,7 @@ module _
   no_expert name expert h by assigned =
       let own = (bytes_eq-Decides by.serves.cap.account account).0 (speaker by.serves).0 in
       let seat = ap (λ of. contains_key w.queue (name, of)) (sym by.own ∙ own) in
-      let free = seat ∙ ap is_some (un.no_seat_w name h) in
+      let free = seat ∙ ap is_some (un.blind_w.no_seat name h) in
       both_ways (contains_key w.queue (name, expert)) free assigned
 
   -- a line for each change: none is of a hidden request

@@ -7,14 +7,14 @@ use Rattle.std.proofs.lemmas.Slice.Eq.{bytes_eq-Decides}
 use Rattle.reg_core.specs.File.{same_name, seats_of}
 use Rattle.reg_core.specs.Maps.{same_text, only_if}
 use Rattle.reg_core.specs.Striking.{has_account, ShowSame}
-use Rattle.reg_core.specs.View.{published, personal, requests_of, holdings_of, queue_of, queued_to, as_queued, cap_at, with_personal}
+use Rattle.reg_core.specs.View.{published, personal, requests_of, queue_of, queued_to, as_queued, cap_at, with_personal}
 use Rattle.reg_core.specs.World.{World, RequestName, Seat, seat_cmp}
 use Rattle.reg_core.specs.declared.capability.Cap.{Cap}
 use Rattle.reg_core.specs.declared.request.Case.{Case}
 use Rattle.reg_core.proofs.Files.{same_name-is}
 use Rattle.reg_core.proofs.MapLaws.{name_keys, seat_keys}
 use Rattle.reg_core.proofs.Striking.Maps.{AgreeBut, NoneAt, ChooseAlike, both_select, same_select}
-use Rattle.reg_core.proofs.Striking.Worlds.{at_seat, Agree, NoSeat, Unaware}
+use Rattle.reg_core.proofs.Striking.Worlds.{at_seat, Agree, Blind, Unaware}
 
 module _ {hidden : RequestName → Bool} {w v : World} (a : Agree hidden w v) where
   -- anybody's own requests
@@ -69,21 +69,20 @@ module _
   queue_same : queue_of account w ≡ queue_of account v
   queue_same =
       same_select name_keys hidden (queued_to account w) (queued_to account v) _ _
-      (queued_alike un.agree account) un.agree.requests (none w un.no_seat_w) (none v un.no_seat_v)
+      (queued_alike un.agree account) un.agree.requests (none w un.blind_w) (none v un.blind_v)
     where
-      none : (x : World) → NoSeat account hidden x → NoneAt hidden (queued_to account x)
-      none x free name h case =
+      none : (x : World) → Blind account hidden x → NoneAt hidden (queued_to account x)
+      none x blind name h case =
           let queued = as_queued (get x.advice (name, account)) case in
-          ap (λ seat. only_if (is_some seat) queued) (free name h)
+          ap (λ seat. only_if (is_some seat) queued) (blind.no_seat name h)
 
   -- so for every capability of the account's
   pub personal_same : (of : List ℕ) → same_text of account ≡ true → personal of w ≡ personal of v
   personal_same of h =
       let mine = (bytes_eq-Decides of account).0 h in
       ap (λ of. personal of w) mine
-      ∙ (λ i. record {
+      ∙ (λ i. record (personal account (un.agree.rest i)) {
         requests = requests_same i;
-        holdings = holdings_of account (un.agree.rest i);
         queue = queue_same i;
       })
       ∙ sym (ap (λ of. personal of v) mine)

@@ -146,48 +146,49 @@ module _ (hidden : RequestName → Bool) (w v : World) (a : Agree hidden w v) wh
   agree_hidden_if of None h quiet = a
   agree_hidden_if of (Some change) h quiet = agree_hidden of change (h change refl) quiet
 
--- ---- No hidden request is assigned to the account
+-- ---- What the account is blind to
 
-abbrev pub NoSeat : List ℕ → (RequestName → Bool) → World → Type 0
-NoSeat account hidden w =
-    (name : RequestName) → hidden name ≡ true → get w.queue (name, account) ≡ None
+-- no hidden request is assigned to the account
+pub record Blind (account : List ℕ) (hidden : RequestName → Bool) (w : World) : Type 0 where
+  pub no_seat : (name : RequestName) → hidden name ≡ true → get w.queue (name, account) ≡ None
 
 module _
-    (account : List ℕ) (hidden : RequestName → Bool) (w : World)
-    (none : NoSeat account hidden w) where
-  no_seat : (change : Change) → IsQuiet account hidden (Some change)
-      → NoSeat account hidden (applied w change)
-  no_seat (Assign applicant reference expert) quiet name h =
-      get-at_insert seat_keys w.queue new tt old ∙ by (eq_by_cmp seat_cmp old new) refl
-    where
-      new : Seat
-      new = ((applicant, reference), expert)
+    (account : List ℕ) (hidden : RequestName → Bool) (w : World) (blind : Blind account hidden w)
+  where
+    no_seat : (change : Change) → IsQuiet account hidden (Some change) → (name : RequestName)
+        → hidden name ≡ true → get (applied w change).queue (name, account) ≡ None
+    no_seat (Assign applicant reference expert) quiet name h =
+        get-at_insert seat_keys w.queue new tt old ∙ by (eq_by_cmp seat_cmp old new) refl
+      where
+        new : Seat
+        new = ((applicant, reference), expert)
 
-      old : Seat
-      old = (name, account)
+        old : Seat
+        old = (name, account)
 
-      shown : Seat → Bool
-      shown seat = same_name seat.0 name && same_text seat.1 account
+        shown : Seat → Bool
+        shown seat = same_name seat.0 name && same_text seat.1 account
 
-      by : (t : Bool) → eq_by_cmp seat_cmp old new ≡ t → cond t (Some tt) (get w.queue old) ≡ None
-      by true t =
-          let at_new : shown new ≡ true =
-          ap shown (sym (tied seat_keys old new t))
-          ∙ both_true (same_name-itself name) (same_text-itself account) in
-          absurd (both_ways (shown new) (quiet name h) at_new)
-      by false t = none name h
-  no_seat change quiet name h = none name h
+        by : (t : Bool) → eq_by_cmp seat_cmp old new ≡ t → cond t (Some tt) (get w.queue old) ≡ None
+        by true t =
+            let at_new : shown new ≡ true =
+            ap shown (sym (tied seat_keys old new t))
+            ∙ both_true (same_name-itself name) (same_text-itself account) in
+            absurd (both_ways (shown new) (quiet name h) at_new)
+        by false t = blind.no_seat name h
+    no_seat change quiet name h = blind.no_seat name h
 
-  pub no_seat_if : (made : Option Change) → IsQuiet account hidden made
-      → NoSeat account hidden (applied_if w made)
-  no_seat_if None quiet = none
-  no_seat_if (Some change) quiet = no_seat change quiet
+    pub blind_if : (made : Option Change) → IsQuiet account hidden made
+        → Blind account hidden (applied_if w made)
+    blind_if None quiet = blind
+    blind_if (Some change) quiet = record { no_seat = no_seat change quiet }
 
 -- ---- What the account is unaware of
 
--- no hidden request is the account's own or assigned to it, in two worlds that agree on all others
+-- the account is blind to hidden requests, of which none is its own, in two worlds that agree on all
+-- others
 pub record Unaware (account : List ℕ) (hidden : RequestName → Bool) (w v : World) : Type 0 where
   pub agree : Agree hidden w v
   pub not_own : (name : RequestName) → hidden name ≡ true → same_text name.0 account ≡ false
-  pub no_seat_w : NoSeat account hidden w
-  pub no_seat_v : NoSeat account hidden v
+  pub blind_w : Blind account hidden w
+  pub blind_v : Blind account hidden v

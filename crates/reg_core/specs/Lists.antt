@@ -1,0 +1,164 @@
+-- What an office lists and shows, row by row.
+use Rattle.std.specs.Prelude.{◌≡◌, ◌<◌, ◌≤◌, ℕ, true, false, List, map, Option, Some, None, All, Contains}
+use Rattle.std.specs.FinMap.{get, contains_key}
+use Rattle.std.specs.List.Sorted.{IsStrictlySortedBy, IsStrictlyIncreasing}
+use Rattle.reg_blocks.specs.Block.{SizedPrefix, block_cmp}
+use Rattle.reg_early.specs.declared.term.Status.TheVariants as status
+use Rattle.reg_core.specs.File.{experts_of, opinions_of}
+use Rattle.reg_core.specs.Holding.{holder_in, holding_row, holding_rows, listed_rows}
+use Rattle.reg_core.specs.Page.{page_entries}
+use Rattle.reg_core.specs.Queue.{queue_rows}
+use Rattle.reg_core.specs.Request.{case_of, request_rows, word_of}
+use Rattle.reg_core.specs.View.{published, requests_of, holdings_of, queue_of}
+use Rattle.reg_core.specs.World.{World, name_cmp}
+use Rattle.reg_core.specs.declared.capability.Cap.{Cap}
+use Rattle.reg_core.specs.declared.entry.PageEntry.{PageEntry}
+use Rattle.reg_core.specs.declared.entry.Registration.{Registration}
+use Rattle.reg_core.specs.declared.file.File.{File}
+use Rattle.reg_core.specs.declared.holding.Holder.{Holder}
+use Rattle.reg_core.specs.declared.holding.Holding.{Holding}
+use Rattle.reg_core.specs.declared.holding.Listed.{Listed}
+use Rattle.reg_core.specs.declared.page.Page.{Page as PageOf}
+use Rattle.reg_core.specs.declared.queue.QueueRow.{QueueRow}
+use Rattle.reg_core.specs.declared.request.Case.{Case}
+use Rattle.reg_core.specs.declared.request.Request.{Request}
+
+-- ---- Registers
+
+-- the row shows this entry as it is on the day: Assigned without expiry, else Temporary before the
+-- expiry day and Expired from that day on
+pub record ShowsEntry (today : ℕ) (a : Registration) (row : PageEntry) : Type 0 where
+  pub label : row.label ≡ a.label
+  pub assignee : row.assignee ≡ a.assignee
+  pub term : row.term ≡ a.term
+  pub assigned : a.term.expires ≡ None → row.status ≡ status.Assigned
+  pub temporary : (expiry : ℕ) → a.term.expires ≡ Some expiry → today < expiry
+      → row.status ≡ status.Temporary
+  pub expired : (expiry : ℕ) → a.term.expires ≡ Some expiry → expiry ≤ today
+      → row.status ≡ status.Expired
+
+-- the row shows the entry that stands at its value
+abbrev pub ShowsStanding : World → List ℕ → ℕ → PageEntry → Type 0
+ShowsStanding w name today row =
+    (a : Registration) × (get w.entries (name, row.value) ≡ Some a) × ShowsEntry today a row
+
+-- the rows are the entries of a registry
+pub record EntryList (w : World) (name : List ℕ) (today : ℕ) (rows : List PageEntry) :
+    Type 0 where
+  -- they are the published ones of the day
+  pub viewed : rows ≡ page_entries (published w) name today
+  -- each shows an entry of the registry
+  pub standing : All (ShowsStanding w name today) rows
+  -- each entry of the registry has its row among them
+  pub every : (v : ℕ) (a : Registration) → get w.entries (name, v) ≡ Some a
+      → (row : PageEntry) × Contains rows row × (row.value ≡ v) × ShowsEntry today a row
+  -- they ascend by value, so no value has two
+  pub ascending : IsStrictlyIncreasing (map (λ row. row.value) rows)
+
+-- the page shows the registry of this name as it is on the day
+abbrev pub Shows : World → List ℕ → ℕ → PageOf → Type 0
+Shows w name today page =
+    (page.name ≡ name) × (get w.registries name ≡ Some page.table)
+    × EntryList w name today page.entries
+
+-- the row shows organization and address of this holder, or neither if the holder is private
+pub record ShowsHolder (h : Holder) (row : Listed) : Type 0 where
+  pub listed : h.private ≡ false
+      → (row.organization ≡ Some h.organization) × (row.address ≡ Some h.address)
+  pub hidden : h.private ≡ true → (row.organization ≡ None) × (row.address ≡ None)
+
+-- the row shows the holder of its block
+abbrev pub ShowsHeld : World → Listed → Type 0
+ShowsHeld w row = (h : Holder) × (get w.blocks row.block ≡ Some h) × ShowsHolder h row
+
+-- the rows are all blocks that were given
+pub record BlockList (w : World) (rows : List Listed) : Type 0 where
+  -- they are the published ones
+  pub viewed : rows ≡ listed_rows (published w).blocks
+  -- each shows a block that was given
+  pub given : All (ShowsHeld w) rows
+  -- each block that was given has its row among them
+  pub every : (block : SizedPrefix) (h : Holder) → get w.blocks block ≡ Some h
+      → (row : Listed) × Contains rows row × (row.block ≡ block) × ShowsHolder h row
+  -- they ascend by first address, so no block has two
+  pub ascending : IsStrictlySortedBy block_cmp (map (λ row. row.block) rows)
+
+-- ---- Requests
+
+abbrev pub HasRow : World → Request → Type 0
+HasRow w row = get w.requests (row.account, row.reference) ≡ Some (case_of row)
+
+abbrev pub HasRowOf : World → List ℕ → Request → Type 0
+HasRowOf w account row = (row.account ≡ account) × HasRow w row
+
+-- the row is of the request of this name
+abbrev pub IsRow : World → List ℕ → List ℕ → Request → Type 0
+IsRow w account reference row =
+    (row.account ≡ account) × (row.reference ≡ reference) × HasRow w row
+
+-- the row is of the request of this reference of the caller's own, who gave the command with this
+-- capability
+abbrev pub IsOwnRow : World → Option Cap → List ℕ → Request → Type 0
+IsOwnRow w by reference row = (cap : Cap) × (by ≡ Some cap) × IsRow w cap.account reference row
+
+-- the file is of the request of this name, with all its experts and all advice on it
+abbrev pub IsFile : World → List ℕ → List ℕ → File → Type 0
+IsFile w account reference file =
+    IsRow w account reference file.request
+    × (file.experts ≡ experts_of w (account, reference))
+    × (file.advice ≡ opinions_of w (account, reference))
+
+-- the row is of the request of this name, as this expert sees it to whom it is assigned
+abbrev pub IsItem : World → List ℕ → List ℕ → List ℕ → QueueRow → Type 0
+IsItem w expert account reference row =
+    (row.account ≡ account) × (row.reference ≡ reference)
+    × (contains_key w.queue ((account, reference), expert) ≡ true)
+    × (row.advice ≡ get w.advice ((account, reference), expert))
+    × (case : Case) × (get w.requests (account, reference) ≡ Some case) × (row.ask ≡ case.ask)
+    × (row.word ≡ word_of case.state)
+
+-- the rows are an account's own list
+pub record OwnList (w : World) (account : List ℕ) (rows : List Request) : Type 0 where
+  -- they are the requests of the account, as its view has them
+  pub viewed : rows ≡ request_rows (requests_of account w)
+  -- each is of a request of the account
+  pub own : All (HasRowOf w account) rows
+  -- each request of the account has its row among them
+  pub every : (reference : List ℕ) (case : Case)
+      → get w.requests (account, reference) ≡ Some case
+      → (row : Request) × Contains rows row × IsRow w account reference row
+  -- they ascend by reference, so no request has two
+  pub ascending : IsStrictlySortedBy name_cmp (map (λ row. (row.account, row.reference)) rows)
+
+-- the block of the row has its holder
+abbrev pub HasHolding : World → Holding → Type 0
+HasHolding w row = get w.blocks row.block ≡ Some (holder_in row)
+
+abbrev pub HasHoldingOf : World → List ℕ → Holding → Type 0
+HasHoldingOf w account row = (row.holder ≡ account) × HasHolding w row
+
+-- the rows are the blocks that an account holds
+pub record HoldingList (w : World) (account : List ℕ) (rows : List Holding) : Type 0 where
+  -- they are the blocks of the account, as its view has them
+  pub viewed : rows ≡ holding_rows (holdings_of account w)
+  -- each is of a block that the account holds
+  pub own : All (HasHoldingOf w account) rows
+  -- each block that the account holds has its row among them
+  pub every : (block : SizedPrefix) (h : Holder) → get w.blocks block ≡ Some h
+      → h.account ≡ account → Contains rows (holding_row block h)
+  -- they ascend by first address, so no block has two
+  pub ascending : IsStrictlySortedBy block_cmp (map (λ row. row.block) rows)
+
+-- the rows are an expert's queue
+pub record QueueList (w : World) (expert : List ℕ) (rows : List QueueRow) : Type 0 where
+  -- they are the queue of the expert, as its view has it
+  pub viewed : rows ≡ queue_rows (queue_of expert w)
+  -- each is of a request that is assigned to the expert, with the expert's own advice
+  pub assigned : All (λ row. IsItem w expert row.account row.reference row) rows
+  -- each request that is assigned to the expert has its row among them
+  pub every : (account reference : List ℕ) (case : Case)
+      → get w.requests (account, reference) ≡ Some case
+      → contains_key w.queue ((account, reference), expert) ≡ true
+      → (row : QueueRow) × Contains rows row × IsItem w expert account reference row
+  -- they ascend by account and reference, so no request has two
+  pub ascending : IsStrictlySortedBy name_cmp (map (λ row. (row.account, row.reference)) rows)
