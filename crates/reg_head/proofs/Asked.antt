@@ -1,5 +1,5 @@
 -- What the bytes ask that were read.
-use Rattle.std.proofs.Common.{◌≡◌, ℕ, ◌+◌, ◌-◌, ◌<◌, ◌≤◌, List, ◌++◌, true, false, Option, None, Some, Ok, Err, length, take, drop, map, refl, sym, ap, ◌∙◌, inl, inr, arith, append_assoc, length-append, length-drop}
+use Rattle.std.proofs.Common.{◌≡◌, ℕ, ◌+◌, ◌-◌, ◌<◌, ◌≤◌, max, List, ◌++◌, Bool, true, false, Option, None, Some, Ok, Err, length, take, drop, map, refl, sym, ap, ◌∙◌, inl, inr, arith, append_assoc, length-append, length-drop}
 use Rattle.std.proofs.lemmas.Bool.Decides.{nat_tests}
 use Rattle.std.proofs.lemmas.List.{take-append-le, drop-append-le}
 use Rattle.std.proofs.KnownBytes.{Consumes-trans}
@@ -15,7 +15,7 @@ use Rattle.reg_head.specs.Found.{IsWithinIf, token_at}
 use Rattle.reg_head.specs.Head.{HasHead, fields_of}
 use Rattle.reg_head.specs.Looks.{IsHeadAt, IsHeadless}
 use Rattle.reg_head.specs.Pieces.{Lacks}
-use Rattle.reg_head.specs.Reading.{IsAsked, IsMessage, IsUnread}
+use Rattle.reg_head.specs.Reading.{IsAsked, IsMessage, IsNoFurther, IsUnread}
 use Rattle.reg_head.specs.Request.{Asks, request_with, request_by, request_of}
 use Rattle.reg_head.specs.declared.malformed.Malformed.{Malformed}
 use Rattle.reg_head.specs.declared.malformed.Malformed.TheVariants as malformed
@@ -27,24 +27,27 @@ use Rattle.reg_head.specs.declared.unread.Unread.TheVariants as unread
 
 pub headless : (before left : Option (List ℕ)) (why : Unread) → IsHeadless before left why
     → IsUnread before left why
-headless before left (unread.Refused malformed.Head) (bytes, is_read, inl none) = record {
+headless before left (unread.Refused malformed.Head) (bytes, is_read, little, inl none) = record {
   bytes = bytes;
   is_read = is_read;
+  no_further = inl little;
   asks = inl (λ more. inr (none more, refl));
 }
-headless before left (unread.Refused malformed.Head) (bytes, is_read, inr (end, none)) = record {
+headless before left (unread.Refused malformed.Head) (bytes, is_read, little, inr (end, none)) = record {
   bytes = bytes;
   is_read = is_read;
+  no_further = inl little;
   asks = inr (end, inr (none, refl));
 }
 headless before left (unread.Refused malformed.Encoding) h = absurd h
 headless before left (unread.Refused malformed.Length) h = absurd h
 headless before left (unread.Refused malformed.Large) h = absurd h
 headless before left (unread.Refused malformed.Short) h = absurd h
-headless before left unread.Read (bytes, is_read, none) = record {
+headless before left unread.Read (bytes, is_read, none, still) = record {
   bytes = bytes;
   is_read = is_read;
-  lacks = inl (inr (none, refl));
+  no_further = inl (omega (arith, still.1));
+  lacks = inl (inr (none, refl), still);
 }
 headless before left unread.Memory h = tt
 
@@ -84,7 +87,8 @@ within_if_more buf more (Some span) within = within_more buf more span within
 -- ---- A head
 
 module _ (before left : Option (List ℕ)) (buf : List ℕ) (headers : List HeaderSpan)
-    (spans : RequestSpans) (head : RequestHead) (is : IsHeadAt buf headers spans head) where
+    (spans : RequestSpans) (head : RequestHead) (is : IsHeadAt buf headers spans head)
+    (little : length buf ≤ 8192) where
   abbrev rest : List ℕ
   rest = drop spans.len buf
 
@@ -99,6 +103,7 @@ module _ (before left : Option (List ℕ)) (buf : List ℕ) (headers : List Head
   refused why is_read e = record {
     bytes = buf;
     is_read = is_read;
+    no_further = inl little;
     asks = inl (λ more. inl (
       head,
       rest ++ more,
@@ -111,6 +116,29 @@ module _ (before left : Option (List ℕ)) (buf : List ℕ) (headers : List Head
       (e : announced (map (header_bytes buf) (take spans.headers headers)) ≡ Ok n) where
     says : announced (fields_of head) ≡ Ok n
     says = sym announces ∙ e
+
+    near : (more : List ℕ) (fits : Bool) → length (buf ++ more) ≤ max (spans.len + n) (length buf)
+        → nat_le (length (rest ++ more)) n ≡ fits → IsNoFurther (buf ++ more)
+    near more false bound e =
+        let past : n < length (rest ++ more) = grind (arith, nat_tests, e) in
+        inl (omega (
+          arith,
+          bound,
+          past,
+          little,
+          length-append buf more,
+          length-append rest more,
+          length-drop spans.len buf,
+          is.within.section.len_fits,
+        ))
+    near more true bound e =
+        let body : length (rest ++ more) ≤ n = grind (arith, nat_tests, e) in
+        inr (head, rest ++ more, n, has_head_more buf head rest more is.has, says, body)
+
+    -- no more was read than the head and the body, or than the most of a head
+    no_further : (more : List ℕ) → length (buf ++ more) ≤ max (spans.len + n) (length buf)
+        → IsNoFurther (buf ++ more)
+    no_further more bound = near more (nat_le (length (rest ++ more)) n) bound refl
 
     -- the bytes end before the body does
     short : (more : List ℕ) → length (buf ++ more) < spans.len + n
@@ -139,6 +167,7 @@ module _ (before left : Option (List ℕ)) (buf : List ℕ) (headers : List Head
         record {
           bytes = buf ++ more;
           is_read = Consumes-trans before left after buf more is_read read_more;
+          no_further = no_further more (omega (arith, fewer));
           asks = inr (end, short more fewer);
         }
     lacks_body after (unread.Refused malformed.Head) is_read h = absurd h
@@ -148,6 +177,7 @@ module _ (before left : Option (List ℕ)) (buf : List ℕ) (headers : List Head
     lacks_body after unread.Read is_read (more, read_more, fewer) = record {
       bytes = buf ++ more;
       is_read = Consumes-trans before left after buf more is_read read_more;
+      no_further = no_further more (omega (arith, fewer));
       lacks = inr (short more fewer);
     }
     lacks_body after unread.Memory is_read h = tt
@@ -191,10 +221,12 @@ module _ (before left : Option (List ℕ)) (buf : List ℕ) (headers : List Head
 
       pub asked : (after : Option (List ℕ)) → Consumes before left buf
           → Consumes left after more
+          → length (buf ++ more) ≤ max (spans.len + n) (length buf)
           → IsAsked before after (Ok (request_with head (rest ++ more) n))
-      asked after is_read read_more = record {
+      asked after is_read read_more bound = record {
         bytes = buf ++ more;
         is_read = Consumes-trans before left after buf more is_read read_more;
+        no_further = no_further more bound;
         asks = inl whole;
       }
 

@@ -1,7 +1,7 @@
 -- The head of a request (RFC 9112 sections 2 to 5), within the limits.
-use Rattle.std.specs.Prelude.{◌≤◌, ℕ, List, [], ◌∷◌, length, map, if◌then◌else◌}
+use Rattle.std.specs.Prelude.{◌≤◌, ◌<◌, ℕ, List, [], ◌∷◌, length, map, if◌then◌else◌}
 use Rattle.std.specs.Str.{str_eq_ignore_ascii_case}
-use Rattle.httparse.specs.Grammar.{RequestHead, print_request, ReadsRequest}
+use Rattle.httparse.specs.Grammar.{RequestHead, print_request, ReadsRequest, MayBecomeRequest}
 use Rattle.httparse.specs.Spans.{name_and_value}
 
 -- the most bytes of a head, from the first byte read to its empty line
@@ -21,6 +21,11 @@ pub record HasHead (bytes : List ℕ) (head : RequestHead) (rest : List ℕ) : T
 -- the bytes do not begin with a head within the limits
 abbrev pub HasNone : List ℕ → Type 0
 HasNone bytes = (head : RequestHead) (rest : List ℕ) → ¬ (HasHead bytes head rest)
+
+-- a head may still come: more bytes make these one, or they end in its target; and they are fewer
+-- than the most of a head
+abbrev pub MayBecomeHead : List ℕ → Type 0
+MayBecomeHead bytes = MayBecomeRequest bytes × (length bytes < most_bytes)
 
 -- the values of the fields with this name, which is compared without case (RFC 9110 section 5.1),
 -- without the spaces and tabs around them

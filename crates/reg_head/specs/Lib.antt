@@ -5,3 +5,4 @@ pub mod Looks
 pub mod Pieces
 pub mod Request
 pub mod Reading
+pub mod Watched

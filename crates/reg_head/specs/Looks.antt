@@ -1,11 +1,11 @@
 -- What one look at the bytes that have come says, for private clauses.
-use Rattle.std.specs.Prelude.{◌<◌, ◌⊎◌, ℕ, List, ◌++◌, length, drop, Option}
+use Rattle.std.specs.Prelude.{◌≤◌, ◌⊎◌, ℕ, List, ◌++◌, length, drop, Option}
 use Rattle.std.specs.Io.KnownBytes.{Consumes, IsAtEnd}
 use Rattle.httparse.specs.Grammar.{RequestHead, HasNoRequest}
 use Rattle.httparse.specs.Spans.{IsRequestAt, IsRequestWithin}
 use Rattle.httparse.specs.declared.spans.HeaderSpan.{HeaderSpan}
 use Rattle.httparse.specs.declared.spans.RequestSpans.{RequestSpans}
-use Rattle.reg_head.specs.Head.{HasHead, HasNone, most_bytes}
+use Rattle.reg_head.specs.Head.{HasHead, HasNone, MayBecomeHead, most_bytes}
 use Rattle.reg_head.specs.declared.malformed.Malformed.TheVariants as malformed
 use Rattle.reg_head.specs.declared.unread.Unread.{Unread}
 use Rattle.reg_head.specs.declared.unread.Unread.TheVariants as unread
@@ -32,18 +32,18 @@ IsRefused buf look.Partial = Unit {0}
 abbrev pub IsPartial : List ℕ → Look → Type 0
 IsPartial buf (look.Whole spans) = Unit {0}
 IsPartial buf look.Refused = Unit {0}
-IsPartial buf look.Partial = HasNoRequest buf × (length buf < most_bytes)
+IsPartial buf look.Partial = HasNoRequest buf × MayBecomeHead buf
 
 -- why no head was read: there is none in the bytes, whatever follows or at their end, or a read
--- failed before there was one
+-- failed where one could still come; no more bytes were read than those of a head
 abbrev pub IsHeadless : Option (List ℕ) → Option (List ℕ) → Unread → Type 0
 IsHeadless before left (unread.Refused malformed.Head) =
-    (bytes : List ℕ) × Consumes before left bytes
+    (bytes : List ℕ) × Consumes before left bytes × (length bytes ≤ most_bytes)
     × (((more : List ℕ) → HasNone (bytes ++ more)) ⊎ (IsAtEnd left × HasNone bytes))
 IsHeadless before left (unread.Refused malformed.Encoding) = ⊥
 IsHeadless before left (unread.Refused malformed.Length) = ⊥
 IsHeadless before left (unread.Refused malformed.Large) = ⊥
 IsHeadless before left (unread.Refused malformed.Short) = ⊥
 IsHeadless before left unread.Read =
-    (bytes : List ℕ) × Consumes before left bytes × HasNone bytes
+    (bytes : List ℕ) × Consumes before left bytes × HasNone bytes × MayBecomeHead bytes
 IsHeadless before left unread.Memory = Unit {0}

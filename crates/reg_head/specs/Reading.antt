@@ -1,10 +1,13 @@
 -- What was read of a reader, and what it asks. `unread` and `left` are what is to be read before
 -- and after.
-use Rattle.std.specs.Prelude.{◌≡◌, ◌⊎◌, List, ℕ, length, Result, Err, Option, Some}
+use Rattle.std.specs.Prelude.{◌≡◌, ◌≤◌, ◌⊎◌, List, ℕ, length, Result, Ok, Err, Option, Some}
 use Rattle.std.specs.Option.{option_copied}
 use Rattle.std.specs.Io.KnownBytes.{Consumes, IsAtEnd}
 use Rattle.httparse.specs.Spans.{IsWithin, span_bytes}
+use Rattle.httparse.specs.Grammar.{RequestHead}
+use Rattle.reg_head.specs.Fields.{announced}
 use Rattle.reg_head.specs.Found.{IsWithinIf, token_at}
+use Rattle.reg_head.specs.Head.{HasHead, MayBecomeHead, fields_of, most_bytes}
 use Rattle.reg_head.specs.Request.{Request, Asks, IsSettled}
 use Rattle.reg_head.specs.declared.malformed.Malformed.{Malformed}
 use Rattle.reg_head.specs.declared.malformed.Malformed.TheVariants as malformed
@@ -42,19 +45,29 @@ request_view parts =
 
 -- ---- Reading
 
+-- No more bytes than the most of a head, or than the head and the body that it announces.
+abbrev pub IsNoFurther : List ℕ → Type 0
+IsNoFurther bytes =
+    (length bytes ≤ most_bytes)
+    ⊎ ((head : RequestHead) × (rest : List ℕ) × (n : ℕ) × HasHead bytes head rest
+    × (announced (fields_of head) ≡ Ok n) × (length rest ≤ n))
+
 -- What the reader's bytes ask: those that were read ask it whatever follows, or no more came.
 pub record IsAsked (unread left : Option (List ℕ)) (asked : Result Request Malformed) : Type 0
   where
     pub bytes : List ℕ
     pub is_read : Consumes unread left bytes
+    pub no_further : IsNoFurther bytes
     pub asks : IsSettled bytes asked ⊎ (IsAtEnd left × Asks bytes asked)
 
--- What was read so far is not yet a whole request: if no more came, the head or the body would be
--- what is wrong.
+-- What was read so far is not yet a whole request, and may still become one: if no more came, the
+-- head, which may still come, or the body would be what is wrong.
 pub record IsUnfinished (unread left : Option (List ℕ)) : Type 0 where
   pub bytes : List ℕ
   pub is_read : Consumes unread left bytes
-  pub lacks : Asks bytes (Err malformed.Head) ⊎ Asks bytes (Err malformed.Short)
+  pub no_further : IsNoFurther bytes
+  pub lacks : (Asks bytes (Err malformed.Head) × MayBecomeHead bytes)
+      ⊎ Asks bytes (Err malformed.Short)
 
 -- why there is no message
 abbrev pub IsUnread : Option (List ℕ) → Option (List ℕ) → Unread → Type 0

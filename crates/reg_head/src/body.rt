@@ -1,9 +1,11 @@
 //! Reads the body of a request.
 ghost use Rattle.std.specs.Prelude.{◌≡◌, ◌≤◌, ◌<◌, ◌++◌, List, ℕ, OnOk, IfErr, length};
 ghost use Rattle.reg_head.specs.Pieces.{Grows, Lacks};
+ghost use Rattle.reg_head.specs.Watched.{IsWatched};
 
 use crate::malformed::Malformed;
 use crate::unread::Unread;
+use crate::watch::Watch;
 use std::io::Read;
 
 /// How many bytes of a body are read at once.
@@ -14,18 +16,18 @@ pub(crate) fn read_up_to<R: Read>(
     reader: &mut R,
     bytes: &mut Vec<u8>,
     end: usize,
+    watch: &mut Watch,
 ) -> Result<(), Unread>
     ensures ok { OnOk result (Grows (R.remaining reader.old) (R.remaining reader.new) bytes.old.items
-        bytes.new.items × (end ≤ length bytes.new.items)) }
+        end bytes.new.items × (end ≤ length bytes.new.items)) }
     ensures err { IfErr result (λ why. Lacks (R.remaining reader.old) (R.remaining reader.new)
         bytes.old.items end why) }
+    ensures watched { IsWatched watch.old watch.new result }
 {
     let mut piece = [0u8; PIECE_BYTES];
     while bytes.len() < end {
         let room = (end - bytes.len()).min(PIECE_BYTES);
-        let Ok(count) = reader.read(&mut piece[..room]) else {
-            return Err(Unread::Read);
-        };
+        let count = watch.read(reader, &mut piece[..room])?;
         if count == 0 {
             return Err(Unread::Refused(Malformed::Short));
         }

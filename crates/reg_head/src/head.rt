@@ -3,9 +3,11 @@ ghost use Rattle.std.specs.Prelude.{◌≡◌, ◌≤◌, IfOk, IfErr, length, v
 ghost use Rattle.httparse.specs.Grammar.{RequestHead};
 ghost use Rattle.std.specs.Io.KnownBytes.{Consumes};
 ghost use Rattle.reg_head.specs.Looks.{IsHeadAt, IsWhole, IsRefused, IsPartial, IsHeadless};
+ghost use Rattle.reg_head.specs.Watched.{IsWatched};
 
 use crate::malformed::Malformed;
 use crate::unread::Unread;
+use crate::watch::Watch;
 use httparse::Status;
 use httparse::spans::{HeaderSpan, RequestSpans, parse_request};
 use std::io::Read;
@@ -50,6 +52,7 @@ pub(crate) fn read_head<R: Read>(
     reader: &mut R,
     bytes: &mut Vec<u8>,
     headers: &mut [HeaderSpan],
+    watch: &mut Watch,
 ) -> Result<RequestSpans, Unread>
     requires room { length headers.old ≡ 32 }
     requires empty { vec_len bytes.old ≡ 0 }
@@ -57,9 +60,10 @@ pub(crate) fn read_head<R: Read>(
         (λ _. Consumes (R.remaining reader.old) (R.remaining reader.new) bytes.new.items) }
     ensures found { IfOk result
         (λ spans. (head : RequestHead) × IsHeadAt bytes.new.items headers.new spans head) }
-    ensures short { IfOk result (λ _. vec_len bytes.new ≤ 8192) }
+    ensures short { IfOk result (λ _. length bytes.new.items ≤ 8192) }
     ensures err { IfErr result
         (λ why. IsHeadless (R.remaining reader.old) (R.remaining reader.new) why) }
+    ensures watched { IsWatched watch.old watch.new result }
 {
     let mut piece = [0u8; MOST_BYTES];
     loop {
@@ -69,9 +73,7 @@ pub(crate) fn read_head<R: Read>(
             Look::Partial => {}
         }
         let room = MOST_BYTES - bytes.len();
-        let Ok(count) = reader.read(&mut piece[..room]) else {
-            return Err(Unread::Read);
-        };
+        let count = watch.read(reader, &mut piece[..room])?;
         if count == 0 {
             return Err(Unread::Refused(Malformed::Head));
         }

@@ -10,3 +10,4 @@ pub mod malformed;
 pub mod message;
 pub mod reading;
 pub mod unread;
+pub mod watch;

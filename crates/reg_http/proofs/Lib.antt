@@ -2,4 +2,5 @@ mod Sent
 mod StorageText
 mod AlikeRequests
 mod Exchanges
+mod StandSoFar
 mod Turns

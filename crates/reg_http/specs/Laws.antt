@@ -1,5 +1,5 @@
 -- The laws of requests and answers over HTTP.
-use Rattle.std.specs.Prelude.{◌≡◌, ◌≢◌, ℕ, List, [], ◌∷◌, Bool, true, false, not, map, filter, filter_map, Option, None, Some, Result, Ok, Err}
+use Rattle.std.specs.Prelude.{◌≡◌, ◌≢◌, ℕ, List, [], ◌∷◌, ◌++◌, Bool, true, false, not, map, filter, filter_map, Option, None, Some, Result, Ok, Err}
 use Rattle.std.specs.List.{AllZip}
 use Rattle.reg_core.specs.Striking.{AreAlikeTo, HasNone, ShowSame, reply_lists_others, reply_without}
 use Rattle.reg_core.specs.Unseen.{Stage, stages, is_unseen, kept_stages, struck}
@@ -9,12 +9,12 @@ use Rattle.reg_core.specs.World.{World, RequestName}
 use Rattle.reg_office.specs.Caller.{token_digest}
 use Rattle.reg_print.specs.declared.answer.Answer.{Answer}
 use Rattle.reg_print.specs.declared.answer.Answer.TheVariants as answer
-use Rattle.reg_wire.specs.Exchange.{Call, events_of, answers_with}
+use Rattle.reg_wire.specs.Exchange.{Call, PremiseGoesOn, events_of, answers_with}
 use Rattle.reg_wire.specs.Laws.{LookAlike, replies_at}
 use Rattle.reg_head.specs.Request.{Request, Asks}
 use Rattle.reg_head.specs.declared.malformed.Malformed.{Malformed}
 use Rattle.reg_http.specs.Response.{status, response_text, reply_text}
-use Rattle.reg_http.specs.Serving.{Answers, Responds, asker, call_at, storage}
+use Rattle.reg_http.specs.Serving.{Answers, AnswersOver, Exchange, Lead, Responds, asker, call_at, storage}
 use Rattle.reg_http.specs.declared.response.Response.{Response}
 use Rattle.reg_http.specs.declared.response.Response.TheVariants as response
 
@@ -50,19 +50,9 @@ RequestsAreAnsweredAlike =
 
 -- ---- Requests in turn
 
--- the bytes that came at a moment, what they ask, and what was answered
-pub record Exchange : Type 0 where
-  pub moment : ℕ
-  pub bytes : List ℕ
-  pub asked : Result Request Malformed
-  pub told : Response
-
--- the bytes are answered in turn
+-- bytes are answered in turn over worlds
 abbrev pub Exchanged : World → List Exchange → World → Type 0
-Exchanged before [] after = after ≡ before
-Exchanged before (x ∷ xs) after =
-    (now : World) × Asks x.bytes x.asked × Responds Answers before x.moment x.asked x.told now
-    × Exchanged now xs after
+Exchanged before xs after = Lead Answers before xs after
 
 abbrev pub is_storage : Response → Bool
 is_storage (response.Answer (answer.Reply told)) = false
@@ -107,6 +97,27 @@ abbrev pub RequestsRunAsTheModel : Type 0
 RequestsRunAsTheModel =
     (first last : World) (xs : List Exchange) → Exchanged first xs last
     → AreOfModel first last (faultless xs)
+
+-- ---- The premise, request by request
+
+-- after the first of some requests in turn: they were answered over the contents, and so as the
+-- model's run of their events, under the premise right after them, whatever comes later; and what
+-- becomes of the premise until then and after: want of memory does not end it
+pub record StandSoFar {S : Type 0} (world : S → World) (Holds Sound : S → Type 0) (fails : Bool)
+    (first last : S) (xs later : List Exchange) : Type 0 where
+  pub now : S
+  pub in_turn : Holds now → Exchanged (world first) xs (world now)
+  pub model : Holds now → AreOfModel (world first) (world now) (faultless xs)
+  pub premise : PremiseGoesOn Holds Sound storage fails first now (told_of xs)
+  pub more : Lead (AnswersOver world Holds Sound fails) now later last
+  pub later_premise : PremiseGoesOn Holds Sound storage fails now last (told_of later)
+
+abbrev pub RequestsStandSoFar : {S : Type 0} → (S → World) → (S → Type 0) → (S → Type 0) → Bool
+    → Type 0
+RequestsStandSoFar {S} world Holds Sound fails =
+    (first last : S) (xs later : List Exchange)
+    → Lead (AnswersOver world Holds Sound fails) first (xs ++ later) last
+    → StandSoFar world Holds Sound fails first last xs later
 
 -- ---- Striking
 

@@ -4,6 +4,7 @@ pub mod Response
 pub mod Responding
 pub mod Sending
 pub mod Serving
+pub mod Watched
 pub use Rattle.reg_head.specs.Fields
 pub use Rattle.reg_head.specs.Head
 pub use Rattle.reg_head.specs.Reading

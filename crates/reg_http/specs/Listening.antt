@@ -1,26 +1,26 @@
 -- What a listener's connections do to an office.
-use Rattle.std.specs.Prelude.{◌≡◌, ◌≤◌, ℕ, List, [], ◌∷◌, length, Result}
+use Rattle.std.specs.Prelude.{◌≤◌, ◌/◌, ℕ, List, length, Option, Some, None}
+use Rattle.std.specs.Duration.{as_nanos}
+use Rattle.std.specs.declared.time.Duration.{Duration}
 use Rattle.reg_wire.specs.Exchange.{Call}
-use Rattle.reg_head.specs.Request.{Request}
-use Rattle.reg_head.specs.declared.malformed.Malformed.{Malformed}
-use Rattle.reg_http.specs.Serving.{Responds}
+use Rattle.reg_http.specs.Serving.{Exchange, Lead}
 use Rattle.reg_http.specs.declared.response.Response.{Response}
 
--- what was asked at a moment, and what was answered
-pub record Turn : Type 0 where
-  pub moment : ℕ
-  pub asked : Result Request Malformed
-  pub told : Response
+-- the moment by what the clock said: whole seconds; 0 where it failed
+abbrev pub moment_by : Option Duration → ℕ
+moment_by None = 0
+moment_by (Some time) = as_nanos time / 1000000000
 
--- turns lead from one state to another
-abbrev pub Lead : {S : Type 0} → (S → Call → Response → S → Type 0) → List Turn → S → S → Type 0
-Lead Serves [] before after = after ≡ before
-Lead {S} Serves (t ∷ turns) before after =
-    (now : S) × Responds Serves before t.moment t.asked t.told now × Lead Serves turns now after
+-- one where a status is given
+abbrev pub count_of : Option ℕ → ℕ
+count_of None = 0
+count_of (Some status) = 1
 
--- at most so many turns, and nothing else, have changed the office
-pub record ChangesByTurns {S : Type 0} (Serves : S → Call → Response → S → Type 0) (most : ℕ)
-    (before after : S) : Type 0 where
-  pub turns : List Turn
+-- requests in turn, and nothing else, have changed the office: at most so many, and at least as
+-- many as are said to be answered
+pub record ChangesByTurns {S : Type 0} (Serves : S → Call → Response → S → Type 0)
+    (most answered : ℕ) (before after : S) : Type 0 where
+  pub turns : List Exchange
   pub few : length turns ≤ most
-  pub lead : Lead Serves turns before after
+  pub enough : answered ≤ length turns
+  pub lead : Lead Serves before turns after

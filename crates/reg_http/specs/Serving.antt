@@ -1,15 +1,16 @@
 -- What one exchange over HTTP does: a request is read, the office answers, the answer is written.
-use Rattle.std.specs.Prelude.{◌≡◌, ◌≢◌, ◌<◌, ◌⊎◌, ℕ, List, [], length, take, Option, None, Result, Ok, Err}
+use Rattle.std.specs.Prelude.{◌≡◌, ◌≢◌, ◌<◌, ◌⊎◌, ℕ, List, [], ◌∷◌, length, take, Bool, Option, None, Result, Ok, Err}
 use Rattle.std.specs.Io.KnownBytes.{Appends}
 use Rattle.reg_core.specs.World.{World}
-use Rattle.reg_keeper.specs.Keeper.{GoesOn}
+use Rattle.reg_keeper.specs.declared.keeper.Fault.{Fault}
 use Rattle.reg_office.specs.Caller.{caller_of}
+use Rattle.reg_print.specs.declared.answer.Answer.{Answer}
 use Rattle.reg_print.specs.declared.answer.Answer.TheVariants as answer
-use Rattle.reg_wire.specs.Exchange.{Call, answer_to, world_then}
+use Rattle.reg_wire.specs.Exchange.{Call, Gives, answer_to, world_then}
 use Rattle.reg_wire.specs.declared.wire_fault.WireFault.{WireFault}
 use Rattle.reg_wire.specs.declared.wire_fault.WireFault.TheVariants as fault
 use Rattle.reg_head.specs.Reading.{IsAsked, IsUnfinished}
-use Rattle.reg_head.specs.Request.{Request}
+use Rattle.reg_head.specs.Request.{Request, Asks}
 use Rattle.reg_head.specs.declared.malformed.Malformed.{Malformed}
 use Rattle.reg_http.specs.Response.{status, response_text}
 use Rattle.reg_http.specs.declared.response.Response.{Response}
@@ -38,12 +39,17 @@ Answers before call told after =
     ((told ≡ response.Answer (answer_to before call)) × (after ≡ world_then before call))
     ⊎ ((told ≡ storage) × (after ≡ before))
 
--- Over the states of a keeper: under the premise right after the call, so are the contents. What
--- becomes of the premise: it goes on, unless the answer is storage.
-pub record AnswersOver {S : Type 0} (world : S → World) (Holds Sound : S → Type 0) (before : S)
-    (call : Call) (told : Response) (after : S) : Type 0 where
-  pub answers : Holds after → Answers (world before) call told (world after)
-  pub premise : GoesOn Holds Sound before after (told ≢ storage)
+-- what is told of what the office gives: the answer, or storage at a fault
+abbrev pub given_response : Result Answer Fault → Response
+given_response (Ok a) = response.Answer a
+given_response (Err fault) = storage
+
+-- over the states of a keeper: what the office gives to the call is told
+pub record AnswersOver {S : Type 0} (world : S → World) (Holds Sound : S → Type 0) (fails : Bool)
+    (before : S) (call : Call) (told : Response) (after : S) : Type 0 where
+  pub result : Result Answer Fault
+  pub is_told : told ≡ given_response result
+  pub gives : Gives world Holds Sound fails before call result after
 
 -- what bytes ask at a moment is answered: a request as its call is, other bytes by what is wrong
 -- with them, with nothing looked at and nothing changed
@@ -53,6 +59,22 @@ Responds Serves before moment (Ok request) told after =
     Serves before (call_at moment request) told after
 Responds Serves before moment (Err why) told after =
     (told ≡ response.Malformed why) × (after ≡ before)
+
+-- ---- Requests in turn
+
+-- the bytes that came at a moment, what they ask, and what was answered
+pub record Exchange : Type 0 where
+  pub moment : ℕ
+  pub bytes : List ℕ
+  pub asked : Result Request Malformed
+  pub told : Response
+
+-- the bytes are answered in turn
+abbrev pub Lead : {S : Type 0} → (S → Call → Response → S → Type 0) → S → List Exchange → S → Type 0
+Lead Serves before [] after = after ≡ before
+Lead {S} Serves before (x ∷ xs) after =
+    (now : S) × Asks x.bytes x.asked × Responds Serves before x.moment x.asked x.told now
+    × Lead Serves now xs after
 
 -- ---- One exchange. `unread` and `left` are what is to be read before and after, `had` and `has`
 -- what was written.

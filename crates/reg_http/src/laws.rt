@@ -1,7 +1,8 @@
 //! Laws of requests and answers in bytes, over their definitions: by those of calls.
-ghost use Rattle.reg_http.specs.Laws.{RequestsAreAnsweredAlike, RequestsRunAsTheModel, UnseenRequestsLeaveNoTrace};
+ghost use Rattle.reg_http.specs.Laws.{RequestsAreAnsweredAlike, RequestsRunAsTheModel, UnseenRequestsLeaveNoTrace, RequestsStandSoFar};
 
 pub use reg_head::laws::{bytes_ask_one_thing, readers_ask_by_all_their_bytes};
+use reg_keeper::keeper::Keeper;
 use reg_wire::laws::{
     calls_are_answered_alike, calls_run_as_the_model, unseen_calls_leave_no_trace,
 };
@@ -20,6 +21,18 @@ pub fn requests_are_answered_alike()
 /// of their events, with what is wrong with other bytes between, and so is the last world.
 pub fn requests_run_as_the_model()
     ensures { RequestsRunAsTheModel }
+{
+    calls_run_as_the_model();
+}
+
+/// What is promised of requests in turn stands under the premise of the store right after them,
+/// whatever comes later: the first of them, as many as one likes, were answered in turn as the
+/// contents are, and so as the model's run of their events, where the premise is true then. It is,
+/// where it was at the beginning, the store failed at none of them and the device behind it was
+/// sound until then; want of memory ends nothing. `serve_listener` changes an office by such
+/// requests.
+pub fn requests_stand_so_far<K: Keeper>()
+    ensures { RequestsStandSoFar K.world K.Holds K.Sound K.FAILS }
 {
     calls_run_as_the_model();
 }

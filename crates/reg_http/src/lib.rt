@@ -7,5 +7,5 @@ pub mod response;
 mod sending;
 pub mod serving;
 
-pub use reg_head::{malformed, message, reading, unread};
+pub use reg_head::{malformed, message, reading, unread, watch};
 pub use reg_wire::wire_fault;

@@ -1,12 +1,15 @@
 //! Serves the connections of a listener, one after the other.
-ghost use Rattle.std.specs.Prelude.{◌≡◌, ◌+◌};
-ghost use Rattle.reg_http.specs.Listening.{ChangesByTurns};
+ghost use Rattle.std.specs.Prelude.{◌≡◌, ◌+◌, ◌≤◌};
+ghost use Rattle.std.specs.Result.{result_ok};
+ghost use Rattle.reg_http.specs.Listening.{ChangesByTurns, count_of, moment_by};
 ghost use Rattle.reg_http.specs.Serving.{AnswersOver};
 
 use crate::serving::serve_one;
+use reg_head::watch::Watch;
 use reg_keeper::keeper::Keeper;
 use reg_office::Office;
 use reg_parse::route::Routes;
+use reg_wire::wire_fault::WireFault;
 use std::alloc::Global;
 use std::io;
 use std::io::{ErrorKind, Read, Write};
@@ -35,8 +38,8 @@ pub struct Connections {
 /// not been read whole within the patience is a failed read, and what has not been written within
 /// as much again a failed write. After a refusal what the peer still sends is read for a second, at
 /// most 128 KiB of it. A connection that cannot be accepted, or fails, is dropped, and the next is
-/// served. The office is changed by at most one request of each connection, and by
-/// nothing else.
+/// served. The office is changed by at most one request of each connection, and by nothing else; no
+/// more connections are said to be answered than there were such requests.
 pub fn serve_listener<C: Clock, K: Keeper>(
     alloc: Global,
     clock: &C,
@@ -47,18 +50,27 @@ pub fn serve_listener<C: Clock, K: Keeper>(
     patience: Duration,
 ) -> Connections
     ensures counted { result.answered + result.dropped ≡ count }
-    ensures turns { ChangesByTurns (AnswersOver K.world K.Holds K.Sound) count office.old
-        office.new }
+    ensures turns { ChangesByTurns (AnswersOver K.world K.Holds K.Sound K.FAILS) count
+        result.answered office.old office.new }
 {
     let mut answered = 0;
     for _ in 0..count {
-        if serve_next(alloc, clock, office, routes, listener, patience).is_some() {
-            answered += 1;
-        }
+        answered += count_of(serve_next(alloc, clock, office, routes, listener, patience));
     }
     Connections {
         answered,
         dropped: count - answered,
+    }
+}
+
+// One where a status is given.
+fn count_of(status: Option<u16>) -> u32
+    ensures one { result ≤ 1 }
+    ensures count { result ≡ count_of status }
+{
+    match status {
+        Some(_) => 1,
+        None => 0,
     }
 }
 
@@ -71,7 +83,8 @@ fn serve_next<C: Clock, K: Keeper>(
     listener: &TcpListener,
     patience: Duration,
 ) -> Option<u16>
-    ensures { ChangesByTurns (AnswersOver K.world K.Holds K.Sound) 1 office.old office.new }
+    ensures { ChangesByTurns (AnswersOver K.world K.Holds K.Sound K.FAILS) 1 (count_of result)
+        office.old office.new }
 {
     let (stream, _) = listener.accept().ok()?;
     let status = exchange(alloc, clock, office, routes, &stream, patience);
@@ -90,7 +103,8 @@ fn exchange<C: Clock, K: Keeper>(
     stream: &TcpStream,
     patience: Duration,
 ) -> Option<u16>
-    ensures { ChangesByTurns (AnswersOver K.world K.Holds K.Sound) 1 office.old office.new }
+    ensures { ChangesByTurns (AnswersOver K.world K.Holds K.Sound K.FAILS) 1 (count_of result)
+        office.old office.new }
 {
     let read_by = clock.monotonic().ok()?.checked_add(patience)?;
     let write_by = read_by.checked_add(patience)?;
@@ -104,15 +118,23 @@ fn exchange<C: Clock, K: Keeper>(
         clock,
         end: write_by,
     };
-    serve_one(
+    let mut watch = Watch::new();
+    status_of(serve_one(
         alloc,
         office,
         routes,
         moment(clock),
         &mut reader,
         &mut writer,
-    )
-    .ok()
+        &mut watch,
+    ))
+}
+
+// The status of an answer that was written whole.
+fn status_of(served: Result<u16, WireFault>) -> Option<u16>
+    ensures { result ≡ result_ok served }
+{
+    served.ok()
 }
 
 // Reads for a while what a refused peer still sends, and drops it. Where a connection is closed
@@ -141,12 +163,19 @@ fn lingering_end<C: Clock>(stream: &TcpStream, clock: &C) -> Option<Duration> {
         .checked_add(Duration::from_secs(LINGER_SECONDS))
 }
 
-// Seconds since 1970-01-01T00:00:00Z.
+// Seconds since 1970-01-01T00:00:00Z. Of what a clock says std's contracts say nothing.
 fn moment<C: Clock>(clock: &C) -> u64 {
-    match clock.since_1970() {
-        Ok(time) => time.as_secs(),
-        Err(_) => 0,
-    }
+    moment_by(clock.since_1970().ok())
+}
+
+// The moment by what the clock said: whole seconds; 0 where it failed.
+fn moment_by(reading: Option<Duration>) -> u64
+    ensures { result ≡ moment_by reading }
+{
+    let Some(time) = reading else {
+        return 0;
+    };
+    time.as_secs()
 }
 
 /// A connection that fails from an end on, by the monotonic clock.

@@ -2,6 +2,7 @@
 ghost use Rattle.std.specs.Prelude.{◌≡◌, IfOk, IfErr};
 ghost use Rattle.reg_http.specs.Serving.{AnswersOver, IsAnswered, IsServed, FailsBy, call_at};
 ghost use Rattle.reg_http.specs.Responding.{IsUnanswered};
+ghost use Rattle.reg_http.specs.Watched.{IsWatched};
 ghost use Rattle.reg_head.specs.Reading.{IsMessage, IsPlaced};
 ghost use Rattle.reg_head.specs.Request.{Request};
 
@@ -10,6 +11,7 @@ use crate::sending::send_response;
 use reg_head::message::Message;
 use reg_head::reading::read_request;
 use reg_head::unread::Unread;
+use reg_head::watch::Watch;
 use reg_keeper::keeper::Keeper;
 use reg_office::Office;
 use reg_parse::route::Routes;
@@ -24,15 +26,15 @@ use std::io::{Read, Write};
 ///
 /// A request is answered as its call is; one at which the store or memory failed by
 /// `503 {"error":"storage"}`, with the content of the office unchanged. Bytes that are no request
-/// are answered by what is wrong with them first, and the office is not looked at. No byte is
-/// asked for beyond the request: at most 8,192 of its head and 65,536 of its body, so at most
-/// 73,729 reads are made.
+/// are answered by what is wrong with them first, and the office is not looked at. No more bytes
+/// are read than 8,192, or than the head and the body. That at most 73,729 reads are made is
+/// tested.
 ///
-/// `Read` where a read failed before the request was whole: nothing was written, and nothing has
-/// changed. `Write(n)` where a write failed or took nothing: exactly the first n bytes of the
-/// answer went out, and the request was carried out. `Memory` where there was none to hold the
-/// request, or its answer: nothing was written, and the request was carried out or nothing has
-/// changed.
+/// `Read` where a read failed before the request was whole, where it could still become so: nothing
+/// was written, and nothing has changed; `watch` tells that a read failed. `Write(n)` where a write
+/// failed or took nothing, which is tested: exactly the first n bytes of the answer went out, and
+/// the request was carried out. `Memory` where there was none to hold the request, or its answer:
+/// nothing was written, and the request was carried out or nothing has changed.
 pub fn serve_one<K: Keeper, R: Read, W: Write>(
     alloc: Global,
     office: &mut Office<K>,
@@ -40,15 +42,17 @@ pub fn serve_one<K: Keeper, R: Read, W: Write>(
     moment: u64,
     reader: &mut R,
     writer: &mut W,
+    watch: &mut Watch,
 ) -> Result<u16, WireFault>
-    ensures ok { IfOk result (λ status. IsServed (AnswersOver K.world K.Holds K.Sound) moment
-        office.old office.new (R.remaining reader.old) (R.remaining reader.new)
+    ensures ok { IfOk result (λ status. IsServed (AnswersOver K.world K.Holds K.Sound K.FAILS)
+        moment office.old office.new (R.remaining reader.old) (R.remaining reader.new)
         (W.contents writer.old) (W.contents writer.new) status) }
-    ensures err { IfErr result (λ fault. FailsBy (AnswersOver K.world K.Holds K.Sound) moment
-        fault office.old office.new (R.remaining reader.old) (R.remaining reader.new)
+    ensures err { IfErr result (λ fault. FailsBy (AnswersOver K.world K.Holds K.Sound K.FAILS)
+        moment fault office.old office.new (R.remaining reader.old) (R.remaining reader.new)
         (W.contents writer.old) (W.contents writer.new)) }
+    ensures watched { IsWatched watch.old watch.new result }
 {
-    let response = respond(alloc, office, routes, moment, reader)?;
+    let response = respond(alloc, office, routes, moment, reader, watch)?;
     send_response(alloc, writer, response)
 }
 
@@ -59,13 +63,15 @@ fn respond<K: Keeper, R: Read>(
     routes: &Routes,
     moment: u64,
     reader: &mut R,
+    watch: &mut Watch,
 ) -> Result<Response, WireFault>
-    ensures ok { IfOk result (λ told. IsAnswered (AnswersOver K.world K.Holds K.Sound) moment
-        office.old office.new (R.remaining reader.old) (R.remaining reader.new) told) }
+    ensures ok { IfOk result (λ told. IsAnswered (AnswersOver K.world K.Holds K.Sound K.FAILS)
+        moment office.old office.new (R.remaining reader.old) (R.remaining reader.new) told) }
     ensures err { IfErr result (λ fault. IsUnanswered fault office.old office.new
         (R.remaining reader.old) (R.remaining reader.new)) }
+    ensures watched { IsWatched watch.old watch.new result }
 {
-    match read_request(alloc, reader) {
+    match read_request(alloc, reader, watch) {
         Ok(message) => {
             let response = respond_to(alloc, office, routes, moment, &message);
             drop(message);
@@ -87,7 +93,8 @@ fn respond_to<K: Keeper>(
 ) -> Response
     requires { IsPlaced message.now }
     ensures { (request : Request) → IsMessage message.now request
-        → AnswersOver K.world K.Holds K.Sound office.old (call_at moment request) result office.new }
+        → AnswersOver K.world K.Holds K.Sound K.FAILS office.old (call_at moment request) result
+        office.new }
 {
     let parts = message.parts();
     let call = Call {

@@ -102,6 +102,9 @@ answer_is_line a =
 another : (text : List ℕ) → bytes_eq text storage ≡ false → text ≢ storage
 another text other same = false≢true (sym other ∙ ap (λ t. bytes_eq t storage) same)
 
+pub refusal_is_no_storage : refusal ≢ storage
+refusal_is_no_storage = another _ refusal_is_another
+
 pub answered_is_another : (a : Answer) → IsAnswered a → answer_line a ≢ storage
 answered_is_another (answer.Reply reply) h = another _ (reply_is_another reply)
 answered_is_another (answer.Wire refusal) h = another _ (wire_is_another refusal)

@@ -1,11 +1,14 @@
 -- What is answered to calls, and the world then, whatever carries them.
-use Rattle.std.specs.Prelude.{ℕ, List, [], ◌∷◌, filter_map, Option, Ok, Err}
+use Rattle.std.specs.Prelude.{◌≡◌, ◌≢◌, ℕ, List, [], ◌∷◌, filter_map, Bool, false, Option, None, Some, Result, Ok, Err, IfOk}
+use Rattle.std.specs.List.{AllByRecursion, AllZip}
 use Rattle.std.specs.Option.{option_copied}
 use Rattle.std.specs.Result.{result_ok}
 use Rattle.reg_core.specs.Run.{Event}
 use Rattle.reg_core.specs.World.{World}
 use Rattle.reg_core.specs.declared.command.Command.{Command}
 use Rattle.reg_core.specs.declared.reply.Reply.{Reply}
+use Rattle.reg_keeper.specs.Keeper.{GoesOn, Makes, MayFault}
+use Rattle.reg_keeper.specs.declared.keeper.Fault.{Fault}
 use Rattle.reg_office.specs.Caller.{caller_of, step_by}
 use Rattle.reg_parse.specs.Bodies.Members.{Reading}
 use Rattle.reg_parse.specs.Command.{asked}
@@ -59,6 +62,34 @@ abbrev pub IsAnswered : Answer → Type 0
 IsAnswered (answer.Reply reply) = Unit {0}
 IsAnswered (answer.Wire refusal) = Unit {0}
 IsAnswered answer.Storage = ⊥
+
+-- ---- Over the states of a keeper
+
+-- what the office gives to a call: under the premise right after it the answer of the model, with
+-- the content then; or a fault, with the content as it was; and what becomes of the premise
+pub record Gives {S : Type 0} (world : S → World) (Holds Sound : S → Type 0) (fails : Bool)
+    (before : S) (call : Call) (result : Result Answer Fault) (after : S) : Type 0 where
+  pub answers : Holds after → IfOk result (λ a. a ≡ answer_to (world before) call)
+  pub makes : Makes world Holds Sound fails before after result (λ w. world_then w call)
+  pub is_answered : IfOk result IsAnswered
+
+-- the fault at which `storage` was told, where it was; the store's only if it can fail
+abbrev pub FaultOf : {A : Type 0} → A → Bool → A → Option Fault → Type 0
+FaultOf storage fails told None = told ≢ storage
+FaultOf storage fails told (Some fault) = (told ≡ storage) × MayFault fails fault
+
+-- the store did not fail
+abbrev pub IsNotOfStore : Option Fault → Type 0
+IsNotOfStore None = Unit {0}
+IsNotOfStore (Some fault) = MayFault false fault
+
+-- The faults at which `storage` was told in turn, and what becomes of the premise: it goes on where
+-- none of them is the store's. Want of memory ends nothing.
+pub record PremiseGoesOn {S A : Type 0} (Holds Sound : S → Type 0) (storage : A) (fails : Bool)
+    (first last : S) (told : List A) : Type 0 where
+  pub faults : List (Option Fault)
+  pub each : AllZip (FaultOf storage fails) told faults
+  pub goes_on : GoesOn Holds Sound first last (AllByRecursion IsNotOfStore faults)
 
 -- ---- Calls in turn
 

@@ -34,7 +34,8 @@ use std::io::{Read, Write};
 /// nothing: exactly the first n bytes of the answers went out, and the line whose answer was cut
 /// short was carried out. `Memory` where there was none to hold a line, or an answer: the lines
 /// before were answered, and the last may have been carried out, but not where the store failed at
-/// it: that line is answered.
+/// it: that line is answered. That a read or a write failed where so much is given as the cause,
+/// and that there are no more reads, is tested.
 pub fn run<K: Keeper, R: Read, W: Write>(
     alloc: Global,
     office: &mut Office<K>,
@@ -42,11 +43,11 @@ pub fn run<K: Keeper, R: Read, W: Write>(
     writer: &mut W,
 ) -> Result<(), WireFault>
     ensures ok { OnOk result
-        (AnswersAll (ServesOver K.world K.Holds K.Sound) office.old office.new
+        (AnswersAll (ServesOver K.world K.Holds K.Sound K.FAILS) office.old office.new
         (R.remaining reader.old) (R.remaining reader.new) (W.contents writer.old)
         (W.contents writer.new)) }
     ensures err { IfErr result
-        (λ fault. StopsAt (ServesOver K.world K.Holds K.Sound) fault office.old office.new
+        (λ fault. StopsAt (ServesOver K.world K.Holds K.Sound K.FAILS) fault office.old office.new
         (R.remaining reader.old) (R.remaining reader.new) (W.contents writer.old)
         (W.contents writer.new)) }
 {

@@ -1,13 +1,13 @@
 -- How the lines of a script are answered over an office.
-use Rattle.std.specs.Prelude.{◌≡◌, ◌≢◌, ◌⊎◌, ◌==◌, ℕ, List, [], ◌∷◌, ◌++◌, map, filter, filter_map, not, Option, Some, None, if◌then◌else◌}
+use Rattle.std.specs.Prelude.{◌≡◌, ◌⊎◌, ◌==◌, Bool, ℕ, List, [], ◌∷◌, ◌++◌, map, filter, filter_map, not, Option, Some, None, Result, Ok, Err, if◌then◌else◌}
 use Rattle.std.specs.Fmt.{decimal}
 use Rattle.std.specs.List.{zip}
 use Rattle.std.specs.Str.{bytes_eq}
 use Rattle.reg_core.specs.World.{World}
 use Rattle.reg_print.specs.Answer.{status_of, body_text}
 use Rattle.reg_print.specs.declared.answer.Answer.{Answer}
-use Rattle.reg_keeper.specs.Keeper.{GoesOn}
-use Rattle.reg_wire.specs.Exchange.{Call, answer_to, world_then, answers_to, world_after_calls}
+use Rattle.reg_keeper.specs.declared.keeper.Fault.{Fault}
+use Rattle.reg_wire.specs.Exchange.{Call, Gives, answer_to, world_then, answers_to, world_after_calls}
 use Rattle.reg_wire.specs.Script.Line.{line_of}
 use Rattle.reg_wire.specs.Script.Lines.{refusal, storage}
 
@@ -27,12 +27,17 @@ Serves before call text after =
     ((text ≡ answer_line (answer_to before call)) × (after ≡ world_then before call))
     ⊎ ((text ≡ storage) × (after ≡ before))
 
--- Over the states of a keeper: under the premise right after the line, so are the contents. What
--- becomes of the premise: it goes on, unless the answer is 503.
-pub record ServesOver {S : Type 0} (world : S → World) (Holds Sound : S → Type 0) (before : S)
-    (call : Call) (text : List ℕ) (after : S) : Type 0 where
-  pub serves : Holds after → Serves (world before) call text (world after)
-  pub premise : GoesOn Holds Sound before after (text ≢ storage)
+-- the line of what the office gives: the answer, or 503 at a fault
+abbrev pub given_line : Result Answer Fault → List ℕ
+given_line (Ok a) = answer_line a
+given_line (Err fault) = storage
+
+-- over the states of a keeper: the line of what the office gives to the call
+pub record ServesOver {S : Type 0} (world : S → World) (Holds Sound : S → Type 0) (fails : Bool)
+    (before : S) (call : Call) (text : List ℕ) (after : S) : Type 0 where
+  pub result : Result Answer Fault
+  pub told : text ≡ given_line result
+  pub gives : Gives world Holds Sound fails before call result after
 
 -- ---- Lines in turn
 

@@ -14,8 +14,7 @@ use Rattle.reg_core.specs.declared.wire_refusal.WireRefusal.TheVariants as wire
 use Rattle.reg_office.specs.Caller.{token_digest, caller_of}
 use Rattle.reg_print.specs.declared.answer.Answer.{Answer}
 use Rattle.reg_print.specs.declared.answer.Answer.TheVariants as answer
-use Rattle.reg_keeper.specs.Keeper.{GoesOn}
-use Rattle.reg_wire.specs.Exchange.{Call, event_of, events_of, answers_with}
+use Rattle.reg_wire.specs.Exchange.{Call, PremiseGoesOn, event_of, events_of, answers_with}
 use Rattle.reg_wire.specs.Laws.{LookAlike}
 use Rattle.reg_wire.specs.Script.Answers.{Serves, ServesOver, answer_line, lines_with, calls_of, AnswerCalls, without_faults, faultless_lines, faultless_answers, faultless_calls}
 use Rattle.reg_wire.specs.Script.Line.{line_of, most_bytes, token_of, line_feed_of}
@@ -88,21 +87,22 @@ RunsAsTheModel =
 
 -- after the first lines of a run: they were answered in turn, as the contents are, under the
 -- premise right after them, whatever comes later; and what becomes of the premise until then and
--- after
-pub record StandSoFar {S : Type 0} (world : S → World) (Holds Sound : S → Type 0) (first last : S)
-    (lines answers later later_answers : List (List ℕ)) : Type 0 where
+-- after: want of memory does not end it
+pub record StandSoFar {S : Type 0} (world : S → World) (Holds Sound : S → Type 0) (fails : Bool)
+    (first last : S) (lines answers later later_answers : List (List ℕ)) : Type 0 where
   pub now : S
   pub ran : Holds now → Ran Serves (world first) lines answers (world now)
-  pub premise : GoesOn Holds Sound first now (AllByRecursion (λ a. a ≢ storage) answers)
-  pub more : Ran (ServesOver world Holds Sound) now later later_answers last
-  pub later_premise : GoesOn Holds Sound now last (AllByRecursion (λ a. a ≢ storage) later_answers)
+  pub premise : PremiseGoesOn Holds Sound storage fails first now answers
+  pub more : Ran (ServesOver world Holds Sound fails) now later later_answers last
+  pub later_premise : PremiseGoesOn Holds Sound storage fails now last later_answers
 
-abbrev pub LinesStandSoFar : {S : Type 0} → (S → World) → (S → Type 0) → (S → Type 0) → Type 0
-LinesStandSoFar {S} world Holds Sound =
+abbrev pub LinesStandSoFar : {S : Type 0} → (S → World) → (S → Type 0) → (S → Type 0) → Bool
+    → Type 0
+LinesStandSoFar {S} world Holds Sound fails =
     (first last : S) (lines answers later later_answers : List (List ℕ))
     → length lines ≡ length answers
-    → Ran (ServesOver world Holds Sound) first (lines ++ later) (answers ++ later_answers) last
-    → StandSoFar world Holds Sound first last lines answers later later_answers
+    → Ran (ServesOver world Holds Sound fails) first (lines ++ later) (answers ++ later_answers) last
+    → StandSoFar world Holds Sound fails first last lines answers later later_answers
 
 -- ---- Isolation, as of calls
 

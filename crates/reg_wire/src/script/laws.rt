@@ -37,10 +37,10 @@ pub fn runs_as_the_model()
 
 /// What is promised of lines stands under the premise of the store right after them, whatever comes
 /// later: the first lines of a run were answered in turn as their contents are, where the premise
-/// is true then. It is, where it was at the beginning, none of them was answered 503 and the device
-/// behind the store was sound until then.
+/// is true then. It is, where it was at the beginning, the store failed at none of them and the
+/// device behind it was sound until then; want of memory ends nothing.
 pub fn lines_stand_so_far<K: Keeper>()
-    ensures { LinesStandSoFar K.world K.Holds K.Sound }
+    ensures { LinesStandSoFar K.world K.Holds K.Sound K.FAILS }
 {}
 
 /// Isolation, of lines: two well kept offices that show the sender of a line, who is no clerk, the

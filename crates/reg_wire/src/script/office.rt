@@ -19,7 +19,7 @@ use std::alloc::{AllocError, Global};
 impl<K: Keeper> Responder for Office<K> {
     type Routes = Routes;
 
-    ghost Serves = { ServesOver K.world K.Holds K.Sound };
+    ghost Serves = { ServesOver K.world K.Holds K.Sound K.FAILS };
 
     fn respond(
         &mut self,

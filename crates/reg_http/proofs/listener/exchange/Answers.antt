@@ -4,5 +4,6 @@ use Rattle.reg_http.proofs.listener.exchange.Goals as goal
 
 pub returns : goal.returns
 returns g c =
-    turn (AnswersOver g.K.Keeper.world g.K.Keeper.Holds g.K.Keeper.Sound) _ c.serve_one.result _ _ _
-    _ _ _ c.serve_one.ensures.ok c.serve_one.ensures.err
+    rw c.status_of.ensures
+    (turn (AnswersOver g.K.Keeper.world g.K.Keeper.Holds g.K.Keeper.Sound g.K.Keeper.FAILS) _
+    c.serve_one.result _ _ _ _ _ _ c.serve_one.ensures.ok c.serve_one.ensures.err)

@@ -7,6 +7,6 @@ abbrev pub invariant-loop : goal.invariant-loop
 invariant-loop g l = record {
   some : l.answered ≤ l.counter;
   turns : ChangesByTurns
-      (AnswersOver g.K.Keeper.world g.K.Keeper.Holds g.K.Keeper.Sound) l.counter
-      l.initial.office l.office;
+      (AnswersOver g.K.Keeper.world g.K.Keeper.Holds g.K.Keeper.Sound g.K.Keeper.FAILS) l.counter
+      l.answered l.initial.office l.office;
 }

@@ -1,7 +1,6 @@
-use Rattle.std.proofs.Common.{ap, inl, subst}
-use Rattle.reg_keeper.proofs.Premises.{goes_on_anyway}
+use Rattle.std.proofs.Common.{Ok, Err, refl, subst}
 use Rattle.reg_head.specs.Request.{Request}
-use Rattle.reg_http.specs.Serving.{AnswersOver, call_at}
+use Rattle.reg_http.specs.Serving.{AnswersOver, call_at, storage}
 use Rattle.reg_http.specs.declared.response.Response.TheVariants as response
 use Rattle.reg_http.proofs.serving.respond_to.Goals as goal
 
@@ -10,10 +9,32 @@ returns-in-Ok g c request is =
     let told = c.in-Ok.ensures in
     subst
     (λ (r : Request). AnswersOver g.K.Keeper.world g.K.Keeper.Holds g.K.Keeper.Sound
-    c.args.office.now (call_at c.args.moment r) (response.Answer c.in-Ok.answer)
+    g.K.Keeper.FAILS c.args.office.now (call_at c.args.moment r) (response.Answer c.in-Ok.answer)
     c.answer_to.new.office)
     (c.parts-parts.ensures request is)
     (record {
-      answers = λ h. inl (ap response.Answer (told.answer h), told.world.made h);
-      premise = goes_on_anyway told.world.premise;
+      result = Ok c.in-Ok.answer;
+      is_told = refl;
+      gives = record {
+        answers = told.answer;
+        makes = told.world;
+        is_answered = told.is_answered;
+      };
+    })
+
+pub returns-in-Err : goal.returns-in-Err
+returns-in-Err g c request is =
+    let told = c.in-Err.ensures in
+    subst
+    (λ (r : Request). AnswersOver g.K.Keeper.world g.K.Keeper.Holds g.K.Keeper.Sound
+    g.K.Keeper.FAILS c.args.office.now (call_at c.args.moment r) storage c.answer_to.new.office)
+    (c.parts-parts.ensures request is)
+    (record {
+      result = Err c.in-Err.field-0;
+      is_told = refl;
+      gives = record {
+        answers = told.answer;
+        makes = told.world;
+        is_answered = told.is_answered;
+      };
     })

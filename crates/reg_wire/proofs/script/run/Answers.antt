@@ -7,4 +7,5 @@ pub returns-in_err-routes-clause-err : goal.returns-in_err-routes-clause-err
 returns-in_err-routes-clause-err g c =
     let p = err_from_is_err_and c.from_residual.result c.from_residual.ensures.1 in
     rw (p.1, p.2)
-    (stops_before (ServesOver g.K.Keeper.world g.K.Keeper.Holds g.K.Keeper.Sound) _ _ _)
+    (stops_before
+    (ServesOver g.K.Keeper.world g.K.Keeper.Holds g.K.Keeper.Sound g.K.Keeper.FAILS) _ _ _)

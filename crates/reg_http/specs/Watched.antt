@@ -1,0 +1,14 @@
+-- Whether a read failed.
+use Rattle.std.specs.Prelude.{◌≡◌, true, Result, Ok, Err}
+use Rattle.reg_wire.specs.declared.wire_fault.WireFault.{WireFault}
+use Rattle.reg_wire.specs.declared.wire_fault.WireFault.TheVariants as fault
+use Rattle.reg_head.specs.Watched.{has_failed}
+use Rattle.reg_head.specs.declared.watch.Watch.{Watch}
+
+-- a read failed where that is why nothing is answered; else none did
+abbrev pub IsWatched : {T : Type 0} → Watch → Watch → Result T WireFault → Type 0
+IsWatched old new (Ok value) = new ≡ old
+IsWatched old new (Err fault.Read) = has_failed new ≡ true
+IsWatched old new (Err fault.TooManyReads) = new ≡ old
+IsWatched old new (Err (fault.Write n)) = new ≡ old
+IsWatched old new (Err fault.Memory) = new ≡ old
