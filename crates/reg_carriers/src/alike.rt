@@ -27,31 +27,37 @@ impl<K: Keeper + Drop> Both<K> {
     pub fn founded(alloc: Global, first: K, second: K) -> Result<Both<K>, Fail> {
         let mut office = Office::new(alloc, first);
         office.found(CLERK.as_bytes())?;
-        let served = Served::over(alloc, second)?;
+        let served = Served::founded(alloc, second)?;
         Ok(Both { office, served })
     }
 
     /// Asks both, and gives the answer, which is the same to the byte, and not for want of storage.
     pub fn assert_alike(&mut self, alloc: Global, asked: &Asked) -> Result<Told, Fail> {
-        let told = self.told(alloc, asked.line(alloc)?.as_bytes())?;
-        let given = self.served.asked(alloc, asked.bytes(alloc)?.as_slice())?;
-        let status = given.status?;
-        let line = as_line(alloc, status, given.bytes.as_slice())?;
-        ensure(
-            line.as_slice() == told.as_slice(),
-            "one answer by a line and over HTTP",
-        )?;
-        let is_short = line.ends_with(b"{\"error\":\"storage\"}\n");
+        let by_line = self.by_line(alloc, asked)?;
+        let told = self.over_http(alloc, asked)?;
+        let is_one = told.line.as_slice() == by_line.as_slice();
+        ensure(is_one, "one answer by a line and over HTTP")?;
+        let is_short = told.line.ends_with(b"{\"error\":\"storage\"}\n");
         ensure(!is_short, "an answer that is not for want of storage")?;
-        Ok(Told { status, line })
+        Ok(told)
     }
 
     // What the office that is asked by lines answers.
-    fn told(&mut self, alloc: Global, line: &[u8]) -> Result<Vec<u8>, Fail> {
-        let mut reader = line;
+    fn by_line(&mut self, alloc: Global, asked: &Asked) -> Result<Vec<u8>, Fail> {
+        let line = asked.line(alloc)?;
+        let mut reader = line.as_bytes();
         let mut answer = Vec::new(alloc);
         run(alloc, &mut self.office, &mut reader, &mut answer)?;
         Ok(answer)
+    }
+
+    // What the office that is asked over HTTP answers.
+    fn over_http(&mut self, alloc: Global, asked: &Asked) -> Result<Told, Fail> {
+        let bytes = asked.bytes(alloc)?;
+        let given = self.served.asked(alloc, bytes.as_slice())?;
+        let status = given.status?;
+        let line = as_line(alloc, status, given.bytes.as_slice())?;
+        Ok(Told { status, line })
     }
 }
 

@@ -4,6 +4,7 @@
 
 pub mod alike;
 pub mod asked;
+pub mod exercise;
 pub mod generated;
 pub mod generating;
 pub mod messages;

@@ -2,11 +2,11 @@
 use crate::messages::request;
 use reg_http::listener::{Connections, serve_listener};
 use reg_http::serving::serve_one;
+use reg_http::watch::Watch;
 use reg_http::wire_fault::WireFault;
 use reg_keeper::keeper::Keeper;
 use reg_office::Office;
 use reg_parse::route::Routes;
-use reg_store::lists::ListKeeper;
 use reg_testing::facts::ensure;
 use std::alloc::{AllocError, Global};
 use std::io::{Read, Write};
@@ -41,22 +41,25 @@ impl Answered {
     }
 }
 
-/// An office, in memory where nothing else is said, with its router.
+/// An office with its router.
 #[derive(Drop)]
-pub struct Served<K = ListKeeper> {
+pub struct Served<K> {
     office: Office<K>,
     routes: Routes,
 }
 
-impl Served {
-    /// An office that is founded, and nothing else.
-    pub fn founded(alloc: Global) -> Result<Served, Fail> {
-        Served::over(alloc, ListKeeper::new(alloc))
+impl<K: Keeper + Drop> Served<K> {
+    /// An office over this keeper that is founded, and nothing else.
+    pub fn founded(alloc: Global, keeper: K) -> Result<Served<K>, Fail> {
+        let routes = Routes::new(alloc)?;
+        let mut office = Office::new(alloc, keeper);
+        office.found(CLERK.as_bytes())?;
+        Ok(Served { office, routes })
     }
 
-    /// An office with an applicant, alice, and a registry, `flags`.
-    pub fn opened(alloc: Global) -> Result<Served, Fail> {
-        let mut served = Served::founded(alloc)?;
+    /// An office over this keeper with an applicant, alice, and a registry, `flags`.
+    pub fn opened(alloc: Global, keeper: K) -> Result<Served<K>, Fail> {
+        let mut served = Served::founded(alloc, keeper)?;
         served.open(alloc)?;
         Ok(served)
     }
@@ -69,16 +72,6 @@ impl Served {
         let define = request(alloc, "PUT", path, Some(CLERK), RANGES)?;
         let defined = self.asked(alloc, define.as_slice())?;
         ensure(defined.status == Ok(200), "a definition")
-    }
-}
-
-impl<K: Keeper + Drop> Served<K> {
-    /// An office over this keeper that is founded.
-    pub fn over(alloc: Global, keeper: K) -> Result<Served<K>, Fail> {
-        let routes = Routes::new(alloc)?;
-        let mut office = Office::new(alloc, keeper);
-        office.found(CLERK.as_bytes())?;
-        Ok(Served { office, routes })
     }
 
     /// Sends bytes, and gives what came back.
@@ -96,6 +89,7 @@ impl<K: Keeper + Drop> Served<K> {
         reader: &mut R,
         writer: &mut W,
     ) -> Result<u16, WireFault> {
+        let mut watch = Watch::new();
         serve_one(
             alloc,
             &mut self.office,
@@ -103,6 +97,7 @@ impl<K: Keeper + Drop> Served<K> {
             MOMENT,
             reader,
             writer,
+            &mut watch,
         )
     }
 

@@ -112,17 +112,41 @@ fn assert_ask<O: Alike>(
     is_assigned: bool,
 ) -> Result<(), Fail> {
     let (made, done) = if is_assigned { (201, 200) } else { (409, 404) };
-    let own = joined(alloc, &["/requests/", name])?;
     let body = ask(alloc, member)?;
-    assert_put(alloc, offices, own.as_str(), ALICE, body.as_str(), made)?;
-    let path = joined(alloc, &["/desk/experts/alice/", name, "/xan"])?;
-    assert_put(alloc, offices, path.as_str(), CLERK, "", done)?;
-    let path = joined(alloc, &["/queue/alice/", name])?;
-    let body = advice(alloc)?;
-    assert_put(alloc, offices, path.as_str(), EXPERT, body.as_str(), done)?;
-    let path = joined(alloc, &["/desk/approve/alice/", name])?;
-    assert_put(alloc, offices, path.as_str(), CLERK, "", done)?;
+    let own = ["/requests/", name];
+    assert_put_at(alloc, offices, &own, ALICE, body.as_str(), made)?;
+    let experts = ["/desk/experts/alice/", name, "/xan"];
+    assert_put_at(alloc, offices, &experts, CLERK, "", done)?;
+    assert_advised(alloc, offices, name, done)?;
+    let approve = ["/desk/approve/alice/", name];
+    assert_put_at(alloc, offices, &approve, CLERK, "", done)?;
+    let own = joined(alloc, &own)?;
     assert_look(alloc, offices, own.as_str(), Some(ALICE), done)
+}
+
+// The expert's advice is answered with this status.
+fn assert_advised<O: Alike>(
+    alloc: Global,
+    offices: &mut O,
+    name: &str,
+    status: u16,
+) -> Result<(), Fail> {
+    let body = advice(alloc)?;
+    let queue = ["/queue/alice/", name];
+    assert_put_at(alloc, offices, &queue, EXPERT, body.as_str(), status)
+}
+
+// What is put at the path of these parts is answered with this status.
+fn assert_put_at<O: Alike>(
+    alloc: Global,
+    offices: &mut O,
+    path: &[&str],
+    token: &'static str,
+    body: &str,
+    status: u16,
+) -> Result<(), Fail> {
+    let path = joined(alloc, path)?;
+    assert_put(alloc, offices, path.as_str(), token, body, status)
 }
 
 // What is put there is answered with this status.

@@ -4,3 +4,5 @@
 
 #[cfg(test)]
 mod outcomes;
+#[cfg(test)]
+mod steps;

@@ -1,7 +1,9 @@
 //! Laws of the office at the digest that it uses, the SHA-256 of a token: the contracts of
 //! functions that change nothing and take no memory.
+ghost use Rattle.reg_early.specs.Laws.{EarlyTermsLastAYear, RenewalsLastAYear, SettledTermsAreForGood, StatusesFollowTheExpiry};
 ghost use Rattle.reg_core.specs.BlocksGiven.{BlockAsksAreServedDuly, BlocksAreApart, BlocksDueAreLeast, ForeignBlocksAreHidden, PrivateHoldersAreHidden};
 ghost use Rattle.reg_core.specs.EarlyAllocations.{ExpiredValuesAreTaken, ForeignEntriesAreHidden, TermsMoveDuly};
+ghost use Rattle.reg_core.specs.FirstRefusals.{FirstRefusalsAreAnswered};
 ghost use Rattle.reg_core.specs.Laws.{AnswersAreDone, ApprovalsAreAdvised, ApprovalsGiveWhatIsAllowed, ApprovalsStand, ChangesFit, FirstWorldsAreWellKept, GivenStays, RefusalsChangeNothing, RepeatsActOnce, RunsKeepWell, SubmissionsStand, TwoWorlds};
 ghost use Rattle.reg_core.specs.MayBeGiven.{AsksMeetTheirPolicy, NoValueIsGivenTwice};
 ghost use Rattle.reg_core.specs.Striking.{StagesAreOfRun, UnseenLeaveNoTrace};
@@ -41,7 +43,9 @@ pub fn runs_keep_well()
     reg_core::laws::runs_keep_well();
 }
 
-/// What is answered was done: the office after a command has what the reply says.
+/// What is answered was done: the office after a command has what the reply says. Lists, pages and
+/// listings are whole; each entry is shown with its status on the day, and each holder who is not
+/// private with organization and address.
 pub fn answers_are_done()
     ensures { AnswersAreDone token_digest }
 {
@@ -63,11 +67,20 @@ pub fn approvals_are_advised()
     reg_core::laws::approvals_are_advised();
 }
 
+/// The first refusal is answered: of the refusals that apply to an ask, each by itself, it gets the
+/// one that stands first in the order of all refusals; and none applies to an ask that is allowed.
+pub fn first_refusals_are_answered()
+    ensures { FirstRefusalsAreAnswered }
+{
+    reg_core::laws::first_refusals_are_answered();
+}
+
 /// Asks meet their policy: a request is taken in, and approved, only for a value of its registry's
 /// ranges under a policy by which values are assigned one by one, with all evidence that this
 /// policy (RFC 8126 section 4), or an early allocation under it (RFC 7120 section 2), asks for, and
-/// at which no entry stands; or, to renew it or to make it permanent, an entry of the applicant's
-/// own; and what was approved has its entry, of the applicant's account.
+/// at which no entry stands, the least one where that is asked for; or, to renew it or to make it
+/// permanent, an entry of the applicant's own; and what was approved has its entry, of the
+/// applicant's account.
 pub fn asks_meet_their_policy()
     ensures { AsksMeetTheirPolicy token_digest }
 {
@@ -90,6 +103,38 @@ pub fn terms_move_duly()
     ensures { TermsMoveDuly token_digest }
 {
     reg_core::laws::terms_move_duly();
+}
+
+/// An entry is Temporary on each day before its expiry, and Expired on that day and on each day
+/// after it; one without expiry is Assigned on every day.
+pub fn statuses_follow_the_expiry()
+    ensures { StatusesFollowTheExpiry }
+{
+    reg_early::laws::statuses_follow_the_expiry();
+}
+
+/// What is allocated early expires on the same date of the next year, or on 28 February for 29
+/// February; what is assigned for good has no expiry.
+pub fn early_terms_last_a_year()
+    ensures { EarlyTermsLastAYear }
+{
+    reg_early::laws::early_terms_last_a_year();
+}
+
+/// A renewal before the expiry day runs to the same date a year after that day, and a later one to
+/// that a year after its own day; all else of the term stays. What has no expiry is not renewed, nor
+/// what was renewed before.
+pub fn renewals_last_a_year()
+    ensures { RenewalsLastAYear }
+{
+    reg_early::laws::renewals_last_a_year();
+}
+
+/// What is settled has no expiry, and keeps all else; what has none is not settled.
+pub fn settled_terms_are_for_good()
+    ensures { SettledTermsAreForGood }
+{
+    reg_early::laws::settled_terms_are_for_good();
 }
 
 /// Expired values are taken: no ask for a new entry at a value that has one is taken in, whatever

@@ -1,22 +1,19 @@
 //! Transcripts of whole offices in tables.
 use reg_office::Office;
 use reg_sql::open::in_memory;
-use reg_transcripts::offices;
+use reg_testing::facts::ensure;
+use reg_transcripts::offices::{OF_BLOCKS, OF_BODIES, OF_REFUSALS, OF_VALUES, OF_YEARS};
 use reg_transcripts::transcript::{answered, sent};
 use reg_wire::script::run;
 use std::alloc::Global;
 use std::test::Fail;
 
-// Sends each of these transcripts to a new office, and compares its answers, to the byte.
-fn assert_answered(alloc: Global, transcripts: &[&[&str]]) -> Result<(), Fail> {
-    for transcript in transcripts {
-        let input = sent(alloc, transcript)?;
-        let output = answers(alloc, input.as_bytes())?;
-        if output.as_slice() != answered(alloc, transcript)?.as_bytes() {
-            return Err("other answers".into());
-        }
-    }
-    Ok(())
+// Sends these transcripts to a new office, and compares its answers, to the byte.
+fn assert_answered(alloc: Global, of: &str, transcripts: &[&str]) -> Result<(), Fail> {
+    let input = sent(alloc, transcripts)?;
+    let wanted = answered(alloc, transcripts)?;
+    let output = answers(alloc, input.as_bytes())?;
+    ensure(output.as_slice() == wanted.as_bytes(), of)
 }
 
 // What a new office answers to these lines.
@@ -37,52 +34,35 @@ fn answers(alloc: Global, input: &[u8]) -> Result<Vec<u8>, Fail> {
     }
 }
 
+// Sends the transcripts of each office to a new one.
+fn assert_all_answered(alloc: Global, offices: &[(&str, &[&str])]) -> Result<(), Fail> {
+    for (of, transcripts) in offices {
+        assert_answered(alloc, of, transcripts)?;
+    }
+    Ok(())
+}
+
 #[test]
 fn offices_that_give_values(rt: HostRuntime) -> Result<(), Fail> {
-    assert_answered(
-        rt.alloc(),
-        &[
-            offices::DAY,
-            offices::REQUESTS,
-            offices::PROVED,
-            offices::LEAST_VALUES,
-        ],
-    )
+    assert_all_answered(rt.alloc(), OF_VALUES)
 }
 
 #[test]
 fn offices_that_give_blocks(rt: HostRuntime) -> Result<(), Fail> {
-    assert_answered(
-        rt.alloc(),
-        &[offices::POOL, offices::BLOCKS, offices::BLOCK_PARTS],
-    )
+    assert_all_answered(rt.alloc(), OF_BLOCKS)
 }
 
 #[test]
 fn offices_that_give_for_a_year(rt: HostRuntime) -> Result<(), Fail> {
-    assert_answered(
-        rt.alloc(),
-        &[
-            offices::EARLY,
-            offices::EARLY_DAYS,
-            offices::EARLY_ASKS,
-            offices::EARLY_PARTS,
-        ],
-    )
+    assert_all_answered(rt.alloc(), OF_YEARS)
 }
 
 #[test]
 fn offices_that_refuse(rt: HostRuntime) -> Result<(), Fail> {
-    assert_answered(
-        rt.alloc(),
-        &[
-            offices::REFUSED,
-            offices::REVOKED,
-            offices::SPELLED,
-            offices::ROUTES,
-            offices::BODIES,
-            offices::SAME_BODIES,
-            offices::RANGE_FILES,
-        ],
-    )
+    assert_all_answered(rt.alloc(), OF_REFUSALS)
+}
+
+#[test]
+fn offices_that_read_bodies(rt: HostRuntime) -> Result<(), Fail> {
+    assert_all_answered(rt.alloc(), OF_BODIES)
 }

@@ -68,7 +68,9 @@ fn attempt<O: Offices, R: Read, W: Write>(
 ) -> Result<(), Undone> {
     let alloc = rt.alloc();
     match job {
-        Job::Script { clerk } => script(alloc, clerk.as_str(), input, output),
+        Job::Script { clerk } => {
+            found_and_run(alloc, ListKeeper::new(alloc), clerk.as_str(), input, output)
+        }
         Job::Init { file, clerk } => {
             let clerk = clerk.as_str();
             offices.carry_out(rt, file.as_str(), &Task::Found { clerk }, output)
@@ -119,27 +121,16 @@ fn list<O: Offices, W: Write>(
     offices.carry_out(rt, file, &Task::List { command }, output)
 }
 
-fn script<R: Read, W: Write>(
+/// Founds an office over this keeper, and answers the lines.
+pub fn found_and_run<K: Keeper + Drop, R: Read, W: Write>(
     alloc: Global,
+    keeper: K,
     clerk: &str,
     input: &mut R,
     output: &mut W,
 ) -> Result<(), Undone> {
-    let mut office = Office::new(alloc, ListKeeper::new(alloc));
-    let done = found_and_run(alloc, &mut office, clerk, input, output);
-    drop(office);
-    done
-}
-
-/// Founds an office, and answers the lines.
-pub fn found_and_run<K: Keeper, R: Read, W: Write>(
-    alloc: Global,
-    office: &mut Office<K>,
-    clerk: &str,
-    input: &mut R,
-    output: &mut W,
-) -> Result<(), Undone> {
+    let mut office = Office::new(alloc, keeper);
     office.found(clerk.as_bytes())?;
-    run(alloc, office, input, output)?;
+    run(alloc, &mut office, input, output)?;
     Ok(())
 }

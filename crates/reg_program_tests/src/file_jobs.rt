@@ -1,5 +1,6 @@
 //! The jobs over an office that stays open.
-use crate::running::CLERK;
+use crate::running::{CLERK, over_lists};
+use reg_carriers::exercise::Exercise;
 use reg_jobs::jobs::Definition;
 use reg_keeper::keeper::Keeper;
 use reg_office::Office;
@@ -7,7 +8,6 @@ use reg_program::desk::{define_in, definition, list_in, listing};
 use reg_program::faults::{JobFailure, Undone};
 use reg_program::serving::serve_in;
 use reg_program::tasks::found_in;
-use reg_store::lists::ListKeeper;
 use reg_testing::facts::ensure;
 use std::alloc::{AllocError, Global};
 use std::io;
@@ -77,23 +77,29 @@ fn assert_done<R: AllocGlobal, K: Keeper>(rt: &R, office: &mut Office<K>) -> Res
     ensure(printed.as_slice() == LISTING.as_bytes(), "a listing")
 }
 
-fn assert_jobs<R: AllocGlobal, K: Keeper>(rt: &R, office: &mut Office<K>) -> Result<(), Fail> {
-    assert_done(rt, office)?;
-    assert_done(rt, office)?;
-    let other = b"lo,hi,treatment,note\n0,255,reserved,\n";
-    let Err(Undone::Refused(line)) = defined(rt, office, other) else {
-        return Err("not refused".into());
-    };
-    let wanted = b"409 {\"error\":\"exists\"}";
-    ensure(line.as_slice() == wanted.as_slice(), "a refusal")
+/// Jobs that are done twice, and one that is refused then.
+#[derive(Drop)]
+struct Jobs;
+
+impl Exercise for Jobs {
+    type Outcome = ();
+
+    fn done<K: Keeper + Drop>(self, rt: &HostRuntime, keeper: K) -> Result<(), Fail> {
+        let mut office = Office::new(rt.alloc(), keeper);
+        assert_done(rt, &mut office)?;
+        assert_done(rt, &mut office)?;
+        let other = b"lo,hi,treatment,note\n0,255,reserved,\n";
+        let Err(Undone::Refused(line)) = defined(rt, &mut office, other) else {
+            return Err("not refused".into());
+        };
+        let wanted = b"409 {\"error\":\"exists\"}";
+        ensure(line.as_slice() == wanted.as_slice(), "a refusal")
+    }
 }
 
 #[test]
 fn jobs_of_an_office(rt: HostRuntime) -> Result<(), Fail> {
-    let mut office = Office::new(rt.alloc(), ListKeeper::new(rt.alloc()));
-    let done = assert_jobs(&rt, &mut office);
-    drop(office);
-    done
+    over_lists(&rt, Jobs)
 }
 
 /// A standard output that, as soon as something is printed, asks for the registries on a port.
@@ -170,33 +176,45 @@ where
     ensure(output.heard()?.ends_with(b"\r\n\r\n[]"), "the answer")
 }
 
-#[test]
-fn an_office_is_served(rt: HostRuntime) -> Result<(), Fail> {
-    let mut office = Office::new(rt.alloc(), ListKeeper::new(rt.alloc()));
-    let done = assert_served(&rt, &mut office);
-    drop(office);
-    done
+/// An office that is served to one client.
+#[derive(Drop)]
+struct Serving;
+
+impl Exercise for Serving {
+    type Outcome = ();
+
+    fn done<K: Keeper + Drop>(self, rt: &HostRuntime, keeper: K) -> Result<(), Fail> {
+        let mut office = Office::new(rt.alloc(), keeper);
+        assert_served(rt, &mut office)
+    }
 }
 
-// A port that is listened on already.
-fn assert_port<R, K: Keeper>(rt: &R, office: &mut Office<K>) -> Result<(), Fail>
-where
-    R: AllocGlobal + Clock + Net<Listener = TcpListener, Stream = TcpStream>,
-{
-    let listener = TcpListener::bind(rt, SocketAddr::from((Ipv4Addr::LOCALHOST, 0)))?;
-    let port = listener.local_addr()?.port();
-    let mut output = Vec::new(rt.alloc());
-    let done = serve_in(rt, office, port, 1, &mut output);
-    drop(listener);
-    let is_taken = matches!(done, Err(Undone::Fault(JobFailure::Port)));
-    ensure(is_taken, "a port that is taken")?;
-    ensure(output.is_empty(), "no line")
+#[test]
+fn an_office_is_served(rt: HostRuntime) -> Result<(), Fail> {
+    over_lists(&rt, Serving)
+}
+
+/// A port that is listened on already.
+#[derive(Drop)]
+struct TakenPort;
+
+impl Exercise for TakenPort {
+    type Outcome = ();
+
+    fn done<K: Keeper + Drop>(self, rt: &HostRuntime, keeper: K) -> Result<(), Fail> {
+        let mut office = Office::new(rt.alloc(), keeper);
+        let listener = TcpListener::bind(rt, SocketAddr::from((Ipv4Addr::LOCALHOST, 0)))?;
+        let port = listener.local_addr()?.port();
+        let mut output = Vec::new(rt.alloc());
+        let done = serve_in(rt, &mut office, port, 1, &mut output);
+        drop(listener);
+        let is_taken = matches!(done, Err(Undone::Fault(JobFailure::Port)));
+        ensure(is_taken, "a port that is taken")?;
+        ensure(output.is_empty(), "no line")
+    }
 }
 
 #[test]
 fn a_port_that_is_taken(rt: HostRuntime) -> Result<(), Fail> {
-    let mut office = Office::new(rt.alloc(), ListKeeper::new(rt.alloc()));
-    let done = assert_port(&rt, &mut office);
-    drop(office);
-    done
+    over_lists(&rt, TakenPort)
 }

@@ -1,6 +1,6 @@
-//! Tests of the program over offices in lists, to the byte: the jobs that it does, and the lines of
-//! scripts. They stand in a crate of their own because the gate proves a crate that has tests a
-//! second time, whole, together with them.
+//! Tests of the program over offices in lists, to the byte: the jobs that it does, the lines of scripts,
+//! and what is asked over HTTP. They stand in a crate of their own because the gate proves a crate that
+//! has tests a second time, whole, together with them.
 #![tactic(auto)]
 
 #[cfg(test)]
@@ -13,6 +13,8 @@ mod failing_keeper;
 mod file_jobs;
 #[cfg(test)]
 mod floods;
+#[cfg(test)]
+mod http;
 #[cfg(test)]
 mod lines;
 #[cfg(test)]

@@ -1,4 +1,5 @@
 //! Jobs over offices in lists.
+use reg_carriers::exercise::Exercise;
 use reg_jobs::jobs::Job;
 use reg_keeper::keeper::Keeper;
 use reg_office::Office;
@@ -30,6 +31,11 @@ impl Offices for InLists {
         drop(office);
         done
     }
+}
+
+/// Does this over lists.
+pub fn over_lists<E: Exercise>(rt: &HostRuntime, exercise: E) -> Result<E::Outcome, Fail> {
+    exercise.done(rt, ListKeeper::new(rt.alloc()))
 }
 
 /// What a script gave: the exit status, standard output and standard error.
@@ -71,13 +77,9 @@ pub fn answers_over<K: Keeper + Drop>(
     keeper: K,
     input: &[u8],
 ) -> Result<Vec<u8>, Fail> {
-    let mut office = Office::new(alloc, keeper);
     let mut output = Vec::new(alloc);
     let mut reader = input;
-    let done = found_and_run(alloc, &mut office, CLERK, &mut reader, &mut output);
-    drop(office);
-    if done.is_err() {
-        return Err("not run".into());
-    }
+    let done = found_and_run(alloc, keeper, CLERK, &mut reader, &mut output);
+    ensure(done.is_ok(), "a script that is run")?;
     Ok(output)
 }

@@ -1,7 +1,8 @@
 //! A store that fails: lines that need it are answered `503`, and the others as ever.
 use crate::failing_keeper::FailingKeeper;
-use crate::running::answers_over;
-use reg_store::lists::ListKeeper;
+use crate::running::{answers_over, over_lists};
+use reg_carriers::exercise::Exercise;
+use reg_keeper::keeper::Keeper;
 use reg_testing::facts::ensure;
 use reg_transcripts::transcript::{answered, sent};
 use std::test::Fail;
@@ -22,12 +23,26 @@ const LINES: &str = r#"
 < 200 Value,Description,Status,Policy,First,Expires,Assignee|0-9,y  z,Reserved,,,,|
 "#;
 
+/// Lines that are sent to an office over a store that fails.
+#[derive(Drop)]
+struct Failing<'a> {
+    lines: &'a str,
+}
+
+impl Exercise for Failing<'_> {
+    type Outcome = Vec<u8>;
+
+    fn done<K: Keeper + Drop>(self, rt: &HostRuntime, keeper: K) -> Result<Vec<u8>, Fail> {
+        let keeper = FailingKeeper { keeper };
+        answers_over(rt.alloc(), keeper, self.lines.as_bytes())
+    }
+}
+
 #[test]
 fn a_store_that_fails(rt: HostRuntime) -> Result<(), Fail> {
-    let alloc = rt.alloc();
-    let keeper = ListKeeper::new(alloc);
-    let input = sent(alloc, &[LINES])?;
-    let wanted = answered(alloc, &[LINES])?;
-    let output = answers_over(alloc, FailingKeeper { keeper }, input.as_bytes())?;
+    let input = sent(rt.alloc(), &[LINES])?;
+    let wanted = answered(rt.alloc(), &[LINES])?;
+    let lines = input.as_str();
+    let output = over_lists(&rt, Failing { lines })?;
     ensure(output.as_slice() == wanted.as_bytes(), "the answers")
 }

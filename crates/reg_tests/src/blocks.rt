@@ -1,6 +1,7 @@
 //! Blocks, prefixes and the pool, and the block that is due by trial of each.
 ghost use Rattle.std.specs.Prelude.{◌≤◌};
 
+use crate::digits::{block, block_if, is_free};
 use crate::expecting::{expect, expect_at, expect_text, expect_true};
 use reg_blocks::block::Block;
 use reg_blocks::due::{ascends, least_free};
@@ -10,10 +11,6 @@ use reg_blocks::{laws, prefix};
 use std::cmp::Ordering;
 use std::process::Abort;
 use std::test::Fail;
-
-fn block(rt: &impl Abort, digits: &str) -> Block {
-    Block::read(digits.as_bytes()).expect(rt, "digits of a block")
-}
 
 fn expect_word(rt: &impl Abort, size: Size, word: &str) {
     expect_text(rt, size.word(), word, "word of a size");
@@ -32,10 +29,6 @@ fn words_of_sizes(rt: HostRuntime) {
 const NO_BLOCKS: &[&str] = &[
     "021A2B", "011A2B", "001A2", "001A2B00", "001A2G", "+01A2B", "",
 ];
-
-fn expect_no_block(rt: &impl Abort, digits: &str) {
-    expect(rt, Block::read(digits.as_bytes()), None, digits);
-}
 
 fn expect_ends(rt: &impl Abort, medium: &Block) {
     expect(rt, medium.size(), Size::MaM, "size");
@@ -57,7 +50,7 @@ fn ends_and_digits_of_a_block(rt: HostRuntime) -> Result<(), Fail> {
     expect_ends(&rt, &medium);
     expect_made(&rt, medium);
     for digits in NO_BLOCKS {
-        expect_no_block(&rt, digits);
+        expect(&rt, Block::read(digits.as_bytes()), None, digits);
     }
     let text = medium.text(rt.alloc())?;
     expect_text(&rt, text.as_str(), "001A2B0", "digits of a block");
@@ -77,10 +70,6 @@ const PREFIXES: &[(&str, Option<u32>)] = &[
     ("", None),
 ];
 
-fn expect_prefix(rt: &impl Abort, digits: &str, want: Option<u32>) {
-    expect(rt, prefix::read(digits.as_bytes()), want, digits);
-}
-
 fn expect_digits(rt: &(impl Abort + AllocGlobal), prefix: u32, want: &str) -> Result<(), Fail> {
     let text = prefix::text(rt.alloc(), prefix)?;
     expect_text(rt, text.as_str(), want, "digits of a prefix");
@@ -90,7 +79,7 @@ fn expect_digits(rt: &(impl Abort + AllocGlobal), prefix: u32, want: &str) -> Re
 #[test]
 fn digits_of_a_prefix(rt: HostRuntime) -> Result<(), Fail> {
     for (digits, want) in PREFIXES {
-        expect_prefix(&rt, digits, *want);
+        expect(&rt, prefix::read(digits.as_bytes()), *want, digits);
     }
     expect_digits(&rt, 0x00_1A2B, "001A2B")?;
     expect_digits(&rt, 0, "000000")?;
@@ -143,22 +132,16 @@ fn expect_additions(rt: &impl Abort, pool: &mut Pool) {
     }
 }
 
-fn expect_copy(rt: &impl Abort, pool: &Pool) -> Result<(), Fail> {
-    let copy = pool.copy()?;
-    assert_eq!(rt; copy.prefixes(), pool.prefixes());
-    Ok(())
-}
-
 #[test]
 fn what_a_pool_takes(rt: HostRuntime) -> Result<(), Fail> {
     let mut pool = Pool::new(rt.alloc());
     expect_true(&rt, pool.prefixes().is_empty(), "a new pool");
     expect_additions(&rt, &mut pool);
-    assert_eq!(rt;
-        pool.prefixes(),
-        [0x00_1A2B, 0x00_1A2C, 0xFC_0000].as_slice()
-    );
-    expect_copy(&rt, &pool)
+    let wanted = [0x00_1A2B, 0x00_1A2C, 0xFC_0000];
+    expect_true(&rt, pool.prefixes() == wanted.as_slice(), "the prefixes");
+    let copy = pool.copy()?;
+    expect_true(&rt, copy.prefixes() == pool.prefixes(), "a copy");
+    Ok(())
 }
 
 // How many blocks of the size a prefix of 24 bits has.
@@ -178,7 +161,7 @@ fn by_trial(pool: &Pool, given: &[Block], size: Size) -> Option<Block> {
         let count = blocks_in_prefix(size);
         for k in 0..count {
             let candidate = Block::make(size, u64::from(*prefix) * count + k)?;
-            if given.iter().all(|other| !candidate.overlaps(other)) {
+            if is_free(given, &candidate) {
                 return Some(candidate);
             }
         }
@@ -187,14 +170,10 @@ fn by_trial(pool: &Pool, given: &[Block], size: Size) -> Option<Block> {
 }
 
 fn expect_due_of(rt: &impl Abort, pool: &Pool, given: &[Block], size: Size, want: Option<Block>) {
-    assert!(rt; ascends(given));
+    expect_true(rt, ascends(given), "in order");
     let trial = by_trial(pool, given, size);
     expect(rt, least_free(pool, given, size), trial, "due by trial");
     expect(rt, least_free(pool, given, size), want, "due by hand");
-}
-
-fn block_if(rt: &impl Abort, digits: Option<&str>) -> Option<Block> {
-    digits.map(|digits| block(rt, digits))
 }
 
 fn expect_due(rt: &impl Abort, pool: &Pool, given: &[Block], want: [Option<&str>; 3]) {
@@ -224,7 +203,7 @@ fn full_prefixes(rt: &(impl Abort + AllocGlobal)) -> Result<Vec<Block>, Fail> {
 
 fn expect_due_of_full(rt: &impl Abort, pool: &Pool, full: &mut Vec<Block>) {
     expect_due(rt, pool, full.as_slice(), [None; 3]);
-    assert_eq!(rt; full.len(), 17);
+    expect_true(rt, full.len() == 17, "all blocks");
     expect(rt, full.remove(7), block(rt, "001A2B7"), "the eighth");
     let due = [None, Some("001A2B7"), Some("001A2B700")];
     expect_due(rt, pool, full.as_slice(), due);
@@ -264,7 +243,7 @@ fn hundred_full_prefixes(rt: &(impl Abort + AllocGlobal)) -> Result<Vec<Block>, 
 
 fn expect_least_free(rt: &impl Abort, pool: &Pool, given: &[Block]) {
     expect(rt, given.len(), 409_600, "small blocks");
-    assert!(rt; ascends(given));
+    expect_true(rt, ascends(given), "in order");
     let want = Some(block(rt, "002064000"));
     expect(rt, least_free(pool, given, Size::MaS), want, "the next");
 }

@@ -1,5 +1,5 @@
 //! Days and texts against Python's `datetime`, and terms and evidence against worked cases.
-use crate::expecting::{expect_at, expect_text, expect_true};
+use crate::expecting::{expect, expect_at, expect_text, expect_true};
 use reg_early::day::{Day, day_of, day_text, year_after};
 use reg_early::evidence::EarlyEvidence;
 use reg_early::laws;
@@ -66,10 +66,10 @@ fn moments_have_utc_days(rt: HostRuntime) {
         (1709251199, 19782),
         (32503679999, 376199),
     ] {
-        assert_eq!(rt; day_of(moment), Day::from_days(number), "at {moment}");
+        expect_at(&rt, day_of(moment), Day::from_days(number), moment);
     }
     for moment in [0, 946684799, 32503680000, u64::MAX] {
-        assert_eq!(rt; day_of(moment), None, "at {moment}");
+        expect_at(&rt, day_of(moment), None, moment);
     }
 }
 
@@ -86,7 +86,8 @@ fn years_after_known_days(rt: HostRuntime) -> Result<(), Fail> {
         (2932591, 2932896),
         (2932896, 2932896),
     ] {
-        assert_eq!(rt; year_after(day(number)?).days(), after, "after {number}");
+        let found = year_after(day(number)?).days();
+        expect_at(&rt, found, after, u64::from(number));
     }
     Ok(())
 }
@@ -120,11 +121,8 @@ fn centuries_are_those_of_another_calendar(rt: HostRuntime) -> Result<(), Fail> 
         (120530, 157419, 0x6e2afc935ceb097a, 0xfe63b364b6f96f6c),
         (2896373, 2932896, 0xfe6f5fee108dd5b5, 0xd512591cf5de7daa),
     ] {
-        assert_eq!(rt;
-            hashes(rt.alloc(), first, last)?,
-            (texts, after),
-            "from {first}"
-        );
+        let found = hashes(rt.alloc(), first, last)?;
+        expect_at(&rt, found, (texts, after), u64::from(first));
     }
     Ok(())
 }
@@ -146,8 +144,13 @@ fn term(expires: Option<u32>, renewed: bool) -> Result<Term, Fail> {
 fn statuses_change_on_the_expiry_day(rt: HostRuntime) -> Result<(), Fail> {
     for (number, word) in [(20146, "Temporary"), (20147, "Expired")] {
         let on = day(number)?;
-        assert_eq!(rt; Term::early(day(19782)?).status(on).word(), word);
-        assert_eq!(rt; Term::permanent(on).status(on).word(), "Assigned");
+        expect_text(
+            &rt,
+            Term::early(day(19782)?).status(on).word(),
+            word,
+            "early",
+        );
+        expect_text(&rt, Term::permanent(on).status(on).word(), "Assigned", word);
     }
     Ok(())
 }
@@ -162,10 +165,11 @@ fn terms_are_renewed_once(rt: HostRuntime) -> Result<(), Fail> {
         (None, true, 20240, Err(RenewFault::Permanent)),
     ] {
         let outcome = term(expires, renewed)?.renew(day(approval)?);
-        match expiry {
-            Ok(number) => assert_eq!(rt; outcome, Ok(term(Some(number), true)?)),
-            Err(fault) => assert_eq!(rt; outcome, Err(fault)),
-        }
+        let wanted = match expiry {
+            Ok(number) => Ok(term(Some(number), true)?),
+            Err(fault) => Err(fault),
+        };
+        expect_at(&rt, outcome, wanted, u64::from(approval));
     }
     Ok(())
 }
@@ -174,8 +178,14 @@ fn terms_are_renewed_once(rt: HostRuntime) -> Result<(), Fail> {
 fn settled_terms_lose_their_expiry(rt: HostRuntime) -> Result<(), Fail> {
     for renewed in [false, true] {
         let settled = term(Some(20147), renewed)?.settle();
-        assert_eq!(rt; settled, Ok(term(None, renewed)?));
-        assert_eq!(rt; term(None, renewed)?.settle(), Err(SettleFault::Permanent));
+        expect(&rt, settled, Ok(term(None, renewed)?), "a term that ends");
+        let again = term(None, renewed)?.settle();
+        expect(
+            &rt,
+            again,
+            Err(SettleFault::Permanent),
+            "one without an end",
+        );
     }
     Ok(())
 }
@@ -255,7 +265,7 @@ fn expect_allowed(
     missing: Option<Item>,
 ) -> Result<(), Fail> {
     let shown = evidence(alloc, 5, will_be_rfc)?;
-    assert_eq!(rt; early_missing(policy, &shown), missing, "{policy:?}");
+    expect(rt, early_missing(policy, &shown), missing, policy.word());
     Ok(())
 }
 

@@ -1,5 +1,7 @@
 //! Comparisons of what a test found with what it wants. Each stands in a function of its own, which
 //! is proved once: written out in a test, it is proved there again, for seconds each time.
+ghost use Rattle.std.specs.Prelude.{◌≡◌, true};
+
 use std::fmt::Debug;
 use std::process::Abort;
 
@@ -19,6 +21,8 @@ pub fn expect_text(rt: &impl Abort, found: &str, want: &str, what: &str) {
 }
 
 /// Stops the test unless the fact holds.
-pub fn expect_true(rt: &impl Abort, holds: bool, what: &str) {
+pub fn expect_true(rt: &impl Abort, holds: bool, what: &str)
+    ensures { holds ≡ true }
+{
     assert!(rt; holds, "{what}");
 }

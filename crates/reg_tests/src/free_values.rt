@@ -1,5 +1,5 @@
 //! Sets of numbers, and the least free value by them, worked by hand.
-use crate::expecting::expect;
+use crate::expecting::{expect, expect_at, expect_true};
 use reg_free::least::least_free_of;
 use reg_free::runs::Runs;
 use reg_ranges::policy::Policy;
@@ -11,7 +11,7 @@ use std::test::Fail;
 #[test]
 fn numbers_join_their_neighbours(rt: HostRuntime) -> Result<(), Fail> {
     let mut runs = Runs::new(rt.alloc());
-    assert_eq!(rt; runs.next_free(0), Some(0));
+    expect(&rt, runs.next_free(0), Some(0), "of none");
     for value in [5, 7, 0, u32::MAX, 6, 6] {
         runs.insert(value)?;
     }
@@ -22,10 +22,10 @@ fn numbers_join_their_neighbours(rt: HostRuntime) -> Result<(), Fail> {
         (7, Some(8)),
         (u32::MAX, None),
     ] {
-        assert_eq!(rt; runs.next_free(from), free);
+        expect_at(&rt, runs.next_free(from), free, u64::from(from));
     }
-    assert!(rt; runs.contains(6));
-    assert!(rt; !runs.contains(8));
+    expect_true(&rt, runs.contains(6), "six");
+    expect_true(&rt, !runs.contains(8), "no eight");
     Ok(())
 }
 

@@ -7,6 +7,8 @@
 #[cfg(test)]
 mod blocks;
 #[cfg(test)]
+mod digits;
+#[cfg(test)]
 mod early;
 #[cfg(test)]
 mod expecting;

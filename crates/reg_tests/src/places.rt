@@ -1,4 +1,5 @@
 //! The block due by free places: worked by hand, and against the sweep over all given blocks.
+use crate::digits::{block, block_if, is_free};
 use crate::expecting::{expect, expect_true};
 use reg_blocks::block::Block;
 use reg_blocks::due::{ascends, least_free};
@@ -11,10 +12,6 @@ use std::test::Fail;
 
 const SIZES: [Size; 3] = [Size::MaL, Size::MaM, Size::MaS];
 
-fn block(rt: &impl Abort, digits: &str) -> Block {
-    Block::read(digits.as_bytes()).expect(rt, "digits of a block")
-}
-
 // Places with these prefixes, of which nothing is given.
 fn places_of(alloc: Global, prefixes: &[u32]) -> Result<Places, AllocError> {
     let mut places = Places::new(alloc);
@@ -26,15 +23,23 @@ fn places_of(alloc: Global, prefixes: &[u32]) -> Result<Places, AllocError> {
     Ok(places)
 }
 
-fn block_if(rt: &impl Abort, digits: Option<&str>) -> Option<Block> {
-    digits.map(|digits| block(rt, digits))
+// The block due of each size.
+fn dues(places: &Places) -> [Option<Block>; 3] {
+    [
+        places.due(Size::MaL),
+        places.due(Size::MaM),
+        places.due(Size::MaS),
+    ]
 }
 
 fn expect_due(rt: &impl Abort, places: &Places, want: [Option<&str>; 3]) {
     let [large, medium, small] = want;
-    expect(rt, places.due(Size::MaL), block_if(rt, large), "large");
-    expect(rt, places.due(Size::MaM), block_if(rt, medium), "medium");
-    expect(rt, places.due(Size::MaS), block_if(rt, small), "small");
+    let want = [
+        block_if(rt, large),
+        block_if(rt, medium),
+        block_if(rt, small),
+    ];
+    expect(rt, dues(places), want, "due");
 }
 
 #[test]
@@ -81,7 +86,7 @@ fn due_of_full_prefixes(rt: HostRuntime) -> Result<(), Fail> {
 fn due_past_a_hundred_full_prefixes(rt: HostRuntime) -> Result<(), Fail> {
     let mut places = Places::new(rt.alloc());
     for prefix in 0x00_2000..=0x00_2064 {
-        assert!(rt; is_pool_prefix(prefix));
+        expect_true(&rt, is_pool_prefix(prefix), "a prefix");
         places.add_prefix(prefix)?;
     }
     for prefix in 0x0_0200_0000..0x0_0206_4000 {
@@ -120,16 +125,17 @@ fn some_block(state: &mut u64) -> Option<Block> {
 
 // The same block is due by the free places and by the sweep over all given blocks.
 fn compare(rt: &impl Abort, places: &Places, pool: &Pool, given: &[Block]) {
+    expect_true(rt, ascends(given), "in order");
     for size in SIZES {
-        assert!(rt; ascends(given));
-        assert_eq!(rt; places.due(size), least_free(pool, given, size));
+        let due = least_free(pool, given, size);
+        expect(rt, places.due(size), due, size.word());
     }
 }
 
 // Whether an office may give the block: it is free.
 fn may_give(rt: &impl Abort, pool: &Pool, given: &[Block], block: &Block) -> bool {
     let prefix = u32::try_from(block.first() >> 24).expect(rt, "24 bits");
-    pool.prefixes().contains(&prefix) && !given.iter().any(|other| block.overlaps(other))
+    pool.prefixes().contains(&prefix) && is_free(given, block)
 }
 
 // A prefix more in the pool and among the places.
@@ -139,7 +145,7 @@ fn grow(
     pool: &mut Pool,
     prefix: u32,
 ) -> Result<(), AllocError> {
-    assert!(rt; is_pool_prefix(prefix));
+    expect_true(rt, is_pool_prefix(prefix), "a prefix");
     places.add_prefix(prefix)?;
     expect_true(rt, pool.add(prefix) != Add::Memory, "memory");
     Ok(())
@@ -185,16 +191,16 @@ fn due_in_a_thousand_offices(rt: HostRuntime) -> Result<(), Fail> {
     for seed in 0..1000 {
         is_one_full |= office(&rt, rt.alloc(), seed)?;
     }
-    assert!(rt; is_one_full);
+    expect_true(&rt, is_one_full, "a full office");
     Ok(())
 }
 
 // Gives the block. Where there is no memory for it, nothing else is due than before, and the next
 // try finds memory.
 fn give_or_again(rt: &impl Abort, places: &mut Places, block: Block) -> Result<(), AllocError> {
-    let before = SIZES.map(|size| places.due(size));
+    let before = dues(places);
     if places.give(block).is_err() {
-        assert_eq!(rt; SIZES.map(|size| places.due(size)), before);
+        expect(rt, dues(places), before, "as before");
         places.give(block)?;
     }
     Ok(())
@@ -202,10 +208,10 @@ fn give_or_again(rt: &impl Abort, places: &mut Places, block: Block) -> Result<(
 
 // As `give_or_again`, of a prefix.
 fn add_or_again(rt: &impl Abort, places: &mut Places, prefix: u32) -> Result<(), AllocError> {
-    assert!(rt; is_pool_prefix(prefix));
-    let before = SIZES.map(|size| places.due(size));
+    expect_true(rt, is_pool_prefix(prefix), "a prefix");
+    let before = dues(places);
     if places.add_prefix(prefix).is_err() {
-        assert_eq!(rt; SIZES.map(|size| places.due(size)), before);
+        expect(rt, dues(places), before, "as before");
         places.add_prefix(prefix)?;
     }
     Ok(())

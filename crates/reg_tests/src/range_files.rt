@@ -1,4 +1,5 @@
 //! Range files with bytes that a line of a script does not hold, worked by hand.
+use crate::expecting::expect_text;
 use reg_ranges::range_file::read_ranges;
 use reg_ranges::table::RangeTable;
 use std::alloc::Global;
@@ -40,7 +41,8 @@ fn outcome(alloc: Global, file: &[u8]) -> Result<String, Fail> {
 #[test]
 fn files(rt: HostRuntime) -> Result<(), Fail> {
     for (file, want) in FILES {
-        assert_eq!(rt; outcome(rt.alloc(), file)?.as_str(), *want);
+        let found = outcome(rt.alloc(), file)?;
+        expect_text(&rt, found.as_str(), want, "a range file");
     }
     Ok(())
 }

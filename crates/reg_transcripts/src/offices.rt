@@ -12,56 +12,64 @@ use crate::registers::{GRANTS, LIMITS, REGISTRIES};
 use crate::routes::{LINES, NAMES, PATHS};
 use crate::{day, pool};
 
-/// A whole day.
-pub const DAY: &[&str] = &[day::DAY];
+/// Offices that give values: what each is of, and its transcripts.
+pub const OF_VALUES: &[(&str, &[&str])] = &[
+    ("a whole day", &[day::DAY]),
+    (
+        "values that are asked for, reviewed, and fixed on approval",
+        &[GRANTS, LIMITS, REGISTRIES, APPROVALS, EXPERTS, DECISIONS],
+    ),
+    ("the evidence that policies ask for", &[GRANTS, EVIDENCE]),
+    ("least values", &[GRANTS, LEAST]),
+];
 
-/// Values that are asked for, reviewed, and fixed on approval.
-pub const REQUESTS: &[&str] = &[GRANTS, LIMITS, REGISTRIES, APPROVALS, EXPERTS, DECISIONS];
+/// Offices that give blocks.
+pub const OF_BLOCKS: &[(&str, &[&str])] = &[
+    ("prefixes of the pool", &[GRANTS, pool::POOL]),
+    ("blocks", &[GRANTS, GIVEN, LISTED, AGAIN]),
+    (
+        "asks and prefixes without the form of their part",
+        &[GRANTS, BLOCK_FORMS],
+    ),
+];
 
-/// Lines that are refused.
-pub const REFUSED: &[&str] = &[GRANTS, REFUSALS];
+/// Offices that give early.
+pub const OF_YEARS: &[(&str, &[&str])] = &[
+    (
+        "early allocations that are given, renewed and settled",
+        &[GRANTS, DEFINED, LIFE],
+    ),
+    (
+        "the day on which an early allocation ends",
+        &[GRANTS, DEFINED, DAYS],
+    ),
+    (
+        "what asks for early allocations lack, and who reviews them",
+        &[GRANTS, DEFINED, POLICIES, REVIEWED],
+    ),
+    (
+        "the forms of asks for early allocations",
+        &[GRANTS, DEFINED, EARLY_FORMS],
+    ),
+];
 
-/// Capabilities that are taken away.
-pub const REVOKED: &[&str] = &[GRANTS, REVOCATIONS];
+/// Offices that refuse what they are asked.
+pub const OF_REFUSALS: &[(&str, &[&str])] = &[
+    ("lines that are refused", &[GRANTS, REFUSALS]),
+    ("capabilities that are taken away", &[GRANTS, REVOCATIONS]),
+    ("lines of each form", &[LINES]),
+    (
+        "paths, methods and names that no command has",
+        &[GRANTS, PATHS, NAMES],
+    ),
+];
 
-/// Lines of each form.
-pub const SPELLED: &[&str] = &[LINES];
-
-/// Paths, methods and names that no command has.
-pub const ROUTES: &[&str] = &[GRANTS, PATHS, NAMES];
-
-/// Bodies that are none.
-pub const BODIES: &[&str] = &[GRANTS, ASKS, CAPABILITIES, DEPTHS];
-
-/// One body in many spellings.
-pub const SAME_BODIES: &[&str] = &[GRANTS, OPEN, SPELLINGS];
-
-/// Range files.
-pub const RANGE_FILES: &[&str] = &[GRANTS, FILES];
-
-/// The evidence that policies ask for.
-pub const PROVED: &[&str] = &[GRANTS, EVIDENCE];
-
-/// Least values.
-pub const LEAST_VALUES: &[&str] = &[GRANTS, LEAST];
-
-/// Prefixes of the pool.
-pub const POOL: &[&str] = &[GRANTS, pool::POOL];
-
-/// Blocks.
-pub const BLOCKS: &[&str] = &[GRANTS, GIVEN, LISTED, AGAIN];
-
-/// Asks and prefixes without the form of their part.
-pub const BLOCK_PARTS: &[&str] = &[GRANTS, BLOCK_FORMS];
-
-/// Early allocations that are given, renewed and settled.
-pub const EARLY: &[&str] = &[GRANTS, DEFINED, LIFE];
-
-/// The day on which an early allocation ends.
-pub const EARLY_DAYS: &[&str] = &[GRANTS, DEFINED, DAYS];
-
-/// What asks for early allocations lack, and who reviews them.
-pub const EARLY_ASKS: &[&str] = &[GRANTS, DEFINED, POLICIES, REVIEWED];
-
-/// The forms of asks for early allocations.
-pub const EARLY_PARTS: &[&str] = &[GRANTS, DEFINED, EARLY_FORMS];
+/// Offices that are given bodies of all forms.
+pub const OF_BODIES: &[(&str, &[&str])] = &[
+    (
+        "bodies that are none",
+        &[GRANTS, ASKS, CAPABILITIES, DEPTHS],
+    ),
+    ("one body in many spellings", &[GRANTS, OPEN, SPELLINGS]),
+    ("range files", &[GRANTS, FILES]),
+];

@@ -1,8 +1,8 @@
 //! Stores that were written by other hands, and what they are to an office that opens them.
-use crate::image::Image;
-use crate::left::NEVER;
-use crate::making::{blank, filled, prepared, refused, seen};
-use crate::sessions::{Outcome, Statement, carry_out};
+use crate::disks::image::Image;
+use crate::disks::left::NEVER;
+use crate::disks::making::{blank, filled, prepared, refused, seen};
+use crate::disks::sessions::{Outcome, Statement, carry_out};
 use reg_opening::open::Verdict;
 use reg_sql::open::OpenFault;
 use reg_testing::facts::ensure;
@@ -30,6 +30,20 @@ const TABLES: [&str; 3] = [
     "CREATE INDEX by_account ON caps (account)",
     "CREATE UNIQUE INDEX by_kind ON blocks (organization, first)",
     "DROP TABLE advice",
+];
+
+// What leaves of the office's tables the version alone, which is another one.
+const GONE: [&str; 10] = [
+    "DROP TABLE advice",
+    "DROP TABLE queue",
+    "DROP TABLE requests",
+    "DROP TABLE entries",
+    "DROP TABLE ranges",
+    "DROP TABLE registries",
+    "DROP TABLE caps",
+    "DROP TABLE pool",
+    "DROP TABLE blocks",
+    "UPDATE office SET version = 9",
 ];
 
 // What takes names of the office's tables.
@@ -134,6 +148,28 @@ fn versions(rt: HostRuntime) -> Result<(), Fail> {
     for (sql, verdict) in VERSIONS {
         assert_after(rt.alloc(), &image, sql, Some(verdict))?;
     }
+    Ok(())
+}
+
+// After these statements the store is of this version.
+fn assert_version(
+    alloc: Global,
+    image: &Image,
+    statements: &[&str],
+    version: i64,
+) -> Result<Image, Fail> {
+    let (outcome, after) = done(alloc, image, statements)?;
+    let wanted = Some(Verdict::OtherVersion(version));
+    ensure(outcome.verdict? == wanted, "a store of another version")?;
+    Ok(after)
+}
+
+// Whatever tables follow that of the version.
+#[test]
+fn a_version_alone(rt: HostRuntime) -> Result<(), Fail> {
+    let alloc = rt.alloc();
+    let alone = assert_version(alloc, &prepared(alloc)?, &GONE, 9)?;
+    assert_version(alloc, &alone, &[CARS], 9)?;
     Ok(())
 }
 

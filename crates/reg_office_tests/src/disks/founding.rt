@@ -1,8 +1,8 @@
 //! Disks that stop at each call of the making of the tables: all are there then, or none.
-use crate::image::Image;
-use crate::left::{Left, NEVER, Stop};
-use crate::making::blank;
-use crate::sessions::{Outcome, Statement, carry_out};
+use crate::disks::image::Image;
+use crate::disks::left::{Left, NEVER, Stop};
+use crate::disks::making::blank;
+use crate::disks::sessions::{Outcome, Statement, carry_out};
 use reg_opening::open::Verdict;
 use reg_testing::facts::ensure;
 use std::alloc::Global;

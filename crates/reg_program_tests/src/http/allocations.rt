@@ -1,7 +1,9 @@
 //! Each request of an office is answered by its own answer; where an allocation is refused, perhaps
 //! by `503 {"error":"storage"}`, with nothing changed, or not at all. A run refuses none by itself:
 //! `tools/refuse-allocations` refuses each in turn.
-use crate::rows::ROWS;
+use crate::http::rows::ROWS;
+use crate::running::over_lists;
+use reg_carriers::exercise::Exercise;
 use reg_carriers::messages::{request, with_line_ends};
 use reg_carriers::served::{CLERK, Served};
 use reg_http::wire_fault::WireFault;
@@ -26,17 +28,15 @@ struct Row {
 
 impl Row {
     fn read(alloc: Global, asked: &str, told: &str) -> Result<Row, Fail> {
-        let (token, rest) = asked.split_once(' ').ok_or("no token")?;
-        let (method, rest) = rest.split_once(' ').ok_or("no method")?;
-        let (path, body) = rest.split_once(' ').unwrap_or((rest, ""));
-        let (status, end) = told.split_once(' ').ok_or("no status")?;
-        let token = if token == "-" { None } else { Some(token) };
-        let body = with_line_feeds(alloc, "", body)?;
-        Ok(Row {
-            sent: request(alloc, method, path, token, body.as_slice())?,
-            status: status.parse::<u16>()?,
-            end: with_line_feeds(alloc, "\r\n\r\n", end)?,
-        })
+        let (status, body) = told.split_once(' ').ok_or("no status")?;
+        let status = status.parse::<u16>()?;
+        let sent = sent_by(alloc, asked)?;
+        Ok(Row::new(alloc, sent, status, body)?)
+    }
+
+    fn new(alloc: Global, sent: Vec<u8>, status: u16, body: &str) -> Result<Row, AllocError> {
+        let end = with_line_feeds(alloc, "\r\n\r\n", body)?;
+        Ok(Row { sent, status, end })
     }
 
     // Whether this is its own answer.
@@ -49,6 +49,16 @@ impl Row {
         let is_there = self.status == 201 && done == Ok(200);
         (is_there || done == Ok(self.status)) && written.ends_with(self.end.as_slice())
     }
+}
+
+// The bytes of the request that a row asks.
+fn sent_by(alloc: Global, asked: &str) -> Result<Vec<u8>, Fail> {
+    let (token, rest) = asked.split_once(' ').ok_or("no token")?;
+    let (method, rest) = rest.split_once(' ').ok_or("no method")?;
+    let (path, body) = rest.split_once(' ').unwrap_or((rest, ""));
+    let token = if token == "-" { None } else { Some(token) };
+    let body = with_line_feeds(alloc, "", body)?;
+    Ok(request(alloc, method, path, token, body.as_slice())?)
 }
 
 // A text after another, with a line feed for each `|`.
@@ -88,23 +98,26 @@ const MALFORMED: [(&str, u16, &str); 5] = [
 
 fn rows(alloc: Global) -> Result<Vec<Row>, Fail> {
     let mut rows = Vec::new(alloc);
-    for (sent, status, end) in MALFORMED {
-        rows.push(Row {
-            sent: with_line_ends(alloc, sent)?,
-            status,
-            end: with_line_feeds(alloc, "\r\n\r\n", end)?,
-        })?;
+    for (sent, status, body) in &MALFORMED {
+        let sent = with_line_ends(alloc, sent)?;
+        put(&mut rows, Row::new(alloc, sent, *status, body)?)?;
     }
-    push_asked(alloc, &mut rows)?;
+    for row in ROWS.split('>') {
+        put_asked(alloc, &mut rows, row)?;
+    }
     Ok(rows)
 }
 
-fn push_asked(alloc: Global, rows: &mut Vec<Row>) -> Result<(), Fail> {
-    for row in ROWS.split('>') {
-        if let Some((asked, told)) = row.split_once('<') {
-            rows.push(Row::read(alloc, asked.trim(), told.trim())?)?;
-        }
+// Puts a request of the transcript, with its answer after `<`.
+fn put_asked(alloc: Global, rows: &mut Vec<Row>, row: &str) -> Result<(), Fail> {
+    if let Some((asked, told)) = row.split_once('<') {
+        put(rows, Row::read(alloc, asked.trim(), told.trim())?)?;
     }
+    Ok(())
+}
+
+fn put(rows: &mut Vec<Row>, row: Row) -> Result<(), AllocError> {
+    rows.push(row)?;
     Ok(())
 }
 
@@ -135,30 +148,29 @@ fn seen<K: Keeper + Drop>(alloc: Global, served: &mut Served<K>) -> Result<Vec<u
     Ok(seen)
 }
 
-// What is seen of a new office after these requests.
-fn seen_after(alloc: Global, rows: &[Row]) -> Result<Vec<u8>, Fail> {
-    let mut served = Served::founded(alloc)?;
-    let seen = seen_of(alloc, &mut served, rows);
-    drop(served);
-    seen
+/// Requests, and what is seen of a new office after them.
+#[derive(Drop)]
+struct Looking<'a> {
+    rows: &'a [Row],
 }
 
-fn seen_of<K: Keeper + Drop>(
-    alloc: Global,
-    served: &mut Served<K>,
-    rows: &[Row],
-) -> Result<Vec<u8>, Fail> {
-    for row in rows {
-        served.asked(alloc, row.sent.as_slice())?;
+impl Exercise for Looking<'_> {
+    type Outcome = Vec<u8>;
+
+    fn done<K: Keeper + Drop>(self, rt: &HostRuntime, keeper: K) -> Result<Vec<u8>, Fail> {
+        let mut served = Served::founded(rt.alloc(), keeper)?;
+        for row in self.rows {
+            served.asked(rt.alloc(), row.sent.as_slice())?;
+        }
+        seen(rt.alloc(), &mut served)
     }
-    seen(alloc, served)
 }
 
 // The last of the requests through it was not answered by its own answer, but by storage, with
 // nothing changed since those before it; or not at all, and then it was carried out or nothing has
 // changed. When it is sent again it is answered.
 fn assert_left<K: Keeper + Drop>(
-    alloc: Global,
+    rt: &HostRuntime,
     served: &mut Served<K>,
     before: &[Row],
     through: &[Row],
@@ -166,16 +178,16 @@ fn assert_left<K: Keeper + Drop>(
     written: &[u8],
 ) -> Result<(), Fail> {
     let row = through.last().ok_or("no request")?;
-    let now = seen(alloc, served)?;
-    let is_unchanged = now == seen_after(alloc, before)?;
-    let again = served.asked(alloc, row.sent.as_slice())?;
+    let now = seen(rt.alloc(), served)?;
+    let is_unchanged = now == over_lists(rt, Looking { rows: before })?;
+    let again = served.asked(rt.alloc(), row.sent.as_slice())?;
     if done == Ok(503) {
         ensure(written == STORAGE, "an answer for want of storage")?;
         ensure(is_unchanged, "nothing that has changed")?;
         let is_answered = row.is_answer(again.status, again.bytes.as_slice());
         ensure(is_answered, "the request's own answer")
     } else {
-        let is_done = now == seen_after(alloc, through)?;
+        let is_done = now == over_lists(rt, Looking { rows: through })?;
         ensure(done == Err(WireFault::Memory), "want of memory")?;
         ensure(written.is_empty(), "no answer")?;
         ensure(
@@ -189,41 +201,53 @@ fn assert_left<K: Keeper + Drop>(
 
 // Sends these requests in turn, and gives how many were not answered by their own answers.
 fn assert_rows<K: Keeper + Drop>(
-    alloc: Global,
+    rt: &HostRuntime,
     served: &mut Served<K>,
     rows: &[Row],
 ) -> Result<u32, Fail> {
     let mut left = 0u32;
-    let mut written = Vec::with_capacity(alloc, ROOM)?;
+    let mut written = Vec::with_capacity(rt.alloc(), ROOM)?;
     for place in 0..rows.len() {
         let row = &rows[place];
         let (before, through) = (&rows[..place], &rows[..=place]);
         written.clear();
         let mut reader = row.sent.as_slice();
-        let done = served.serve(alloc, &mut reader, &mut written);
+        let done = served.serve(rt.alloc(), &mut reader, &mut written);
         if !row.is_answer(done, written.as_slice()) {
-            assert_left(alloc, served, before, through, done, written.as_slice())?;
+            assert_left(rt, served, before, through, done, written.as_slice())?;
             left = left.wrapping_add(1);
         }
     }
     Ok(left)
 }
 
-fn assert_office(alloc: Global, most: u32) -> Result<(), Fail> {
-    let rows = rows(alloc)?;
-    ensure(rows.len() == 109, "the rows of the transcript")?;
-    let mut served = Served::founded(alloc)?;
-    let left = assert_rows(alloc, &mut served, rows.as_slice());
-    drop(served);
-    ensure(left? <= most, "the requests' own answers")
+/// The whole transcript.
+#[derive(Drop)]
+struct Transcript;
+
+impl Exercise for Transcript {
+    type Outcome = u32;
+
+    // How many requests were not answered by their own answers.
+    fn done<K: Keeper + Drop>(self, rt: &HostRuntime, keeper: K) -> Result<u32, Fail> {
+        let rows = rows(rt.alloc())?;
+        ensure(rows.len() == 109, "the rows of the transcript")?;
+        let mut served = Served::founded(rt.alloc(), keeper)?;
+        assert_rows(rt, &mut served, rows.as_slice())
+    }
+}
+
+fn assert_office(rt: &HostRuntime, most: u32) -> Result<(), Fail> {
+    let left = over_lists(rt, Transcript)?;
+    ensure(left <= most, "the requests' own answers")
 }
 
 #[test]
 fn each_request_is_answered(rt: HostRuntime) -> Result<(), Fail> {
-    assert_office(rt.alloc(), 0)
+    assert_office(&rt, 0)
 }
 
 #[test]
 fn each_request_is_answered_or_left_undone(rt: HostRuntime) -> Result<(), Fail> {
-    assert_office(rt.alloc(), 1)
+    assert_office(&rt, 1)
 }

@@ -1,8 +1,8 @@
 //! Sessions over the files of a store, on disks that stop: it is opened, something is done, and it
 //! ends.
-use crate::calls::{asked, carried_out, ended};
-use crate::image::Image;
-use crate::left::{Left, Stop, Stopping, disk_with, left_of};
+use crate::disks::calls::{asked, carried_out, ended};
+use crate::disks::image::Image;
+use crate::disks::left::{Left, Stop, Stopping, disk_with, left_of};
 use reg_keeper::keeper::Fault;
 use reg_opening::open::Verdict;
 use reg_sql::open::OpenFault;

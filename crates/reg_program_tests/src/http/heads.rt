@@ -1,6 +1,6 @@
 //! Heads at their limits and above them, and bytes that begin with none.
+use crate::http::asking::told;
 use reg_carriers::messages::{HEAD, NO_REGISTRY};
-use reg_carriers::served::Served;
 use reg_testing::facts::ensure;
 use std::alloc::{AllocError, Global};
 use std::test::Fail;
@@ -40,35 +40,32 @@ const NO_HEADS: [&[u8]; 5] = [
 ];
 
 // A new office answers these bytes so.
-fn assert_given(alloc: Global, sent: &[u8], status: u16, wanted: &[u8]) -> Result<(), Fail> {
-    let mut served = Served::founded(alloc)?;
-    let given = served.asked(alloc, sent);
-    drop(served);
-    given?.assert_is(status, wanted)
+fn assert_given(rt: &HostRuntime, sent: &[u8], status: u16, wanted: &[u8]) -> Result<(), Fail> {
+    told(rt, sent)?.assert_is(status, wanted)
 }
 
 #[test]
 fn heads_of_most_bytes_and_more(rt: HostRuntime) -> Result<(), Fail> {
     let longest = long_head(rt.alloc(), 8192)?;
     ensure(longest.len() == 8192, "a head of the most bytes")?;
-    assert_given(rt.alloc(), longest.as_slice(), 200, NO_REGISTRY)?;
+    assert_given(&rt, longest.as_slice(), 200, NO_REGISTRY)?;
     let longer = long_head(rt.alloc(), 8193)?;
     ensure(longer.len() == 8193, "a head of one byte more")?;
-    assert_given(rt.alloc(), longer.as_slice(), 400, HEAD)
+    assert_given(&rt, longer.as_slice(), 400, HEAD)
 }
 
 #[test]
 fn heads_of_most_fields_and_more(rt: HostRuntime) -> Result<(), Fail> {
     let most = many_fields(rt.alloc(), 32)?;
-    assert_given(rt.alloc(), most.as_slice(), 200, NO_REGISTRY)?;
+    assert_given(&rt, most.as_slice(), 200, NO_REGISTRY)?;
     let more = many_fields(rt.alloc(), 33)?;
-    assert_given(rt.alloc(), more.as_slice(), 400, HEAD)
+    assert_given(&rt, more.as_slice(), 400, HEAD)
 }
 
 #[test]
 fn bytes_without_a_head(rt: HostRuntime) -> Result<(), Fail> {
     for bytes in NO_HEADS {
-        assert_given(rt.alloc(), bytes, 400, HEAD)?;
+        assert_given(&rt, bytes, 400, HEAD)?;
     }
     Ok(())
 }

@@ -1,10 +1,10 @@
 //! Disks that stop at each call of a line of a script. What is found then is the office before the
 //! line or after it, and after it wherever the line was answered; and the line is sent again.
-use crate::asking::{CLERK, LOOKS, Row, STORAGE, rows};
-use crate::image::Image;
-use crate::left::{AT_ONCE, Left, NEVER, Stop, stops};
-use crate::making::{answered, asking, blank, calls_of_opening, prepared, seen};
-use crate::sessions::{Asking, ask};
+use crate::disks::asking::{CLERK, LOOKS, Row, STORAGE, rows};
+use crate::disks::image::Image;
+use crate::disks::left::{AT_ONCE, Left, NEVER, Stop, stops};
+use crate::disks::making::{answered, asking, blank, calls_of_opening, prepared, seen};
+use crate::disks::sessions::{Asking, ask};
 use reg_testing::facts::ensure;
 use std::alloc::Global;
 use std::test::Fail;

@@ -1,6 +1,6 @@
 //! What disks that stop leave.
-use crate::counted::Counted;
-use crate::image::{Image, copied};
+use crate::disks::counted::Counted;
+use crate::disks::image::{Image, copied};
 use sqlite::Files;
 use sqlite_disk::{Crash, Disk, Fuse, Memory};
 use std::alloc::{AllocError, Global};

@@ -1,4 +1,7 @@
 //! Requests and their answers over HTTP, to the byte.
+use crate::http::asking::{told, told_when_opened};
+use crate::running::over_lists;
+use reg_carriers::exercise::Exercise;
 use reg_carriers::messages::{NO_REGISTRY, json_answer, request, with_line_ends};
 use reg_carriers::served::Served;
 use reg_keeper::keeper::Keeper;
@@ -124,58 +127,63 @@ const TOKENS: [(&str, &str, &str); 6] = [
     ),
 ];
 
-// Asks an open office each of these in turn.
-fn assert_told(alloc: Global, rows: &[(&str, &str, &str)]) -> Result<(), Fail> {
-    let mut served = Served::opened(alloc)?;
-    let done = assert_each(alloc, &mut served, rows);
-    drop(served);
-    done
+/// Requests that are sent to an open office in turn, each with its answer.
+#[derive(Drop)]
+struct Rows<'a> {
+    rows: &'a [(&'a str, &'a str, &'a str)],
 }
 
-fn assert_each<K: Keeper + Drop>(
+impl Exercise for Rows<'_> {
+    type Outcome = ();
+
+    fn done<K: Keeper + Drop>(self, rt: &HostRuntime, keeper: K) -> Result<(), Fail> {
+        let mut served = Served::opened(rt.alloc(), keeper)?;
+        for (sent, status, body) in self.rows {
+            assert_told(rt.alloc(), &mut served, sent, status, body)?;
+        }
+        Ok(())
+    }
+}
+
+fn assert_told<K: Keeper + Drop>(
     alloc: Global,
     served: &mut Served<K>,
-    rows: &[(&str, &str, &str)],
+    sent: &str,
+    status: &str,
+    body: &str,
 ) -> Result<(), Fail> {
-    for (sent, status, body) in rows {
-        let input = with_line_ends(alloc, sent)?;
-        let wanted = json_answer(alloc, status, body)?;
-        let given = served.asked(alloc, input.as_slice())?;
-        ensure(given.bytes == wanted, sent)?;
-        ensure(given.status.is_ok(), sent)?;
-    }
-    Ok(())
+    let input = with_line_ends(alloc, sent)?;
+    let wanted = json_answer(alloc, status, body)?;
+    let given = served.asked(alloc, input.as_slice())?;
+    ensure(given.bytes == wanted, sent)?;
+    ensure(given.status.is_ok(), sent)
 }
 
 #[test]
 fn a_first_request(rt: HostRuntime) -> Result<(), Fail> {
-    let mut served = Served::founded(rt.alloc())?;
-    let given = served.asked(rt.alloc(), b"GET /registries HTTP/1.1\r\nHost: x\r\n\r\n");
-    drop(served);
-    given?.assert_is(200, NO_REGISTRY)
+    let sent = b"GET /registries HTTP/1.1\r\nHost: x\r\n\r\n";
+    told(&rt, sent)?.assert_is(200, NO_REGISTRY)
 }
 
 #[test]
 fn a_listing(rt: HostRuntime) -> Result<(), Fail> {
-    let mut served = Served::opened(rt.alloc())?;
-    let given = served.asked(rt.alloc(), b"GET /listings/registries/flags HTTP/1.0\n\n");
-    drop(served);
-    given?.assert_is(200, LISTING)
+    let sent = b"GET /listings/registries/flags HTTP/1.0\n\n";
+    told_when_opened(&rt, sent)?.assert_is(200, LISTING)
 }
 
 #[test]
 fn bodies_and_their_lengths(rt: HostRuntime) -> Result<(), Fail> {
-    assert_told(rt.alloc(), &LENGTHS)
+    over_lists(&rt, Rows { rows: &LENGTHS })
 }
 
 #[test]
 fn encodings_come_before_lengths(rt: HostRuntime) -> Result<(), Fail> {
-    assert_told(rt.alloc(), &ENCODINGS)
+    over_lists(&rt, Rows { rows: &ENCODINGS })
 }
 
 #[test]
 fn tokens(rt: HostRuntime) -> Result<(), Fail> {
-    assert_told(rt.alloc(), &TOKENS)
+    over_lists(&rt, Rows { rows: &TOKENS })
 }
 
 // An object whose one member is 200 nested arrays.
@@ -192,18 +200,16 @@ fn nested(alloc: Global) -> Result<String, AllocError> {
 }
 
 // A submission with this body is refused for its body.
-fn assert_no_json(alloc: Global, body: &[u8]) -> Result<(), Fail> {
+fn assert_no_json(rt: &HostRuntime, body: &[u8]) -> Result<(), Fail> {
+    let alloc = rt.alloc();
     let token = Some("alice-token-00001");
     let sent = request(alloc, "PUT", "/requests/w-1", token, body)?;
     let refused = json_answer(alloc, BAD, "{\"error\":\"body\"}")?;
-    let mut served = Served::opened(alloc)?;
-    let given = served.asked(alloc, sent.as_slice());
-    drop(served);
-    given?.assert_is(400, refused.as_slice())
+    told_when_opened(rt, sent.as_slice())?.assert_is(400, refused.as_slice())
 }
 
 #[test]
 fn bodies_that_are_no_json(rt: HostRuntime) -> Result<(), Fail> {
-    assert_no_json(rt.alloc(), nested(rt.alloc())?.as_bytes())?;
-    assert_no_json(rt.alloc(), b"{\"a\":\"\xff\"}")
+    assert_no_json(&rt, nested(rt.alloc())?.as_bytes())?;
+    assert_no_json(&rt, b"{\"a\":\"\xff\"}")
 }

@@ -1,4 +1,6 @@
 //! A listener on loopback, and its clients.
+use crate::running::over_lists;
+use reg_carriers::exercise::Exercise;
 use reg_carriers::messages::NO_REGISTRY;
 use reg_carriers::served::Served;
 use reg_http::listener::Connections;
@@ -36,18 +38,28 @@ fn all_of(rt: &HostRuntime, stream: &mut TcpStream) -> Result<Vec<u8>, Fail> {
     Ok(bytes)
 }
 
-// What becomes of a first request over loopback, and its answer.
-fn first_request<K: Keeper + Drop>(
-    rt: &HostRuntime,
-    served: &mut Served<K>,
-) -> Result<(Connections, Vec<u8>), Fail> {
-    let (listener, address) = listening(rt)?;
-    let mut peer = client(rt, address, b"GET /registries HTTP/1.1\r\nHost: x\r\n\r\n")?;
-    let done = served.listen(rt, &listener, 1, Duration::from_secs(10));
-    drop(listener);
-    let answer = all_of(rt, &mut peer);
-    drop(peer);
-    Ok((done, answer?))
+/// A first request.
+#[derive(Drop)]
+struct FirstRequest;
+
+impl Exercise for FirstRequest {
+    type Outcome = (Connections, Vec<u8>);
+
+    // What becomes of it, and its answer.
+    fn done<K: Keeper + Drop>(
+        self,
+        rt: &HostRuntime,
+        keeper: K,
+    ) -> Result<(Connections, Vec<u8>), Fail> {
+        let mut served = Served::founded(rt.alloc(), keeper)?;
+        let (listener, address) = listening(rt)?;
+        let mut peer = client(rt, address, b"GET /registries HTTP/1.1\r\nHost: x\r\n\r\n")?;
+        let done = served.listen(rt, &listener, 1, Duration::from_secs(10));
+        drop(listener);
+        let answer = all_of(rt, &mut peer);
+        drop(peer);
+        Ok((done, answer?))
+    }
 }
 
 // So many connections were answered, and so many dropped.
@@ -61,10 +73,7 @@ fn assert_counts(done: &Connections, answered: u32, dropped: u32) -> Result<(), 
 
 #[test]
 fn a_first_request_over_loopback(rt: HostRuntime) -> Result<(), Fail> {
-    let mut served = Served::founded(rt.alloc())?;
-    let given = first_request(&rt, &mut served);
-    drop(served);
-    let (done, answer) = given?;
+    let (done, answer) = over_lists(&rt, FirstRequest)?;
     assert_counts(&done, 1, 0)?;
     ensure(answer.as_slice() == NO_REGISTRY, "the answer")
 }
@@ -117,26 +126,33 @@ impl Peers {
     }
 }
 
-// What becomes of the four connections, and what the clients read.
-fn four_peers<K: Keeper + Drop>(
-    rt: &HostRuntime,
-    served: &mut Served<K>,
-) -> Result<(Connections, Heard), Fail> {
-    let (listener, address) = listening(rt)?;
-    let mut peers = Peers::connected(rt, address)?;
-    let done = served.listen(rt, &listener, 4, Duration::from_millis(200));
-    drop(listener);
-    let heard = peers.heard(rt);
-    drop(peers);
-    Ok((done, heard?))
+/// Four connections.
+#[derive(Drop)]
+struct FourPeers;
+
+impl Exercise for FourPeers {
+    type Outcome = (Connections, Heard);
+
+    // What becomes of them, and what the clients read.
+    fn done<K: Keeper + Drop>(
+        self,
+        rt: &HostRuntime,
+        keeper: K,
+    ) -> Result<(Connections, Heard), Fail> {
+        let mut served = Served::founded(rt.alloc(), keeper)?;
+        let (listener, address) = listening(rt)?;
+        let mut peers = Peers::connected(rt, address)?;
+        let done = served.listen(rt, &listener, 4, Duration::from_millis(200));
+        drop(listener);
+        let heard = peers.heard(rt);
+        drop(peers);
+        Ok((done, heard?))
+    }
 }
 
 #[test]
 fn peers_who_are_silent_or_gone(rt: HostRuntime) -> Result<(), Fail> {
-    let mut served = Served::founded(rt.alloc())?;
-    let given = four_peers(&rt, &mut served);
-    drop(served);
-    let (done, heard) = given?;
+    let (done, heard) = over_lists(&rt, FourPeers)?;
     assert_counts(&done, 2, 2)?;
     ensure(heard.silent.is_empty(), "no answer to one who is silent")?;
     ensure(heard.slow.is_empty(), "no answer to one who is slow")?;

@@ -1,8 +1,8 @@
 //! Offices that are made and asked on disks.
-use crate::asking::{CLERK, LOOKS, all_lines};
-use crate::image::Image;
-use crate::left::{Left, NEVER, Stop};
-use crate::sessions::{Asked, Asking, ask};
+use crate::disks::asking::{CLERK, LOOKS, all_lines};
+use crate::disks::image::Image;
+use crate::disks::left::{Left, NEVER, Stop};
+use crate::disks::sessions::{Asked, Asking, ask};
 use reg_sql::open::OpenFault;
 use std::alloc::Global;
 use std::test::Fail;

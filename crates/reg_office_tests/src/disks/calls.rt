@@ -1,6 +1,6 @@
 //! The calls of an office and of its store. Each is over any store, whose parts its proof need not
 //! unfold, and none has a clause, so that who makes several does not carry what each of them leaves.
-use crate::sessions::{Asking, Outcome, Statement};
+use crate::disks::sessions::{Asking, Outcome, Statement};
 use reg_keeper::keeper::{Fault, Keeper};
 use reg_office::Office;
 use reg_opening::open::{Verdict, check};

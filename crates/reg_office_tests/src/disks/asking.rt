@@ -1,5 +1,5 @@
 //! Lines that an office is asked, and their answers.
-use crate::rows::ROWS;
+use crate::disks::rows::ROWS;
 use std::alloc::{AllocError, Global};
 
 /// The token of the first clerk.

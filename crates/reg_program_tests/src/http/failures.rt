@@ -1,4 +1,7 @@
 //! Requests that come in pieces, break off or fail on their way, and answers that do.
+use crate::http::asking::{founded, opened};
+use crate::running::over_lists;
+use reg_carriers::exercise::Exercise;
 use reg_carriers::messages::{HEAD, MADE, SHORT, SUBMISSION, SUBMISSION_HEAD, THERE};
 use reg_carriers::served::Served;
 use reg_http::wire_fault::WireFault;
@@ -32,31 +35,35 @@ fn assert_refused<K: Keeper + Drop>(
     served.asked(alloc, sent)?.assert_is(400, wanted)
 }
 
-fn assert_prefixes<K: Keeper + Drop>(alloc: Global, served: &mut Served<K>) -> Result<(), Fail> {
-    for count in 0..SUBMISSION.len() {
-        assert_refused(alloc, served, &SUBMISSION[..count])?;
+/// Each prefix of the submission in turn, and then the whole.
+#[derive(Drop)]
+struct Prefixes;
+
+impl Exercise for Prefixes {
+    type Outcome = ();
+
+    fn done<K: Keeper + Drop>(self, rt: &HostRuntime, keeper: K) -> Result<(), Fail> {
+        let mut served = Served::opened(rt.alloc(), keeper)?;
+        for count in 0..SUBMISSION.len() {
+            assert_refused(rt.alloc(), &mut served, &SUBMISSION[..count])?;
+        }
+        assert_submitted(rt.alloc(), &mut served, MADE)
     }
-    assert_submitted(alloc, served, MADE)
 }
 
 #[test]
 fn each_prefix(rt: HostRuntime) -> Result<(), Fail> {
-    let mut served = Served::opened(rt.alloc())?;
-    let done = assert_prefixes(rt.alloc(), &mut served);
-    drop(served);
-    done
+    over_lists(&rt, Prefixes)
 }
 
 #[test]
 fn one_byte_a_read(rt: HostRuntime) -> Result<(), Fail> {
-    let mut served = Served::opened(rt.alloc())?;
     let mut reader = GivesOne {
         bytes: SUBMISSION,
         reads: 0,
     };
     let mut written = Vec::new(rt.alloc());
-    let status = served.serve(rt.alloc(), &mut reader, &mut written);
-    drop(served);
+    let status = opened(&rt, &mut reader, &mut written)?;
     ensure(status == Ok(201), "the status")?;
     ensure(written.as_slice() == MADE, "the answer")?;
     ensure(reader.reads == SUBMISSION.len(), "a read for each byte")
@@ -81,14 +88,12 @@ fn longest(alloc: Global) -> Result<Vec<u8>, AllocError> {
 #[test]
 fn the_longest_request_one_byte_a_read(rt: HostRuntime) -> Result<(), Fail> {
     let bytes = longest(rt.alloc())?;
-    let mut served = Served::founded(rt.alloc())?;
     let mut reader = GivesOne {
         bytes: bytes.as_slice(),
         reads: 0,
     };
     let mut written = Vec::new(rt.alloc());
-    let status = served.serve(rt.alloc(), &mut reader, &mut written);
-    drop(served);
+    let status = founded(&rt, &mut reader, &mut written)?;
     ensure(status == Ok(405), "the status")?;
     ensure(reader.reads == 73_728, "a read for each byte")
 }
@@ -106,25 +111,43 @@ fn assert_unread<K: Keeper + Drop>(
     ensure(written.is_empty(), "no answer")
 }
 
-fn assert_failing_reads<K: Keeper + Drop>(
-    alloc: Global,
-    served: &mut Served<K>,
-) -> Result<(), Fail> {
-    for count in 0..SUBMISSION.len() {
-        assert_unread(alloc, served, &SUBMISSION[..count])?;
+/// Reads that fail before each byte in turn, and then the whole submission.
+#[derive(Drop)]
+struct FailingReads;
+
+impl Exercise for FailingReads {
+    type Outcome = ();
+
+    fn done<K: Keeper + Drop>(self, rt: &HostRuntime, keeper: K) -> Result<(), Fail> {
+        let mut served = Served::opened(rt.alloc(), keeper)?;
+        for count in 0..SUBMISSION.len() {
+            assert_unread(rt.alloc(), &mut served, &SUBMISSION[..count])?;
+        }
+        assert_submitted(rt.alloc(), &mut served, MADE)
     }
-    assert_submitted(alloc, served, MADE)
 }
 
 #[test]
 fn a_read_that_fails_before_each_byte(rt: HostRuntime) -> Result<(), Fail> {
-    let mut served = Served::opened(rt.alloc())?;
-    let done = assert_failing_reads(rt.alloc(), &mut served);
-    drop(served);
-    done
+    over_lists(&rt, FailingReads)
 }
 
-// A write fails after these bytes of the answer: they went out, and the submission is there.
+/// A write that fails after these bytes of the answer.
+#[derive(Drop)]
+struct FailingWrite<'a> {
+    taken: &'a [u8],
+}
+
+impl Exercise for FailingWrite<'_> {
+    type Outcome = ();
+
+    fn done<K: Keeper + Drop>(self, rt: &HostRuntime, keeper: K) -> Result<(), Fail> {
+        let mut served = Served::opened(rt.alloc(), keeper)?;
+        assert_cut(rt.alloc(), &mut served, self.taken)
+    }
+}
+
+// These bytes went out, and the submission is there.
 fn assert_cut<K: Keeper + Drop>(
     alloc: Global,
     served: &mut Served<K>,
@@ -147,17 +170,14 @@ fn assert_cut<K: Keeper + Drop>(
 #[test]
 fn a_write_that_fails_after_each_byte(rt: HostRuntime) -> Result<(), Fail> {
     for room in 0..MADE.len() {
-        let mut served = Served::opened(rt.alloc())?;
-        let done = assert_cut(rt.alloc(), &mut served, &MADE[..room]);
-        drop(served);
-        done?;
+        let taken = &MADE[..room];
+        over_lists(&rt, FailingWrite { taken })?;
     }
     Ok(())
 }
 
 #[test]
 fn one_write_where_it_is_taken_whole(rt: HostRuntime) -> Result<(), Fail> {
-    let mut served = Served::opened(rt.alloc())?;
     let mut reader = SUBMISSION;
     let mut writer = FailsAfter {
         taken: Vec::new(rt.alloc()),
@@ -165,8 +185,7 @@ fn one_write_where_it_is_taken_whole(rt: HostRuntime) -> Result<(), Fail> {
         most: MADE.len(),
         writes: 0,
     };
-    let done = served.serve(rt.alloc(), &mut reader, &mut writer);
-    drop(served);
+    let done = opened(&rt, &mut reader, &mut writer)?;
     ensure(done == Ok(201), "the status")?;
     ensure(writer.taken.as_slice() == MADE, "the answer")?;
     ensure(writer.writes == 1, "one write")

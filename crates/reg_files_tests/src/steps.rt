@@ -1,0 +1,192 @@
+//! What a test of jobs over a file does, step by step.
+use reg_files::Files;
+use reg_jobs::command_line::job;
+use reg_jobs::jobs::Job;
+use reg_program::performing::perform;
+use reg_testing::facts::ensure;
+use sqlite::Connection;
+use std::alloc::Global;
+use std::path::PathBuf;
+use std::test::Fail;
+use std::{env, fs};
+
+/// A step of a test. In a command line `@` stands for the path of the office's file, and `#` for that
+/// of the range file.
+#[derive(Clone, Copy)]
+pub enum Step {
+    /// A command line prints this, and nothing else.
+    Prints(&'static str, &'static str),
+    /// A command line is not done, with this on standard error.
+    Undone(&'static str, &'static str),
+    /// No job opens the file, and each says this on standard error.
+    Unopened(&'static str),
+    /// This is written to the office's file.
+    Office(&'static str),
+    /// This is written to the range file.
+    Ranges(&'static str),
+    /// So many bytes are written to the range file.
+    LongRanges(usize),
+    /// A statement is carried out in the office's file.
+    Executes(&'static str),
+    /// The office's file has this.
+    Has(&'static str),
+    /// The files are removed.
+    Removed,
+}
+
+/// The files of a test.
+#[derive(Drop)]
+struct Paths {
+    office: String,
+    ranges: String,
+}
+
+impl Paths {
+    // Files of this name, of which nothing is there.
+    fn new(rt: &HostRuntime, name: &str) -> Result<Paths, Fail> {
+        let office = path_of(rt, name, "db")?;
+        let ranges = path_of(rt, name, "csv")?;
+        let paths = Paths { office, ranges };
+        paths.remove(rt)?;
+        Ok(paths)
+    }
+
+    // Removes the files, and the log beside the office's, as far as they are there.
+    fn remove(&self, rt: &HostRuntime) -> Result<(), Fail> {
+        let office = self.office.as_str();
+        let log = format!(in rt.alloc(); "{office}-wal")?;
+        let _ = fs::remove_file(rt, office);
+        let _ = fs::remove_file(rt, log.as_str());
+        let _ = fs::remove_file(rt, self.ranges.as_str());
+        Ok(())
+    }
+
+    // The word, or the path for which it stands.
+    fn word<'a>(&'a self, word: &'a str) -> &'a str {
+        match word {
+            "@" => self.office.as_str(),
+            "#" => self.ranges.as_str(),
+            _ => word,
+        }
+    }
+}
+
+fn path_of(rt: &HostRuntime, name: &str, kind: &str) -> Result<String, Fail> {
+    let mut path: PathBuf = env::temp_dir(rt)?;
+    let file = format!(in rt.alloc(); "reg_cli_{name}.{kind}")?;
+    path.push(file.as_str())?;
+    let text = path.as_path().to_str().ok_or("no text")?;
+    Ok(String::from_str(rt.alloc(), text)?)
+}
+
+/// What a command line gave: the exit status, standard output and standard error.
+#[derive(Drop)]
+struct Outcome {
+    status: u8,
+    output: Vec<u8>,
+    errors: Vec<u8>,
+}
+
+// The job of a command line, its words apart by a space each.
+fn job_of(alloc: Global, paths: &Paths, line: &str) -> Result<Job, Fail> {
+    let mut words = Vec::new(alloc);
+    words.push("reg_cli")?;
+    for word in line.split(' ') {
+        words.push(paths.word(word))?;
+    }
+    match job(alloc, words.as_slice()) {
+        Ok(job) => Ok(job),
+        Err(_) => Err("no command line".into()),
+    }
+}
+
+// What a command line gives.
+fn done(rt: &HostRuntime, paths: &Paths, line: &str) -> Result<Outcome, Fail> {
+    let alloc = rt.alloc();
+    let job = job_of(alloc, paths, line)?;
+    let mut output = Vec::new(alloc);
+    let mut errors = Vec::new(alloc);
+    let mut input: &[u8] = b"";
+    let status = perform(rt, &Files, job, &mut input, &mut output, &mut errors);
+    Ok(Outcome {
+        status,
+        output,
+        errors,
+    })
+}
+
+fn assert_prints(rt: &HostRuntime, paths: &Paths, line: &str, wanted: &str) -> Result<(), Fail> {
+    let given = done(rt, paths, line)?;
+    ensure(given.errors.is_empty(), line)?;
+    ensure(given.output.as_slice() == wanted.as_bytes(), line)?;
+    ensure(given.status == 0, line)
+}
+
+fn assert_undone(rt: &HostRuntime, paths: &Paths, line: &str, wanted: &str) -> Result<(), Fail> {
+    let given = done(rt, paths, line)?;
+    ensure(given.errors.as_slice() == wanted.as_bytes(), line)?;
+    ensure(given.output.is_empty(), line)?;
+    ensure(given.status == 1, line)
+}
+
+// What opens an office.
+const OPENINGS: [&str; 4] = [
+    "init @ --clerk short",
+    "serve @ --port 1",
+    "listing @",
+    "listing @ --registry codes",
+];
+
+fn assert_unopened(rt: &HostRuntime, paths: &Paths, wanted: &str) -> Result<(), Fail> {
+    for line in OPENINGS {
+        assert_undone(rt, paths, line, wanted)?;
+    }
+    Ok(())
+}
+
+fn write_many(rt: &HostRuntime, path: &str, count: usize) -> Result<(), Fail> {
+    let mut bytes = Vec::new(rt.alloc());
+    for _ in 0..count {
+        bytes.push(b'x')?;
+    }
+    fs::write(rt, path, bytes.as_slice())?;
+    Ok(())
+}
+
+fn execute(rt: &HostRuntime, path: &str, sql: &str) -> Result<(), Fail> {
+    let Ok(mut conn) = Connection::open(rt, path) else {
+        return Err("not opened".into());
+    };
+    let done = conn.execute(sql, &[]);
+    drop(conn);
+    ensure(done.is_ok(), sql)
+}
+
+fn assert_has(rt: &HostRuntime, path: &str, text: &str) -> Result<(), Fail> {
+    let left = fs::read(rt, path)?;
+    ensure(left.as_slice() == text.as_bytes(), "the file as it was")
+}
+
+fn take_step(rt: &HostRuntime, paths: &Paths, step: &Step) -> Result<(), Fail> {
+    let (office, ranges) = (paths.office.as_str(), paths.ranges.as_str());
+    match step {
+        Step::Prints(line, wanted) => assert_prints(rt, paths, line, wanted),
+        Step::Undone(line, wanted) => assert_undone(rt, paths, line, wanted),
+        Step::Unopened(wanted) => assert_unopened(rt, paths, wanted),
+        Step::Office(text) => Ok(fs::write(rt, office, text.as_bytes())?),
+        Step::Ranges(text) => Ok(fs::write(rt, ranges, text.as_bytes())?),
+        Step::LongRanges(count) => write_many(rt, ranges, *count),
+        Step::Executes(sql) => execute(rt, office, sql),
+        Step::Has(text) => assert_has(rt, office, text),
+        Step::Removed => paths.remove(rt),
+    }
+}
+
+/// Takes these steps, with files of this name that are not there before, nor after.
+pub fn assert_steps(rt: &HostRuntime, name: &str, steps: &[Step]) -> Result<(), Fail> {
+    let paths = Paths::new(rt, name)?;
+    for step in steps {
+        take_step(rt, &paths, step)?;
+    }
+    paths.remove(rt)
+}

@@ -1,0 +1,13 @@
+//! Offices in tables over disks in memory: disks that stop at each call of a line, and stores by other
+//! hands.
+mod asking;
+mod calls;
+mod counted;
+mod founding;
+mod image;
+mod left;
+mod lines;
+mod making;
+mod openings;
+mod rows;
+mod sessions;
