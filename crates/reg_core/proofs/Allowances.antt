@@ -130,7 +130,7 @@ early_allows rows account ask allowance h =
 abbrev RenewalAllows : Ground → List ℕ → RenewalAsk → Allowance → Type 0
 RenewalAllows rows account ask =
     Keeps rows account ask.value (λ policy. early_unmet policy ask.evidence ≡ [])
-    (λ term. (u : Unit {0}) × (may_renew (renewable term) ≡ Ok u))
+    (λ term. (u : Unit {0}) × (may_renew (renewable term (is_some ask.iesg)) ≡ Ok u))
     (λ own. entry_kept ask.registry ask.value own (renewed own.term)) (λ policy. false)
 
 renewal_allows : (rows : Ground) (account : List ℕ) (ask : RenewalAsk) (allowance : Allowance)
@@ -142,7 +142,7 @@ renewal_allows rows account ask allowance h =
     let met = went_on (is_met_early (first_item (early_unmet policy.0 ask.evidence))) _ allowance
     policy.2 in
     let own = went_on (own_entry account rows.entry) _ allowance met.2 in
-    let last = went_on (may_renew (renewable own.0.term)) _ allowance own.2 in
+    let last = went_on (may_renew (renewable own.0.term (is_some ask.iesg))) _ allowance own.2 in
     let is = own_is account rows.entry own.0 own.1 in
     record {
       table = there.0;
@@ -409,7 +409,7 @@ allowed_duly w kept account (Renew ask) today allowance e h award =
       renewed_term is.own.term today,
       record { registry_is = refl; label_is = refl; assignee_is = is.owns; term_is = refl },
       renewal_may w kept account allowance ask is,
-      renews is.own.term is.may.0 is.may.1 today,
+      renews is.own.term (is_some ask.iesg) is.may.0 is.may.1 today,
     )
 allowed_duly w kept account (Permanent ask) today allowance e h award =
     let is = permanence_allows (ground_of (published w) (Permanent ask)) account ask allowance h in
@@ -447,7 +447,10 @@ allowed_asked w kept account (Renew ask) given h =
     let is = renewal_allows rows account ask whole.0 whole.1 in (
       is.own,
       renewal_may w kept account whole.0 ask is,
-      λ day. (renewed_term is.own.term day, renews is.own.term is.may.0 is.may.1 day),
+      λ day. (
+        renewed_term is.own.term day,
+        renews is.own.term (is_some ask.iesg) is.may.0 is.may.1 day,
+      ),
     )
 allowed_asked w kept account (Permanent ask) given h =
     let rows = ground_of (published w) (Permanent ask) in

@@ -4,7 +4,7 @@ use Rattle.std.proofs.Common.{◌≡◌, ℕ, Bool, true, List, refl, ap, subst,
 use Rattle.std.proofs.lemmas.Bool.Decides.{nat_tests}
 use Rattle.std.specs.Cmp.{first_so, second_so}
 use Rattle.std.specs.Cmp.Derive.{both_true}
-use Rattle.std.specs.Prelude.{Option, Some, None, Result, Ok, nat_le}
+use Rattle.std.specs.Prelude.{Option, Some, None, Result, Ok, nat_le, not}
 use Rattle.std.specs.FinMap.{get, contains_key}
 use Rattle.reg_early.specs.Moment.{is_in_clock, utc_day}
 use Rattle.reg_early.proofs.MomentsHaveDays.{IsDay-utc_day}
@@ -18,10 +18,10 @@ use Rattle.reg_core.specs.Capability.{last_until, has_cap_form}
 use Rattle.reg_core.specs.Entry.{has_day_form}
 use Rattle.reg_core.specs.Laws.{GivesDigests, ChangesFit, IsOfAsk}
 use Rattle.reg_core.specs.Names.{is_name, is_digest}
-use Rattle.reg_core.specs.Rules.{withdraw_rule, listing_rule, decline_rule, assign_rule, advise_rule, change_to_give, approve_rule, define_rule, pool_rule, grant_rule, revoke_rule, submit_rule}
+use Rattle.reg_core.specs.Rules.{withdraw_rule, listing_rule, agent_rule, decline_rule, hold_rule, assign_rule, advise_rule, change_to_give, approve_rule, define_rule, pool_rule, grant_rule, revoke_rule, submit_rule}
 use Rattle.reg_core.specs.View.{Queued, published, cap_at}
 use Rattle.reg_core.specs.WellKept.{WellKept, CanApply, has_grant_form, has_registry_form, has_request_form}
-use Rattle.reg_core.specs.World.{World, RequestName, pending}
+use Rattle.reg_core.specs.World.{World, Link, Place, RequestName, pending}
 use Rattle.reg_core.specs.declared.advice.Advice.{Advice}
 use Rattle.reg_core.specs.declared.ask.Ask.{Ask}
 use Rattle.reg_core.specs.declared.ask.Ask.TheVariants.{Block}
@@ -29,17 +29,18 @@ use Rattle.reg_blocks.specs.Block.{SizedPrefix}
 use Rattle.reg_core.specs.declared.capability.Cap.{Cap}
 use Rattle.reg_core.specs.declared.holding.Holder.{Holder}
 use Rattle.reg_core.specs.declared.change.Change.{Change}
-use Rattle.reg_core.specs.declared.change.Change.TheVariants.{Grant, Revoke, Define, AddPool, Submit, Close, Assign, Advise, GiveValue, GiveBlock, SetPrivate}
+use Rattle.reg_core.specs.declared.change.Change.TheVariants.{Grant, Revoke, Define, AddPool, Submit, Close, Assign, Advise, GiveValue, GiveBlock, SetPrivate, SetHold, SetAgent}
 use Rattle.reg_core.specs.declared.decide.Decision.TheVariants.{Make}
+use Rattle.reg_core.specs.declared.entry.Registration.{Registration}
 use Rattle.reg_core.specs.declared.refusal.Refusal.{Refusal}
 use Rattle.reg_core.specs.declared.request.Case.{Case}
 use Rattle.reg_core.specs.declared.request.Given.{Given}
 use Rattle.reg_core.specs.declared.request.State.TheVariants.{Pending, Approved, Declined, Withdrawn}
 use Rattle.reg_core.proofs.Allowances.{allowed_duly, allowed_of_ask, allows_block}
 use Rattle.reg_core.proofs.Blocks.{due_is_due}
-use Rattle.reg_core.proofs.Keeping.Changes.{can_grant, can_revoke, can_define, can_add_pool, can_submit, can_close, can_assign, can_advise, can_give}
+use Rattle.reg_core.proofs.Keeping.Changes.{can_grant, can_revoke, can_define, can_add_pool, can_submit, can_close, can_assign, can_advise, can_give, can_hold, can_link}
 use Rattle.reg_core.proofs.Keeping.Blocks.{can_give_block, can_mark}
-use Rattle.reg_core.proofs.Outcomes.Deciding.{where_made, Defines, Pools, Grants, Revokes, Submits, Withdraws, Lists, Declines, Assigns, Advises, Approves, define_decides, pool_decides, grant_decides, revoke_decides, submit_decides, withdraw_decides, listing_decides, decline_decides, assign_decides, advise_decides, approve_decides}
+use Rattle.reg_core.proofs.Outcomes.Deciding.{where_made, Defines, Pools, Grants, Revokes, Submits, Withdraws, Lists, Links, Declines, HoldsEntry, Assigns, Advises, Approves, define_decides, pool_decides, grant_decides, revoke_decides, submit_decides, withdraw_decides, listing_decides, agent_decides, decline_decides, hold_decides, assign_decides, advise_decides, approve_decides}
 use Rattle.reg_core.proofs.Outcomes.Dues.{Due, has_change_form, changes_due}
 use Rattle.reg_core.proofs.Queues.{IsQueued}
 
@@ -105,6 +106,25 @@ listing_fits w block private h change kept is_there made =
     where_made (Lists block private h.private) (Ok (listing_rule block private h.private)) change
     (listing_decides block private h.private) (ap Ok made) (CanApply w)
     (λ other. can_mark w block private h kept is_there)
+
+-- an agent that is to be added or taken away fits the world that has it, or has it not
+pub agent_fits : (w : World) (link : Link) (reads : Bool) (change : Change) → WellKept w
+    → is_name link.0 ≡ true → is_name link.1 ≡ true
+    → agent_rule link reads (contains_key w.agents link) ≡ Ok (Make change) → CanApply w change
+agent_fits w link reads change kept principal agent made =
+    where_made (Links link reads (contains_key w.agents link)) _ change
+    (agent_decides link reads (contains_key w.agents link)) made (CanApply w)
+    (λ facts.
+    can_link w link reads kept (both_true (both_true principal agent) (ap not facts.0)) facts.1)
+
+-- a mark that is to be set fits the world that has this entry
+pub hold_fits : (w : World) (place : Place) (a : Registration) (held : Bool) (today : ℕ)
+    (change : Change) → WellKept w → get w.entries place ≡ Some a
+    → hold_rule place held a.term today ≡ Ok (Make change) → CanApply w change
+hold_fits w place a held today change kept is_there made =
+    where_made (HoldsEntry place held a.term today) _ change
+    (hold_decides place held a.term today) made (CanApply w)
+    (λ facts. can_hold w place held a kept is_there facts.0 facts.1)
 
 pub decline_fits : (w : World) (name : RequestName) (case : Case) (reason : List ℕ)
     (change : Change) → WellKept w → get w.requests name ≡ Some case
@@ -236,6 +256,14 @@ module _ (w : World) (kept : WellKept w) (caller : Option (List ℕ)) (moment : 
       is.pending.is_there is.asks is.due)
   due_fits (SetPrivate block private) due form =
       can_mark w block private due.holder kept due.is_there
+  due_fits (SetHold name value held) due form =
+      let is = due.1 in
+      can_hold w (name, value) held is.entry kept is.is_there is.expires is.turned
+  due_fits (SetAgent principal agent reads) due form =
+      let mine = subst (λ a. is_name a ≡ true) due.0.own
+      (known_account w caller due.0.serves.cap kept due.0.serves.is_there) in
+      can_link w (principal, agent) reads kept
+      (both_true (both_true mine form) (ap not due.1)) due.2
 
 pub steps_fit : (digest_of : List ℕ → List ℕ) → GivesDigests digest_of → ChangesFit digest_of
 steps_fit digest_of digests w caller moment command change kept form made =

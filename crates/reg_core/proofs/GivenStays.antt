@@ -1,6 +1,6 @@
 -- What a well kept world has stays in every run.
 use Rattle.std.proofs.Common.{◌≡◌, ℕ, Bool, true, false, cond, List, [], ◌∷◌, refl, sym, ap, subst, ◌∙◌}
-use Rattle.std.specs.Prelude.{Option, Some, None, is_some, option_map}
+use Rattle.std.specs.Prelude.{Option, Some, None, IsSome, is_some, option_map}
 use Rattle.std.specs.Cmp.{first_so, second_so}
 use Rattle.std.specs.declared.cmp.Ordering.{Ordering}
 use Rattle.std.specs.Ordering.{eq_by_cmp}
@@ -11,7 +11,7 @@ use Rattle.reg_early.specs.Moment.{is_in_clock, utc_day}
 use Rattle.reg_early.proofs.MomentsHaveDays.{IsDay-utc_day}
 use Rattle.reg_ranges.specs.Tables.{Table}
 use Rattle.reg_core.specs.Command.{has_command_form}
-use Rattle.reg_core.specs.Entry.{registration_in}
+use Rattle.reg_core.specs.Entry.{registration_in, with_hold}
 use Rattle.reg_core.specs.Holding.{holder_in, with_mark}
 use Rattle.reg_blocks.specs.Block.{SizedPrefix, block_cmp}
 use Rattle.reg_core.specs.Laws.{GivesDigests, GivenStays, SameReview, Stays, StillGiven, StillHeld, StillStands, StillAsks}
@@ -20,7 +20,7 @@ use Rattle.reg_core.specs.MayBeGiven.{IsDuly, place_of}
 use Rattle.reg_core.specs.Request.{is_pending}
 use Rattle.reg_core.specs.Run.{Event, have_forms, step_of, world_after}
 use Rattle.reg_core.specs.WellKept.{WellKept}
-use Rattle.reg_core.specs.World.{World, RequestName, Place, Seat, name_cmp, place_cmp, seat_cmp, in_state, pending, applied, applied_if}
+use Rattle.reg_core.specs.World.{World, RequestName, Place, Seat, name_cmp, place_cmp, seat_cmp, link_cmp, in_state, pending, applied, applied_if}
 use Rattle.reg_core.specs.declared.advice.Advice.{Advice}
 use Rattle.reg_core.specs.declared.ask.Ask.{Ask}
 use Rattle.reg_core.specs.declared.change.Change.{Change}
@@ -36,10 +36,10 @@ use Rattle.reg_core.specs.declared.request.State.TheVariants.{Pending, Approved,
 use Rattle.reg_core.proofs.Keeping.RunsKeepWell.{step_keeps_well}
 use Rattle.reg_core.proofs.KeySets.{still_in}
 use Rattle.reg_core.proofs.MapLaws.{IsKeyOrder, number_keys, text_keys, name_keys, place_keys, seat_keys, block_keys, tied, get-at_insert, get-update}
-use Rattle.reg_core.specs.declared.change.Change.TheVariants.{Grant, Revoke, Define, AddPool, Submit, Close, Assign, Advise, GiveValue, GiveBlock, SetPrivate}
+use Rattle.reg_core.specs.declared.change.Change.TheVariants.{Grant, Revoke, Define, AddPool, Submit, Close, Assign, Advise, GiveValue, GiveBlock, SetPrivate, SetHold, SetAgent}
 use Rattle.reg_core.proofs.Blocks.{due_is_new}
-use Rattle.reg_core.proofs.Outcomes.Dues.{WasPending, Due, each_step}
-use Rattle.reg_core.proofs.TermsStand.{term_stands, term_stands_on, given_duly, still_given}
+use Rattle.reg_core.proofs.Outcomes.Dues.{WasPending, MarksEntry, Due, each_step}
+use Rattle.reg_core.proofs.TermsStand.{term_stands, marked_stands, term_stands_on, given_duly, still_given}
 
 -- ---- Nothing goes away
 
@@ -153,14 +153,15 @@ module _ {K X : Type 0} {R : K → K → Ordering} (o : IsKeyOrder R) (m : FinMa
       by true t = let none : get m q ≡ None = ap (get m) (tied o q k t) ∙ free in absurd (cc)
       by false t = get-at_insert o m k v q ∙ ap (λ b. cond b (Some v) (get m q)) t ∙ is
 
--- of capabilities nothing is said, nor of who reviews a pending request, and of advice on one
+-- of capabilities and agents nothing is said, nor of who reviews a pending request, and of advice on
+-- one
 registers_stay : (w : World) (caps : FinMap text_cmp Cap) (queue : FinSet seat_cmp)
-    (advice : FinMap seat_cmp Advice)
+    (advice : FinMap seat_cmp Advice) (agents : FinSet link_cmp)
     → ((name : RequestName) (case : Case) → get w.requests name ≡ Some case
     → is_pending case.state ≡ false
-    → SameReview w (record w { caps = caps; queue = queue; advice = advice }) name)
-    → Stays w (record w { caps = caps; queue = queue; advice = advice })
-registers_stay w caps queue advice reviewed = record {
+    → SameReview w (record w { caps = caps; queue = queue; advice = advice; agents = agents }) name)
+    → Stays w (record w { caps = caps; queue = queue; advice = advice; agents = agents })
+registers_stay w caps queue advice agents reviewed = record {
   registries = λ name table is. is;
   entries = λ place a is. given_itself a (get w.entries place) is;
   requests = λ name case is. asks_itself case (get w.requests name) is;
@@ -338,6 +339,38 @@ mark_stays w block private = record {
         subst (λ o. StillHeld h (option_map (with_mark private) o)) (sym there) (refl, refl, refl)
     by other h is false t = held_itself h (get w.blocks other) is
 
+-- so may the mark of an entry that expires
+hold_stays : (w : World) (place : Place) (held : Bool) {today : ℕ} → MarksEntry w today place held
+    → Stays w (applied w (SetHold place.0 place.1 held))
+hold_stays w place held marks = record {
+  registries = λ name table is. is;
+  entries = λ other a is.
+      subst (StillGiven a)
+      (sym (get-update place_keys w.entries place (with_hold held) other))
+      (by other a is (eq_by_cmp place_cmp other place) refl);
+  requests = λ name case is. asks_itself case (get w.requests name) is;
+  reviews = λ name case is decided expert. (refl, refl);
+  pool = λ prefix there. there;
+  blocks = λ block h is. held_itself h (get w.blocks block) is;
+}
+  where
+    by : (other : Place) (a : Registration) → get w.entries other ≡ Some a → (b : Bool)
+        → eq_by_cmp place_cmp other place ≡ b
+        → StillGiven a
+        (cond b (option_map (with_hold held) (get w.entries place)) (get w.entries other))
+    by other a is true t =
+        let there : get w.entries place ≡ Some a =
+        ap (get w.entries) (sym (tied place_keys other place t)) ∙ is in
+        let both : Some marks.entry ≡ Some a = sym marks.is_there ∙ there in
+        let same : marks.entry ≡ a = cc in
+        subst (λ o. StillGiven a (option_map (with_hold held) o)) (sym there) (
+          refl,
+          refl,
+          marked_stands a.term held
+              (subst (λ (r : Registration). IsSome r.term.expires) same marks.expires),
+        )
+    by other a is false t = given_itself a (get w.entries other) is
+
 -- ---- Each change of a step
 
 -- a line for each change
@@ -345,20 +378,20 @@ module _ (w : World) (kept : WellKept w) (caller : Option (List ℕ)) (moment : 
     (is_open : is_in_clock moment ≡ true) where
   due_stays : (change : Change) → Due w caller moment change → Stays w (applied w change)
   due_stays (Grant digest cap) due =
-      registers_stay w (insert w.caps digest cap) w.queue w.advice
+      registers_stay w (insert w.caps digest cap) w.queue w.advice w.agents
       (λ name case is decided expert. (refl, refl))
   due_stays (Revoke digest) due =
-      registers_stay w (remove w.caps digest) w.queue w.advice
+      registers_stay w (remove w.caps digest) w.queue w.advice w.agents
       (λ name case is decided expert. (refl, refl))
   due_stays (Define name table) due = define_stays w name table due.1
   due_stays (AddPool prefix) due = pool_stays w prefix
   due_stays (Submit account reference ask) due = submit_stays w (account, reference) ask due.1
   due_stays (Close account reference state) due = close_stays w (account, reference) state due.0
   due_stays (Assign account reference expert) due =
-      registers_stay w w.caps (insert w.queue ((account, reference), expert) tt) w.advice
+      registers_stay w w.caps (insert w.queue ((account, reference), expert) tt) w.advice w.agents
       (assigned_review w (account, reference) due.1 expert)
   due_stays (Advise account reference expert advice) due =
-      registers_stay w w.caps w.queue (insert w.advice ((account, reference), expert) advice)
+      registers_stay w w.caps w.queue (insert w.advice ((account, reference), expert) advice) w.agents
       (advised_review w (account, reference) due.1 expert advice)
   due_stays (GiveValue account reference entry) due =
       let is = given_duly w kept (utc_day moment) account reference entry due.1 in
@@ -369,6 +402,13 @@ module _ (w : World) (kept : WellKept w) (caller : Option (List ℕ)) (moment : 
       give_block_stays w (account, reference) holding is.pending
       (due_is_new w is.ask.size holding.block is.due)
   due_stays (SetPrivate block private) due = mark_stays w block private
+  due_stays (SetHold name value held) due = hold_stays w (name, value) held due.1
+  due_stays (SetAgent principal agent true) due =
+      registers_stay w w.caps w.queue w.advice (insert w.agents (principal, agent) tt)
+      (λ name case is decided expert. (refl, refl))
+  due_stays (SetAgent principal agent false) due =
+      registers_stay w w.caps w.queue w.advice (remove w.agents (principal, agent))
+      (λ name case is decided expert. (refl, refl))
 
 -- ---- Steps and runs
 

@@ -6,8 +6,10 @@ pub mod KeySets
 pub mod VerdictsReadBack
 pub mod SamenessIsDecided
 pub mod Stepping
+pub mod Links
 pub mod Blocks
 pub mod Queues
+pub mod Agents
 pub mod Files
 pub mod ValuesIn
 pub mod Terms
@@ -23,6 +25,7 @@ pub mod BlocksAreGivenDuly
 pub mod TwoWorlds
 pub mod ValuesAreGivenOnce
 pub mod TermsMoveDuly
+pub mod LinksAreTheirPrincipals
 pub mod AsksInVain
 pub mod Repeats
 pub mod Striking

@@ -1,15 +1,16 @@
--- What an account's queue has, and how a change of the account's own changes it.
+-- What an account's queue has, and how a change of the account's own changes it, and what it sees of
+-- its principals.
 use Rattle.std.proofs.Common.{◌≡◌, ℕ, Bool, true, false, cond, List, refl, sym, ap, ◌∙◌}
-use Rattle.std.specs.Prelude.{Option, Some, None, option_map, option_and_then, not}
+use Rattle.std.specs.Prelude.{Option, Some, None, option_map, option_and_then, not, ◌&&◌}
 use Rattle.std.specs.Cmp.{second_so}
 use Rattle.std.specs.declared.cmp.Ordering.{Ordering}
 use Rattle.std.specs.declared.cmp.Ordering.TheVariants.{Less, Equal, Greater}
 use Rattle.std.specs.Ordering.{eq_by_cmp, is_eq, ordering_then}
 use Rattle.std.specs.FinMap.{FinMap, get, insert, contains_key}
-use Rattle.reg_core.specs.Maps.{text_cmp, same_text, only_if, update}
+use Rattle.reg_core.specs.Maps.{text_cmp, same_text, only_if, select, update}
 use Rattle.reg_core.specs.Names.{is_name}
 use Rattle.reg_core.specs.Queue.{with_advice}
-use Rattle.reg_core.specs.View.{Queued, as_queued, queued_to, queue_of}
+use Rattle.reg_core.specs.View.{Queued, as_queued, queued_to, queue_of, principal_rows_of}
 use Rattle.reg_core.specs.WellKept.{WellKept}
 use Rattle.reg_core.specs.World.{World, RequestName, name_cmp}
 use Rattle.reg_core.specs.declared.advice.Advice.{Advice}
@@ -97,40 +98,58 @@ module _ (account reference : List ℕ) (m : FinMap name_cmp Case) where
       by true t = absurd (own_apart name other t)
       by false t = refl
 
+-- what is shown of requests of others alone does not change with an account's own
+pub others_same : {Y : Type 0} (account : List ℕ) (shows : RequestName → Bool)
+    (row : RequestName → Case → Y) (m n : FinMap name_cmp Case)
+    → ((name : RequestName) → shows name ≡ true → same_text account name.0 ≡ false)
+    → SameOthers account m n
+    → select (λ name case. only_if (shows name) (row name case)) m
+    ≡ select (λ name case. only_if (shows name) (row name case)) n
+others_same {Y = Y} account shows row m n others same = same_at name_keys _ _ (λ name.
+    get-select name_keys (λ name case. only_if (shows name) (row name case)) m name
+    ∙ by name (shows name) refl
+    ∙ sym (get-select name_keys (λ name case. only_if (shows name) (row name case)) n name))
+  where
+    none : (shown : Case → Y) (o r : Option Case)
+        → option_and_then (λ case. only_if false (shown case)) o
+        ≡ option_and_then (λ case. only_if false (shown case)) r
+    none shown None None = refl
+    none shown None (Some case) = refl
+    none shown (Some case) None = refl
+    none shown (Some case) (Some old) = refl
+
+    by : (name : RequestName) (b : Bool) → shows name ≡ b
+        → option_and_then (λ case. only_if b (row name case)) (get m name)
+        ≡ option_and_then (λ case. only_if b (row name case)) (get n name)
+    by name true t =
+        ap (option_and_then (λ case. only_if true (row name case))) (same name (others name t))
+    by name false t = none (row name) (get m name) (get n name)
+
+not_true : (b : Bool) → not b ≡ true → b ≡ false
+not_true true h = absurd (cc)
+not_true false h = refl
+
 -- no request is queued to its applicant, so an account's queue does not change with its own
 -- requests
 pub queue_same : (account : List ℕ) (w : World) (requests : FinMap name_cmp Case) → WellKept w
     → SameOthers account requests w.requests
     → queue_of account (record w { requests = requests }) ≡ queue_of account w
-queue_same account w requests kept same = same_at name_keys _ _ (λ name.
-    get-queue_of account (record w { requests = requests }) name
-    ∙ by name (contains_key w.queue (name, account)) refl ∙ sym (get-queue_of account w name))
-  where
-    none : (queued : Case → Queued) (o r : Option Case)
-        → option_and_then (λ case. only_if false (queued case)) o
-        ≡ option_and_then (λ case. only_if false (queued case)) r
-    none queued None None = refl
-    none queued None (Some case) = refl
-    none queued (Some case) None = refl
-    none queued (Some case) (Some old) = refl
+queue_same account w requests kept =
+    others_same account (λ name. contains_key w.queue (name, account))
+    (λ name case. as_queued (get w.advice (name, account)) case) requests w.requests
+    (λ name t. not_true (same_text account name.0)
+    (second_so (is_name account) (not (same_text account name.0)) (kept.queue (name, account) t)))
 
-    not_true : (b : Bool) → not b ≡ true → b ≡ false
-    not_true true h = absurd (cc)
-    not_true false h = refl
-
-    by : (name : RequestName) (b : Bool) → contains_key w.queue (name, account) ≡ b
-        → option_and_then (λ case. only_if b (as_queued (get w.advice (name, account)) case))
-        (get requests name)
-        ≡ option_and_then (λ case. only_if b (as_queued (get w.advice (name, account)) case))
-        (get w.requests name)
-    by name true t =
-        let other = not_true (same_text account name.0)
-        (second_so (is_name account) (not (same_text account name.0))
-        (kept.queue (name, account) t)) in
-        ap (option_and_then (λ case. only_if true (as_queued (get w.advice (name, account)) case)))
-        (same name other)
-    by name false t =
-        none (as_queued (get w.advice (name, account))) (get requests name) (get w.requests name)
+-- nor do the requests of its principals, since no account is its own agent
+pub principal_rows_same : (account : List ℕ) (w : World) (requests : FinMap name_cmp Case)
+    → WellKept w → SameOthers account requests w.requests
+    → principal_rows_of account (record w { requests = requests }) ≡ principal_rows_of account w
+principal_rows_same account w requests kept =
+    others_same account (λ name. contains_key w.agents (name.0, account)) (λ name case. case)
+    requests w.requests
+    (λ name t. not_true (same_text account name.0)
+    (second_so (is_name name.0 && is_name account) (not (same_text account name.0))
+    (kept.agents (name.0, account) t)))
 
 -- ---- Own advice
 

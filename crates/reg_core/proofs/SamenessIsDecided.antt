@@ -193,16 +193,27 @@ early_decided a b =
 
 renewal_decided : (a b : RenewalAsk) → Decides (same_renewal a b) (a ≡ b)
 renewal_decided a b =
+    let iesg = option_eq bytes_eq a.iesg b.iesg in
     let evidence = same_early_evidence a.evidence b.evidence in
-    let parts = both_decided (bytes_eq a.registry b.registry) ((a.value == b.value) && evidence)
-    (bytes_eq-Decides a.registry b.registry)
-    (both_decided (a.value == b.value) evidence (unsigned_Decides a.value b.value)
-    (early_evidence_decided a.evidence b.evidence)) in (
+    let parts = both_decided (bytes_eq a.registry b.registry)
+    ((a.value == b.value) && (evidence && iesg)) (bytes_eq-Decides a.registry b.registry)
+    (both_decided (a.value == b.value) (evidence && iesg) (unsigned_Decides a.value b.value)
+    (both_decided evidence iesg (early_evidence_decided a.evidence b.evidence)
+    (text_decided a.iesg b.iesg))) in (
       λ h. let e = parts.0 h in
-          λ i. record { registry = e.0 i; value = e.1.0 i; evidence = e.1.1 i },
+          λ i. record {
+            registry = e.0 i;
+            value = e.1.0 i;
+            evidence = e.1.1.0 i;
+            iesg =
+                e.1.1.1 i;
+          },
       λ e. parts.1 (
         ap (λ (x : RenewalAsk). x.registry) e,
-        (ap (λ (x : RenewalAsk). x.value) e, ap (λ (x : RenewalAsk). x.evidence) e),
+        (
+          ap (λ (x : RenewalAsk). x.value) e,
+          (ap (λ (x : RenewalAsk). x.evidence) e, ap (λ (x : RenewalAsk). x.iesg) e),
+        ),
       ),
     )
 

@@ -138,12 +138,13 @@ module _ (digest_of : List ℕ → List ℕ) (account : List ℕ) (hidden : Requ
 
 -- ---- The law
 
-three_false : (a b c : Bool) → (not a && not b && not c) ≡ true
-    → (a ≡ false) × (b ≡ false) × (c ≡ false)
-three_false false false false h = (refl, refl, refl)
-three_false true b c h = absurd (cc)
-three_false false true c h = absurd (cc)
-three_false false false true h = absurd (cc)
+four_false : (a b c d : Bool) → (not a && not b && not c && not d) ≡ true
+    → (a ≡ false) × (b ≡ false) × (c ≡ false) × (d ≡ false)
+four_false false false false false h = (refl, refl, refl, refl)
+four_false true b c d h = absurd (cc)
+four_false false true c d h = absurd (cc)
+four_false false false true d h = absurd (cc)
+four_false false false false true h = absurd (cc)
 
 is_none : {X : Type 0} (existing : Option X) → is_some existing ≡ false → existing ≡ None
 is_none None h = refl
@@ -155,14 +156,18 @@ unseen_leave_no_trace digest_of account w events =
     let shown = λ (name : RequestName).
     list_any (λ s. reveals_if account name s.change) (stages digest_of w events) in
     let none = λ (name : RequestName) (h : unseen name ≡ true).
-    three_false (same_text name.0 account) (contains_key w.queue (name, account)) (shown name) h in
+    four_false (same_text name.0 account) (contains_key w.queue (name, account))
+    (contains_key w.agents (name.0, account)) (shown name) h in
     let blind : Blind account unseen w =
-    record { no_seat = λ name h. is_none _ (none name h).1 } in
+    record {
+      no_seat = λ name h. is_none _ (none name h).1;
+      no_link = λ name h. (none name h).2;
+    } in
     let un : Unaware account unseen w w = record {
       agree = agree_itself unseen w;
       not_own = λ name h. (none name h).0;
       blind_w = blind;
       blind_v = blind;
     } in
-    let runs = followed digest_of account unseen events w w un (λ name h. (none name h).2) in
+    let runs = followed digest_of account unseen events w w un (λ name h. (none name h).3) in
     record { each_event = runs.each_event; end = runs.end }

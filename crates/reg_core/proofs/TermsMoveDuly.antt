@@ -1,102 +1,29 @@
--- Only an approval gives a value, so terms move duly.
-use Rattle.std.proofs.Common.{◌≡◌, ℕ, Bool, true, false, cond, List, refl, sym, ap, subst, ◌∙◌, inl, inr}
-use Rattle.std.specs.Prelude.{Option, Some, None, ◌⊎◌}
+-- Terms move duly.
+use Rattle.std.proofs.Common.{◌≡◌, ℕ, Bool, true, false, not, cond, List, refl, sym, ap, subst, ◌∙◌, inl, inr}
+use Rattle.std.specs.Prelude.{Option, Some, None, IsSome, option_map, ◌⊎◌}
 use Rattle.std.specs.FinMap.{get, insert}
 use Rattle.std.specs.Ordering.{eq_by_cmp}
 use Rattle.reg_early.specs.Moment.{utc_day}
-use Rattle.reg_core.specs.Answer.{Outcome, change_of}
-use Rattle.reg_core.specs.Award.{Award, awarded_entry, new_holding}
-use Rattle.reg_core.specs.EarlyAllocations.{MovesTerm, IsMoved, TermsMoveDuly}
-use Rattle.reg_core.specs.Entry.{registration_in}
+use Rattle.reg_early.specs.Terms.{status_on}
+use Rattle.reg_early.specs.declared.term.Status.TheVariants as status
+use Rattle.reg_core.specs.Answer.{change_of}
+use Rattle.reg_core.specs.EarlyAllocations.{MovesTerm, IsMoved, IsMarked, TermsMoveDuly}
+use Rattle.reg_core.specs.Entry.{registration_in, with_hold}
+use Rattle.reg_core.specs.Maps.{update}
 use Rattle.reg_core.specs.MayBeGiven.{place_of}
-use Rattle.reg_core.specs.Rules.{change_to_give}
 use Rattle.reg_core.specs.Step.{answer_to}
 use Rattle.reg_core.specs.WellKept.{WellKept}
-use Rattle.reg_core.specs.World.{World, Place, RequestName, place_cmp, applied_if}
+use Rattle.reg_core.specs.World.{World, Place, place_cmp, applied_if}
 use Rattle.reg_core.specs.declared.change.Change.{Change}
-use Rattle.reg_core.specs.declared.change.Change.TheVariants.{Grant, Revoke, Define, AddPool, Submit, Close, Assign, Advise, GiveValue, GiveBlock, SetPrivate}
+use Rattle.reg_core.specs.declared.change.Change.TheVariants.{Grant, Revoke, Define, AddPool, Submit, Close, Assign, Advise, GiveValue, GiveBlock, SetPrivate, SetHold, SetAgent}
 use Rattle.reg_core.specs.declared.command.Command.{Command}
-use Rattle.reg_core.specs.declared.command.Command.TheVariants.{Public, Applicant, Expert, Clerk}
-use Rattle.reg_core.specs.declared.command.ApplicantCommand.TheVariants as applicant
-use Rattle.reg_core.specs.declared.command.ExpertCommand.TheVariants as expert
-use Rattle.reg_core.specs.declared.command.ClerkCommand.TheVariants as clerk
-use Rattle.reg_core.specs.declared.command.PublicCommand.TheVariants as public
-use Rattle.reg_core.specs.declared.content.Content.{Content}
-use Rattle.reg_core.specs.declared.decide.Decision.{Decision}
+use Rattle.reg_core.specs.declared.command.Command.TheVariants.{Clerk}
+use Rattle.reg_core.specs.declared.command.ClerkCommand.TheVariants.{Approve, SetHold as SetHoldOf}
 use Rattle.reg_core.specs.declared.entry.Entry.{Entry}
 use Rattle.reg_core.specs.declared.entry.Registration.{Registration}
-use Rattle.reg_core.proofs.MapLaws.{place_keys, tied, get-at_insert}
-use Rattle.reg_core.proofs.Outcomes.Accepted.{Tells, Comes, IsAccepted, accepted}
-use Rattle.reg_core.proofs.Outcomes.Deciding.{Rule}
-use Rattle.reg_core.proofs.Outcomes.Dues.{makes, outcome_of, changes_due}
+use Rattle.reg_core.proofs.MapLaws.{place_keys, tied, get-at_insert, get-update}
+use Rattle.reg_core.proofs.Outcomes.Dues.{changes_due}
 use Rattle.reg_core.proofs.TermsStand.{given_duly, given_moves}
-
--- ---- Only an approval gives a value
-
-module _ (digest_of : List ℕ → List ℕ) (w : World) (caller : Option (List ℕ)) (moment : ℕ)
-    (account reference : List ℕ) (entry : Entry) where
-  abbrev gives : Change
-  gives = GiveValue account reference entry
-
-  -- what is only told gives nothing
-  told : {P : Type 0} {content : Content} {o : Outcome} → Tells content o → o.change ≡ Some gives
-      → P
-  told is made = let none = ap (λ (o : Outcome). o.change) is in absurd (cc)
-
-  -- nor does a rule that makes other changes
-  other : {P : Type 0} {rule : Rule} {told : Decision → Content} {o : Outcome}
-      → Comes rule told o → o.change ≡ Some gives
-      → ((facts : rule.made) → rule.change facts ≡ gives → ⊥) → P
-  other {rule = rule} {told = told} {o = o} comes made each =
-      let is = makes rule told o gives comes made in absurd (each is.0 is.1)
-
-  -- an approval gives its own request a value
-  own : (name : RequestName) (award : Award) → change_to_give name (utc_day moment) award ≡ gives
-      → name ≡ (account, reference)
-  own name (awarded_entry e) is =
-      let of : name.0 ≡ account = cc in
-      let its : name.1 ≡ reference = cc in λ i. (of i, its i)
-  own name (new_holding h) is = absurd (cc)
-
-  approved : (command : Command) (o : Outcome) → IsAccepted digest_of w caller moment command o
-      → o.change ≡ Some gives → command ≡ Clerk (clerk.Approve account reference)
-  approved (Public public.Registries) o a made = told a.so made
-  approved (Public (public.Registry name)) o a made = told a.so.so made
-  approved (Public (public.RegistryListing name)) o a made = told a.so.so made
-  approved (Public public.PoolList) o a made = told a.so made
-  approved (Public public.BlockListing) o a made = told a.so made
-  approved (Applicant applicant.Own) o a made = told a.so.1 made
-  approved (Applicant (applicant.OwnOne own)) o a made = told a.so.1.so made
-  approved (Applicant (applicant.Submit own ask)) o a made =
-      other a.so.1 made (λ facts is. absurd (cc))
-  approved (Applicant (applicant.Withdraw own)) o a made =
-      other a.so.1.so made (λ facts is. absurd (cc))
-  approved (Applicant applicant.Holdings) o a made = told a.so.1 made
-  approved (Applicant (applicant.SetListing block private)) o a made =
-      other a.so.1.so made (λ facts is. absurd (cc))
-  approved (Expert expert.Queue) o a made = told a.so.1 made
-  approved (Expert (expert.Advise of its advice)) o a made =
-      other a.so.1.so made (λ facts is. absurd (cc))
-  approved (Clerk clerk.AllRequests) o a made = told a.so.1 made
-  approved (Clerk (clerk.OneRequest of its)) o a made = told a.so.1.so made
-  approved (Clerk (clerk.AssignExpert of its expert)) o a made =
-      other a.so.1.so made (λ facts is. absurd (cc))
-  approved (Clerk (clerk.Approve of its)) o a made =
-      let is = makes _ _ o gives a.so.1.so made in
-      ap (λ (name : RequestName). Clerk (clerk.Approve name.0 name.1))
-      (own (of, its) is.0.2.award is.1)
-  approved (Clerk (clerk.Decline of its reason)) o a made =
-      other a.so.1.so made (λ facts is. absurd (cc))
-  approved (Clerk (clerk.Define name table)) o a made =
-      other a.so.1 made (λ facts is. absurd (cc))
-  approved (Clerk (clerk.AddPool prefix)) o a made =
-      other a.so.1 made (λ facts is. absurd (cc))
-  approved (Clerk (clerk.Grant token cap)) o a made =
-      other a.so.1 made (λ facts is. absurd (cc))
-  approved (Clerk (clerk.Revoke token)) o a made =
-      other a.so.1 made (λ facts is. absurd (cc))
-
--- ---- Terms
 
 module _ (digest_of : List ℕ → List ℕ) (w : World) (caller : Option (List ℕ)) (moment : ℕ)
     (command : Command) (place : Place) (before : Registration) (kept : WellKept w)
@@ -105,7 +32,8 @@ module _ (digest_of : List ℕ → List ℕ) (w : World) (caller : Option (List 
   abbrev MovesIn : World → Type 0
   MovesIn v =
       (now : Registration) × (get v.entries place ≡ Some now)
-      × ((now ≡ before) ⊎ IsMoved w (utc_day moment) command place before now)
+      × ((now ≡ before) ⊎ (IsMoved w (utc_day moment) command place before now
+      ⊎ IsMarked (utc_day moment) command place before now))
 
   unmoved : MovesIn w
   unmoved = (before, stood, inl refl)
@@ -118,16 +46,13 @@ module _ (digest_of : List ℕ → List ℕ) (w : World) (caller : Option (List 
       → IsMoved w (utc_day moment) command place before (registration_in entry)
   moved_by account reference entry made same =
       let change = GiveValue account reference entry in
-      let due = (changes_due digest_of w caller moment command change made).due in
-      let duly = given_duly w kept (utc_day moment) account reference entry due.1 in
+      let is = changes_due digest_of w caller moment command change made in
+      let duly = given_duly w kept (utc_day moment) account reference entry is.due.1 in
       let moves = given_moves w (utc_day moment) account entry duly.ask duly.duly before
       (ap (get w.entries) (sym same) ∙ stood) in
-      let made_by = outcome_of (answer_to digest_of w caller moment command) change made in
-      let is = approved digest_of w caller moment account reference entry command made_by.0
-      (accepted digest_of w caller moment command made_by.0 made_by.1) made_by.2 in
       record {
         reference = reference;
-        by = is ∙ ap (λ a. Clerk (clerk.Approve a reference)) (sym moves.own);
+        by = is.by ∙ ap (λ a. Clerk (Approve a reference)) (sym moves.own);
         ask = duly.ask;
         request = ap (λ a. get w.requests (a, reference)) moves.own ∙ duly.request;
         moves =
@@ -158,8 +83,55 @@ module _ (digest_of : List ℕ → List ℕ) (w : World) (caller : Option (List 
       by true t = (
         registration_in entry,
         found true t,
-        inr (moved_by account reference entry made (tied place_keys place (place_of entry) t)),
+        inr (inl (moved_by account reference entry made (tied place_keys place (place_of entry) t))),
       )
+      by false t = (before, found false t ∙ stood, inl refl)
+
+  -- where the entry at the place is marked, the command says so
+  marked_by : (name : List ℕ) (value : ℕ) (held : Bool)
+      → change_of (answer_to digest_of w caller moment command) ≡ Some (SetHold name value held)
+      → place ≡ (name, value)
+      → IsMarked (utc_day moment) command place before (with_hold held before)
+  marked_by name value held made same =
+      let is = changes_due digest_of w caller moment command (SetHold name value held) made in
+      let marks = is.due.1 in
+      let there : Some marks.entry ≡ Some before =
+      sym marks.is_there ∙ ap (get w.entries) (sym same) ∙ stood in
+      let itself : marks.entry ≡ before = cc in
+      record {
+        held = held;
+        by = is.by ∙ ap (λ (p : Place). Clerk (SetHoldOf p.0 p.1 held)) (sym same);
+        expires = subst (λ (r : Registration). IsSome r.term.expires) itself marks.expires;
+        turned = subst (λ (r : Registration). r.term.held ≡ not held) itself marks.turned;
+        stood = subst
+            (λ (r : Registration). held ≡ true
+            → ¬ (status_on r.term (utc_day moment) ≡ status.Expired)) itself marks.stood;
+        rest = refl;
+      }
+
+  given_mark : (name : List ℕ) (value : ℕ) (held : Bool)
+      → change_of (answer_to digest_of w caller moment command) ≡ Some (SetHold name value held)
+      → MovesIn (applied_if w (Some (SetHold name value held)))
+  given_mark name value held made = by (eq_by_cmp place_cmp place (name, value)) refl
+    where
+      found : (b : Bool) → eq_by_cmp place_cmp place (name, value) ≡ b
+          → get (update w.entries (name, value) (with_hold held)) place
+          ≡ cond b (option_map (with_hold held) (get w.entries (name, value)))
+          (get w.entries place)
+      found b t =
+          get-update place_keys w.entries (name, value) (with_hold held) place
+          ∙ ap (λ b. cond b (option_map (with_hold held) (get w.entries (name, value)))
+          (get w.entries place)) t
+
+      by : (b : Bool) → eq_by_cmp place_cmp place (name, value) ≡ b
+          → MovesIn (applied_if w (Some (SetHold name value held)))
+      by true t =
+          let same = tied place_keys place (name, value) t in (
+            with_hold held before,
+            found true t
+                ∙ ap (option_map (with_hold held)) (ap (get w.entries) (sym same) ∙ stood),
+            inr (inr (marked_by name value held made same)),
+          )
       by false t = (before, found false t ∙ stood, inl refl)
 
   -- a line for each change
@@ -177,6 +149,9 @@ module _ (digest_of : List ℕ → List ℕ) (w : World) (caller : Option (List 
   change_moves (GiveValue account reference entry) made = given_value account reference entry made
   change_moves (GiveBlock account reference holding) made = unmoved
   change_moves (SetPrivate block private) made = unmoved
+  change_moves (SetHold name value held) made = given_mark name value held made
+  change_moves (SetAgent principal agent true) made = unmoved
+  change_moves (SetAgent principal agent false) made = unmoved
 
   step_moves : (change : Option Change)
       → change_of (answer_to digest_of w caller moment command) ≡ change

@@ -5,7 +5,7 @@ use Rattle.std.specs.Prelude.{Option, Some, None, Ok, Err, IsSome, is_some, opti
 use Rattle.std.specs.FinMap.{get}
 use Rattle.reg_early.specs.Calendar.{IsDay, year_after}
 use Rattle.reg_early.specs.Forms.{has_term_form}
-use Rattle.reg_early.specs.Terms.{renewed_term, renewal, settled_term, settlement}
+use Rattle.reg_early.specs.Terms.{held_term, renewed_term, is_spent, renewal, settled_term, settlement}
 use Rattle.reg_early.specs.declared.term.RenewFault.TheVariants as renew_fault
 use Rattle.reg_early.specs.declared.term.SettleFault.TheVariants as settle_fault
 use Rattle.reg_early.specs.declared.term.Term.{Term}
@@ -27,16 +27,33 @@ use Rattle.reg_early.proofs.YearAfter.{no_earlier}
 
 -- ---- Terms
 
+-- what expires is not permanent
+not_permanent : {P : Type 0} (expires : Option ℕ) → IsSome expires → expires ≡ None → P
+not_permanent expires some none = let gone = ap is_some none in absurd (cc)
+
 -- a term may have come to itself
 pub term_stands : (term : Term) → TermStands term term
 term_stands term = record {
   first = refl;
   permanent = λ none. refl;
   renewed = λ h. h;
-  once = λ h. inl refl;
   expires = λ was is at_was at_is.
       let both : Some was ≡ Some is = sym at_was ∙ at_is in
       let same : is ≡ was = cc in (omega (arith, same), inl (same, refl));
+  settled = not_permanent term.expires;
+}
+
+-- and, if it expires, to itself with the other mark
+pub marked_stands : (term : Term) (held : Bool) → IsSome term.expires
+    → TermStands term (held_term held term)
+marked_stands term held some = record {
+  first = refl;
+  permanent = not_permanent term.expires some;
+  renewed = λ h. h;
+  expires = λ was is at_was at_is.
+      let both : Some was ≡ Some is = sym at_was ∙ at_is in
+      let same : is ≡ was = cc in (omega (arith, same), inl (same, refl));
+  settled = not_permanent term.expires;
 }
 
 -- a day that a year leads to, by way of another
@@ -53,14 +70,6 @@ module _ (before now later : Term) (h : TermStands before now) (k : TermStands n
   -- where it once has no expiry it never has one again
   gone : now.expires ≡ None → later.expires ≡ None
   gone none = ap (λ (t : Term). t.expires) (k.permanent none) ∙ none
-
-  once_on : before.renewed ≡ true → (later.expires ≡ before.expires) ⊎ (later.expires ≡ None)
-  once_on was =
-      elim (h.once was) [
-        | inr none ↦ inr (gone none)
-        | inl same ↦
-            elim (k.once (h.renewed was)) [ inl again ↦ inl (again ∙ same) | inr none ↦ inr none ]
-      ]
 
   moved_on : (was mid is : ℕ) → before.expires ≡ Some was → now.expires ≡ Some mid
       → later.expires ≡ Some is
@@ -87,6 +96,12 @@ module _ (before now later : Term) (h : TermStands before now) (k : TermStands n
   expires_on None none was is at_was at_is = let never = gone none in absurd (cc)
   expires_on (Some mid) at_mid was is at_was at_is = moved_on was mid is at_was at_mid at_is
 
+  settled_on : (mid : Option ℕ) → now.expires ≡ mid → IsSome before.expires
+      → later.expires ≡ None → later.held ≡ false
+  settled_on None none some is =
+      ap (λ (t : Term). t.held) (k.permanent none) ∙ h.settled some none
+  settled_on (Some mid) at_mid some is = k.settled (ap is_some at_mid) is
+
   pub term_stands_on : TermStands before later
   term_stands_on = record {
     first = k.first ∙ h.first;
@@ -94,24 +109,23 @@ module _ (before now later : Term) (h : TermStands before now) (k : TermStands n
         let same = h.permanent none in
         k.permanent (ap (λ (t : Term). t.expires) same ∙ none) ∙ same;
     renewed = λ was. k.renewed (h.renewed was);
-    once = once_on;
     expires = expires_on now.expires refl;
+    settled = settled_on now.expires refl;
   }
 
 -- ---- An approval
 
--- a term that is renewed expires, and was not renewed before
-renewed_from : (before now : Term) (day : ℕ) → renewal before day ≡ Ok now
-    → IsSome before.expires × (before.renewed ≡ false)
-renewed_from before now day = by (is_some before.expires) before.renewed
+-- a term that is renewed expires
+renewed_from : (before now : Term) (day : ℕ) (iesg : Bool) → renewal before day iesg ≡ Ok now
+    → IsSome before.expires
+renewed_from before now day iesg = by (is_some before.expires) (is_spent before iesg)
   where
-    by : (expires renewed : Bool)
-        → (if expires then (if renewed then Err renew_fault.Renewed
+    by : (expires spent : Bool)
+        → (if expires then (if spent then Err renew_fault.Renewed
         else Ok (renewed_term before day)) else Err renew_fault.Permanent) ≡ Ok now
-        → (expires ≡ true) × (renewed ≡ false)
-    by true false h = (refl, refl)
-    by true true h = absurd (cc)
-    by false renewed h = absurd (cc)
+        → expires ≡ true
+    by true spent h = refl
+    by false spent h = absurd (cc)
 
 -- a term that is settled expires
 settled_from : (before now : Term) → settlement before ≡ Ok now → IsSome before.expires
@@ -123,23 +137,22 @@ settled_from before now = by (is_some before.expires)
     by true h = refl
     by false h = absurd (cc)
 
--- what expires is not permanent
-not_permanent : {P : Type 0} (expires : Option ℕ) → IsSome expires → expires ≡ None → P
-not_permanent expires some none = let gone = ap is_some none in absurd (cc)
-
-renewed_stands : (before now : Term) (today : ℕ) → has_term_form before ≡ true → IsDay today
-    → renewal before today ≡ Ok now → TermStands before now
-renewed_stands before now today form day is =
-    subst (TermStands before) (renewal_is before today now is) (record {
+renewed_stands : (before now : Term) (today : ℕ) (iesg : Bool) → has_term_form before ≡ true
+    → IsDay today → renewal before today iesg ≡ Ok now → TermStands before now
+renewed_stands before now today iesg form day is =
+    subst (TermStands before) (renewal_is before today iesg now is) (record {
       first = refl;
-      permanent = not_permanent before.expires from.0;
+      permanent = not_permanent before.expires (renewed_from before now today iesg is);
       renewed = λ h. refl;
-      once = λ was. let fresh = from.1 in absurd (cc);
       expires = moved;
+      settled = never before.expires;
     })
   where
-    from : IsSome before.expires × (before.renewed ≡ false)
-    from = renewed_from before now today is
+    never : (expires : Option ℕ) → IsSome expires
+        → option_map (λ expiry. year_after (max expiry today)) expires ≡ None
+        → before.held ≡ false
+    never None some none = absurd (cc)
+    never (Some expiry) some none = absurd (cc)
 
     moved : (was is : ℕ) → before.expires ≡ Some was
         → (renewed_term before today).expires ≡ Some is
@@ -168,8 +181,8 @@ settled_stands before now is =
       first = refl;
       permanent = not_permanent before.expires (settled_from before now is);
       renewed = λ was. was;
-      once = λ was. inr refl;
       expires = λ was is at_was at_is. absurd (cc);
+      settled = λ some none. refl;
     })
 
 -- a term that an approval moves may have come to that
@@ -179,7 +192,7 @@ moved_term_stands : (place : Place) (today : ℕ) (ask : Ask) (before now : Term
 moved_term_stands place today (Code ask) before now form day moves = absurd moves
 moved_term_stands place today (Early ask) before now form day moves = absurd moves
 moved_term_stands place today (Renew ask) before now form day moves =
-    renewed_stands before now today form day moves.1
+    renewed_stands before now today (is_some ask.iesg) form day moves.1
 moved_term_stands place today (Permanent ask) before now form day moves =
     settled_stands before now moves.1
 moved_term_stands place today (Block ask) before now form day moves = absurd moves
@@ -242,7 +255,8 @@ module _ (w : World) (today : ℕ) (account : List ℕ) (entry : Entry) where
         own = own;
         term = (
           one.1,
-          ap (λ (r : Registration). renewal r.term today) (sym one.0) ∙ duly.5
+          ap (λ (r : Registration). renewal r.term today (is_some ask.iesg)) (sym one.0)
+              ∙ duly.5
               ∙ ap Ok (sym duly.3.term_is),
         );
       }

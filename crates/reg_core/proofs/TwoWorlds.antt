@@ -9,7 +9,7 @@ use Rattle.reg_core.specs.Maps.{same_text, only_if, update}
 use Rattle.reg_core.specs.Queue.{with_advice}
 use Rattle.reg_core.specs.Laws.{TwoWorlds, IsNoClerk}
 use Rattle.reg_core.specs.Step.{is_clerk, clerk_answer, answer_to}
-use Rattle.reg_core.specs.View.{published, Published, Personal, personal, requests_of, holdings_of, queue_of, View, view_of, cap_at, with_personal}
+use Rattle.reg_core.specs.View.{published, Published, Personal, personal, requests_of, holdings_of, queue_of, agents_of, principals_of, principal_rows_of, View, view_of, cap_at, with_personal}
 use Rattle.reg_core.specs.WellKept.{WellKept}
 use Rattle.reg_core.specs.declared.advice.Advice.{Advice}
 use Rattle.reg_core.specs.declared.ask.Ask.{Ask}
@@ -17,7 +17,7 @@ use Rattle.reg_core.specs.declared.capability.Cap.{Cap}
 use Rattle.reg_core.specs.declared.capability.Kind.{Kind}
 use Rattle.reg_core.specs.declared.capability.Kind.TheVariants.{Applicant, Expert, Clerk}
 use Rattle.reg_core.specs.declared.change.Change.{Change}
-use Rattle.reg_core.specs.declared.change.Change.TheVariants.{Grant, Revoke, Define, AddPool, Submit, Close, Assign, Advise, GiveValue, GiveBlock, SetPrivate}
+use Rattle.reg_core.specs.declared.change.Change.TheVariants.{Grant, Revoke, Define, AddPool, Submit, Close, Assign, Advise, GiveValue, GiveBlock, SetPrivate, SetHold, SetAgent}
 use Rattle.reg_core.specs.declared.command.Command.{Command}
 use Rattle.reg_core.specs.declared.command.Command.TheVariants as command
 use Rattle.reg_core.specs.declared.holding.Holder.{Holder}
@@ -26,7 +26,8 @@ use Rattle.reg_core.specs.declared.request.State.{State}
 use Rattle.reg_core.specs.declared.request.State.TheVariants.{Pending, Approved, Declined, Withdrawn}
 use Rattle.reg_core.proofs.Blocks.{holding_found, own_holding}
 use Rattle.reg_core.proofs.MapLaws.{name_keys, block_keys, select-insert_same, select-update_same}
-use Rattle.reg_core.proofs.Queues.{SameOthers, others_after_insert, others_after_update, queue_same, queue_advised}
+use Rattle.reg_core.proofs.Agents.{select-with_link_same, principals_unchanged, principal_rows_unchanged}
+use Rattle.reg_core.proofs.Queues.{SameOthers, others_after_insert, others_after_update, queue_same, principal_rows_same, queue_advised}
 use Rattle.reg_core.proofs.Stepping.{own_request}
 use Rattle.std.specs.Prelude.{Option, Some, None, option_map, unwrap_or, nat_lt, if◌then◌else◌}
 use Rattle.std.specs.FinMap.{FinMap, get}
@@ -71,6 +72,15 @@ module _ (account : List ℕ) (w v : World) (kept_w : WellKept w) (kept_v : Well
   holdings_alike : holdings_of account w ≡ holdings_of account v
   holdings_alike = ap (λ (p : Personal). p.holdings) alike.personal
 
+  agents_alike : agents_of account w ≡ agents_of account v
+  agents_alike = ap (λ (p : Personal). p.agents) alike.personal
+
+  principals_alike : principals_of account w ≡ principals_of account v
+  principals_alike = ap (λ (p : Personal). p.principals) alike.personal
+
+  principal_rows_alike : principal_rows_of account w ≡ principal_rows_of account v
+  principal_rows_alike = ap (λ (p : Personal). p.principal_rows) alike.personal
+
   -- a block that the account holds is the same in both
   same_block : (block : SizedPrefix) (h : Holder) → get w.blocks block ≡ Some h
       → h.account ≡ account → get w.blocks block ≡ get v.blocks block
@@ -87,7 +97,7 @@ module _ (account : List ℕ) (w v : World) (kept_w : WellKept w) (kept_v : Well
       ∙ own_request account reference v
 
   -- requests of the account's that change alike are shown alike, and no queue of the account's
-  -- changes with them
+  -- changes with them, nor do the requests of its principals
   requests_change : (m n : FinMap name_cmp Case)
       → requests_of account (record w { requests = m })
       ≡ requests_of account (record v { requests = n })
@@ -97,9 +107,16 @@ module _ (account : List ℕ) (w v : World) (kept_w : WellKept w) (kept_v : Well
       let queues =
       queue_same account w m kept_w in_w ∙ queues_alike
       ∙ sym (queue_same account v n kept_v in_v) in
+      let rows =
+      principal_rows_same account w m kept_w in_w ∙ principal_rows_alike
+      ∙ sym (principal_rows_same account v n kept_v in_v) in
       record {
         published = alike.published;
-        personal = λ i. record (alike.personal i) { requests = requests i; queue = queues i };
+        personal = λ i. record (alike.personal i) {
+          requests = requests i;
+          queue = queues i;
+          principal_rows = rows i;
+        };
       }
 
   submit_alike : (reference : List ℕ) (ask : Ask)
@@ -150,6 +167,27 @@ module _ (account : List ℕ) (w v : World) (kept_w : WellKept w) (kept_v : Well
       record {
         published = λ i. record (alike.published i) { blocks = shown i };
         personal = λ i. record (alike.personal i) { holdings = held i };
+      }
+
+  link_alike : (agent : List ℕ) (reads : Bool) → same_text agent account ≡ false
+      → ShowAlike account (applied w (SetAgent account agent reads))
+      (applied v (SetAgent account agent reads))
+  link_alike agent reads apart =
+      let agents = select-with_link_same (λ link u. only_if (same_text link.0 account) u) reads
+      (account, agent) w.agents v.agents agents_alike in
+      let principals =
+      principals_unchanged account agent reads apart w ∙ principals_alike
+      ∙ sym (principals_unchanged account agent reads apart v) in
+      let rows =
+      principal_rows_unchanged account agent reads apart w ∙ principal_rows_alike
+      ∙ sym (principal_rows_unchanged account agent reads apart v) in
+      record {
+        published = alike.published;
+        personal = λ i. record (alike.personal i) {
+          agents = agents i;
+          principals = principals i;
+          principal_rows = rows i;
+        };
       }
 
 -- ---- The views after the step
@@ -210,6 +248,10 @@ module _ (w v : World) (caller : Option (List ℕ)) (moment : ℕ) (kept_w : Wel
       own_after due.serves.cap due.serves.cap.account due.serves.is_there refl _ _ refl refl
       (λ alike. mark_alike due.serves.cap.account w v kept_w kept_v alike block private due.holder
       due.is_there due.own)
+  due_after (SetHold name value held) due = absurd (no_clerk_serves due.0)
+  due_after (SetAgent principal agent reads) due =
+      own_after due.0.serves.cap principal due.0.serves.is_there due.0.own _ _ refl refl
+      (λ alike. link_alike principal w v kept_w kept_v alike agent reads due.1)
 
 -- ---- A caller who is no clerk
 

@@ -96,7 +96,7 @@ abbrev pub own_entry : List ℕ → Option Registration → Result Registration 
 own_entry account None = Err no.Entry
 own_entry account (Some a) = if same_text a.assignee account then Ok a else Err no.Entry
 
--- only what expires can be renewed, and only once
+-- only what expires can be renewed, and only once without a minute of the IESG
 abbrev pub may_renew : Result (Unit {0}) RenewFault → Result (Unit {0}) Refusal
 may_renew (Ok nothing) = Ok nothing
 may_renew (Err renew_fault.Permanent) = Err no.Permanent
@@ -174,14 +174,15 @@ early_allowance rows account ask = do
     needs_advice = is_expert_policy policy;
   })
 
--- an applicant's own early allocation is renewed once, and no expert looks at it again
+-- an applicant's own early allocation is renewed, again only by a minute of the IESG, and no expert
+-- looks at it again
 abbrev pub renewal_allowance : Ground → List ℕ → RenewalAsk → Result Allowance Refusal
 renewal_allowance rows account ask = do
   table ← or_refusal no.Registry rows.table
   policy ← policy_for table (Value ask.value)
   nothing ← is_met_early (first_item (early_unmet policy ask.evidence))
   own ← own_entry account rows.entry
-  renews ← may_renew (renewable own.term)
+  renews ← may_renew (renewable own.term (is_some ask.iesg))
   Ok (record {
     award = awarded_entry (entry_kept ask.registry ask.value own (renewed own.term));
     needs_advice = false;

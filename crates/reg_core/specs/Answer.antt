@@ -1,15 +1,16 @@
 -- What a caller is answered, as a function of what it sees.
 use Rattle.std.specs.Prelude.{ℕ, nat_le, List, Option, Some, None, Result, Ok, Err, if◌then◌else◌}
-use Rattle.std.specs.FinMap.{get, keys}
+use Rattle.std.specs.FinMap.{get, contains_key, keys}
 use Rattle.reg_early.specs.Moment.{is_in_clock, utc_day}
 use Rattle.reg_core.specs.Allowance.{◌>>=◌, or_refusal, allowed}
 use Rattle.reg_core.specs.Capability.{same_kind}
+use Rattle.reg_core.specs.Link.{agent_rows, principal_names}
 use Rattle.reg_core.specs.Holding.{holding_row, holding_rows, listed_rows, with_mark}
 use Rattle.reg_core.specs.Page.{page}
 use Rattle.reg_core.specs.Queue.{queue_row, queue_rows, with_advice}
 use Rattle.reg_core.specs.Request.{request_row, request_rows, after}
-use Rattle.reg_core.specs.Rules.{submit_rule, withdraw_rule, listing_rule, advise_rule}
-use Rattle.reg_core.specs.View.{Published, Queued, Personal, View}
+use Rattle.reg_core.specs.Rules.{submit_rule, withdraw_rule, listing_rule, agent_rule, advise_rule}
+use Rattle.reg_core.specs.View.{Published, Queued, Personal, View, requests_by}
 use Rattle.reg_core.specs.World.{RequestName, pending}
 use Rattle.reg_core.specs.declared.ask.Ask.{Ask}
 use Rattle.reg_core.specs.declared.capability.Cap.{Cap}
@@ -19,7 +20,7 @@ use Rattle.reg_core.specs.declared.change.Change.{Change}
 use Rattle.reg_core.specs.declared.command.Command.{Command}
 use Rattle.reg_core.specs.declared.command.Command.TheVariants.{Public, Applicant, Expert, Clerk}
 use Rattle.reg_core.specs.declared.command.ApplicantCommand.{ApplicantCommand}
-use Rattle.reg_core.specs.declared.command.ApplicantCommand.TheVariants.{Own, OwnOne, Submit, Withdraw, Holdings, SetListing}
+use Rattle.reg_core.specs.declared.command.ApplicantCommand.TheVariants.{Own, OwnOne, Submit, Withdraw, Holdings, SetListing, SetAgent, Agents, Principals, PrincipalRows}
 use Rattle.reg_core.specs.declared.command.ExpertCommand.{ExpertCommand}
 use Rattle.reg_core.specs.declared.command.ExpertCommand.TheVariants.{Queue, Advise}
 use Rattle.reg_core.specs.declared.command.PublicCommand.{PublicCommand}
@@ -129,6 +130,14 @@ own_answer p account my (SetListing block private) = do
   h ← or_refusal no.Holding (get my.holdings block)
   by_rule (Ok (listing_rule block private h.private))
       (λ decision. content.Held (holding_row block (with_mark private h)))
+own_answer p account my (SetAgent agent reads) =
+    by_rule (agent_rule (account, agent) reads (contains_key my.agents (account, agent)))
+    (λ decision. content.Agent agent reads)
+own_answer p account my Agents = unchanged (content.Accounts (agent_rows my.agents))
+own_answer p account my Principals = unchanged (content.Accounts (principal_names my.principals))
+own_answer p account my (PrincipalRows principal) = do
+  link ← or_refusal no.Principal (get my.principals (principal, account))
+  unchanged (content.Rows (request_rows (requests_by principal my.principal_rows)))
 own_answer p account my (Submit reference ask) =
     let existing = get my.requests (account, reference) in
     by_rule (submit_rule (allowed p account ask) (account, reference) ask existing)

@@ -1,5 +1,6 @@
 -- What an ask is.
 use Rattle.std.specs.Prelude.{ℕ, Bool, true, false, ◌&&◌, ◌==◌, ◌^◌, nat_lt, bytes_eq, List, Option, Some, None}
+use Rattle.std.specs.Option.{option_eq}
 pub use Rattle.reg_ranges.specs.Forms.{has_evidence_form}
 use Rattle.reg_early.specs.Forms.{has_early_form}
 use Rattle.reg_early.specs.Sameness.{same_early_evidence}
@@ -47,6 +48,7 @@ has_early_ask_form ask =
 abbrev pub has_renewal_form : RenewalAsk → Bool
 has_renewal_form ask =
     is_name ask.registry && nat_lt ask.value (2 ^ 32) && has_early_form ask.evidence
+    && has_note_form ask.iesg
 
 abbrev pub has_permanence_form : PermanenceAsk → Bool
 has_permanence_form ask =
@@ -95,7 +97,8 @@ same_early a b =
 abbrev pub same_renewal : RenewalAsk → RenewalAsk → Bool
 same_renewal a b =
     bytes_eq a.registry b.registry
-    && (a.value == b.value && same_early_evidence a.evidence b.evidence)
+    && (a.value == b.value
+    && (same_early_evidence a.evidence b.evidence && option_eq bytes_eq a.iesg b.iesg))
 
 abbrev pub same_permanence : PermanenceAsk → PermanenceAsk → Bool
 same_permanence a b =

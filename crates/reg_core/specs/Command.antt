@@ -1,6 +1,6 @@
 -- What is so of each command by itself: whose it is, which request it is about, and whether it has
 -- its form.
-use Rattle.std.specs.Prelude.{Bool, true, ◌&&◌, List, ℕ, Option, Some, None, option_map}
+use Rattle.std.specs.Prelude.{Bool, true, ◌&&◌, ◌^◌, nat_lt, List, ℕ, Option, Some, None, option_map}
 use Rattle.reg_blocks.specs.Block.{is_block}
 use Rattle.reg_ranges.specs.Texts.{is_text}
 use Rattle.reg_core.specs.Names.{is_name, is_token}
@@ -15,9 +15,9 @@ use Rattle.reg_core.specs.declared.capability.Kind.TheVariants as kind
 use Rattle.reg_core.specs.declared.command.Command.{Command}
 use Rattle.reg_core.specs.declared.command.Command.TheVariants.{Public, Applicant, Expert, Clerk}
 use Rattle.reg_core.specs.declared.command.PublicCommand.TheVariants.{Registries, Registry, RegistryListing, PoolList, BlockListing}
-use Rattle.reg_core.specs.declared.command.ApplicantCommand.TheVariants.{Own, OwnOne, Submit, Withdraw, Holdings, SetListing}
+use Rattle.reg_core.specs.declared.command.ApplicantCommand.TheVariants.{Own, OwnOne, Submit, Withdraw, Holdings, SetListing, SetAgent, Agents, Principals, PrincipalRows}
 use Rattle.reg_core.specs.declared.command.ExpertCommand.TheVariants.{Queue, Advise}
-use Rattle.reg_core.specs.declared.command.ClerkCommand.TheVariants.{AllRequests, OneRequest, AssignExpert, Approve, Decline, Define, AddPool, Grant, Revoke}
+use Rattle.reg_core.specs.declared.command.ClerkCommand.TheVariants.{AllRequests, OneRequest, AssignExpert, Approve, Decline, SetHold, Define, AddPool, Grant, Revoke}
 
 -- the kind of capability that a command needs; none where it is anybody's
 abbrev pub kind_of : Command → Option Kind
@@ -44,6 +44,10 @@ about by (Applicant (Submit reference ask)) = own_name by reference
 about by (Applicant (Withdraw reference)) = own_name by reference
 about by (Applicant Holdings) = None
 about by (Applicant (SetListing block private)) = None
+about by (Applicant (SetAgent agent reads)) = None
+about by (Applicant Agents) = None
+about by (Applicant Principals) = None
+about by (Applicant (PrincipalRows principal)) = None
 about by (Expert Queue) = None
 about by (Expert (Advise account reference advice)) = Some (account, reference)
 about by (Clerk AllRequests) = None
@@ -51,6 +55,7 @@ about by (Clerk (OneRequest account reference)) = Some (account, reference)
 about by (Clerk (AssignExpert account reference expert)) = Some (account, reference)
 about by (Clerk (Approve account reference)) = Some (account, reference)
 about by (Clerk (Decline account reference reason)) = Some (account, reference)
+about by (Clerk (SetHold name value held)) = None
 about by (Clerk (Define name table)) = None
 about by (Clerk (AddPool prefix)) = None
 about by (Clerk (Grant token cap)) = None
@@ -70,6 +75,10 @@ has_command_form (Applicant (Submit reference ask)) = is_name reference && has_a
 has_command_form (Applicant (Withdraw reference)) = is_name reference
 has_command_form (Applicant Holdings) = true
 has_command_form (Applicant (SetListing block private)) = is_block block
+has_command_form (Applicant (SetAgent agent reads)) = is_name agent
+has_command_form (Applicant Agents) = true
+has_command_form (Applicant Principals) = true
+has_command_form (Applicant (PrincipalRows principal)) = is_name principal
 has_command_form (Expert Queue) = true
 has_command_form (Expert (Advise account reference advice)) =
     is_name account && is_name reference && has_advice_form advice
@@ -80,6 +89,7 @@ has_command_form (Clerk (AssignExpert account reference expert)) =
 has_command_form (Clerk (Approve account reference)) = is_name account && is_name reference
 has_command_form (Clerk (Decline account reference reason)) =
     is_name account && is_name reference && is_text reason
+has_command_form (Clerk (SetHold name value held)) = is_name name && nat_lt value (2 ^ 32)
 has_command_form (Clerk (Define name table)) = is_name name && has_table_form table
 has_command_form (Clerk (AddPool prefix)) = true
 has_command_form (Clerk (Grant token cap)) = is_token token && has_cap_form cap

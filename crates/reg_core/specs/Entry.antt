@@ -1,7 +1,7 @@
 -- Entries with their places, and without.
 use Rattle.std.specs.Prelude.{ℕ, Bool, ◌&&◌, List}
 pub use Rattle.reg_early.specs.Forms.{is_day as has_day_form, has_term_form}
-use Rattle.reg_early.specs.Terms.{status_on}
+use Rattle.reg_early.specs.Terms.{held_term, status_on}
 use Rattle.reg_ranges.specs.Texts.{is_text}
 use Rattle.reg_core.specs.Names.{is_name}
 use Rattle.reg_core.specs.declared.entry.Registration.{Registration}
@@ -33,6 +33,10 @@ page_entry today value a =
       status =
           status_on a.term today;
     }
+
+-- an entry with a clerk's mark by which it is held, or without it
+abbrev pub with_hold : Bool → Registration → Registration
+with_hold held a = record a { term = held_term held a.term }
 
 -- ---- Forms
 

@@ -34,9 +34,10 @@ IsForEntry (Renew ask) = Unit {0}
 IsForEntry (Permanent ask) = Unit {0}
 IsForEntry ask = ⊥
 
-abbrev pub IsForRenewal : Ask → Type 0
-IsForRenewal (Renew ask) = Unit {0}
-IsForRenewal ask = ⊥
+-- a renewal for which no minute of the IESG is named
+abbrev pub IsPlainRenewal : Ask → Type 0
+IsPlainRenewal (Renew ask) = ask.iesg ≡ None
+IsPlainRenewal ask = ⊥
 
 -- a new entry at a value that is named
 abbrev pub IsForValue : Ask → Type 0
@@ -110,7 +111,7 @@ Applies rows account ask no.Permanent =
     IsForEntry ask
     × (a : Registration) × (rows.entry ≡ Some a) × (a.term.expires ≡ None)
 Applies rows account ask no.Renewed =
-    IsForRenewal ask × (a : Registration) × (rows.entry ≡ Some a) × (a.term.renewed ≡ true)
+    IsPlainRenewal ask × (a : Registration) × (rows.entry ≡ Some a) × (a.term.renewed ≡ true)
 Applies rows account ask no.Taken = IsForValue ask × IsSome rows.entry
 Applies rows account ask no.Exhausted = IsExhausted rows ask
 Applies rows account ask other = ⊥
@@ -122,22 +123,24 @@ line_of no.Token = 1
 line_of no.Kind = 2
 line_of no.Ref = 3
 line_of no.Request = 4
-line_of no.Closed = 5
-line_of no.Registry = 6
-line_of no.Range = 7
-line_of no.Policy = 8
-line_of no.Early = 9
-line_of (no.Evidence item) = 10
-line_of no.Entry = 11
-line_of no.Permanent = 12
-line_of no.Renewed = 13
-line_of no.Taken = 14
-line_of no.Exhausted = 15
-line_of no.Advice = 16
-line_of no.Own = 17
-line_of no.Holding = 18
-line_of no.Exists = 19
-line_of no.Bits = 20
+line_of no.Principal = 5
+line_of no.Closed = 6
+line_of no.Registry = 7
+line_of no.Range = 8
+line_of no.Policy = 9
+line_of no.Early = 10
+line_of (no.Evidence item) = 11
+line_of no.Entry = 12
+line_of no.Permanent = 13
+line_of no.Renewed = 14
+line_of no.Expired = 15
+line_of no.Taken = 16
+line_of no.Exhausted = 17
+line_of no.Advice = 18
+line_of no.Own = 19
+line_of no.Holding = 20
+line_of no.Exists = 21
+line_of no.Bits = 22
 
 -- the refusal applies, and none that applies stands in an earlier line
 pub record IsFirst (rows : Ground) (account : List ℕ) (ask : Ask) (refusal : Refusal) :

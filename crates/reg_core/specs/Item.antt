@@ -1,11 +1,12 @@
 -- What the parts of a request are called.
 use Rattle.std.specs.Prelude.{ℕ, List, codes}
 use Rattle.reg_core.specs.declared.item.Item.{Item}
-use Rattle.reg_core.specs.declared.item.Item.TheVariants.{Account, Address, Block, Chair, Contact, Director, Draft, Expert, Extra, Interest, Kind, Label, Least, Max, Minute, Name, Number, Organization, Prefix, Private, Reason, Reference, Registry, Rfc, Size, Specification, Stable, Stream, Text, Token, Track, Until, Value, Verdict, WillBeRfc}
+use Rattle.reg_core.specs.declared.item.Item.TheVariants.{Account, Address, Agent, Block, Chair, Contact, Director, Draft, Expert, Extra, Held, Iesg, Interest, Kind, Label, Least, Max, Minute, Name, Number, Organization, Prefix, Private, Reads, Reason, Reference, Registry, Rfc, Size, Specification, Stable, Stream, Text, Token, Track, Until, Value, Verdict, WillBeRfc}
 
 abbrev pub item_name : Item → List ℕ
 item_name Account = codes "account"
 item_name Address = codes "address"
+item_name Agent = codes "agent"
 item_name Block = codes "block"
 item_name Chair = codes "chair"
 item_name Contact = codes "contact"
@@ -13,6 +14,8 @@ item_name Director = codes "director"
 item_name Draft = codes "draft"
 item_name Expert = codes "expert"
 item_name Extra = codes "extra"
+item_name Held = codes "held"
+item_name Iesg = codes "iesg"
 item_name Interest = codes "interest"
 item_name Kind = codes "kind"
 item_name Label = codes "label"
@@ -24,6 +27,7 @@ item_name Number = codes "number"
 item_name Organization = codes "organization"
 item_name Prefix = codes "prefix"
 item_name Private = codes "private"
+item_name Reads = codes "reads"
 item_name Reason = codes "reason"
 item_name Reference = codes "reference"
 item_name Registry = codes "registry"

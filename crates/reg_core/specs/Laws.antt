@@ -1,5 +1,5 @@
 -- The laws of the office.
-use Rattle.std.specs.Prelude.{◌≡◌, ◌<◌, ◌≤◌, ◌↔◌, ◌⊎◌, ℕ, Bool, true, false, List, Option, Some, None, Ok, IsTrue, codes}
+use Rattle.std.specs.Prelude.{◌≡◌, ◌<◌, ◌≤◌, ◌↔◌, ◌⊎◌, ℕ, Bool, true, false, List, Option, Some, None, IsSome, Ok, IsTrue, codes}
 use Rattle.std.specs.FinMap.{get, contains_key, keys}
 use Rattle.reg_blocks.specs.Block.{SizedPrefix}
 use Rattle.reg_blocks.specs.Pool.{is_pool_prefix}
@@ -12,7 +12,7 @@ use Rattle.reg_core.specs.Award.{Award, for_good, early, renewed, settled, award
 use Rattle.reg_ranges.specs.Tables.{Table}
 use Rattle.reg_core.specs.Capability.{last_until}
 use Rattle.reg_core.specs.Command.{kind_of, has_command_form}
-use Rattle.reg_core.specs.Lists.{Shows, BlockList, IsRow, IsOwnRow, IsFile, IsItem, OwnList, HasHoldingOf, HoldingList, QueueList}
+use Rattle.reg_core.specs.Lists.{Shows, BlockList, IsRow, IsOwnRow, IsFile, IsItem, OwnList, HasHoldingOf, HoldingList, QueueList, AccountList, ShowsMark, SaidOfAgent}
 use Rattle.reg_core.specs.Names.{is_token, is_digest}
 use Rattle.reg_core.specs.Request.{is_pending, request_rows}
 use Rattle.reg_core.specs.Rules.{change_to_give}
@@ -32,12 +32,12 @@ use Rattle.reg_core.specs.declared.change.Change.{Change}
 use Rattle.reg_core.specs.declared.change.Change.TheVariants.{Grant as GrantIt}
 use Rattle.reg_core.specs.declared.command.Command.{Command}
 use Rattle.reg_core.specs.declared.command.Command.TheVariants.{Public, Applicant, Expert, Clerk}
-use Rattle.reg_core.specs.declared.command.ApplicantCommand.TheVariants.{Own, OwnOne, Submit, Withdraw, Holdings as OwnHoldings, SetListing}
+use Rattle.reg_core.specs.declared.command.ApplicantCommand.TheVariants.{Own, OwnOne, Submit, Withdraw, Holdings as OwnHoldings, SetListing, SetAgent, Agents, Principals, PrincipalRows}
 use Rattle.reg_core.specs.declared.command.ExpertCommand.TheVariants.{Queue, Advise}
-use Rattle.reg_core.specs.declared.command.ClerkCommand.TheVariants.{AllRequests, OneRequest, AssignExpert, Approve, Decline, Define, AddPool, Grant, Revoke}
+use Rattle.reg_core.specs.declared.command.ClerkCommand.TheVariants.{AllRequests, OneRequest, AssignExpert, Approve, Decline, SetHold, Define, AddPool, Grant, Revoke}
 use Rattle.reg_core.specs.declared.command.PublicCommand.TheVariants.{Registries, Registry, RegistryListing, PoolList, BlockListing}
 use Rattle.reg_core.specs.declared.content.Content.{Content}
-use Rattle.reg_core.specs.declared.content.Content.TheVariants.{Names, Page, Listing, Pool, Blocks, Made, Row, Rows, Held, Holdings, Item, Items, Desk, Desks, Filed, Defined, Pooled, Granted, Revoked}
+use Rattle.reg_core.specs.declared.content.Content.TheVariants.{Names, Page, Listing, Pool, Blocks, Made, Row, Rows, Held, Holdings, Agent, Accounts, Item, Items, Desk, Desks, Filed, Marked, Defined, Pooled, Granted, Revoked}
 use Rattle.reg_core.specs.declared.holding.Holder.{Holder}
 use Rattle.reg_core.specs.declared.refusal.Refusal.{Refusal}
 use Rattle.reg_core.specs.declared.reply.Reply.{Reply}
@@ -120,6 +120,17 @@ IsDone digest_of w by today (Applicant OwnHoldings) (Holdings rows) =
 IsDone digest_of w by today (Applicant (SetListing block private)) (Held row) =
     (row.block ≡ block) × (row.private ≡ private) × (cap : Cap) × (by ≡ Some cap)
     × HasHoldingOf w cap.account row
+IsDone digest_of w by today (Applicant (SetAgent agent reads)) (Agent given is) =
+    (given ≡ agent) × (is ≡ reads) × SaidOfAgent w by agent reads
+IsDone digest_of w by today (Applicant Agents) (Accounts names) =
+    (cap : Cap) × (by ≡ Some cap)
+    × AccountList names (λ agent. contains_key w.agents (cap.account, agent) ≡ true)
+IsDone digest_of w by today (Applicant Principals) (Accounts names) =
+    (cap : Cap) × (by ≡ Some cap)
+    × AccountList names (λ principal. contains_key w.agents (principal, cap.account) ≡ true)
+IsDone digest_of w by today (Applicant (PrincipalRows principal)) (Rows rows) =
+    (cap : Cap) × (by ≡ Some cap) × (contains_key w.agents (principal, cap.account) ≡ true)
+    × OwnList w principal rows
 IsDone digest_of w by today (Expert Queue) (Items rows) =
     (cap : Cap) × (by ≡ Some cap) × QueueList w cap.account rows
 IsDone digest_of w by today (Expert (Advise account reference advice)) (Item row) =
@@ -134,6 +145,8 @@ IsDone digest_of w by today (Clerk (Approve account reference)) (Desk row) =
     IsApproved row.state × IsRow w account reference row
 IsDone digest_of w by today (Clerk (Decline account reference reason)) (Desk row) =
     (row.state ≡ Declined reason) × IsRow w account reference row
+IsDone digest_of w by today (Clerk (SetHold name value held)) (Marked entry) =
+    ShowsMark w name value held today entry
 IsDone digest_of w by today (Clerk (Define name table)) (Defined given) =
     (given ≡ name) × (get w.registries name ≡ Some table)
 IsDone digest_of w by today (Clerk (AddPool prefix)) (Pooled given) =
@@ -263,16 +276,16 @@ pub record IsYearOn (was is : ℕ) : Type 0 where
   pub year : is ≡ year_after from
 
 -- what a term has come to: its first day stays; what is permanent stays as it is; what was renewed
--- stays renewed, and expires as before or never; and an expiry day moves by renewal alone, to a year
--- after a day that is no earlier, or goes away for good
+-- stays renewed; an expiry day moves by renewal alone, to a year after a day that is no earlier, or
+-- goes away for good, and with it a clerk's mark
 pub record TermStands (before now : Term) : Type 0 where
   pub first : now.first ≡ before.first
   pub permanent : before.expires ≡ None → now ≡ before
   pub renewed : before.renewed ≡ true → now.renewed ≡ true
-  pub once : before.renewed ≡ true → (now.expires ≡ before.expires) ⊎ (now.expires ≡ None)
   pub expires : (was is : ℕ) → before.expires ≡ Some was → now.expires ≡ Some is
       → (was ≤ is)
       × (((is ≡ was) × (now.renewed ≡ before.renewed)) ⊎ ((now.renewed ≡ true) × IsYearOn was is))
+  pub settled : IsSome before.expires → now.expires ≡ None → now.held ≡ false
 
 -- an entry keeps its label and its assignee, and its term is what it may have come to
 abbrev pub StillGiven : Registration → Option Registration → Type 0

@@ -9,6 +9,8 @@ pub mod Entry
 pub mod Holding
 pub mod World
 pub mod Request
+pub mod Minutes
+pub mod Link
 pub mod File
 pub mod View
 pub mod Queue
@@ -31,5 +33,6 @@ pub mod Laws
 pub mod MayBeGiven
 pub mod BlocksGiven
 pub mod EarlyAllocations
+pub mod Agents
 pub mod Item
 pub mod WireRefusal

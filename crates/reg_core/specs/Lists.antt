@@ -1,10 +1,12 @@
 -- What an office lists and shows, row by row.
-use Rattle.std.specs.Prelude.{◌≡◌, ◌<◌, ◌≤◌, ℕ, true, false, List, map, Option, Some, None, All, Contains}
+use Rattle.std.specs.Prelude.{◌≡◌, ◌<◌, ◌≤◌, ℕ, Bool, true, false, List, map, Option, Some, None, IsSome, All, Contains}
 use Rattle.std.specs.FinMap.{get, contains_key}
 use Rattle.std.specs.List.Sorted.{IsStrictlySortedBy, IsStrictlyIncreasing}
 use Rattle.reg_blocks.specs.Block.{SizedPrefix, block_cmp}
 use Rattle.reg_early.specs.declared.term.Status.TheVariants as status
+use Rattle.reg_core.specs.Entry.{page_entry}
 use Rattle.reg_core.specs.File.{experts_of, opinions_of}
+use Rattle.reg_core.specs.Maps.{text_cmp}
 use Rattle.reg_core.specs.Holding.{holder_in, holding_row, holding_rows, listed_rows}
 use Rattle.reg_core.specs.Page.{page_entries}
 use Rattle.reg_core.specs.Queue.{queue_rows}
@@ -25,8 +27,8 @@ use Rattle.reg_core.specs.declared.request.Request.{Request}
 
 -- ---- Registers
 
--- the row shows this entry as it is on the day: Assigned without expiry, else Temporary before the
--- expiry day and Expired from that day on
+-- the row shows this entry as it is on the day: Assigned without expiry, else Temporary while it is
+-- held and before the expiry day, and Expired from that day on
 pub record ShowsEntry (today : ℕ) (a : Registration) (row : PageEntry) : Type 0 where
   pub label : row.label ≡ a.label
   pub assignee : row.assignee ≡ a.assignee
@@ -34,7 +36,9 @@ pub record ShowsEntry (today : ℕ) (a : Registration) (row : PageEntry) : Type 
   pub assigned : a.term.expires ≡ None → row.status ≡ status.Assigned
   pub temporary : (expiry : ℕ) → a.term.expires ≡ Some expiry → today < expiry
       → row.status ≡ status.Temporary
-  pub expired : (expiry : ℕ) → a.term.expires ≡ Some expiry → expiry ≤ today
+  pub held : (expiry : ℕ) → a.term.expires ≡ Some expiry → a.term.held ≡ true
+      → row.status ≡ status.Temporary
+  pub expired : (expiry : ℕ) → a.term.expires ≡ Some expiry → a.term.held ≡ false → expiry ≤ today
       → row.status ≡ status.Expired
 
 -- the row shows the entry that stands at its value
@@ -60,6 +64,17 @@ abbrev pub Shows : World → List ℕ → ℕ → PageOf → Type 0
 Shows w name today page =
     (page.name ≡ name) × (get w.registries name ≡ Some page.table)
     × EntryList w name today page.entries
+
+-- the registry is there, and its entry at the value expires and has this mark; and it is shown as it is
+-- on the day
+pub record ShowsMark (w : World) (name : List ℕ) (value : ℕ) (held : Bool) (today : ℕ)
+    (row : PageEntry) : Type 0 where
+  pub registry : IsSome (get w.registries name)
+  pub entry : Registration
+  pub standing : get w.entries (name, value) ≡ Some entry
+  pub expires : IsSome entry.term.expires
+  pub mark : entry.term.held ≡ held
+  pub shown : row ≡ page_entry today value entry
 
 -- the row shows organization and address of this holder, or neither if the holder is private
 pub record ShowsHolder (h : Holder) (row : Listed) : Type 0 where
@@ -162,3 +177,20 @@ pub record QueueList (w : World) (expert : List ℕ) (rows : List QueueRow) : Ty
       → (row : QueueRow) × Contains rows row × IsItem w expert account reference row
   -- they ascend by account and reference, so no request has two
   pub ascending : IsStrictlySortedBy name_cmp (map (λ row. (row.account, row.reference)) rows)
+
+-- ---- Agents and principals
+
+-- of another account than the caller's, who gave the command with this capability, it is so whether it
+-- reads
+pub record SaidOfAgent (w : World) (by : Option Cap) (agent : List ℕ) (reads : Bool) :
+    Type 0 where
+  pub cap : Cap
+  pub has : by ≡ Some cap
+  pub other : ¬ (agent ≡ cap.account)
+  pub is : contains_key w.agents (cap.account, agent) ≡ reads
+
+-- the names are just those of whom this is so, and they ascend, so none comes twice
+pub record AccountList (names : List (List ℕ)) (Is : List ℕ → Type 0) : Type 0 where
+  pub only : All Is names
+  pub every : (name : List ℕ) → Is name → Contains names name
+  pub ascending : IsStrictlySortedBy text_cmp names

@@ -1,5 +1,5 @@
 -- What is so of a value that is given, in the words of its registry and of the policy of its range.
-use Rattle.std.specs.Prelude.{◌≡◌, ◌<◌, ℕ, List, [], true, false, Option, Some, None, Ok, IsSome}
+use Rattle.std.specs.Prelude.{◌≡◌, ◌<◌, ℕ, List, [], true, false, Option, Some, None, Ok, IsSome, is_some}
 use Rattle.std.specs.FinMap.{get}
 use Rattle.reg_early.specs.EarlyRequirements.{early_unmet}
 use Rattle.reg_early.specs.Moment.{utc_day}
@@ -105,7 +105,7 @@ IsAskedDuly w account (Code ask) = (v : ℕ) × MayBeGiven w ask v
 IsAskedDuly w account (Early ask) = (v : ℕ) × MayBeGivenEarly w ask v
 IsAskedDuly w account (Renew ask) =
     (a : Registration) × MayBeRenewed w account ask a
-    × ((day : ℕ) → (term : Term) × (renewal a.term day ≡ Ok term))
+    × ((day : ℕ) → (term : Term) × (renewal a.term day (is_some ask.iesg) ≡ Ok term))
 IsAskedDuly w account (Permanent ask) =
     (a : Registration) × MayBeSettled w account ask a
     × (term : Term) × (settlement a.term ≡ Ok term)
@@ -134,7 +134,7 @@ IsDuly w today account (Early ask) entry =
 IsDuly w today account (Renew ask) entry =
     (entry.value ≡ ask.value) × (a : Registration) × (term : Term)
     × IsEntry account ask.registry a.label term entry × MayBeRenewed w account ask a
-    × (renewal a.term today ≡ Ok term)
+    × (renewal a.term today (is_some ask.iesg) ≡ Ok term)
 IsDuly w today account (Permanent ask) entry =
     (entry.value ≡ ask.value) × (a : Registration) × (term : Term)
     × IsEntry account ask.registry a.label term entry × MayBeSettled w account ask a

@@ -5,7 +5,7 @@ use Rattle.reg_blocks.specs.Block.{is_block}
 use Rattle.reg_ranges.specs.Texts.{is_text}
 use Rattle.reg_core.specs.World.{RequestName, name_cmp, in_state}
 use Rattle.reg_core.specs.declared.change.Change.{Change}
-use Rattle.reg_core.specs.declared.change.Change.TheVariants.{Grant, Revoke, Define, AddPool, Submit, Close, Assign, Advise, GiveValue, GiveBlock, SetPrivate}
+use Rattle.reg_core.specs.declared.change.Change.TheVariants.{Grant, Revoke, Define, AddPool, Submit, Close, Assign, Advise, GiveValue, GiveBlock, SetPrivate, SetHold, SetAgent}
 use Rattle.reg_core.specs.declared.request.Case.{Case}
 use Rattle.reg_core.specs.declared.request.Given.{Given}
 use Rattle.reg_core.specs.declared.request.Given.TheVariants.{Value, Block}
@@ -65,6 +65,8 @@ state_by (Advise account reference expert advice) = None
 state_by (GiveValue account reference entry) = Some (Approved (Value entry.value))
 state_by (GiveBlock account reference holding) = Some (Approved (Block holding.block))
 state_by (SetPrivate block private) = None
+state_by (SetHold name value held) = None
+state_by (SetAgent principal agent reads) = None
 
 -- a request after the change
 abbrev pub after : Change → Case → Case

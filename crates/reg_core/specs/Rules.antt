@@ -2,6 +2,10 @@
 use Rattle.std.specs.Prelude.{◌≡◌, ℕ, Bool, true, false, ◌&&◌, not, List, Option, Some, None, Result, Ok, Err, is_some, if◌then◌else◌, MatchResult}
 use Rattle.reg_blocks.specs.Block.{SizedPrefix}
 use Rattle.reg_blocks.specs.Pool.{is_pool_prefix}
+use Rattle.reg_early.specs.Terms.{status_on}
+use Rattle.reg_early.specs.declared.term.Status.{Status}
+use Rattle.reg_early.specs.declared.term.Status.TheVariants as status
+use Rattle.reg_early.specs.declared.term.Term.{Term}
 use Rattle.reg_ranges.specs.Sameness.{same_table}
 use Rattle.reg_ranges.specs.Tables.{Table}
 use Rattle.reg_core.specs.Advice.{is_given}
@@ -10,18 +14,18 @@ use Rattle.reg_core.specs.Allowance.{Ground, allowance_on}
 use Rattle.reg_core.specs.Ask.{same_ask}
 use Rattle.reg_core.specs.Award.{Award, awarded_entry, new_holding, Allowance, entry_on, holding_from}
 use Rattle.reg_core.specs.Capability.{same_cap}
-use Rattle.reg_core.specs.World.{RequestName}
+use Rattle.reg_core.specs.World.{RequestName, Place, Link}
 use Rattle.reg_core.specs.declared.advice.Advice.{Advice as AdviceOf}
 use Rattle.reg_core.specs.declared.ask.Ask.{Ask}
 use Rattle.reg_core.specs.declared.capability.Cap.{Cap}
 use Rattle.reg_core.specs.declared.change.Change.{Change}
-use Rattle.reg_core.specs.declared.change.Change.TheVariants.{Grant, Revoke, Define, AddPool, Submit, Close, Assign, Advise, GiveValue, GiveBlock, SetPrivate}
+use Rattle.reg_core.specs.declared.change.Change.TheVariants.{Grant, Revoke, Define, AddPool, Submit, Close, Assign, Advise, GiveValue, GiveBlock, SetPrivate, SetHold, SetAgent}
 use Rattle.reg_core.specs.declared.decide.Decision.{Decision}
 use Rattle.reg_core.specs.declared.decide.Decision.TheVariants.{Make, Same}
 use Rattle.reg_core.specs.declared.decide.Deny.{Deny}
 use Rattle.reg_core.specs.declared.decide.Deny.TheVariants.{Refused, Memory}
 use Rattle.reg_core.specs.declared.refusal.Refusal.{Refusal}
-use Rattle.reg_core.specs.declared.refusal.Refusal.TheVariants.{Ref, Closed, Advice, Own, Exists, Bits}
+use Rattle.reg_core.specs.declared.refusal.Refusal.TheVariants.{Ref, Closed, Permanent, Expired, Advice, Own, Exists, Bits}
 use Rattle.reg_core.specs.declared.request.Case.{Case}
 use Rattle.reg_core.specs.declared.request.Given.{Given}
 use Rattle.reg_core.specs.declared.request.State.{State}
@@ -50,6 +54,37 @@ listing_rule block true true = Same
 listing_rule block false false = Same
 listing_rule block true false = Make (SetPrivate block true)
 listing_rule block false true = Make (SetPrivate block false)
+
+-- a link is there from now on, or is not, unless it is so already
+abbrev pub link_rule : Link → Bool → Bool → Decision
+link_rule link true true = Same
+link_rule link false false = Same
+link_rule link true false = Make (SetAgent link.0 link.1 true)
+link_rule link false true = Make (SetAgent link.0 link.1 false)
+
+-- nobody is its own agent; whether the agent has a capability is not asked
+abbrev pub agent_rule : Link → Bool → Bool → Result Decision Refusal
+agent_rule link reads there =
+    if same_text link.1 link.0 then Err Own else Ok (link_rule link reads there)
+
+-- an entry is held from now on, unless it has expired
+abbrev pub new_hold_rule : Place → Status → Result Decision Refusal
+new_hold_rule place status.Assigned = Ok (Make (SetHold place.0 place.1 true))
+new_hold_rule place status.Temporary = Ok (Make (SetHold place.0 place.1 true))
+new_hold_rule place status.Expired = Err Expired
+
+-- an entry is given the mark that is asked for, unless it has that mark
+abbrev pub mark_rule : Place → Bool → Bool → Status → Result Decision Refusal
+mark_rule place true true status = Ok Same
+mark_rule place false false status = Ok Same
+mark_rule place true false status = new_hold_rule place status
+mark_rule place false true status = Ok (Make (SetHold place.0 place.1 false))
+
+-- only what expires is held
+abbrev pub hold_rule : Place → Bool → Term → ℕ → Result Decision Refusal
+hold_rule place held term today =
+    if is_some term.expires then mark_rule place held term.held (status_on term today)
+    else Err Permanent
 
 -- a pending request is declined for a reason
 abbrev pub decline_rule : RequestName → List ℕ → State → Result Decision Refusal

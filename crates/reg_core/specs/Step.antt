@@ -4,7 +4,8 @@ use Rattle.std.specs.FinMap.{get, contains_key}
 use Rattle.reg_core.specs.Allowance.{◌>>=◌, or_refusal, ground_of}
 use Rattle.reg_core.specs.Answer.{Answer, reply_of, change_of, unchanged, by_rule, case_by, desk_row, answer}
 use Rattle.reg_core.specs.Capability.{same_kind}
-use Rattle.reg_core.specs.Rules.{assign_rule, approve_rule, decline_rule, define_rule, pool_rule, grant_rule, revoke_rule}
+use Rattle.reg_core.specs.Entry.{page_entry, with_hold}
+use Rattle.reg_core.specs.Rules.{assign_rule, approve_rule, decline_rule, hold_rule, define_rule, pool_rule, grant_rule, revoke_rule}
 use Rattle.reg_core.specs.View.{published, view_of}
 use Rattle.reg_early.specs.Moment.{is_in_clock, utc_day}
 use Rattle.reg_core.specs.File.{file, was_advised}
@@ -15,7 +16,7 @@ use Rattle.reg_core.specs.declared.capability.Kind.TheVariants.{Clerk}
 use Rattle.reg_core.specs.declared.command.Command.{Command}
 use Rattle.reg_core.specs.declared.command.Command.TheVariants as command
 use Rattle.reg_core.specs.declared.command.ClerkCommand.{ClerkCommand}
-use Rattle.reg_core.specs.declared.command.ClerkCommand.TheVariants.{AllRequests, OneRequest, AssignExpert, Approve, Decline, Define, AddPool, Grant, Revoke}
+use Rattle.reg_core.specs.declared.command.ClerkCommand.TheVariants.{AllRequests, OneRequest, AssignExpert, Approve, Decline, SetHold, Define, AddPool, Grant, Revoke}
 use Rattle.reg_core.specs.declared.content.Content.{Content}
 use Rattle.reg_core.specs.declared.content.Content.TheVariants as content
 use Rattle.reg_core.specs.declared.decide.Decision.{Decision}
@@ -66,6 +67,11 @@ module _ (digest_of : List ℕ → List ℕ) where
     case ← or_refusal no.Request (get w.requests (account, reference))
     by_rule (decline_rule (account, reference) reason case.state)
         (desk_by (account, reference) case)
+  clerk_answer w in_use today (SetHold name value held) = do
+    table ← or_refusal no.Registry (get w.registries name)
+    a ← or_refusal no.Entry (get w.entries (name, value))
+    by_rule (hold_rule (name, value) held a.term today)
+        (λ decision. content.Marked (page_entry today value (with_hold held a)))
   clerk_answer w in_use today (Define name table) =
       by_rule (define_rule (get w.registries name) name table) (λ decision. content.Defined name)
   clerk_answer w in_use today (AddPool prefix) =

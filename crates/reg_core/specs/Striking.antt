@@ -36,7 +36,8 @@ abbrev pub is_others : List ℕ → Option Cap → Bool
 is_others account None = false
 is_others account (Some cap) = not (same_text cap.account account)
 
--- what is told lists all requests, or those that another account made or is assigned to
+-- what is told lists all requests, or those that another account made, is assigned to, or may read as
+-- an agent
 abbrev pub lists_others : List ℕ → Option Cap → Content → Bool
 lists_others account cap (content.Names names) = false
 lists_others account cap (content.Page page) = false
@@ -48,11 +49,14 @@ lists_others account cap (content.Row row) = false
 lists_others account cap (content.Rows rows) = is_others account cap
 lists_others account cap (content.Held row) = false
 lists_others account cap (content.Holdings rows) = false
+lists_others account cap (content.Agent agent reads) = false
+lists_others account cap (content.Accounts names) = false
 lists_others account cap (content.Item row) = false
 lists_others account cap (content.Items rows) = is_others account cap
 lists_others account cap (content.Desk row) = false
 lists_others account cap (content.Desks rows) = true
 lists_others account cap (content.Filed file) = false
+lists_others account cap (content.Marked entry) = false
 lists_others account cap (content.Defined name) = false
 lists_others account cap (content.Pooled prefix) = false
 lists_others account cap (content.Granted given) = false
@@ -82,11 +86,14 @@ content_without unseen (content.Row row) = content.Row row
 content_without unseen (content.Rows rows) = content.Rows (requests_without unseen rows)
 content_without unseen (content.Held row) = content.Held row
 content_without unseen (content.Holdings rows) = content.Holdings rows
+content_without unseen (content.Agent agent reads) = content.Agent agent reads
+content_without unseen (content.Accounts names) = content.Accounts names
 content_without unseen (content.Item row) = content.Item row
 content_without unseen (content.Items rows) = content.Items (queue_without unseen rows)
 content_without unseen (content.Desk row) = content.Desk row
 content_without unseen (content.Desks rows) = content.Desks (requests_without unseen rows)
 content_without unseen (content.Filed file) = content.Filed file
+content_without unseen (content.Marked entry) = content.Marked entry
 content_without unseen (content.Defined name) = content.Defined name
 content_without unseen (content.Pooled prefix) = content.Pooled prefix
 content_without unseen (content.Granted cap) = content.Granted cap

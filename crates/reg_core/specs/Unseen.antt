@@ -49,7 +49,8 @@ about_at s = about (cap_at s.before s.event.caller) s.event.command
 
 -- ---- Requests that an account never sees
 
--- the change gives the request something, or assigns it to the account
+-- the change gives the request something, assigns it to the account, or makes the account an agent of
+-- its applicant
 abbrev pub reveals : List ℕ → RequestName → Change → Bool
 reveals account name (change.Grant digest cap) = false
 reveals account name (change.Revoke digest) = false
@@ -65,17 +66,21 @@ reveals account name (change.GiveValue applicant reference entry) =
 reveals account name (change.GiveBlock applicant reference holding) =
     same_name (applicant, reference) name
 reveals account name (change.SetPrivate block private) = false
+reveals account name (change.SetHold registry value held) = false
+reveals account name (change.SetAgent principal agent reads) =
+    reads && (same_text principal name.0 && same_text agent account)
 
 abbrev pub reveals_if : List ℕ → RequestName → Option Change → Bool
 reveals_if account name None = false
 reveals_if account name (Some change) = reveals account name change
 
--- a request of another account, given nothing in the run, and assigned to this account neither
--- before the run nor in it
+-- a request of another account, given nothing in the run, assigned to this account neither before
+-- the run nor in it, and of no applicant whose agent this account is before the run or becomes in it
 abbrev pub is_unseen : (List ℕ → List ℕ) → List ℕ → World → List Event → RequestName → Bool
 is_unseen digest_of account w events name =
     not (same_text name.0 account)
     && not (contains_key w.queue (name, account))
+    && not (contains_key w.agents (name.0, account))
     && not (list_any (λ (s : Stage). reveals_if account name s.change) (stages digest_of w events))
 
 -- ---- What is left of the run

@@ -8,7 +8,7 @@ use Rattle.reg_ranges.specs.Tables.{Table}
 use Rattle.reg_core.specs.Holding.{Shown, masked_blocks}
 use Rattle.reg_core.specs.Maps.{text_cmp, same_text, only_if, select}
 use Rattle.reg_core.specs.Request.{word_of}
-use Rattle.reg_core.specs.World.{World, RequestName, name_cmp, place_cmp}
+use Rattle.reg_core.specs.World.{World, RequestName, name_cmp, place_cmp, link_cmp}
 use Rattle.reg_core.specs.declared.advice.Advice.{Advice}
 use Rattle.reg_core.specs.declared.ask.Ask.{Ask}
 use Rattle.reg_core.specs.declared.entry.Registration.{Registration}
@@ -43,14 +43,22 @@ pub record Queued : Type 0 where
   pub word : StateWord
   pub advice : Option Advice
 
--- an account's own requests, the blocks that it holds, and the requests that are queued to it
+-- an account's own requests, the blocks that it holds, and the requests that are queued to it; its
+-- agents, its principals, and the requests of these
 pub record Personal : Type 0 where
   pub requests : FinMap name_cmp Case
   pub holdings : FinMap block_cmp Holder
   pub queue : FinMap name_cmp Queued
+  pub agents : FinSet link_cmp
+  pub principals : FinSet link_cmp
+  pub principal_rows : FinMap name_cmp Case
+
+-- those of these requests that an account made
+abbrev pub requests_by : List ℕ → FinMap name_cmp Case → FinMap name_cmp Case
+requests_by account m = select (λ name case. only_if (same_text name.0 account) case) m
 
 abbrev pub requests_of : List ℕ → World → FinMap name_cmp Case
-requests_of account w = select (λ name case. only_if (same_text name.0 account) case) w.requests
+requests_of account w = requests_by account w.requests
 
 abbrev pub holdings_of : List ℕ → World → FinMap block_cmp Holder
 holdings_of account w = select (λ block h. only_if (same_text h.account account) h) w.blocks
@@ -66,11 +74,25 @@ queued_to account w name case =
 abbrev pub queue_of : List ℕ → World → FinMap name_cmp Queued
 queue_of account w = select (λ name case. queued_to account w name case) w.requests
 
+abbrev pub agents_of : List ℕ → World → FinSet link_cmp
+agents_of account w = select (λ link u. only_if (same_text link.0 account) u) w.agents
+
+abbrev pub principals_of : List ℕ → World → FinSet link_cmp
+principals_of account w = select (λ link u. only_if (same_text link.1 account) u) w.agents
+
+-- the requests of all whose agent the account is
+abbrev pub principal_rows_of : List ℕ → World → FinMap name_cmp Case
+principal_rows_of account w =
+    select (λ name case. only_if (contains_key w.agents (name.0, account)) case) w.requests
+
 abbrev pub personal : List ℕ → World → Personal
 personal account w = record {
   requests = requests_of account w;
   holdings = holdings_of account w;
   queue = queue_of account w;
+  agents = agents_of account w;
+  principals = principals_of account w;
+  principal_rows = principal_rows_of account w;
 }
 
 pub record View : Type 0 where
@@ -85,7 +107,7 @@ abbrev pub with_personal : World → Cap → Cap × Personal
 with_personal w cap = (cap, personal cap.account w)
 
 -- what a caller sees: the published registers, its own capability, and its account's own requests,
--- blocks and queue
+-- blocks, queue, agents and principals, and the requests of its principals
 abbrev pub view_of : World → Option (List ℕ) → View
 view_of w caller =
     record { published = published w; me = option_map (with_personal w) (cap_at w caller) }

@@ -4,22 +4,24 @@ use Rattle.std.specs.FinMap.{FinMap, get, contains_key}
 use Rattle.reg_blocks.specs.Block.{SizedPrefix, Clash, block_cmp, is_block, leading_24}
 use Rattle.reg_blocks.specs.Pool.{is_pool_prefix}
 use Rattle.reg_blocks.specs.declared.size.Size.{Size}
+use Rattle.reg_early.specs.Terms.{may_be_held}
 use Rattle.reg_ranges.specs.Tables.{Table, treatment_of}
 use Rattle.reg_core.specs.Advice.{has_advice_form}
 use Rattle.reg_core.specs.Ask.{has_ask_form, registry_of, same_size}
 use Rattle.reg_core.specs.Capability.{has_cap_form}
 use Rattle.reg_core.specs.Allowance.{open_policy}
 use Rattle.reg_core.specs.Entry.{has_registration_form}
+use Rattle.reg_core.specs.Link.{has_link_form}
 use Rattle.reg_core.specs.Holding.{has_holder_form}
 use Rattle.reg_core.specs.Maps.{same_text}
 use Rattle.reg_core.specs.Request.{has_state_form}
 use Rattle.reg_core.specs.Names.{is_name, is_digest}
 use Rattle.reg_core.specs.Registry.{has_table_form}
-use Rattle.reg_core.specs.World.{World, RequestName, Place, place_cmp, Seat, applied}
+use Rattle.reg_core.specs.World.{World, RequestName, Place, place_cmp, Seat, Link, applied}
 use Rattle.reg_core.specs.declared.advice.Advice.{Advice}
 use Rattle.reg_core.specs.declared.capability.Cap.{Cap}
 use Rattle.reg_core.specs.declared.change.Change.{Change}
-use Rattle.reg_core.specs.declared.change.Change.TheVariants.{Grant, Revoke, Define, AddPool, Submit, Close, Assign, Advise, GiveValue, GiveBlock, SetPrivate}
+use Rattle.reg_core.specs.declared.change.Change.TheVariants.{Grant, Revoke, Define, AddPool, Submit, Close, Assign, Advise, GiveValue, GiveBlock, SetPrivate, SetHold, SetAgent}
 use Rattle.reg_core.specs.declared.request.Case.{Case}
 use Rattle.reg_core.specs.declared.ask.Ask.{Ask}
 use Rattle.reg_core.specs.declared.ask.Ask.TheVariants.{Block}
@@ -91,7 +93,8 @@ stands_in entries blocks account ask Withdrawn = true
 -- each entry has a value that is assigned one by one, and each approved request its entry or block;
 -- only requests that are there are assigned to experts, none to its applicant, and advice is by
 -- experts to whom the request is assigned; every number of the pool is a prefix that may be in one,
--- each block lies in one of them, and no two blocks share an address
+-- each block lies in one of them, and no two blocks share an address; only an entry that expires is
+-- held, and no account is its own agent
 pub record WellKept (w : World) : Type 0 where
   pub caps : (digest : List ℕ) (cap : Cap) → get w.caps digest ≡ Some cap
       → has_grant_form digest cap ≡ true
@@ -118,9 +121,14 @@ pub record WellKept (w : World) : Type 0 where
       → contains_key w.pool (leading_24 block) ≡ true
   pub apart : (a b : SizedPrefix) → IsSome (get w.blocks a) → IsSome (get w.blocks b)
       → Clash a b → a ≡ b
+  pub held : (place : Place) (a : Registration) → get w.entries place ≡ Some a
+      → may_be_held a.term ≡ true
+  pub agents : (link : Link) → contains_key w.agents link ≡ true → has_link_form link ≡ true
 
 -- a capability, a registry, a prefix, a request, an assignment or a block that the change adds is
--- not there; a request that it closes or gives something is, and a block that it marks
+-- not there; a request that it closes or gives something is, and a block that it marks; an entry that
+-- it marks is, with the other mark; and an agent that it adds is none yet, and one that it takes away
+-- is one
 abbrev pub IsNew : World → Change → Type 0
 IsNew w (Grant digest cap) = get w.caps digest ≡ None
 IsNew w (Revoke digest) = Unit {0}
@@ -135,6 +143,9 @@ IsNew w (GiveValue account reference entry) = IsSome (get w.requests (account, r
 IsNew w (GiveBlock account reference holding) =
     IsSome (get w.requests (account, reference)) × (get w.blocks holding.block ≡ None)
 IsNew w (SetPrivate block private) = IsSome (get w.blocks block)
+IsNew w (SetHold name value held) =
+    (a : Registration) × (get w.entries (name, value) ≡ Some a) × (a.term.held ≡ not held)
+IsNew w (SetAgent principal agent reads) = contains_key w.agents (principal, agent) ≡ not reads
 
 -- the change is new to the world, and leaves it well kept
 abbrev pub CanApply : World → Change → Type 0

@@ -1,5 +1,5 @@
 -- The whole content of an office, and what a change does to it.
-use Rattle.std.specs.Prelude.{ℕ, List, Option, Some, None}
+use Rattle.std.specs.Prelude.{ℕ, Bool, true, false, List, Option, Some, None}
 use Rattle.std.specs.Ordering.{nat_cmp}
 use Rattle.std.specs.declared.cmp.Ordering.{Ordering}
 use Rattle.std.specs.FinMap as map
@@ -8,13 +8,13 @@ use Rattle.std.specs.FinSet.{FinSet}
 use Rattle.reg_blocks.specs.Block.{block_cmp}
 use Rattle.reg_ranges.specs.Tables.{Table}
 use Rattle.reg_core.specs.Maps.{text_cmp, pair_cmp, update}
-use Rattle.reg_core.specs.Entry.{registration_in}
+use Rattle.reg_core.specs.Entry.{registration_in, with_hold}
 use Rattle.reg_core.specs.Holding.{holder_in, with_mark}
 use Rattle.reg_core.specs.declared.advice.Advice.{Advice}
 use Rattle.reg_core.specs.declared.ask.Ask.{Ask}
 use Rattle.reg_core.specs.declared.capability.Cap.{Cap}
 use Rattle.reg_core.specs.declared.change.Change.{Change}
-use Rattle.reg_core.specs.declared.change.Change.TheVariants.{Grant, Revoke, Define, AddPool, Submit, Close, Assign, Advise, GiveValue, GiveBlock, SetPrivate}
+use Rattle.reg_core.specs.declared.change.Change.TheVariants.{Grant, Revoke, Define, AddPool, Submit, Close, Assign, Advise, GiveValue, GiveBlock, SetPrivate, SetHold, SetAgent}
 use Rattle.reg_core.specs.declared.request.Case.{Case}
 use Rattle.reg_core.specs.declared.request.State.{State}
 use Rattle.reg_core.specs.declared.request.State.TheVariants.{Pending, Approved}
@@ -43,9 +43,22 @@ Seat = RequestName × List ℕ
 abbrev pub seat_cmp : Seat → Seat → Ordering
 seat_cmp = pair_cmp name_cmp text_cmp
 
+-- a principal, and an agent who may read its requests
+abbrev pub Link : Type 0
+Link = List ℕ × List ℕ
+
+abbrev pub link_cmp : Link → Link → Ordering
+link_cmp = pair_cmp text_cmp text_cmp
+
+-- links with this one among them, or without it
+abbrev pub with_link : Bool → Link → FinSet link_cmp → FinSet link_cmp
+with_link true link links = insert links link tt
+with_link false link links = remove links link
+
 -- capabilities by the digests of their tokens, registries by their names, entries by registry and
 -- value, requests by their names; which request is assigned to which expert, and the advice that
--- each gave; the prefixes that blocks are cut from, and the blocks that were given
+-- each gave; the prefixes that blocks are cut from, and the blocks that were given; and which
+-- account may read the requests of which
 pub record World : Type 0 where
   pub caps : FinMap text_cmp Cap
   pub registries : FinMap text_cmp Table
@@ -55,6 +68,7 @@ pub record World : Type 0 where
   pub advice : FinMap seat_cmp Advice
   pub pool : FinSet nat_cmp
   pub blocks : FinMap block_cmp Holder
+  pub agents : FinSet link_cmp
 
 abbrev pub empty_world : World
 empty_world =
@@ -67,6 +81,7 @@ empty_world =
       advice = map.empty;
       pool = map.empty;
       blocks = map.empty;
+      agents = map.empty;
     }
 
 -- a request that waits for the office
@@ -104,6 +119,10 @@ applied w (GiveBlock account reference holding) =
     }
 applied w (SetPrivate block private) =
     record w { blocks = update w.blocks block (with_mark private) }
+applied w (SetHold name value held) =
+    record w { entries = update w.entries (name, value) (with_hold held) }
+applied w (SetAgent principal agent reads) =
+    record w { agents = with_link reads (principal, agent) w.agents }
 
 abbrev pub applied_if : World → Option Change → World
 applied_if w None = w

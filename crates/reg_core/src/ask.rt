@@ -56,6 +56,8 @@ pub struct RenewalAsk {
     pub value: u32,
     /// What the applicant shows for it, as for the allocation itself.
     pub evidence: EarlyEvidence,
+    /// The minute of the IESG by which it may be renewed again, if there is one.
+    pub iesg: Option<Text>,
 }
 
 /// An ask that a value that was allocated early be assigned for good.
@@ -139,6 +141,7 @@ impl Formed for RenewalAsk {
         self.registry.formed();
         let _value = self.value;
         self.evidence.formed();
+        self.iesg.formed();
     }
 }
 
@@ -232,6 +235,7 @@ fn is_same_renewal(renewal: &RenewalAsk, other: &RenewalAsk) -> bool
     renewal.registry == other.registry
         && renewal.value == other.value
         && is_same_early_evidence(&renewal.evidence, &other.evidence)
+        && renewal.iesg == other.iesg
 }
 
 fn is_same_permanence(settled: &PermanenceAsk, other: &PermanenceAsk) -> bool

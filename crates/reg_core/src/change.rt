@@ -38,6 +38,10 @@ pub enum Change {
     GiveBlock(Account, Ref, Holding),
     /// Marks the holder of a block as private, or as not private.
     SetPrivate(Block, bool),
+    /// Marks the entry at a value of a registry as held, or as not held.
+    SetHold(Name, u32, bool),
+    /// Adds an agent, the last account, who may read the requests of a principal; or takes it away.
+    SetAgent(Account, Account, bool),
 }
 
 impl Change {
@@ -58,7 +62,9 @@ impl Change {
             | Change::AddPool(_)
             | Change::Assign(_, _, _)
             | Change::Advise(_, _, _, _)
-            | Change::SetPrivate(_, _) => Ok(None),
+            | Change::SetPrivate(_, _)
+            | Change::SetHold(_, _, _)
+            | Change::SetAgent(_, _, _) => Ok(None),
         }
     }
 }

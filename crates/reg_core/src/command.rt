@@ -50,6 +50,15 @@ pub enum ApplicantCommand {
     /// Says of a block that it holds whether the public is to see organization and address: they
     /// are not where the mark is true.
     SetListing(Block, bool),
+    /// Says of an account whether it is its agent, who may read its requests: it is where the mark
+    /// is true.
+    SetAgent(Account, bool),
+    /// Lists its agents.
+    Agents,
+    /// Lists its principals: the accounts whose agent it is.
+    Principals,
+    /// Lists the requests of a principal.
+    PrincipalRows(Account),
 }
 
 /// What an expert may ask, of the requests that are queued to its account.
@@ -74,6 +83,9 @@ pub enum ClerkCommand {
     Approve(Account, Ref),
     /// Declines a request, for a reason.
     Decline(Account, Ref, Text),
+    /// Says of the entry at a value of a registry whether it is held: it does not expire where the
+    /// mark is true.
+    SetHold(Name, u32, bool),
     /// Opens a registry with its largest value and its ranges.
     Define(Name, RangeTable),
     /// Adds a prefix of 24 bits to the pool.

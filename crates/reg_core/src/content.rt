@@ -1,12 +1,13 @@
 //! What the caller of an accepted command is told.
 use crate::capability::Cap;
+use crate::entry::PageEntry;
 use crate::file::File;
 use crate::holding::{Holding, Listed};
 use crate::page::Page;
 use crate::queue::QueueRow;
 use crate::request::Request;
 use crate::rows::Rows;
-use crate::text::Name;
+use crate::text::{Account, Name};
 use reg_blocks::pool::Pool;
 
 /// What the caller of an accepted command is told.
@@ -32,6 +33,10 @@ pub enum Content {
     Held(Holding),
     /// The blocks that the caller holds, by first address.
     Holdings(Rows<Holding>),
+    /// Whether an account is the caller's agent now.
+    Agent(Account, bool),
+    /// The caller's agents, or its principals, in order.
+    Accounts(Rows<Account>),
     /// A request that is queued to the caller.
     Item(QueueRow),
     /// The requests that are queued to the caller, by account and reference.
@@ -42,6 +47,8 @@ pub enum Content {
     Desks(Rows<Request>),
     /// A request with all that the desk has of it.
     Filed(File),
+    /// An entry, which has the mark that was asked for now.
+    Marked(PageEntry),
     /// The registry of this name is there as it was defined.
     Defined(Name),
     /// The prefix is in the pool.

@@ -8,6 +8,7 @@ ghost use Rattle.reg_core.specs.Item.{item_name};
 pub enum Item {
     Account,
     Address,
+    Agent,
     Block,
     Chair,
     Contact,
@@ -16,6 +17,9 @@ pub enum Item {
     Expert,
     /// A member that the body should not have.
     Extra,
+    Held,
+    /// The minute of the IESG by which an entry may be renewed again.
+    Iesg,
     Interest,
     Kind,
     Label,
@@ -27,6 +31,8 @@ pub enum Item {
     Organization,
     Prefix,
     Private,
+    /// Whether an agent reads.
+    Reads,
     Reason,
     Reference,
     Registry,
@@ -52,6 +58,7 @@ impl Item {
         match self {
             Item::Account => "account",
             Item::Address => "address",
+            Item::Agent => "agent",
             Item::Block => "block",
             Item::Chair => "chair",
             Item::Contact => "contact",
@@ -59,6 +66,8 @@ impl Item {
             Item::Draft => "draft",
             Item::Expert => "expert",
             Item::Extra => "extra",
+            Item::Held => "held",
+            Item::Iesg => "iesg",
             Item::Interest => "interest",
             Item::Kind => "kind",
             Item::Label => "label",
@@ -70,6 +79,7 @@ impl Item {
             Item::Organization => "organization",
             Item::Prefix => "prefix",
             Item::Private => "private",
+            Item::Reads => "reads",
             Item::Reason => "reason",
             Item::Reference => "reference",
             Item::Registry => "registry",

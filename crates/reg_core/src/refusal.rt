@@ -16,6 +16,8 @@ pub enum Refusal {
     Ref,
     /// There is no such request among those that the caller may see.
     Request,
+    /// The account is no principal of the caller's.
+    Principal,
     /// The request is not pending any more.
     Closed,
     /// There is no such registry.
@@ -31,19 +33,22 @@ pub enum Refusal {
     /// The policy asks for this item of evidence, or an early allocation does, and it is not met
     /// (RFC 8126 section 4, RFC 7120 section 2).
     Evidence(Item),
-    /// The value has no entry that is the applicant's.
+    /// The value has no entry that is the applicant's; where a clerk marks it as held, it has none.
     Entry,
-    /// The entry has no expiry: there is nothing to renew, or to make permanent.
+    /// The entry has no expiry: there is nothing to renew, to make permanent, or to hold.
     Permanent,
-    /// The entry was renewed before (RFC 7120 section 3.3).
+    /// The entry was renewed before (RFC 7120 section 3.3), and no minute of the IESG is named.
     Renewed,
+    /// The entry has expired: it cannot be held any more.
+    Expired,
     /// The value has an entry.
     Taken,
     /// Each value under the policy has an entry; or no block of the size is free.
     Exhausted,
     /// An expert's favourable advice is wanting (RFC 8126 sections 4.5 and 4.6).
     Advice,
-    /// A clerk names the applicant as an expert, or revokes the token in use.
+    /// A clerk names the applicant as an expert, or revokes the token in use; or an applicant names
+    /// itself as its agent.
     Own,
     /// The block is none of the caller's.
     Holding,

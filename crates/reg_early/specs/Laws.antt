@@ -1,5 +1,5 @@
 -- The laws of the calendar and of terms.
-use Rattle.std.specs.Prelude.{◌≡◌, ◌↔◌, true, false, ℕ, ◌+◌, ◌<◌, ◌≤◌, pos, Some, None, Ok, Err, IsSome}
+use Rattle.std.specs.Prelude.{◌≡◌, ◌↔◌, ◌⊎◌, Bool, true, false, ℕ, ◌+◌, ◌<◌, ◌≤◌, pos, Some, None, Ok, Err, IsSome}
 use Rattle.jiff.specs.Types.{Date}
 use Rattle.jiff.specs.Words.{epoch_day}
 use Rattle.reg_early.specs.declared.term.Term.{Term}
@@ -9,7 +9,7 @@ use Rattle.reg_early.specs.declared.term.RenewFault.TheVariants as renew_fault
 use Rattle.reg_early.specs.declared.term.SettleFault.{SettleFault}
 use Rattle.reg_early.specs.declared.term.SettleFault.TheVariants as settle_fault
 use Rattle.reg_early.specs.Moment.{is_in_clock, utc_day}
-use Rattle.reg_early.specs.Terms.{HasDays, status_on, permanent_term, early_term, renewed_term, renewal, renewable, settled_term, settlement, settleable}
+use Rattle.reg_early.specs.Terms.{HasDays, status_on, permanent_term, early_term, held_term, renewed_term, renewal, renewable, settled_term, settlement, settleable}
 use Rattle.reg_early.specs.Calendar.{IsDay, CivilDate, civil_date, IsDate, day_number, date_of, year_after}
 
 -- each day has one date, and each date is that of one day
@@ -62,6 +62,7 @@ pub record TermsHaveDays : Type 0 where
   pub renewed : (term : Term) (approval : ℕ) → HasDays term → IsDay approval
       → HasDays (renewed_term term approval)
   pub settled : (term : Term) → HasDays term → HasDays (settled_term term)
+  pub held : (term : Term) (held : Bool) → HasDays term → HasDays (held_term held term)
 
 -- ---- Terms, in words of dates
 
@@ -77,19 +78,22 @@ pub record IsYearLater (date later : CivilDate) : Type 0 where
 abbrev pub IsYearAfter : ℕ → ℕ → Type 0
 IsYearAfter day later = IsDay later × IsYearLater (date_of day) (date_of later)
 
--- an entry is Temporary on each day before its expiry, and Expired on that day and on each day
--- after it; one without expiry is Assigned on every day
+-- an entry is Temporary on each day before its expiry, and on every day while it is held; where it is
+-- not held, it is Expired on that day and on each day after it; one without expiry is Assigned on
+-- every day
 pub record StatusesFollowTheExpiry : Type 0 where
   pub assigned : (term : Term) (day : ℕ) → term.expires ≡ None
       → status_on term day ≡ status.Assigned
   pub temporary : (term : Term) (expiry day : ℕ) → term.expires ≡ Some expiry → day < expiry
       → status_on term day ≡ status.Temporary
-  pub expired : (term : Term) (expiry day : ℕ) → term.expires ≡ Some expiry → expiry ≤ day
-      → status_on term day ≡ status.Expired
+  pub held : (term : Term) (expiry day : ℕ) → term.expires ≡ Some expiry → term.held ≡ true
+      → status_on term day ≡ status.Temporary
+  pub expired : (term : Term) (expiry day : ℕ) → term.expires ≡ Some expiry → term.held ≡ false
+      → expiry ≤ day → status_on term day ≡ status.Expired
 
--- the term begins on the day, and was not renewed
+-- the term begins on the day, was not renewed, and is not held
 abbrev pub BeginsOn : ℕ → Term → Type 0
-BeginsOn first term = (term.first ≡ first) × (term.renewed ≡ false)
+BeginsOn first term = (term.first ≡ first) × (term.renewed ≡ false) × (term.held ≡ false)
 
 -- what is assigned for good has no expiry, and what is allocated early expires a year later
 pub record EarlyTermsLastAYear : Type 0 where
@@ -104,28 +108,32 @@ IsRenewedFrom day before now =
     (expiry : ℕ) × IsYearAfter day expiry
     × (now ≡ record before { expires = Some expiry; renewed = true })
 
--- a renewal before the expiry day runs to a year after that day, a later one to a year after its
--- own; and nothing is renewed that has no expiry, or a second time
-pub record RenewalsLastAYear : Type 0 where
-  pub permanent : (term : Term) (today : ℕ) → term.expires ≡ None
-      → renewal term today ≡ Err renew_fault.Permanent
-  pub again : (term : Term) (today : ℕ) → IsSome term.expires → term.renewed ≡ true
-      → renewal term today ≡ Err renew_fault.Renewed
-  pub in_time : (term : Term) (expiry today : ℕ) → term.expires ≡ Some expiry
-      → term.renewed ≡ false → IsDay expiry → today ≤ expiry
-      → (now : Term) × (renewal term today ≡ Ok now) × IsRenewedFrom expiry term now
-  pub late : (term : Term) (expiry today : ℕ) → term.expires ≡ Some expiry
-      → term.renewed ≡ false → IsDay today → expiry ≤ today
-      → (now : Term) × (renewal term today ≡ Ok now) × IsRenewedFrom today term now
-  -- whether it can be is known before the day is
-  pub known : (term : Term) (today : ℕ) (fault : RenewFault)
-      → (renewable term ≡ Err fault) ↔ (renewal term today ≡ Err fault)
+-- it was not renewed before, or a minute of the IESG lets it be renewed again
+abbrev pub MayGoOn : Term → Bool → Type 0
+MayGoOn term iesg = (term.renewed ≡ false) ⊎ (iesg ≡ true)
 
--- what expires loses its expiry and keeps all else
+-- a renewal before the expiry day runs to a year after that day, a later one to a year after its
+-- own; and nothing is renewed that has no expiry, or a second time without a minute of the IESG
+pub record RenewalsLastAYear : Type 0 where
+  pub permanent : (term : Term) (today : ℕ) (iesg : Bool) → term.expires ≡ None
+      → renewal term today iesg ≡ Err renew_fault.Permanent
+  pub again : (term : Term) (today : ℕ) → IsSome term.expires → term.renewed ≡ true
+      → renewal term today false ≡ Err renew_fault.Renewed
+  pub in_time : (term : Term) (expiry today : ℕ) (iesg : Bool) → term.expires ≡ Some expiry
+      → MayGoOn term iesg → IsDay expiry → today ≤ expiry
+      → (now : Term) × (renewal term today iesg ≡ Ok now) × IsRenewedFrom expiry term now
+  pub late : (term : Term) (expiry today : ℕ) (iesg : Bool) → term.expires ≡ Some expiry
+      → MayGoOn term iesg → IsDay today → expiry ≤ today
+      → (now : Term) × (renewal term today iesg ≡ Ok now) × IsRenewedFrom today term now
+  -- whether it can be is known before the day is
+  pub known : (term : Term) (today : ℕ) (iesg : Bool) (fault : RenewFault)
+      → (renewable term iesg ≡ Err fault) ↔ (renewal term today iesg ≡ Err fault)
+
+-- what expires loses its expiry, and with it a clerk's mark, and keeps all else
 pub record SettledTermsAreForGood : Type 0 where
   pub permanent : (term : Term) → term.expires ≡ None
       → settlement term ≡ Err settle_fault.Permanent
   pub settled : (term : Term) → IsSome term.expires
-      → settlement term ≡ Ok (record term { expires = None })
+      → settlement term ≡ Ok (record term { expires = None; held = false })
   pub known : (term : Term) (fault : SettleFault)
       → (settleable term ≡ Err fault) ↔ (settlement term ≡ Err fault)

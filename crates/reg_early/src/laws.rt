@@ -28,8 +28,8 @@ pub fn terms_have_days()
     ensures { TermsHaveDays }
 {}
 
-/// An entry is Temporary on each day before its expiry, and Expired on that day and on each day
-/// after it; one without expiry is Assigned on every day.
+/// An entry is Temporary on each day before its expiry, and on every day while it is held; else it is
+/// Expired on that day and on each day after it; one without expiry is Assigned on every day.
 pub fn statuses_follow_the_expiry()
     ensures { StatusesFollowTheExpiry }
 {}
@@ -42,12 +42,12 @@ pub fn early_terms_last_a_year()
 
 /// A renewal before the expiry day runs to the same date a year after that day, and a later one to
 /// that a year after its own day; all else of the term stays. What has no expiry is not renewed, nor
-/// what was renewed before.
+/// what was renewed before, unless by a minute of the IESG.
 pub fn renewals_last_a_year()
     ensures { RenewalsLastAYear }
 {}
 
-/// What is settled has no expiry, and keeps all else; what has none is not settled.
+/// What is settled has no expiry and is not held, and keeps all else; what has none is not settled.
 pub fn settled_terms_are_for_good()
     ensures { SettledTermsAreForGood }
 {}

@@ -13,6 +13,8 @@ pub struct Term {
     pub expires: Option<Day>,
     /// Whether the early allocation was renewed.
     pub renewed: bool,
+    /// Whether a clerk holds the early allocation: it does not expire while this mark stands.
+    pub held: bool,
 }
 
 /// What an entry is on a day.
@@ -20,9 +22,9 @@ pub struct Term {
 pub enum Status {
     /// Permanent.
     Assigned,
-    /// Allocated early, before the expiry day.
+    /// Allocated early, before the expiry day, or while it is held.
     Temporary,
-    /// Allocated early, from the expiry day on.
+    /// Allocated early, from the expiry day on, where it is not held.
     Expired,
 }
 
@@ -31,7 +33,7 @@ pub enum Status {
 pub enum RenewFault {
     /// It has no expiry.
     Permanent,
-    /// It was renewed before.
+    /// It was renewed before, and no minute of the IESG lets it be renewed again.
     Renewed,
 }
 
@@ -44,7 +46,7 @@ pub enum SettleFault {
 
 impl Term {
     ghost use Rattle.std.specs.Prelude.{◌≡◌};
-    ghost use Rattle.reg_early.specs.Terms.{permanent_term, early_term, status_on, renewable, renewal, renewed_term, settleable, settled_term, settlement};
+    ghost use Rattle.reg_early.specs.Terms.{permanent_term, early_term, held_term, status_on, renewable, renewal, renewed_term, settleable, settled_term, settlement};
 
     /// The term of an entry that is assigned on a day for good.
     pub fn permanent(first: Day) -> Term
@@ -54,6 +56,7 @@ impl Term {
             first,
             expires: None,
             renewed: false,
+            held: false,
         }
     }
 
@@ -68,31 +71,33 @@ impl Term {
         }
     }
 
-    /// Assigned without expiry, else Temporary before the expiry day and Expired from that day on.
+    /// Assigned without expiry; else Temporary while it is held and before the expiry day, and Expired
+    /// from that day on.
     pub fn status(&self, day: Day) -> Status
         ensures { result ≡ status_on self.now day }
     {
         match self.expires {
             None => Status::Assigned,
+            Some(_) if self.held => Status::Temporary,
             Some(expiry) if day < expiry => Status::Temporary,
             Some(_) => Status::Expired,
         }
     }
 
-    /// Whether it can be renewed: a term without expiry is `Permanent`, and one that was renewed
-    /// before is `Renewed`.
-    pub fn renewable(&self) -> Result<(), RenewFault>
-        ensures { result ≡ renewable self.now }
+    /// Whether it can be renewed, with a minute of the IESG or without one: a term without expiry is
+    /// `Permanent`, and one that was renewed before is `Renewed` where there is no such minute.
+    pub fn renewable(&self, iesg: bool) -> Result<(), RenewFault>
+        ensures { result ≡ renewable self.now iesg }
     {
         match self.expires {
             None => Err(RenewFault::Permanent),
-            Some(_) if self.renewed => Err(RenewFault::Renewed),
+            Some(_) if self.renewed && !iesg => Err(RenewFault::Renewed),
             Some(_) => Ok(()),
         }
     }
 
     /// The term with the mark of a renewal that is approved on a day: what expires does so a year
-    /// from the later of that day and the old expiry day.
+    /// from the later of that day and the old expiry day. What is held stays so.
     pub fn renewed_on(&self, approval: Day) -> Term
         ensures { result ≡ renewed_term self.now approval }
     {
@@ -100,14 +105,16 @@ impl Term {
             first: self.first,
             expires: self.expires.map(|expiry| year_after(expiry.max(approval))),
             renewed: true,
+            held: self.held,
         }
     }
 
-    /// The term after a renewal that is approved on a day, where it can be renewed.
-    pub fn renew(&self, approval: Day) -> Result<Term, RenewFault>
-        ensures { result ≡ renewal self.now approval }
+    /// The term after a renewal that is approved on a day, with a minute of the IESG or without one,
+    /// where it can be renewed.
+    pub fn renew(&self, approval: Day, iesg: bool) -> Result<Term, RenewFault>
+        ensures { result ≡ renewal self.now approval iesg }
     {
-        self.renewable()?;
+        self.renewable(iesg)?;
         Ok(self.renewed_on(approval))
     }
 
@@ -121,12 +128,13 @@ impl Term {
         }
     }
 
-    /// The term without its expiry.
+    /// The term without its expiry, and so no longer held.
     pub fn settled(&self) -> Term
         ensures { result ≡ settled_term self.now }
     {
         Term {
             expires: None,
+            held: false,
             ..*self
         }
     }
@@ -137,6 +145,13 @@ impl Term {
     {
         self.settleable()?;
         Ok(self.settled())
+    }
+
+    /// The term with a clerk's mark by which it is held, or without it.
+    pub fn with_hold(&self, held: bool) -> Term
+        ensures { result ≡ held_term held self.now }
+    {
+        Term { held, ..*self }
     }
 }
 

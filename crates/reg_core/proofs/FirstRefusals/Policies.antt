@@ -24,17 +24,17 @@ use Rattle.reg_core.proofs.FirstRefusals.Turns.{IsFair, refuses, passes, clear_o
 
 module _ (rows : Ground) (account : List ℕ) (ask : Ask) (want : Want)
     (wants : want_of ask ≡ Some want) where
-  pub table_check : IsFair rows account ask 6 7 (or_refusal no.Registry rows.table)
+  pub table_check : IsFair rows account ask 7 8 (or_refusal no.Registry rows.table)
   table_check = by rows.table refl
     where
       by : (existing : Option Table) → rows.table ≡ existing
-          → IsFair rows account ask 6 7 (or_refusal no.Registry existing)
+          → IsFair rows account ask 7 8 (or_refusal no.Registry existing)
       by None gone =
-          refuses rows account ask 6 7 no.Registry (ap is_some wants, gone) (λ clear. clear) _ refl
-      by (Some table) is_there = passes rows account ask 6 7 table (clear_on rows account ask 6 7 none) _ refl
+          refuses rows account ask 7 8 no.Registry (ap is_some wants, gone) (λ clear. clear) _ refl
+      by (Some table) is_there = passes rows account ask 7 8 table (clear_on rows account ask 7 8 none) _ refl
         where
-          none : (other : Refusal) → Applies rows account ask other → 6 ≤ line_of other
-              → line_of other < 7 → ⊥
+          none : (other : Refusal) → Applies rows account ask other → 7 ≤ line_of other
+              → line_of other < 8 → ⊥
           none no.Registry applies low high = let gone = applies.1 in absurd (cc)
           none other applies low high = omega arith
 
@@ -172,35 +172,35 @@ first_not_eligible policy e h =
 
 module _ (rows : Ground) (account : List ℕ) (ask : Ask) (want : Want) (table : Table)
     (wants : want_of ask ≡ Some want) (is_there : rows.table ≡ Some table) where
-  pub policy_check : IsFair rows account ask 7 9 (policy_for table want)
+  pub policy_check : IsFair rows account ask 8 10 (policy_for table want)
   policy_check =
       elim (policy_comes table want) [
         | inl above ↦
-            refuses rows account ask 7 9 no.Range
+            refuses rows account ask 8 10 no.Range
             (in_table rows account ask want table wants is_there IsAbove above.1) (λ clear. clear)
             (policy_for table want) above.0
         | inr more ↦
             elim more [
               | inl shut ↦
-                  refuses rows account ask 7 9 no.Policy
+                  refuses rows account ask 8 10 no.Policy
                   (in_table rows account ask want table wants is_there IsShut shut.1)
-                  (clear_on rows account ask 7 8 (not_above shut.2)) (policy_for table want) shut.0
+                  (clear_on rows account ask 8 9 (not_above shut.2)) (policy_for table want) shut.0
               | inr is ↦
-                  passes rows account ask 7 9 is.0
-                  (clear_on rows account ask 7 9 (not_shut is.4 is.0 is.2 is.3))
+                  passes rows account ask 8 10 is.0
+                  (clear_on rows account ask 8 10 (not_shut is.4 is.0 is.2 is.3))
                   (policy_for table want) is.1
             ]
       ]
     where
       not_above : ¬ (IsAbove table want) → (other : Refusal) → Applies rows account ask other
-          → 7 ≤ line_of other → line_of other < 8 → ⊥
+          → 8 ≤ line_of other → line_of other < 9 → ⊥
       not_above within no.Range applies low high =
           within (of_table rows account ask want table wants is_there IsAbove applies)
       not_above within other applies low high = omega arith
 
       not_shut : ¬ (IsAbove table want) → (policy : Policy) → Decides table want policy
           → is_closed_policy policy ≡ false → (other : Refusal) → Applies rows account ask other
-          → 7 ≤ line_of other → line_of other < 9 → ⊥
+          → 8 ≤ line_of other → line_of other < 10 → ⊥
       not_shut within policy decides one_by_one no.Range applies low high =
           within (of_table rows account ask want table wants is_there IsAbove applies)
       not_shut within policy decides one_by_one no.Policy applies low high =
@@ -224,47 +224,47 @@ module _ (rows : Ground) (account : List ℕ) (ask : Ask) (want : Want) (table :
         (lacking : (i : Item) → Lacks ask i policy → Contains items i) where
       -- nothing is missing
       whole : first_item items ≡ None → ¬ (IsNotEarly ask policy) → (other : Refusal)
-          → Applies rows account ask other → 9 ≤ line_of other → line_of other < 11 → ⊥
+          → Applies rows account ask other → 10 ≤ line_of other → line_of other < 12 → ⊥
       whole none early no.Early applies low high = early (of_policy (IsNotEarly ask) applies)
       whole none early (no.Evidence i) applies low high =
           none_is_in items i (none_is_first items none) (lacking i (of_policy (Lacks ask i) applies))
       whole none early other applies low high = omega arith
 
       eligible : ¬ (IsNotEarly ask policy) → (other : Refusal) → Applies rows account ask other
-          → 9 ≤ line_of other → line_of other < 10 → ⊥
+          → 10 ≤ line_of other → line_of other < 11 → ⊥
       eligible early no.Early applies low high = early (of_policy (IsNotEarly ask) applies)
       eligible early other applies low high = omega arith
 
       -- the evidence of an assignment
       pub evidence_check : ¬ (IsNotEarly ask policy)
-          → IsFair rows account ask 9 11 (is_met (first_item items))
+          → IsFair rows account ask 10 12 (is_met (first_item items))
       evidence_check early = by (first_item items) refl
         where
-          by : (o : Option Item) → first_item items ≡ o → IsFair rows account ask 9 11 (is_met o)
+          by : (o : Option Item) → first_item items ≡ o → IsFair rows account ask 10 12 (is_met o)
           by None is =
-              passes rows account ask 9 11 tt (clear_on rows account ask 9 11 (whole is early)) _ refl
+              passes rows account ask 10 12 tt (clear_on rows account ask 10 12 (whole is early)) _ refl
           by (Some i) is =
-              refuses rows account ask 9 11 (no.Evidence i)
+              refuses rows account ask 10 12 (no.Evidence i)
               (to_policy (Lacks ask i) (lacks i (first_is_in items i is)))
-              (clear_on rows account ask 9 10 (eligible early)) _ refl
+              (clear_on rows account ask 10 11 (eligible early)) _ refl
 
       -- the evidence of an early allocation
       pub early_check : (first_item items ≡ Some item.Policy → IsNotEarly ask policy)
           → (IsNotEarly ask policy → first_item items ≡ Some item.Policy)
-          → IsFair rows account ask 9 11 (is_met_early (first_item items))
+          → IsFair rows account ask 10 12 (is_met_early (first_item items))
       early_check is_first first_is = by (first_item items) refl
         where
           by : (o : Option Item) → first_item items ≡ o
-              → IsFair rows account ask 9 11 (is_met_early o)
+              → IsFair rows account ask 10 12 (is_met_early o)
           by None is =
-              passes rows account ask 9 11 tt
-              (clear_on rows account ask 9 11
+              passes rows account ask 10 12 tt
+              (clear_on rows account ask 10 12
               (whole is (λ early. let first = first_is early in absurd (cc)))) _ refl
           by (Some item.Policy) is =
-              refuses rows account ask 9 11 no.Early (to_policy (IsNotEarly ask) (is_first is))
+              refuses rows account ask 10 12 no.Early (to_policy (IsNotEarly ask) (is_first is))
               (λ clear. clear) _ refl
           by (Some i) is =
-              refuses rows account ask 9 11 (no.Evidence i)
+              refuses rows account ask 10 12 (no.Evidence i)
               (to_policy (Lacks ask i) (lacks i (first_is_in items i is)))
-              (clear_on rows account ask 9 10
+              (clear_on rows account ask 10 11
               (eligible (λ early. let first = first_is early in absurd (cc)))) _ refl

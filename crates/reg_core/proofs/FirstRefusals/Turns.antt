@@ -64,17 +64,18 @@ module _ (rows : Ground) (account : List ℕ) (ask : Ask) where
       ]
 
   -- the lines before the registry's are of no ask
-  pub outset : Clear 6
+  pub outset : Clear 7
   outset no.Clock applies = absurd applies
   outset no.Token applies = absurd applies
   outset no.Kind applies = absurd applies
   outset no.Ref applies = absurd applies
   outset no.Request applies = absurd applies
+  outset no.Principal applies = absurd applies
   outset no.Closed applies = absurd applies
   outset other applies = omega arith
 
   -- and so are those after the last of an allowance
-  pub over : Clear 16 → (other : Refusal) → ¬ (Applies rows account ask other)
+  pub over : Clear 18 → (other : Refusal) → ¬ (Applies rows account ask other)
   over clear no.Advice applies = applies
   over clear no.Own applies = applies
   over clear no.Holding applies = applies

@@ -101,6 +101,8 @@ can_give_block w name case ask block kept is_there asks due =
             (each_key block_keys w.blocks block (λ b. Clash block b → block ≡ b) h
             (λ b there clash. absurd (alone b there clash)) (λ clash. refl))
             a in_a b in_b;
+        held = kept.held;
+        agents = kept.agents;
       },
     )
   where
@@ -144,5 +146,7 @@ can_mark w block private h kept is_there = (
     apart = λ a b in_a in_b.
         kept.apart a b (was_at block_keys w.blocks block (with_mark private) a in_a)
         (was_at block_keys w.blocks block (with_mark private) b in_b);
+    held = kept.held;
+    agents = kept.agents;
   },
 )

@@ -3,24 +3,27 @@ use Rattle.std.proofs.Common.{◌≡◌, ℕ, Bool, true, false, cond, ◌&&◌,
 use Rattle.std.specs.Prelude.{Option, Some, None, IsSome, is_some, not}
 use Rattle.std.specs.Cmp.{first_so, second_so}
 use Rattle.std.specs.Cmp.Derive.{both_true}
-use Rattle.std.specs.FinMap.{FinMap, get, insert, contains_key}
+use Rattle.std.specs.FinMap.{FinMap, get, insert, remove, contains_key}
+use Rattle.std.specs.FinSet.{FinSet}
 use Rattle.std.specs.Ordering.{eq_by_cmp}
 use Rattle.reg_blocks.specs.Block.{SizedPrefix, block_cmp, leading_24}
 use Rattle.reg_blocks.specs.Pool.{is_pool_prefix}
+use Rattle.reg_early.specs.Terms.{may_be_held}
 use Rattle.reg_ranges.specs.Tables.{Table}
 use Rattle.reg_core.specs.Advice.{has_advice_form}
 use Rattle.reg_core.specs.Ask.{has_ask_form, registry_of}
-use Rattle.reg_core.specs.Entry.{registration_in, has_day_form}
-use Rattle.reg_core.specs.Maps.{text_cmp, same_text}
+use Rattle.reg_core.specs.Entry.{registration_in, with_hold, has_day_form}
+use Rattle.reg_core.specs.Link.{has_link_form}
+use Rattle.reg_core.specs.Maps.{text_cmp, same_text, update}
 use Rattle.reg_core.specs.MayBeGiven.{IsDuly, place_of}
 use Rattle.reg_core.specs.Names.{is_name}
 use Rattle.reg_core.specs.Request.{has_state_form}
 use Rattle.reg_core.specs.WellKept.{WellKept, CanApply, has_grant_form, has_registry_form, has_entry_form, has_request_form, has_seat_form, is_open_at, is_registered_to, is_registered_at, is_size_asked, is_held_by, stands_in}
-use Rattle.reg_core.specs.World.{World, RequestName, Place, place_cmp, in_state, pending}
+use Rattle.reg_core.specs.World.{World, RequestName, Place, Link, place_cmp, link_cmp, in_state, pending}
 use Rattle.reg_core.specs.declared.advice.Advice.{Advice}
 use Rattle.reg_core.specs.declared.ask.Ask.{Ask}
 use Rattle.reg_core.specs.declared.capability.Cap.{Cap}
-use Rattle.reg_core.specs.declared.change.Change.TheVariants.{Grant, Revoke, Define, AddPool, Submit, Close, Assign, Advise, GiveValue}
+use Rattle.reg_core.specs.declared.change.Change.TheVariants.{Grant, Revoke, Define, AddPool, Submit, Close, Assign, Advise, GiveValue, SetHold, SetAgent}
 use Rattle.reg_core.specs.declared.entry.Entry.{Entry}
 use Rattle.reg_core.specs.declared.entry.Registration.{Registration}
 use Rattle.reg_core.specs.declared.request.Case.{Case}
@@ -29,8 +32,10 @@ use Rattle.reg_core.specs.declared.request.Given.TheVariants as given
 use Rattle.reg_core.specs.declared.request.State.{State}
 use Rattle.reg_core.specs.declared.request.State.TheVariants.{Pending, Approved, Declined, Withdrawn}
 use Rattle.reg_core.proofs.Keeping.Entries.{duly_fits, value_form, entry_form, entry_open, entry_own}
-use Rattle.reg_core.proofs.KeySets.{each_key, still_in, still_at, insert_passes}
-use Rattle.reg_core.proofs.MapLaws.{number_keys, text_keys, name_keys, place_keys, seat_keys, tied, get-at_insert, get-inserted, insert_keeps, remove_keeps, update_keeps}
+use Rattle.reg_core.proofs.KeySets.{each_key, still_in, still_at, insert_passes, update_passes}
+use Rattle.reg_core.proofs.Links.{was_left}
+use Rattle.reg_core.proofs.Terms.{held_form}
+use Rattle.reg_core.proofs.MapLaws.{number_keys, text_keys, name_keys, place_keys, seat_keys, tied, get-at_insert, get-inserted, insert_keeps, remove_keeps, update_keeps, link_keys}
 
 -- ---- Capabilities and registries
 
@@ -54,6 +59,8 @@ can_grant w digest cap kept form free = (
     blocks = kept.blocks;
     in_pool = kept.in_pool;
     apart = kept.apart;
+    held = kept.held;
+    agents = kept.agents;
   },
 )
 
@@ -76,6 +83,8 @@ can_revoke w digest kept = (
     blocks = kept.blocks;
     in_pool = kept.in_pool;
     apart = kept.apart;
+    held = kept.held;
+    agents = kept.agents;
   },
 )
 
@@ -103,6 +112,8 @@ can_define w name table kept form free = (
     blocks = kept.blocks;
     in_pool = kept.in_pool;
     apart = kept.apart;
+    held = kept.held;
+    agents = kept.agents;
   },
 )
   where
@@ -146,6 +157,8 @@ can_add_pool w prefix kept form free = (
     in_pool = λ block h is.
         still_in number_keys w.pool prefix tt (leading_24 block) (kept.in_pool block h is);
     apart = kept.apart;
+    held = kept.held;
+    agents = kept.agents;
   },
 )
 
@@ -176,6 +189,8 @@ can_submit w name ask kept form free = (
     blocks = kept.blocks;
     in_pool = kept.in_pool;
     apart = kept.apart;
+    held = kept.held;
+    agents = kept.agents;
   },
 )
 
@@ -229,6 +244,8 @@ can_close w name case state kept is_there nothing form = (
     blocks = kept.blocks;
     in_pool = kept.in_pool;
     apart = kept.apart;
+    held = kept.held;
+    agents = kept.agents;
   },
 )
 
@@ -258,6 +275,8 @@ can_assign w name case expert kept is_there form other free = (
     blocks = kept.blocks;
     in_pool = kept.in_pool;
     apart = kept.apart;
+    held = kept.held;
+    agents = kept.agents;
   },
 )
 
@@ -283,6 +302,8 @@ can_advise w name expert advice kept assigned form = (
     blocks = kept.blocks;
     in_pool = kept.in_pool;
     apart = kept.apart;
+    held = kept.held;
+    agents = kept.agents;
   },
 )
 
@@ -387,5 +408,86 @@ can_give w name case ask today entry kept is_there asks duly day =
         blocks = kept.blocks;
         in_pool = kept.in_pool;
         apart = kept.apart;
+        held =
+            insert_keeps place_keys (λ place a. may_be_held a.term ≡ true) w.entries place a
+            kept.held fit.held;
+        agents = kept.agents;
       },
     )
+
+-- an entry that expires is marked
+pub can_hold : (w : World) (place : Place) (held : Bool) (a : Registration) → WellKept w
+    → get w.entries place ≡ Some a → IsSome a.term.expires → a.term.held ≡ not held
+    → CanApply w (SetHold place.0 place.1 held)
+can_hold w place held a kept is_there expires turned = (
+  (a, is_there, turned),
+  record {
+    caps = kept.caps;
+    registries = kept.registries;
+    entries = update_keeps place_keys (λ place a. has_entry_form place a ≡ true) w.entries place
+        (with_hold held) kept.entries (λ old is. kept.entries place old is);
+    open_values = update_keeps place_keys
+        (λ place a. is_open_at (get w.registries place.0) place.1 ≡ true) w.entries place
+        (with_hold held) kept.open_values (λ old is. kept.open_values place old is);
+    requests = kept.requests;
+    given = λ name case is.
+        stands_still w.entries (update w.entries place (with_hold held)) w.blocks w.blocks
+        (λ account there h.
+        update_passes place_keys w.entries place (is_registered_to account) (with_hold held)
+        (λ old its. its) there h)
+        (λ account block h. h) name.0 case.ask case.state (kept.given name case is);
+    queue = kept.queue;
+    queued = kept.queued;
+    advice = kept.advice;
+    advised = kept.advised;
+    pool = kept.pool;
+    blocks = kept.blocks;
+    in_pool = kept.in_pool;
+    apart = kept.apart;
+    held = update_keeps place_keys (λ place a. may_be_held a.term ≡ true) w.entries place
+        (with_hold held) kept.held (λ old is.
+        let same : Some old ≡ Some a = sym is ∙ is_there in
+        let itself : old ≡ a = cc in
+        held_form old.term held
+        (ap (λ (a : Registration). is_some a.term.expires) itself ∙ expires));
+    agents = kept.agents;
+  },
+)
+
+-- ---- Agents
+
+-- the world with other links, each of which has its form
+relinked : (w : World) (links : FinSet link_cmp) → WellKept w
+    → ((link : Link) → contains_key links link ≡ true → has_link_form link ≡ true)
+    → WellKept (record w { agents = links })
+relinked w links kept forms = record {
+  caps = kept.caps;
+  registries = kept.registries;
+  entries = kept.entries;
+  open_values = kept.open_values;
+  requests = kept.requests;
+  given = kept.given;
+  queue = kept.queue;
+  queued = kept.queued;
+  advice = kept.advice;
+  advised = kept.advised;
+  pool = kept.pool;
+  blocks = kept.blocks;
+  in_pool = kept.in_pool;
+  apart = kept.apart;
+  held = kept.held;
+  agents = forms;
+}
+
+pub can_link : (w : World) (link : Link) (reads : Bool) → WellKept w → has_link_form link ≡ true
+    → contains_key w.agents link ≡ not reads → CanApply w (SetAgent link.0 link.1 reads)
+can_link w link true kept form free = (
+  free,
+  relinked w (insert w.agents link tt) kept
+      (each_key link_keys w.agents link (λ link. has_link_form link ≡ true) tt kept.agents form),
+)
+can_link w link false kept form there = (
+  there,
+  relinked w (remove w.agents link) kept
+      (λ other left. kept.agents other (was_left link_keys w.agents link other left)),
+)

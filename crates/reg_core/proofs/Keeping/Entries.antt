@@ -1,11 +1,12 @@
 -- Entries that are given duly fit the place at which they are given.
 use Rattle.std.proofs.Common.{◌≡◌, ℕ, ◌^◌, true, ◌&&◌, List, refl, sym, ap, subst, ◌∙◌, nat_lt, arith}
-use Rattle.std.specs.Prelude.{Option, Some, None}
+use Rattle.std.specs.Prelude.{Option, Some, None, is_some}
 use Rattle.std.specs.Cmp.{first_so, second_so}
 use Rattle.std.specs.Cmp.Derive.{both_true}
 use Rattle.std.specs.FinMap.{get}
 use Rattle.std.proofs.lemmas.Bool.Decides.{nat_tests}
 use Rattle.reg_early.specs.Forms.{has_early_form}
+use Rattle.reg_early.specs.Terms.{may_be_held}
 use Rattle.reg_early.specs.declared.term.Term.{Term}
 use Rattle.reg_ranges.specs.Texts.{is_text}
 use Rattle.reg_ranges.specs.declared.policy.Policy.{Policy}
@@ -22,7 +23,7 @@ use Rattle.reg_core.specs.declared.entry.Entry.{Entry}
 use Rattle.reg_core.specs.declared.entry.Registration.{Registration}
 use Rattle.reg_core.proofs.Checks.{under_is_open, under_is_below}
 use Rattle.reg_core.proofs.SamenessIsDecided.{same_text-itself}
-use Rattle.reg_core.proofs.Terms.{permanent_form, early_form, renewal_form, settlement_form}
+use Rattle.reg_core.proofs.Terms.{permanent_form, early_form, renewal_form, settlement_form, renewal_held, settlement_held}
 
 -- whoever has the entry that stands there has this one in its place
 abbrev pub Replaces : Option Registration → Registration → Type 0
@@ -31,7 +32,7 @@ Replaces existing a =
     → is_registered_to account (Some a) ≡ true
 
 -- the entry is of the registry that the ask names, in the name of the account, and has its form;
--- its value is assigned one by one; and it replaces what stands there
+-- its value is assigned one by one; it replaces what stands there, and is held only if it expires
 pub record IsFit (w : World) (account : List ℕ) (ask : Ask) (entry : Entry) : Type 0 where
   pub of_registry : registry_of ask ≡ Some entry.registry
   pub assignee : entry.assignee ≡ account
@@ -40,14 +41,15 @@ pub record IsFit (w : World) (account : List ℕ) (ask : Ask) (entry : Entry) : 
   pub label : is_text entry.label ≡ true
   pub term : has_term_form entry.term ≡ true
   pub replaces : Replaces (get w.entries (place_of entry)) (registration_in entry)
+  pub held : may_be_held entry.term ≡ true
 
 module _ (w : World) (kept : WellKept w) (account : List ℕ) (entry : Entry) where
   -- a new entry
   new_fits : (ask : Ask) (registry label : List ℕ) (term : Term) (policy : Policy)
       → registry_of ask ≡ Some registry → is_text label ≡ true → has_term_form term ≡ true
-      → IsEntry account registry label term entry → IsUnder w registry entry.value policy
+      → may_be_held term ≡ true → IsEntry account registry label term entry → IsUnder w registry entry.value policy
       → get w.entries (registry, entry.value) ≡ None → IsFit w account ask entry
-  new_fits ask registry label term policy of label_form form is under free = record {
+  new_fits ask registry label term policy of label_form form may is under free = record {
     of_registry = of ∙ ap Some (sym is.registry_is);
     assignee = is.assignee_is;
     policy = policy;
@@ -55,6 +57,7 @@ module _ (w : World) (kept : WellKept w) (account : List ℕ) (entry : Entry) wh
     label = ap is_text is.label_is ∙ label_form;
     term = ap has_term_form is.term_is ∙ form;
     replaces = subst (λ o. Replaces o (registration_in entry)) (sym gone) (λ other h. absurd (cc));
+    held = ap may_be_held is.term_is ∙ may;
   }
     where
       gone : get w.entries (place_of entry) ≡ None
@@ -83,9 +86,9 @@ module _ (w : World) (kept : WellKept w) (account : List ℕ) (entry : Entry) wh
   -- the account's own entry, in another term
   own_fits : (ask : Ask) (registry : List ℕ) (v : ℕ) (a : Registration) (term : Term)
       (policy : Policy) → registry_of ask ≡ Some registry → has_term_form term ≡ true
-      → entry.value ≡ v → IsEntry account registry a.label term entry
+      → may_be_held term ≡ true → entry.value ≡ v → IsEntry account registry a.label term entry
       → IsUnder w registry v policy → IsOwnEntry w account registry v a → IsFit w account ask entry
-  own_fits ask registry v a term policy of form at is under own = record {
+  own_fits ask registry v a term policy of form may at is under own = record {
     of_registry = of ∙ ap Some (sym is.registry_is);
     assignee = is.assignee_is;
     policy = policy;
@@ -95,6 +98,7 @@ module _ (w : World) (kept : WellKept w) (account : List ℕ) (entry : Entry) wh
     replaces = subst (λ o. Replaces o (registration_in entry)) (sym stands)
         (subst (λ x. Replaces (Some a) (record (registration_in entry) { assignee = x }))
         (own.own ∙ sym is.assignee_is) (λ other h. h));
+    held = ap may_be_held is.term_is ∙ may;
   }
     where
       place : place_of entry ≡ (registry, v)
@@ -111,25 +115,27 @@ module _ (w : World) (kept : WellKept w) (account : List ℕ) (entry : Entry) wh
       (first_so (is_name ask.registry && has_want_form ask.want && is_text ask.label)
       (has_evidence_form ask.evidence) form) in
       new_fits (Code ask) ask.registry ask.label _ duly.1.policy refl label
-      (permanent_form today day) duly.0 duly.1.under duly.1.free
+      (permanent_form today day) refl duly.0 duly.1.under duly.1.free
   duly_fits (Early ask) today form day duly =
       let label = second_so (is_name ask.registry && has_want_form ask.want) (is_text ask.label)
       (first_so (is_name ask.registry && has_want_form ask.want && is_text ask.label)
       (has_early_form ask.evidence) form) in
       new_fits (Early ask) ask.registry ask.label _ duly.1.policy refl label
-      (early_form today day) duly.0 duly.1.under duly.1.free
+      (early_form today day) refl duly.0 duly.1.under duly.1.free
   duly_fits (Renew ask) today form day duly =
       let own = duly.4.entry in
       own_fits (Renew ask) ask.registry ask.value duly.1 duly.2 duly.4.policy refl
-      (renewal_form duly.1.term today duly.2
+      (renewal_form duly.1.term today (is_some ask.iesg) duly.2
       (standing_term (ask.registry, ask.value) duly.1 own.stands) day duly.5)
+      (renewal_held duly.1.term today (is_some ask.iesg) duly.2
+      (kept.held (ask.registry, ask.value) duly.1 own.stands) duly.5)
       duly.0 duly.3 duly.4.under own
   duly_fits (Permanent ask) today form day duly =
       let own = duly.4.entry in
       own_fits (Permanent ask) ask.registry ask.value duly.1 duly.2 duly.4.policy refl
       (settlement_form duly.1.term duly.2
       (standing_term (ask.registry, ask.value) duly.1 own.stands) duly.5)
-      duly.0 duly.3 duly.4.under own
+      (settlement_held duly.1.term duly.2 duly.5) duly.0 duly.3 duly.4.under own
   duly_fits (Block ask) today form day duly = absurd duly
 
   -- what is so of the world with a fit entry

@@ -11,7 +11,7 @@ use Rattle.reg_core.specs.Laws.{GivesDigests, RunsKeepWell, FirstWorldsAreWellKe
 use Rattle.reg_core.specs.Maps.{text_cmp}
 use Rattle.reg_core.specs.Run.{Event, have_forms, step_of}
 use Rattle.reg_core.specs.WellKept.{WellKept}
-use Rattle.reg_core.specs.World.{World, name_cmp, place_cmp, seat_cmp, empty_world, applied_if}
+use Rattle.reg_core.specs.World.{World, name_cmp, place_cmp, seat_cmp, link_cmp, empty_world, applied_if}
 use Rattle.reg_core.proofs.Keeping.Changes.{can_grant}
 use Rattle.reg_core.proofs.Fitting.{due_fits}
 use Rattle.reg_core.proofs.Outcomes.Dues.{each_step}
@@ -58,6 +58,8 @@ empty_kept = record {
   blocks = λ block h is_there. absent (get-empty block_cmp block) is_there;
   in_pool = λ block h is_there. absent (get-empty block_cmp block) is_there;
   apart = λ a b there. no_key (get-empty block_cmp a) there;
+  held = λ place a is_there. absent (get-empty place_cmp place) is_there;
+  agents = λ link there. no_key (get-empty link_cmp link) there;
 }
 
 pub first_worlds_kept : FirstWorldsAreWellKept

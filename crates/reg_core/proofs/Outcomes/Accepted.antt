@@ -1,23 +1,25 @@
 -- What was so when a command was accepted: who gave it, the rows that were looked up, what the
 -- rule saw, and what the caller is told.
-use Rattle.std.proofs.Common.{◌≡◌, ℕ, ◌<◌, true, false, List, refl, subst, arith}
+use Rattle.std.proofs.Common.{◌≡◌, ℕ, ◌<◌, true, false, List, refl, ap, subst, arith}
 use Rattle.std.proofs.lemmas.Bool.Decides.{nat_tests}
 use Rattle.std.proofs.lemmas.Result.{IfOk-at_ok, IfOk-weaker}
 use Rattle.std.specs.Cmp.{first_so, second_so}
-use Rattle.std.specs.Prelude.{Option, Some, None, Result, Ok, Err, IfOk, option_map, nat_le, nat_lt, if◌then◌else◌}
+use Rattle.std.specs.Prelude.{Option, Some, None, Result, Ok, Err, IfOk, is_some, option_map, nat_le, nat_lt, if◌then◌else◌}
 use Rattle.std.specs.FinMap.{get, contains_key, keys}
 use Rattle.reg_early.specs.Moment.{is_in_clock, utc_day}
 use Rattle.reg_core.specs.Allowance.{◌>>=◌, or_refusal, allowed, ground_of}
 use Rattle.reg_core.specs.Answer.{Outcome, Answer, change_by, by_rule, case_by, own_row, made_row, item, public_answer, as_kind, own_answer, expert_answer, answer_at, answer}
 use Rattle.reg_core.specs.Capability.{same_kind}
 use Rattle.reg_core.specs.File.{file, was_advised}
+use Rattle.reg_core.specs.Entry.{page_entry, with_hold}
 use Rattle.reg_core.specs.Holding.{holding_row, holding_rows, listed_rows, with_mark}
+use Rattle.reg_core.specs.Link.{agent_rows, principal_names}
 use Rattle.reg_core.specs.Page.{page}
 use Rattle.reg_core.specs.Queue.{queue_rows, with_advice}
 use Rattle.reg_core.specs.Request.{request_rows, word_of}
 use Rattle.reg_core.specs.Rules.{listing_rule, advise_rule}
 use Rattle.reg_core.specs.Step.{is_clerk, acts_as_clerk, desk_by, clerk_answer, answer_to}
-use Rattle.reg_core.specs.View.{as_queued, Personal, published, requests_of, holdings_of, queue_of, personal, cap_at, with_personal, view_of}
+use Rattle.reg_core.specs.View.{as_queued, Personal, published, requests_of, holdings_of, queue_of, agents_of, principals_of, personal, cap_at, with_personal, view_of}
 use Rattle.reg_core.specs.World.{World, RequestName}
 use Rattle.reg_core.specs.declared.capability.Cap.{Cap}
 use Rattle.reg_core.specs.declared.capability.Kind.{Kind}
@@ -25,11 +27,11 @@ use Rattle.reg_core.specs.declared.capability.Kind.TheVariants as kind
 use Rattle.reg_core.specs.declared.command.Command.{Command}
 use Rattle.reg_core.specs.declared.command.Command.TheVariants.{Public, Applicant, Expert, Clerk}
 use Rattle.reg_core.specs.declared.command.ApplicantCommand.{ApplicantCommand}
-use Rattle.reg_core.specs.declared.command.ApplicantCommand.TheVariants.{Own, OwnOne, Submit, Withdraw, Holdings, SetListing}
+use Rattle.reg_core.specs.declared.command.ApplicantCommand.TheVariants.{Own, OwnOne, Submit, Withdraw, Holdings, SetListing, SetAgent, Agents, Principals, PrincipalRows}
 use Rattle.reg_core.specs.declared.command.ExpertCommand.{ExpertCommand}
 use Rattle.reg_core.specs.declared.command.ExpertCommand.TheVariants.{Queue, Advise}
 use Rattle.reg_core.specs.declared.command.ClerkCommand.{ClerkCommand}
-use Rattle.reg_core.specs.declared.command.ClerkCommand.TheVariants.{AllRequests, OneRequest, AssignExpert, Approve, Decline, Define, AddPool, Grant, Revoke}
+use Rattle.reg_core.specs.declared.command.ClerkCommand.TheVariants.{AllRequests, OneRequest, AssignExpert, Approve, Decline, SetHold, Define, AddPool, Grant, Revoke}
 use Rattle.reg_core.specs.declared.command.PublicCommand.{PublicCommand}
 use Rattle.reg_core.specs.declared.command.PublicCommand.TheVariants.{Registries, Registry, RegistryListing, PoolList, BlockListing}
 use Rattle.reg_core.specs.declared.content.Content.{Content}
@@ -41,9 +43,10 @@ use Rattle.reg_blocks.specs.Block.{SizedPrefix}
 use Rattle.reg_core.specs.declared.holding.Holder.{Holder}
 use Rattle.reg_core.specs.declared.request.Case.{Case}
 use Rattle.reg_core.proofs.Cases.{by_test}
-use Rattle.reg_core.proofs.Outcomes.Deciding.{Rule, Decides, Defines, Pools, Grants, Revokes, Submits, Withdraws, Lists, Declines, Assigns, Advises, Approves, define_decides, pool_decides, grant_decides, revoke_decides, submit_decides, withdraw_decides, listing_decides, decline_decides, assign_decides, advise_decides, approve_decides}
+use Rattle.reg_core.proofs.Outcomes.Deciding.{Rule, Decides, Defines, Pools, Grants, Revokes, Submits, Withdraws, Lists, Links, Declines, HoldsEntry, Assigns, Advises, Approves, define_decides, pool_decides, grant_decides, revoke_decides, submit_decides, withdraw_decides, listing_decides, agent_decides, decline_decides, hold_decides, assign_decides, advise_decides, approve_decides}
 use Rattle.reg_core.proofs.Queues.{queued_found}
 use Rattle.reg_core.proofs.Blocks.{holding_found}
+use Rattle.reg_core.proofs.Links.{own_agent, own_principal, own_principal_rows}
 use Rattle.reg_core.proofs.Stepping.{own_request}
 
 -- ---- The forms of an outcome
@@ -103,6 +106,15 @@ OwnSo w account (SetListing block private) o =
     Holds w block account (λ h.
     Comes (Lists block private h.private)
     (λ decision. content.Held (holding_row block (with_mark private h))) o)
+OwnSo w account (SetAgent agent reads) o =
+    Comes (Links (account, agent) reads (contains_key w.agents (account, agent)))
+    (λ decision. content.Agent agent reads) o
+OwnSo w account Agents o = Tells (content.Accounts (agent_rows (agents_of account w))) o
+OwnSo w account Principals o =
+    Tells (content.Accounts (principal_names (principals_of account w))) o
+OwnSo w account (PrincipalRows principal) o =
+    Row (get w.agents (principal, account))
+    (λ link. Tells (content.Rows (request_rows (requests_of principal w))) o)
 
 -- the request is there, and assigned to the account
 pub record Assigned (w : World) (name : RequestName) (account : List ℕ)
@@ -140,6 +152,11 @@ ClerkSo digest_of w in_use today (Decline account reference reason) o =
     Row (get w.requests (account, reference))
     (λ case. Comes (Declines (account, reference) reason case.state)
     (desk_by (account, reference) case) o)
+ClerkSo digest_of w in_use today (SetHold name value held) o =
+    Row (get w.registries name) (λ table.
+    Row (get w.entries (name, value)) (λ a.
+    Comes (HoldsEntry (name, value) held a.term today)
+    (λ decision. content.Marked (page_entry today value (with_hold held a))) o))
 ClerkSo digest_of w in_use today (Define name table) o =
     Comes (Defines (get w.registries name) name table) (λ decision. content.Defined name) o
 ClerkSo digest_of w in_use today (AddPool prefix) o =
@@ -250,6 +267,17 @@ module _ (w : World) (today : ℕ) where
           is = refl;
         };
       })
+  own_so account (SetAgent agent reads) =
+      rw own_agent
+      (rule_so _ (Links (account, agent) reads (contains_key w.agents (account, agent))) _
+      (agent_decides (account, agent) reads (contains_key w.agents (account, agent))))
+  own_so account Agents = refl
+  own_so account Principals = refl
+  own_so account (PrincipalRows principal) =
+      rw own_principal
+      (row_so no.Principal (get w.agents (principal, account)) _ _ (λ link is.
+      ap (λ m. record { content = content.Rows (request_rows m); change = None })
+      (own_principal_rows account principal w (ap is_some is))))
 
   expert_so : (account : List ℕ) (command : ExpertCommand)
       → IfOk (expert_answer account (personal account w) command) (ExpertSo w account command)
@@ -289,6 +317,10 @@ module _ (w : World) (today : ℕ) where
   clerk_so digest_of in_use (Decline account reference reason) =
       row_so no.Request (get w.requests (account, reference)) _ _
       (λ case is. rule_so _ _ _ (decline_decides (account, reference) reason case.state))
+  clerk_so digest_of in_use (SetHold name value held) =
+      row_so no.Registry (get w.registries name) _ _ (λ table is.
+      row_so no.Entry (get w.entries (name, value)) _ _ (λ a is.
+      rule_so _ _ _ (hold_decides (name, value) held a.term today)))
   clerk_so digest_of in_use (Define name table) =
       rule_so _ _ _ (define_decides (get w.registries name) name table)
   clerk_so digest_of in_use (AddPool prefix) =

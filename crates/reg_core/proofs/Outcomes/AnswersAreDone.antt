@@ -1,28 +1,33 @@
 -- The world after a command has what its reply says.
 use Rattle.std.proofs.Common.{◌≡◌, ℕ, Bool, false, List, refl, sym, ap, subst, ◌∙◌}
-use Rattle.std.specs.Prelude.{Option, Some, None, Ok, Err, option_map}
+use Rattle.std.specs.Prelude.{Option, Some, None, Ok, Err, is_some, option_map}
 use Rattle.std.specs.FinMap.{get}
+use Rattle.std.proofs.lemmas.Slice.Eq.{bytes_eq-Decides}
 use Rattle.reg_early.specs.Moment.{utc_day}
+use Rattle.reg_early.specs.Terms.{held_term}
 use Rattle.reg_core.specs.Award.{Award, awarded_entry, new_holding}
+use Rattle.reg_core.specs.Entry.{page_entry, with_hold}
 use Rattle.reg_core.specs.Holding.{with_mark}
-use Rattle.reg_core.specs.Maps.{update}
+use Rattle.reg_core.specs.Maps.{same_text, update}
 use Rattle.reg_core.specs.World.{World, RequestName, in_state, applied, applied_if, pending, Seat}
 use Rattle.reg_core.specs.declared.change.Change.{Change}
 use Rattle.reg_core.specs.declared.command.Command.{Command}
 use Rattle.reg_core.specs.declared.command.Command.TheVariants.{Public, Applicant, Expert, Clerk}
-use Rattle.reg_core.specs.declared.command.ApplicantCommand.TheVariants.{Own, OwnOne, Submit, Withdraw, Holdings, SetListing}
+use Rattle.reg_core.specs.declared.command.ApplicantCommand.TheVariants.{Own, OwnOne, Submit, Withdraw, Holdings, SetListing, SetAgent, Agents, Principals, PrincipalRows}
 use Rattle.reg_core.specs.declared.command.ExpertCommand.TheVariants.{Queue, Advise}
-use Rattle.reg_core.specs.declared.command.ClerkCommand.TheVariants.{AllRequests, OneRequest, AssignExpert, Approve, Decline, Define, AddPool, Grant, Revoke}
+use Rattle.reg_core.specs.declared.command.ClerkCommand.TheVariants.{AllRequests, OneRequest, AssignExpert, Approve, Decline, SetHold, Define, AddPool, Grant, Revoke}
 use Rattle.reg_core.specs.declared.command.PublicCommand.TheVariants.{Registries, Registry, RegistryListing, PoolList, BlockListing}
 use Rattle.reg_core.specs.declared.decide.Decision.{Decision}
 use Rattle.reg_core.specs.declared.decide.Decision.TheVariants.{Make, Same}
+use Rattle.reg_core.specs.declared.entry.Registration.{Registration}
 use Rattle.reg_core.specs.declared.holding.Holder.{Holder}
 use Rattle.reg_core.specs.declared.request.Case.{Case}
 use Rattle.reg_core.specs.declared.request.Given.TheVariants.{Value, Block}
 use Rattle.reg_core.specs.declared.request.State.{State}
 use Rattle.reg_core.specs.declared.request.State.TheVariants.{Approved, Declined, Withdrawn}
-use Rattle.reg_core.proofs.MapLaws.{number_keys, text_keys, name_keys, seat_keys, block_keys, get-inserted, get-updated, get-removed}
+use Rattle.reg_core.proofs.MapLaws.{number_keys, text_keys, name_keys, place_keys, seat_keys, block_keys, get-inserted, get-updated, get-removed}
 use Rattle.reg_core.proofs.KeySets.{is_inserted}
+use Rattle.reg_core.proofs.Links.{link_is, agent_list, principal_list}
 use Rattle.reg_core.specs.Answer.{Outcome, Answer, reply_of, change_of, change_by, made_row}
 use Rattle.reg_core.specs.Rules.{change_to_give}
 use Rattle.reg_core.specs.Step.{desk_by, answer_to}
@@ -66,6 +71,14 @@ in_new_state w name case state is_there =
 -- a holder who has the mark keeps it
 same_mark : (h : Holder) (private : Bool) → h.private ≡ private → h ≡ with_mark private h
 same_mark h private is i = record h { private = is i }
+
+-- and so does an entry
+same_hold : (a : Registration) (held : Bool) → a.term.held ≡ held → a ≡ with_hold held a
+same_hold a held is i = record a { term = held_term (is i) a.term }
+
+-- a text that is told from another is not that one
+other_text : (a b : List ℕ) → same_text a b ≡ false → ¬ (a ≡ b)
+other_text a b other = λ e. let same = (bytes_eq-Decides a b).1 e in cc
 
 module _ (digest_of : List ℕ → List ℕ) (w : World) (caller : Option (List ℕ)) (moment : ℕ) where
   -- after the command and its outcome all is as the caller is told
@@ -166,6 +179,38 @@ module _ (digest_of : List ℕ → List ℕ) (w : World) (caller : Option (List 
               ∙ ap (option_map (with_mark private)) is.is_there,
         ),
       ))
+  done (Applicant (SetAgent agent reads)) o so =
+      let cap = so.0.cap in
+      decided (Done (Applicant (SetAgent agent reads))) so.1
+      (λ there. (
+        refl,
+        refl,
+        record {
+          cap = cap;
+          has = so.0.is_there;
+          other = other_text agent cap.account there.0;
+          is = there.1;
+        },
+      ))
+      (λ facts. (
+        refl,
+        refl,
+        record {
+          cap = cap;
+          has = so.0.is_there;
+          other = other_text agent cap.account facts.0;
+          is = link_is w (cap.account, agent) reads;
+        },
+      ))
+  done (Applicant Agents) o so =
+      subst (Done (Applicant Agents)) (sym so.1)
+      (so.0.cap, so.0.is_there, agent_list w so.0.cap.account)
+  done (Applicant Principals) o so =
+      subst (Done (Applicant Principals)) (sym so.1)
+      (so.0.cap, so.0.is_there, principal_list w so.0.cap.account)
+  done (Applicant (PrincipalRows principal)) o so =
+      subst (Done (Applicant (PrincipalRows principal))) (sym so.1.so)
+      (so.0.cap, so.0.is_there, ap is_some so.1.is, own_list w principal)
   done (Expert Queue) o so =
       subst (Done (Expert Queue)) (sym so.1)
       (so.0.cap, so.0.is_there, queue_list w so.0.cap.account)
@@ -217,6 +262,27 @@ module _ (digest_of : List ℕ → List ℕ) (w : World) (caller : Option (List 
         refl,
         (refl, refl, in_new_state w (account, reference) is.row (Declined reason) is.is),
       ))
+  done (Clerk (SetHold name value held)) o so =
+      let is = so.1.so in
+      decided (Done (Clerk (SetHold name value held))) is.so
+      (λ there. record {
+        registry = ap is_some so.1.is;
+        entry = is.row;
+        standing = is.is;
+        expires = there.0;
+        mark = there.1;
+        shown = ap (page_entry (utc_day moment) value) (sym (same_hold is.row held there.1));
+      })
+      (λ facts. record {
+        registry = ap is_some so.1.is;
+        entry = with_hold held is.row;
+        standing =
+            get-updated place_keys w.entries (name, value) (with_hold held)
+            ∙ ap (option_map (with_hold held)) is.is;
+        expires = facts.0;
+        mark = refl;
+        shown = refl;
+      })
   done (Clerk (Define name table)) o so =
       decided (Done (Clerk (Define name table))) so.1 (λ there. (refl, there))
       (λ free. (refl, get-inserted text_keys w.registries name table))

@@ -6,6 +6,10 @@ use Rattle.std.proofs.lemmas.Slice.Eq.{bytes_eq-Decides}
 use Rattle.std.specs.Prelude.{Option, Some, None, Result, Ok, Err, IfOk, IsSome, is_some, if◌then◌else◌}
 use Rattle.reg_blocks.specs.Block.{SizedPrefix}
 use Rattle.reg_blocks.specs.Pool.{is_pool_prefix}
+use Rattle.reg_early.specs.Terms.{status_on}
+use Rattle.reg_early.specs.declared.term.Status.{Status}
+use Rattle.reg_early.specs.declared.term.Status.TheVariants as status
+use Rattle.reg_early.specs.declared.term.Term.{Term}
 use Rattle.reg_ranges.specs.Sameness.{same_table}
 use Rattle.reg_ranges.specs.Tables.{Table}
 use Rattle.reg_core.specs.Allowance.{Ground, allowance_on, needs_advice}
@@ -15,17 +19,17 @@ use Rattle.reg_core.specs.Laws.{IsApproved}
 use Rattle.reg_core.specs.Ask.{same_ask}
 use Rattle.reg_core.specs.Capability.{same_cap}
 use Rattle.reg_core.specs.Maps.{same_text}
-use Rattle.reg_core.specs.Rules.{withdraw_rule, listing_rule, decline_rule, assign_rule, new_advice_rule, advise_rule, change_to_give, give_rule, approve_rule, define_rule, pool_rule, grant_rule, revoke_rule, submit_rule}
-use Rattle.reg_core.specs.World.{RequestName}
+use Rattle.reg_core.specs.Rules.{withdraw_rule, listing_rule, link_rule, agent_rule, new_hold_rule, mark_rule, hold_rule, decline_rule, assign_rule, new_advice_rule, advise_rule, change_to_give, give_rule, approve_rule, define_rule, pool_rule, grant_rule, revoke_rule, submit_rule}
+use Rattle.reg_core.specs.World.{RequestName, Place, Link}
 use Rattle.reg_core.specs.declared.advice.Advice.{Advice as AdviceOf}
 use Rattle.reg_core.specs.declared.ask.Ask.{Ask}
 use Rattle.reg_core.specs.declared.capability.Cap.{Cap}
 use Rattle.reg_core.specs.declared.change.Change.{Change}
-use Rattle.reg_core.specs.declared.change.Change.TheVariants.{Grant, Revoke, Define, AddPool, Submit, Close, Assign, Advise, SetPrivate}
+use Rattle.reg_core.specs.declared.change.Change.TheVariants.{Grant, Revoke, Define, AddPool, Submit, Close, Assign, Advise, SetPrivate, SetHold, SetAgent}
 use Rattle.reg_core.specs.declared.decide.Decision.{Decision}
 use Rattle.reg_core.specs.declared.decide.Decision.TheVariants.{Make, Same}
 use Rattle.reg_core.specs.declared.refusal.Refusal.{Refusal}
-use Rattle.reg_core.specs.declared.refusal.Refusal.TheVariants.{Ref, Closed, Own, Exists, Bits, Advice as WithoutAdvice}
+use Rattle.reg_core.specs.declared.refusal.Refusal.TheVariants.{Ref, Closed, Permanent, Own, Exists, Bits, Advice as WithoutAdvice}
 use Rattle.reg_core.specs.declared.request.Case.{Case}
 use Rattle.reg_core.specs.declared.request.Given.{Given}
 use Rattle.reg_core.specs.declared.request.State.{State}
@@ -213,6 +217,66 @@ listing_decides block true true = refl
 listing_decides block false false = refl
 listing_decides block true false = (refl, refl)
 listing_decides block false true = (refl, refl)
+
+-- ---- Agents of an account
+
+-- another account is an agent already, or is none, as is said
+abbrev pub Links : Link → Bool → Bool → Rule
+Links link reads there = record {
+  there = (same_text link.1 link.0 ≡ false) × (there ≡ reads);
+  made = (same_text link.1 link.0 ≡ false) × (there ≡ not reads);
+  change = λ other. SetAgent link.0 link.1 reads;
+}
+
+link_decides : (link : Link) (reads there : Bool) → same_text link.1 link.0 ≡ false
+    → Decides (Links link reads there) (link_rule link reads there)
+link_decides link true true other = (other, refl)
+link_decides link false false other = (other, refl)
+link_decides link true false other = ((other, refl), refl)
+link_decides link false true other = ((other, refl), refl)
+
+pub agent_decides : (link : Link) (reads there : Bool)
+    → IfOk (agent_rule link reads there) (Decides (Links link reads there))
+agent_decides link reads there =
+    branches (Links link reads there) (same_text link.1 link.0) (Err Own)
+    (Ok (link_rule link reads there)) (λ own. tt) (link_decides link reads there)
+
+-- ---- Marks of entries
+
+-- what expires has the mark already, or the other one, and has not expired where it is to be held
+abbrev pub HoldsEntry : Place → Bool → Term → ℕ → Rule
+HoldsEntry place held term today = record {
+  there = (is_some term.expires ≡ true) × (term.held ≡ held);
+  made = (is_some term.expires ≡ true) × (term.held ≡ not held)
+      × (held ≡ true → ¬ (status_on term today ≡ status.Expired));
+  change = λ other. SetHold place.0 place.1 held;
+}
+
+-- where it is to be held
+held_decides : (place : Place) (term : Term) (today : ℕ) (now : Status)
+    → is_some term.expires ≡ true → term.held ≡ false → status_on term today ≡ now
+    → IfOk (new_hold_rule place now) (Decides (HoldsEntry place true term today))
+held_decides place term today status.Assigned expires is at =
+    ((expires, is, λ held h. absurd (cc)), refl)
+held_decides place term today status.Temporary expires is at =
+    ((expires, is, λ held h. absurd (cc)), refl)
+held_decides place term today status.Expired expires is at = tt
+
+mark_decides : (place : Place) (held old : Bool) (term : Term) (today : ℕ)
+    → is_some term.expires ≡ true → term.held ≡ old
+    → IfOk (mark_rule place held old (status_on term today)) (Decides (HoldsEntry place held term today))
+mark_decides place true true term today expires is = (expires, is)
+mark_decides place false false term today expires is = (expires, is)
+mark_decides place true false term today expires is =
+    held_decides place term today (status_on term today) expires is refl
+mark_decides place false true term today expires is = ((expires, is, λ h. absurd (cc)), refl)
+
+pub hold_decides : (place : Place) (held : Bool) (term : Term) (today : ℕ)
+    → IfOk (hold_rule place held term today) (Decides (HoldsEntry place held term today))
+hold_decides place held term today =
+    branches (HoldsEntry place held term today) (is_some term.expires)
+    (mark_rule place held term.held (status_on term today)) (Err Permanent)
+    (λ expires. mark_decides place held term.held term today expires refl) (λ permanent. tt)
 
 -- ---- Experts
 

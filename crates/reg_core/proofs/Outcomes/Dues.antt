@@ -1,6 +1,6 @@
 -- What was so when a step made a change: who gave the command, and the rows that the change is
 -- about.
-use Rattle.std.proofs.Common.{◌≡◌, ℕ, Bool, true, false, ◌&&◌, List, refl, sym, ap, subst, ◌∙◌}
+use Rattle.std.proofs.Common.{◌≡◌, ℕ, Bool, true, false, ◌&&◌, not, List, refl, sym, ap, subst, ◌∙◌}
 use Rattle.std.specs.Cmp.{first_so, second_so}
 use Rattle.std.specs.Cmp.Derive.{both_true}
 use Rattle.std.specs.Prelude.{Option, Some, None, Ok, Err, IsSome}
@@ -8,6 +8,8 @@ use Rattle.std.specs.FinMap.{get, contains_key}
 use Rattle.reg_blocks.specs.Block.{SizedPrefix}
 use Rattle.reg_blocks.specs.Pool.{is_pool_prefix}
 use Rattle.reg_early.specs.Moment.{is_in_clock, utc_day}
+use Rattle.reg_early.specs.Terms.{status_on}
+use Rattle.reg_early.specs.declared.term.Status.TheVariants as status
 use Rattle.reg_ranges.specs.Texts.{is_text}
 use Rattle.reg_core.specs.Advice.{has_advice_form}
 use Rattle.reg_core.specs.Allowance.{allowance_on, allowed, ground_of, needs_advice, holding_asked}
@@ -26,14 +28,14 @@ use Rattle.reg_core.specs.Rules.{change_to_give}
 use Rattle.reg_core.specs.Step.{answer_to}
 use Rattle.reg_core.specs.View.{published, cap_at}
 use Rattle.reg_core.specs.WellKept.{has_grant_form, has_registry_form}
-use Rattle.reg_core.specs.World.{World, RequestName}
+use Rattle.reg_core.specs.World.{World, Place, RequestName}
 use Rattle.reg_core.specs.declared.ask.Ask.{Ask}
 use Rattle.reg_core.specs.declared.ask.Ask.TheVariants.{Block}
 use Rattle.reg_core.specs.declared.ask.BlockAsk.{BlockAsk}
 use Rattle.reg_core.specs.declared.capability.Cap.{Cap}
 use Rattle.reg_core.specs.declared.capability.Kind.TheVariants as kind
 use Rattle.reg_core.specs.declared.change.Change.{Change}
-use Rattle.reg_core.specs.declared.change.Change.TheVariants.{Grant, Revoke, Define, AddPool, Submit, Close, Assign, Advise, GiveValue, GiveBlock, SetPrivate}
+use Rattle.reg_core.specs.declared.change.Change.TheVariants.{Grant, Revoke, Define, AddPool, Submit, Close, Assign, Advise, GiveValue, GiveBlock, SetPrivate, SetHold, SetAgent}
 use Rattle.reg_core.specs.declared.command.Command.{Command}
 use Rattle.reg_core.specs.declared.command.Command.TheVariants.{Public, Applicant, Expert, Clerk}
 use Rattle.reg_core.specs.declared.command.ApplicantCommand.TheVariants as applicant
@@ -44,6 +46,7 @@ use Rattle.reg_core.specs.declared.content.Content.{Content}
 use Rattle.reg_core.specs.declared.decide.Decision.{Decision}
 use Rattle.reg_core.specs.declared.decide.Decision.TheVariants.{Make, Same}
 use Rattle.reg_core.specs.declared.entry.Entry.{Entry}
+use Rattle.reg_core.specs.declared.entry.Registration.{Registration}
 use Rattle.reg_core.specs.declared.holding.Holder.{Holder}
 use Rattle.reg_core.specs.declared.holding.Holding.{Holding}
 use Rattle.reg_core.specs.declared.request.Case.{Case}
@@ -110,6 +113,14 @@ pub record Marks (w : World) (caller : Option (List ℕ)) (moment : ℕ)
   pub is_there : get w.blocks block ≡ Some holder
   pub own : holder.account ≡ serves.cap.account
 
+-- the entry was there, and expires; it had the other mark, and had not expired where it is to be held
+pub record MarksEntry (w : World) (today : ℕ) (place : Place) (held : Bool) : Type 0 where
+  pub entry : Registration
+  pub is_there : get w.entries place ≡ Some entry
+  pub expires : IsSome entry.term.expires
+  pub turned : entry.term.held ≡ not held
+  pub stood : held ≡ true → ¬ (status_on entry.term today ≡ status.Expired)
+
 -- a line for each change
 abbrev pub Due : World → Option (List ℕ) → ℕ → Change → Type 0
 Due w caller moment (Grant digest cap) = ClerkServes w caller moment × (get w.caps digest ≡ None)
@@ -138,6 +149,11 @@ Due w caller moment (GiveValue account reference entry) =
 Due w caller moment (GiveBlock account reference holding) =
     ClerkServes w caller moment × GivesBlock w (account, reference) holding
 Due w caller moment (SetPrivate block private) = Marks w caller moment block
+Due w caller moment (SetHold name value held) =
+    ClerkServes w caller moment × MarksEntry w (utc_day moment) (name, value) held
+Due w caller moment (SetAgent principal agent reads) =
+    IsApplicant w caller moment principal × (same_text agent principal ≡ false)
+    × (contains_key w.agents (principal, agent) ≡ not reads)
 
 -- ---- The change and the command
 
@@ -154,6 +170,8 @@ change_about (Advise account reference expert advice) = Some (account, reference
 change_about (GiveValue account reference entry) = Some (account, reference)
 change_about (GiveBlock account reference holding) = Some (account, reference)
 change_about (SetPrivate block private) = None
+change_about (SetHold name value held) = None
+change_about (SetAgent principal agent reads) = None
 
 abbrev pub has_reason_form : State → Bool
 has_reason_form Pending = true
@@ -174,6 +192,18 @@ has_change_form (Advise account reference expert advice) = has_advice_form advic
 has_change_form (GiveValue account reference entry) = true
 has_change_form (GiveBlock account reference holding) = true
 has_change_form (SetPrivate block private) = true
+has_change_form (SetHold name value held) = true
+has_change_form (SetAgent principal agent reads) = is_name agent
+
+-- a value is given by an approval of its request; and the mark of an entry, and a link, are changed by
+-- the command that says so
+abbrev pub IsMadeBy : Command → Change → Type 0
+IsMadeBy command (GiveValue account reference entry) =
+    command ≡ Clerk (clerk.Approve account reference)
+IsMadeBy command (SetHold name value held) = command ≡ Clerk (clerk.SetHold name value held)
+IsMadeBy command (SetAgent principal agent reads) =
+    command ≡ Applicant (applicant.SetAgent agent reads)
+IsMadeBy command change = Unit {0}
 
 -- the change that a command makes was due, is about what the command is about, and has its forms
 -- from the command
@@ -181,6 +211,7 @@ pub record IsDue (digest_of : List ℕ → List ℕ) (w : World) (caller : Optio
     (command : Command) (change : Change) : Type 0 where
   pub is_open : is_in_clock moment ≡ true
   pub due : Due w caller moment change
+  pub by : IsMadeBy command change
   pub about : change_about change ≡ about (cap_at w caller) command
   pub form : GivesDigests digest_of → has_command_form command ≡ true
       → has_change_form change ≡ true
@@ -292,6 +323,11 @@ module _ (digest_of : List ℕ → List ℕ) (w : World) (caller : Option (List 
   award_about name today (awarded_entry e) = refl
   award_about name today (new_holding h) = refl
 
+  award_by : (name : RequestName) (today : ℕ) (award : Award)
+      → IsMadeBy (Clerk (clerk.Approve name.0 name.1)) (change_to_give name today award)
+  award_by name today (awarded_entry e) = refl
+  award_by name today (new_holding h) = tt
+
   award_form : (name : RequestName) (today : ℕ) (award : Award)
       → has_change_form (change_to_give name today award) ≡ true
   award_form name today (awarded_entry e) = refl
@@ -313,6 +349,7 @@ module _ (digest_of : List ℕ → List ℕ) (w : World) (caller : Option (List 
       due_by a.so.1 made (λ facts. record {
         is_open = a.is_open;
         due = (record { serves = a.so.0; own = refl }, facts.0, facts.1, facts.2);
+        by = tt;
         about = own_about reference a.so.0.cap a.so.0.is_there _ refl;
         form = λ digests form. form;
       })
@@ -320,6 +357,7 @@ module _ (digest_of : List ℕ → List ℕ) (w : World) (caller : Option (List 
       due_by a.so.1.so made (λ pending. record {
         is_open = a.is_open;
         due = (was_pending a.so.1 pending, record { serves = a.so.0; own = refl });
+        by = tt;
         about = own_about reference a.so.0.cap a.so.0.is_there _ refl;
         form = λ digests form. refl;
       })
@@ -334,9 +372,22 @@ module _ (digest_of : List ℕ → List ℕ) (w : World) (caller : Option (List 
           is_there = is.is_there;
           own = is.own;
         };
+        by = tt;
         about = refl;
         form = λ digests form. refl;
       })
+  due_so (Applicant (applicant.SetAgent agent reads)) o change a made =
+      due_by a.so.1 made (λ facts. record {
+        is_open = a.is_open;
+        due = (record { serves = a.so.0; own = refl }, facts.0, facts.1);
+        by = refl;
+        about = refl;
+        form = λ digests form. form;
+      })
+  due_so (Applicant applicant.Agents) o change a made = absurd (nothing_made a.so.1 made)
+  due_so (Applicant applicant.Principals) o change a made = absurd (nothing_made a.so.1 made)
+  due_so (Applicant (applicant.PrincipalRows principal)) o change a made =
+      absurd (nothing_made a.so.1.so made)
   due_so (Expert expert.Queue) o change a made = absurd (nothing_made a.so.1 made)
   due_so (Expert (expert.Advise account reference advice)) o change a made =
       let is = a.so.1 in
@@ -352,6 +403,7 @@ module _ (digest_of : List ℕ → List ℕ) (w : World) (caller : Option (List 
           },
           is.assigned,
         );
+        by = tt;
         about = refl;
         form = λ digests form.
             second_so (is_name account && is_name reference) (has_advice_form advice) form;
@@ -363,6 +415,7 @@ module _ (digest_of : List ℕ → List ℕ) (w : World) (caller : Option (List 
       due_by a.so.1.so made (λ facts. record {
         is_open = a.is_open;
         due = (a.so.0, was_pending a.so.1 facts.0, facts.2, facts.1);
+        by = tt;
         about = refl;
         form = λ digests form.
             second_so (is_name account && is_name reference) (is_name expert) form;
@@ -372,6 +425,7 @@ module _ (digest_of : List ℕ → List ℕ) (w : World) (caller : Option (List 
         is_open = a.is_open;
         due = gives_due a.so.0 (was_pending a.so.1 facts.0) facts.2.award facts.2.needs_advice
             facts.3 facts.1;
+        by = award_by (account, reference) (utc_day moment) facts.2.award;
         about = award_about (account, reference) (utc_day moment) facts.2.award;
         form = λ digests form.
             award_form (account, reference) (utc_day moment) facts.2.award;
@@ -380,14 +434,34 @@ module _ (digest_of : List ℕ → List ℕ) (w : World) (caller : Option (List 
       due_by a.so.1.so made (λ pending. record {
         is_open = a.is_open;
         due = (was_pending a.so.1 pending, a.so.0);
+        by = tt;
         about = refl;
         form = λ digests form.
             second_so (is_name account && is_name reference) (is_text reason) form;
+      })
+  due_so (Clerk (clerk.SetHold name value held)) o change a made =
+      let is = a.so.1.so in
+      due_by is.so made (λ facts. record {
+        is_open = a.is_open;
+        due = (
+          a.so.0,
+          record {
+            entry = is.row;
+            is_there = is.is;
+            expires = facts.0;
+            turned = facts.1;
+            stood = facts.2;
+          },
+        );
+        by = refl;
+        about = refl;
+        form = λ digests form. refl;
       })
   due_so (Clerk (clerk.Define name table)) o change a made =
       due_by a.so.1 made (λ free. record {
         is_open = a.is_open;
         due = (a.so.0, free);
+        by = tt;
         about = refl;
         form = λ digests form. form;
       })
@@ -395,6 +469,7 @@ module _ (digest_of : List ℕ → List ℕ) (w : World) (caller : Option (List 
       due_by a.so.1 made (λ facts. record {
         is_open = a.is_open;
         due = (a.so.0, facts.0, facts.1);
+        by = tt;
         about = refl;
         form = λ digests form. refl;
       })
@@ -402,6 +477,7 @@ module _ (digest_of : List ℕ → List ℕ) (w : World) (caller : Option (List 
       due_by a.so.1 made (λ free. record {
         is_open = a.is_open;
         due = (a.so.0, free);
+        by = tt;
         about = refl;
         form = λ digests form.
             let its_token = first_so (is_token token) (has_cap_form cap) form in
@@ -412,6 +488,7 @@ module _ (digest_of : List ℕ → List ℕ) (w : World) (caller : Option (List 
       due_by a.so.1 made (λ facts. record {
         is_open = a.is_open;
         due = (a.so.0, facts.0, facts.1);
+        by = tt;
         about = refl;
         form = λ digests form. refl;
       })

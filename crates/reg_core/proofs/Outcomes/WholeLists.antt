@@ -4,7 +4,7 @@ use Rattle.std.specs.Prelude.{Option, Some, None, option_and_then}
 use Rattle.std.specs.FinMap.{FinMap, get, entries}
 use Rattle.std.proofs.lemmas.List.Elements.{All-map}
 use Rattle.reg_core.specs.Lists.{EntryList, ShowsEntry, ShowsStanding, BlockList, ShowsHolder, ShowsHeld, HasRowOf, HasHoldingOf, HoldingList, IsItem, OwnList, QueueList}
-use Rattle.reg_early.proofs.TermsInWords.{assigned, temporary, expired}
+use Rattle.reg_early.proofs.TermsInWords.{assigned, temporary, held as held_term, expired}
 use Rattle.reg_core.specs.Entry.{page_entry}
 use Rattle.reg_core.specs.Maps.{only_if}
 use Rattle.reg_core.specs.Page.{page_entries}
@@ -44,6 +44,7 @@ module _ (w : World) (name : List ℕ) (today : ℕ) where
     term = refl;
     assigned = assigned a.term today;
     temporary = λ expiry. temporary a.term expiry today;
+    held = λ expiry. held_term a.term expiry today;
     expired = λ expiry. expired a.term expiry today;
   }
 

@@ -1,11 +1,15 @@
 -- An accepted command that is given again is accepted, and changes nothing, since what its caller
 -- was told is so.
 use Rattle.std.proofs.Common.{◌≡◌, ℕ, Bool, true, false, List, refl, sym, ap, subst, ◌∙◌, arith}
-use Rattle.std.specs.Prelude.{Option, Some, None, nat_le, nat_lt}
+use Rattle.std.specs.Prelude.{Option, Some, None, IsSome, is_some, Ok, nat_le, nat_lt}
 use Rattle.std.specs.FinMap.{get, contains_key, keys}
 use Rattle.std.proofs.lemmas.Bool.Decides.{nat_tests}
 use Rattle.std.proofs.lemmas.Slice.Eq.{bytes_eq-Decides}
 use Rattle.reg_early.specs.Moment.{is_in_clock, utc_day}
+use Rattle.reg_early.specs.Terms.{status_on}
+use Rattle.reg_early.specs.declared.term.Status.{Status}
+use Rattle.reg_core.specs.Entry.{page_entry, with_hold}
+use Rattle.reg_core.specs.Link.{agent_rows, principal_names}
 use Rattle.reg_core.specs.Holding.{holder_in, holding_row, holding_rows, listed_rows, with_mark}
 use Rattle.reg_core.specs.Page.{page}
 use Rattle.reg_core.specs.Ask.{same_ask}
@@ -19,10 +23,10 @@ use Rattle.reg_core.specs.Lists.{IsRow, IsOwnRow}
 use Rattle.reg_core.specs.Maps.{same_text}
 use Rattle.reg_blocks.specs.Block.{SizedPrefix}
 use Rattle.reg_core.specs.Request.{case_of, request_rows}
-use Rattle.reg_core.specs.Rules.{listing_rule}
+use Rattle.reg_core.specs.Rules.{listing_rule, link_rule, mark_rule}
 use Rattle.reg_core.specs.Step.{answer_to, step}
-use Rattle.reg_core.specs.View.{Queued, as_queued, published, requests_of, holdings_of, queue_of, cap_at}
-use Rattle.reg_core.specs.World.{World, RequestName, in_state, applied_if}
+use Rattle.reg_core.specs.View.{Queued, as_queued, published, requests_by, requests_of, holdings_of, queue_of, agents_of, principals_of, principal_rows_of, cap_at}
+use Rattle.reg_core.specs.World.{World, RequestName, Place, Link, in_state, applied_if}
 use Rattle.reg_core.specs.declared.ask.Ask.{Ask}
 use Rattle.reg_core.specs.declared.capability.Cap.{Cap}
 use Rattle.reg_core.specs.declared.capability.Kind.{Kind}
@@ -30,11 +34,11 @@ use Rattle.reg_core.specs.declared.capability.Kind.TheVariants as kind
 use Rattle.reg_core.specs.declared.command.Command.{Command}
 use Rattle.reg_core.specs.declared.command.Command.TheVariants.{Public, Applicant, Expert, Clerk}
 use Rattle.reg_core.specs.declared.command.ApplicantCommand.{ApplicantCommand}
-use Rattle.reg_core.specs.declared.command.ApplicantCommand.TheVariants.{Own, OwnOne, Submit, Withdraw, Holdings, SetListing}
+use Rattle.reg_core.specs.declared.command.ApplicantCommand.TheVariants.{Own, OwnOne, Submit, Withdraw, Holdings, SetListing, SetAgent, Agents, Principals, PrincipalRows}
 use Rattle.reg_core.specs.declared.command.ExpertCommand.{ExpertCommand}
 use Rattle.reg_core.specs.declared.command.ExpertCommand.TheVariants.{Queue, Advise}
 use Rattle.reg_core.specs.declared.command.ClerkCommand.{ClerkCommand}
-use Rattle.reg_core.specs.declared.command.ClerkCommand.TheVariants.{AllRequests, OneRequest, AssignExpert, Approve, Decline, Define, AddPool, Grant, Revoke}
+use Rattle.reg_core.specs.declared.command.ClerkCommand.TheVariants.{AllRequests, OneRequest, AssignExpert, Approve, Decline, SetHold, Define, AddPool, Grant, Revoke}
 use Rattle.reg_core.specs.declared.command.PublicCommand.{PublicCommand}
 use Rattle.reg_core.specs.declared.command.PublicCommand.TheVariants.{Registries, Registry, RegistryListing, PoolList, BlockListing}
 use Rattle.reg_core.specs.declared.content.Content.{Content}
@@ -47,6 +51,7 @@ use Rattle.reg_core.specs.declared.request.State.TheVariants.{Approved}
 use Rattle.reg_core.proofs.SamenessIsDecided.{same_text-itself, same_advice-itself, same_cap-itself, same_ask-itself, same_table-itself}
 use Rattle.reg_core.proofs.Outcomes.Accepted.{Serves, ClerkServes, CommandSo}
 use Rattle.reg_core.proofs.Outcomes.AnswersAreDone.{Done, accepted_done}
+use Rattle.reg_core.proofs.Links.{own_agent, own_principal}
 use Rattle.reg_core.proofs.Blocks.{own_holding}
 use Rattle.reg_core.proofs.Queues.{found_queued}
 use Rattle.reg_core.proofs.Stepping.{own_request}
@@ -97,6 +102,35 @@ marked_already block true true is = refl
 marked_already block false false is = refl
 marked_already block true false is = absurd (cc)
 marked_already block false true is = absurd (cc)
+
+-- and so is an entry with the mark that is asked for
+held_already : (place : Place) (held old : Bool) (now : Status) → old ≡ held
+    → mark_rule place held old now ≡ Ok Same
+held_already place true true now is = refl
+held_already place false false now is = refl
+held_already place true false now is = absurd (cc)
+held_already place false true now is = absurd (cc)
+
+-- and a link that is there, or is not, as is said
+said_already : (link : Link) (reads there : Bool) → there ≡ reads
+    → link_rule link reads there ≡ Same
+said_already link true true is = refl
+said_already link false false is = refl
+said_already link true false is = absurd (cc)
+said_already link false true is = absurd (cc)
+
+-- other texts are not the same
+apart : (a b : List ℕ) → ¬ (a ≡ b) → same_text a b ≡ false
+apart a b other = by (same_text a b) refl
+  where
+    by : (t : Bool) → same_text a b ≡ t → t ≡ false
+    by false t = refl
+    by true t = absurd (other ((bytes_eq-Decides a b).0 t))
+
+-- a row that is there
+row_of : {X : Type 0} (existing : Option X) → IsSome existing → (x : X) × (existing ≡ Some x)
+row_of None h = absurd (cc)
+row_of (Some x) h = (x, refl)
 
 -- ---- What is so again, a line for each command
 
@@ -210,6 +244,41 @@ module _ (digest_of : List ℕ → List ℕ) (v : World) (moment : ℕ) (now : i
               marked_already block private row.private so.1,
             ) refl,
           )
+      own_again (SetAgent agent reads) (content.Agent given is) so =
+          let said = so.2 in
+          let mine = may.account said.cap said.has in
+          let other = apart agent may.cap.account (λ same. said.other (same ∙ sym mine)) in
+          let there = own_agent may.cap.account agent v
+          ∙ ap (λ a. contains_key v.agents (a, agent)) (sym mine) ∙ said.is in (
+            content.Agent agent reads,
+            rw (
+              now,
+              may.is_there,
+              may.late,
+              may.of_kind,
+              other,
+              said_already (may.cap.account, agent) reads
+                  (contains_key (agents_of may.cap.account v) (may.cap.account, agent)) there,
+            ) refl,
+          )
+      own_again Agents (content.Accounts names) so = (
+        content.Accounts (agent_rows (agents_of may.cap.account v)),
+        rw (now, may.is_there, may.late, may.of_kind) refl,
+      )
+      own_again Principals (content.Accounts names) so = (
+        content.Accounts (principal_names (principals_of may.cap.account v)),
+        rw (now, may.is_there, may.late, may.of_kind) refl,
+      )
+      own_again (PrincipalRows principal) (content.Rows rows) so =
+          let there =
+          subst (λ a. contains_key v.agents (principal, a) ≡ true) (may.account so.0 so.1) so.2 in
+          let link =
+          row_of (get (principals_of may.cap.account v) (principal, may.cap.account))
+          (ap is_some (own_principal may.cap.account principal v) ∙ there) in (
+            content.Rows
+                (request_rows (requests_by principal (principal_rows_of may.cap.account v))),
+            rw (now, may.is_there, may.late, may.of_kind, link.1) refl,
+          )
       own_again command content so = absurd so
 
     module _ (may : Acts v caller moment by kind.Expert) where
@@ -284,6 +353,21 @@ module _ (digest_of : List ℕ → List ℕ) (v : World) (moment : ℕ) (now : i
         let is = row_at v account reference row so.1 in (
           desk_row (account, reference) (case_of row),
           rw (now, may.is_there, may.of_kind, may.early, is, so.0, same_text-itself reason) refl,
+        )
+    clerk_again (SetHold name value held) (content.Marked row) so =
+        let table = row_of (get v.registries name) so.registry in (
+          content.Marked (page_entry (utc_day moment) value (with_hold held so.entry)),
+          rw (
+            now,
+            may.is_there,
+            may.of_kind,
+            may.early,
+            table.1,
+            so.standing,
+            so.expires,
+            held_already (name, value) held so.entry.term.held
+                (status_on so.entry.term (utc_day moment)) so.mark,
+          ) refl,
         )
     clerk_again (Define name table) (content.Defined given) so = (
       content.Defined name,

@@ -5,7 +5,7 @@ use Rattle.std.specs.Cmp.{first_so, second_so}
 use Rattle.std.specs.FinMap.{get}
 use Rattle.std.proofs.lemmas.Bool.{and_left, and_right, both_ways, not-false}
 use Rattle.reg_early.specs.Moment.{is_in_clock, utc_day}
-use Rattle.reg_core.specs.Allowance.{◌>>=◌}
+use Rattle.reg_core.specs.Allowance.{◌>>=◌, or_refusal}
 use Rattle.reg_core.specs.Answer.{Answer, reply_of, change_of, admitted, as_kind, own_answer, expert_answer}
 use Rattle.reg_core.specs.Capability.{same_kind}
 use Rattle.reg_core.specs.File.{seats_of}
@@ -15,7 +15,7 @@ use Rattle.reg_core.specs.Step.{is_clerk, acts_as_clerk, clerk_answer, answer_to
 use Rattle.reg_core.specs.Striking.{is_others, reply_lists_others, reply_without}
 use Rattle.reg_core.specs.Command.{about}
 use Rattle.reg_core.specs.Unseen.{is_outside, speaks_for, is_hidden}
-use Rattle.reg_core.specs.View.{Personal, published, personal, cap_at, with_personal, requests_of, queue_of}
+use Rattle.reg_core.specs.View.{Personal, published, personal, cap_at, with_personal, requests_of, queue_of, principals_of}
 use Rattle.reg_core.specs.World.{World, RequestName}
 use Rattle.reg_core.specs.declared.capability.Cap.{Cap}
 use Rattle.reg_core.specs.declared.capability.Kind.{Kind}
@@ -23,7 +23,7 @@ use Rattle.reg_core.specs.declared.capability.Kind.TheVariants as kind
 use Rattle.reg_core.specs.declared.command.Command.{Command}
 use Rattle.reg_core.specs.declared.command.Command.TheVariants as command
 use Rattle.reg_core.specs.declared.command.ApplicantCommand.{ApplicantCommand}
-use Rattle.reg_core.specs.declared.command.ApplicantCommand.TheVariants.{Own, OwnOne, Submit, Withdraw, Holdings, SetListing}
+use Rattle.reg_core.specs.declared.command.ApplicantCommand.TheVariants.{Own, OwnOne, Submit, Withdraw, Holdings, SetListing, SetAgent, Agents, Principals, PrincipalRows}
 use Rattle.reg_core.specs.declared.command.ExpertCommand.{ExpertCommand}
 use Rattle.reg_core.specs.declared.command.ExpertCommand.TheVariants.{Queue, Advise}
 use Rattle.reg_core.specs.declared.command.ClerkCommand.{ClerkCommand}
@@ -35,7 +35,7 @@ use Rattle.reg_core.specs.declared.reply.Reply.TheVariants.{Accepted}
 use Rattle.reg_core.proofs.SamenessIsDecided.{same_kind-is}
 use Rattle.reg_core.proofs.Striking.Lists.{same_requests, same_queue}
 use Rattle.reg_core.proofs.Striking.Maps.{AgreeBut}
-use Rattle.reg_core.proofs.Striking.Views.{own_agree, queue_agree, seats_same, personal_same}
+use Rattle.reg_core.proofs.Striking.Views.{own_agree, queue_agree, rows_agree, seats_same, personal_same}
 use Rattle.reg_core.proofs.Striking.Worlds.{with_requests_of, agree_rest, Unaware}
 
 -- ---- Two answers
@@ -154,6 +154,21 @@ module _
   own_same cap other (SetListing block private) h =
       same_itself
       (own_answer (published v) cap.account (personal cap.account v) (SetListing block private))
+  own_same cap other (SetAgent agent reads) h =
+      same_itself
+      (own_answer (published v) cap.account (personal cap.account v) (SetAgent agent reads))
+  own_same cap other Agents h =
+      same_itself (own_answer (published v) cap.account (personal cap.account v) Agents)
+  own_same cap other Principals h =
+      same_itself (own_answer (published v) cap.account (personal cap.account v) Principals)
+  own_same cap other (PrincipalRows principal) h =
+      same_then (or_refusal no.Principal (get (principals_of cap.account v) (principal, cap.account)))
+      _ _ (λ link. record {
+        whole = λ mine. absurd (not_mine cap other mine);
+        change = refl;
+        rows = ap (λ rows. Accepted (content.Rows rows))
+            (same_requests hidden _ _ (rows_agree un.agree cap.account principal));
+      })
 
   expert_same : (cap : Cap) → IsOther cap → (given : ExpertCommand)
       → IsOpen (about (Some cap) (command.Expert given))

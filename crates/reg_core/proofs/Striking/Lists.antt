@@ -16,11 +16,11 @@ use Rattle.reg_core.specs.declared.ask.Ask.{Ask}
 use Rattle.reg_core.specs.declared.command.Command.{Command}
 use Rattle.reg_core.specs.declared.command.Command.TheVariants.{Public, Applicant, Expert, Clerk}
 use Rattle.reg_core.specs.declared.command.ApplicantCommand.{ApplicantCommand}
-use Rattle.reg_core.specs.declared.command.ApplicantCommand.TheVariants.{Own, OwnOne, Submit, Withdraw, Holdings, SetListing}
+use Rattle.reg_core.specs.declared.command.ApplicantCommand.TheVariants.{Own, OwnOne, Submit, Withdraw, Holdings, SetListing, SetAgent, Agents, Principals, PrincipalRows}
 use Rattle.reg_core.specs.declared.command.ExpertCommand.{ExpertCommand}
 use Rattle.reg_core.specs.declared.command.ExpertCommand.TheVariants.{Queue, Advise}
 use Rattle.reg_core.specs.declared.command.ClerkCommand.{ClerkCommand}
-use Rattle.reg_core.specs.declared.command.ClerkCommand.TheVariants.{AllRequests, OneRequest, AssignExpert, Approve, Decline}
+use Rattle.reg_core.specs.declared.command.ClerkCommand.TheVariants.{AllRequests, OneRequest, AssignExpert, Approve, Decline, SetHold}
 use Rattle.reg_core.specs.declared.command.PublicCommand.{PublicCommand}
 use Rattle.reg_core.specs.declared.command.PublicCommand.TheVariants.{Registries, Registry, RegistryListing, PoolList, BlockListing}
 use Rattle.reg_core.specs.declared.content.Content.TheVariants as content
@@ -126,6 +126,11 @@ module _ (hidden : RequestName → Bool) (v : World) (none : HasNone hidden v) w
   own_plain of (Withdraw reference) o so = plain so.so.is refl
   own_plain of Holdings o so = plain so refl
   own_plain of (SetListing block private) o so = plain so.so.is refl
+  own_plain of (SetAgent agent reads) o so = plain so.is refl
+  own_plain of Agents o so = plain so refl
+  own_plain of Principals o so = plain so refl
+  own_plain of (PrincipalRows principal) o so =
+      plain so.so (ap content.Rows (plain_requests (requests_of principal v) (own_bare principal)))
 
   expert_plain : (of : List ℕ) (given : ExpertCommand) (o : Outcome)
       → ExpertSo v of given o → IsPlain o
@@ -142,6 +147,7 @@ module _ (hidden : RequestName → Bool) (v : World) (none : HasNone hidden v) w
   clerk_plain digest_of in_use today (AssignExpert account reference of) o so = plain so.so.is refl
   clerk_plain digest_of in_use today (Approve account reference) o so = plain so.so.is refl
   clerk_plain digest_of in_use today (Decline account reference reason) o so = plain so.so.is refl
+  clerk_plain digest_of in_use today (SetHold name value held) o so = plain so.so.so.is refl
   clerk_plain digest_of in_use today given o so = plain so.is refl
 
   module _ (digest_of : List ℕ → List ℕ) (e : Event) where

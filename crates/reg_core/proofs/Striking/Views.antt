@@ -1,13 +1,13 @@
 -- Two worlds that agree but for requests that an account does not see show the account the same.
 use Rattle.std.proofs.Common.{◌≡◌, ℕ, Bool, true, false, List, refl, sym, ap, ◌∙◌, inl, inr}
 use Rattle.std.specs.Prelude.{Option, Some, None, option_map, is_some}
-use Rattle.std.specs.FinMap.{FinMap, get}
+use Rattle.std.specs.FinMap.{FinMap, get, contains_key}
 use Rattle.std.proofs.lemmas.Bool.{or_cases, both_ways}
 use Rattle.std.proofs.lemmas.Slice.Eq.{bytes_eq-Decides}
 use Rattle.reg_core.specs.File.{same_name, seats_of}
 use Rattle.reg_core.specs.Maps.{same_text, only_if}
 use Rattle.reg_core.specs.Striking.{has_account, ShowSame}
-use Rattle.reg_core.specs.View.{published, personal, requests_of, queue_of, queued_to, as_queued, cap_at, with_personal}
+use Rattle.reg_core.specs.View.{published, personal, requests_of, requests_by, queue_of, principal_rows_of, queued_to, as_queued, cap_at, with_personal}
 use Rattle.reg_core.specs.World.{World, RequestName, Seat, seat_cmp}
 use Rattle.reg_core.specs.declared.capability.Cap.{Cap}
 use Rattle.reg_core.specs.declared.request.Case.{Case}
@@ -30,6 +30,23 @@ module _ {hidden : RequestName → Bool} {w v : World} (a : Agree hidden w v) wh
   queue_agree of =
       both_select name_keys hidden (queued_to of w) (queued_to of v) _ _
       (queued_alike of) a.requests
+
+  -- and the requests of one of anybody's principals
+  pub rows_agree : (of principal : List ℕ)
+      → AgreeBut hidden (requests_by principal (principal_rows_of of w))
+      (requests_by principal (principal_rows_of of v))
+  rows_agree of principal =
+      both_select name_keys hidden (by principal) (by principal) _ _ (λ name h case. refl)
+      (both_select name_keys hidden (chosen w) (chosen v) _ _ alike a.requests)
+    where
+      by : List ℕ → RequestName → Case → Option Case
+      by applicant name case = only_if (same_text name.0 applicant) case
+
+      chosen : World → RequestName → Case → Option Case
+      chosen x name case = only_if (contains_key x.agents (name.0, of)) case
+
+      alike : ChooseAlike hidden (chosen w) (chosen v)
+      alike name h case = ap (λ (x : World). chosen x name case) a.rest
 
 -- and the rows of one request
 pub seats_same : {X : Type 0} (hidden : RequestName → Bool) (m n : FinMap seat_cmp X)
@@ -76,6 +93,20 @@ module _
           let queued = as_queued (get x.advice (name, account)) case in
           ap (λ seat. only_if (is_some seat) queued) (blind.no_seat name h)
 
+  rows_same : principal_rows_of account w ≡ principal_rows_of account v
+  rows_same =
+      same_select name_keys hidden (chosen w) (chosen v) _ _ alike un.agree.requests
+      (none w un.blind_w) (none v un.blind_v)
+    where
+      chosen : World → RequestName → Case → Option Case
+      chosen x name case = only_if (contains_key x.agents (name.0, account)) case
+
+      alike : ChooseAlike hidden (chosen w) (chosen v)
+      alike name h case = ap (λ (x : World). chosen x name case) un.agree.rest
+
+      none : (x : World) → Blind account hidden x → NoneAt hidden (chosen x)
+      none x blind name h case = ap (λ b. only_if b case) (blind.no_link name h)
+
   -- so for every capability of the account's
   pub personal_same : (of : List ℕ) → same_text of account ≡ true → personal of w ≡ personal of v
   personal_same of h =
@@ -84,6 +115,7 @@ module _
       ∙ (λ i. record (personal account (un.agree.rest i)) {
         requests = requests_same i;
         queue = queue_same i;
+        principal_rows = rows_same i;
       })
       ∙ sym (ap (λ of. personal of v) mine)
 

@@ -18,7 +18,7 @@ use Rattle.reg_core.specs.Run.{Event, run}
 use Rattle.reg_core.specs.Step.{answer_to}
 use Rattle.reg_core.specs.Unseen.{Stage, stages, reveals_if, stays_in, struck}
 use Rattle.reg_core.specs.View.{requests_of}
-use Rattle.reg_core.specs.World.{World, RequestName, applied, applied_if, pending, name_cmp, place_cmp, seat_cmp}
+use Rattle.reg_core.specs.World.{World, RequestName, applied, applied_if, pending, name_cmp, place_cmp, seat_cmp, link_cmp}
 use Rattle.reg_core.specs.declared.ask.Ask.TheVariants.{Code}
 use Rattle.reg_core.specs.declared.ask.Ask.{Ask}
 use Rattle.reg_core.specs.declared.ask.Want.TheVariants.{Value}
@@ -133,6 +133,12 @@ bob-no_seat = get-empty seat_cmp (name, codes "bob")
 alice-no_seat : get start.queue ((codes "bob", codes "a-1"), codes "alice") ≡ None
 alice-no_seat = get-empty seat_cmp ((codes "bob", codes "a-1"), codes "alice")
 
+bob-no_link : get start.agents (codes "alice", codes "bob") ≡ None
+bob-no_link = get-empty link_cmp (codes "alice", codes "bob")
+
+alice-no_link : get start.agents (codes "bob", codes "alice") ≡ None
+alice-no_link = get-empty link_cmp (codes "bob", codes "alice")
+
 bob-none : get (requests_of (codes "bob") asked) (codes "bob", codes "a-1") ≡ None
 bob-none =
     own_request (codes "bob") (codes "a-1") asked
@@ -231,6 +237,7 @@ abbrev left_of : List ℕ → List Stage → List Event
 left_of account run =
     let unseen : RequestName → Bool =
     λ n. not (same_text n.0 account) && not (contains_key start.queue (n, account))
+    && not (contains_key start.agents (n.0, account))
     && not (list_any (λ (s : Stage). reveals_if account n s.change) run) in
     map (λ (s : Stage). s.event) (filter (stays_in account unseen) run)
 
@@ -239,17 +246,17 @@ made_struck : struck (λ token. token) (codes "bob") start (submits ∷ looks �
     ≡ looks ∷ []
 made_struck =
     ap (left_of (codes "bob")) (runs_to declines declined declines_at)
-    ∙ rw (alice-there, bob-there, clerk-there, bob-no_seat) refl
+    ∙ rw (alice-there, bob-there, clerk-there, bob-no_seat, bob-no_link) refl
 
 -- what alice does herself is left, and what is about her request; that bob looked is not
 made_kept : struck (λ token. token) (codes "alice") start (submits ∷ looks ∷ declines ∷ [])
     ≡ submits ∷ declines ∷ []
 made_kept = ap (left_of (codes "alice")) (runs_to declines declined declines_at)
-    ∙ rw (alice-there, bob-there, alice-no_seat) refl
+    ∙ rw (alice-there, bob-there, alice-no_seat, alice-no_link) refl
 
 -- a request that is given a value is not struck
 given_kept : struck (λ token. token) (codes "bob") start (submits ∷ looks ∷ approves ∷ [])
     ≡ submits ∷ looks ∷ approves ∷ []
 given_kept =
     ap (left_of (codes "bob")) (runs_to approves approved approves_at)
-    ∙ rw (alice-there, bob-there, clerk-there, bob-no_seat) refl
+    ∙ rw (alice-there, bob-there, clerk-there, bob-no_seat, bob-no_link) refl

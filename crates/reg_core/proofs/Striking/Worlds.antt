@@ -5,7 +5,7 @@ use Rattle.std.specs.Prelude.{Option, Some, None}
 use Rattle.std.specs.Ordering.{eq_by_cmp}
 use Rattle.std.specs.Cmp.Derive.{both_true}
 use Rattle.std.specs.FinMap as map
-use Rattle.std.specs.FinMap.{FinMap, get, insert}
+use Rattle.std.specs.FinMap.{FinMap, get, insert, contains_key}
 use Rattle.std.specs.FinSet.{FinSet}
 use Rattle.std.proofs.lemmas.Bool.{both_ways}
 use Rattle.reg_core.specs.Entry.{registration_in}
@@ -13,15 +13,16 @@ use Rattle.reg_core.specs.File.{same_name}
 use Rattle.reg_core.specs.Holding.{holder_in}
 use Rattle.reg_core.specs.Maps.{same_text}
 use Rattle.reg_core.specs.Unseen.{reveals_if, is_hidden}
-use Rattle.reg_core.specs.World.{World, RequestName, name_cmp, Place, Seat, seat_cmp, in_state, pending, applied, applied_if}
+use Rattle.reg_core.specs.World.{World, RequestName, name_cmp, Place, Seat, seat_cmp, Link, link_cmp, in_state, pending, applied, applied_if}
 use Rattle.reg_core.specs.declared.advice.Advice.{Advice}
 use Rattle.reg_core.specs.declared.change.Change.{Change}
-use Rattle.reg_core.specs.declared.change.Change.TheVariants.{Submit, Close, Assign, Advise, GiveValue, GiveBlock}
+use Rattle.reg_core.specs.declared.change.Change.TheVariants.{Submit, Close, Assign, Advise, GiveValue, GiveBlock, SetAgent}
 use Rattle.reg_core.specs.declared.request.Case.{Case}
 use Rattle.reg_core.specs.declared.request.State.TheVariants.{Approved}
 use Rattle.reg_core.specs.declared.request.Given.TheVariants.{Value, Block}
 use Rattle.reg_core.proofs.Files.{same_name-itself}
-use Rattle.reg_core.proofs.MapLaws.{name_keys, seat_keys, tied, get-at_insert}
+use Rattle.reg_core.proofs.Agents.{there_after}
+use Rattle.reg_core.proofs.MapLaws.{name_keys, seat_keys, link_keys, tied, get-at_insert}
 use Rattle.reg_core.proofs.Outcomes.Dues.{change_about}
 use Rattle.reg_core.proofs.SamenessIsDecided.{same_text-itself}
 use Rattle.reg_core.proofs.Striking.Maps.{AgreeBut, both_insert, both_update, one_insert, one_update}
@@ -148,9 +149,11 @@ module _ (hidden : RequestName → Bool) (w v : World) (a : Agree hidden w v) wh
 
 -- ---- What the account is blind to
 
--- no hidden request is assigned to the account
+-- no hidden request is assigned to the account, or of an applicant whose agent the account is
 pub record Blind (account : List ℕ) (hidden : RequestName → Bool) (w : World) : Type 0 where
   pub no_seat : (name : RequestName) → hidden name ≡ true → get w.queue (name, account) ≡ None
+  pub no_link : (name : RequestName) → hidden name ≡ true
+      → contains_key w.agents (name.0, account) ≡ false
 
 module _
     (account : List ℕ) (hidden : RequestName → Bool) (w : World) (blind : Blind account hidden w)
@@ -178,10 +181,38 @@ module _
         by false t = blind.no_seat name h
     no_seat change quiet name h = blind.no_seat name h
 
+    no_link : (change : Change) → IsQuiet account hidden (Some change) → (name : RequestName)
+        → hidden name ≡ true → contains_key (applied w change).agents (name.0, account) ≡ false
+    no_link (SetAgent principal agent reads) quiet name h =
+        there_after reads new w.agents old ∙ by (eq_by_cmp link_cmp old new) refl reads refl
+      where
+        new : Link
+        new = (principal, agent)
+
+        old : Link
+        old = (name.0, account)
+
+        shown : Link → Bool
+        shown link = same_text link.0 name.0 && same_text link.1 account
+
+        by : (t : Bool) → eq_by_cmp link_cmp old new ≡ t → (said : Bool) → reads ≡ said
+            → cond t said (contains_key w.agents old) ≡ false
+        by true t true is =
+            let at_new : shown new ≡ true =
+            ap shown (sym (tied link_keys old new t))
+            ∙ both_true (same_text-itself name.0) (same_text-itself account) in
+            let unsaid : shown new ≡ false =
+            ap (λ b. b && shown new) (sym is) ∙ quiet name h in
+            absurd (both_ways (shown new) unsaid at_new)
+        by true t false is = refl
+        by false t said is = blind.no_link name h
+    no_link change quiet name h = blind.no_link name h
+
     pub blind_if : (made : Option Change) → IsQuiet account hidden made
         → Blind account hidden (applied_if w made)
     blind_if None quiet = blind
-    blind_if (Some change) quiet = record { no_seat = no_seat change quiet }
+    blind_if (Some change) quiet =
+        record { no_seat = no_seat change quiet; no_link = no_link change quiet }
 
 -- ---- What the account is unaware of
 

@@ -146,7 +146,7 @@ fn renewal_allowance<'a>(
     let policy = policy_for(table, Want::Value(renewal.value))?;
     check_early_evidence(policy, &renewal.evidence)?;
     let own = own_entry(account, rows.entry)?;
-    check_renewable(own.term)?;
+    check_renewable(own.term, renewal.iesg.is_some())?;
     let entry = AwardedEntry {
         registry: &renewal.registry,
         value: renewal.value,
@@ -231,11 +231,11 @@ fn own_entry<'a>(account: &Account, entry: Option<&'a Entry>) -> Result<&'a Entr
     }
 }
 
-// Only what expires can be renewed, and only once.
-fn check_renewable(term: Term) -> Result<(), Refusal>
-    ensures { result ≡ may_renew (renewable term) }
+// Only what expires can be renewed, and only once without a minute of the IESG.
+fn check_renewable(term: Term, iesg: bool) -> Result<(), Refusal>
+    ensures { result ≡ may_renew (renewable term iesg) }
 {
-    match term.renewable() {
+    match term.renewable(iesg) {
         Ok(()) => Ok(()),
         Err(RenewFault::Permanent) => Err(Refusal::Permanent),
         Err(RenewFault::Renewed) => Err(Refusal::Renewed),

@@ -6,9 +6,9 @@ use Rattle.reg_early.proofs.laws.early_terms_last_a_year.Goals as goal
 pub returns : goal.returns
 returns c =
     record {
-      permanent = λ first. ((refl, refl), refl);
+      permanent = λ first. ((refl, refl, refl), refl);
       early = λ first h. (
-        (refl, refl),
+        (refl, refl, refl),
         year_after first,
         IsYearAfter-year_after first h,
         refl,

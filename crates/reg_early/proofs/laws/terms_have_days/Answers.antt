@@ -10,4 +10,5 @@ returns c =
       early = λ first h. (h, IsDay-year_after first h);
       renewed = HasDays-renewed_term;
       settled = λ term h. (h.0, search rules);
+      held = λ term held h. h;
     }

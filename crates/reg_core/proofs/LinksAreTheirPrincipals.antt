@@ -1,0 +1,70 @@
+-- Links are their principals'.
+use Rattle.std.proofs.Common.{◌≡◌, ℕ, Bool, true, false, List, refl, sym, ap, ◌∙◌, inl, inr}
+use Rattle.std.specs.Prelude.{Option, ◌⊎◌}
+use Rattle.std.specs.FinMap.{contains_key}
+use Rattle.std.specs.Ordering.{eq_by_cmp}
+use Rattle.reg_core.specs.Agents.{IsSaid, LinksAreTheirPrincipals}
+use Rattle.reg_core.specs.World.{World, Link, link_cmp, applied, applied_if}
+use Rattle.reg_core.specs.declared.capability.Kind.TheVariants as kind
+use Rattle.reg_core.specs.declared.change.Change.{Change}
+use Rattle.reg_core.specs.declared.change.Change.TheVariants.{Grant, Revoke, Define, AddPool, Submit, Close, Assign, Advise, GiveValue, GiveBlock, SetPrivate, SetHold, SetAgent}
+use Rattle.reg_core.specs.declared.command.Command.{Command}
+use Rattle.reg_core.specs.declared.command.Command.TheVariants.{Applicant}
+use Rattle.reg_core.specs.declared.command.ApplicantCommand.TheVariants as applicant
+use Rattle.reg_core.proofs.Links.{link_is, link_stays}
+use Rattle.reg_core.proofs.MapLaws.{tied, link_keys}
+use Rattle.reg_core.proofs.Outcomes.Dues.{IsDue, each_step}
+use Rattle.reg_core.proofs.SamenessIsDecided.{same_kind-is}
+
+module _ (digest_of : List ℕ → List ℕ) (w : World) (caller : Option (List ℕ)) (moment : ℕ)
+    (command : Command) (link : Link) where
+  -- the link is there as before, or its principal said so
+  abbrev Stands : World → Type 0
+  Stands v =
+      (contains_key v.agents link ≡ contains_key w.agents link) ⊎ IsSaid w v caller command link
+
+  said : (principal agent : List ℕ) (reads : Bool)
+      → IsDue digest_of w caller moment command (SetAgent principal agent reads)
+      → Stands (applied w (SetAgent principal agent reads))
+  said principal agent reads is = by (eq_by_cmp link_cmp link (principal, agent)) refl
+    where
+      by : (b : Bool) → eq_by_cmp link_cmp link (principal, agent) ≡ b
+          → Stands (applied w (SetAgent principal agent reads))
+      by true t =
+          let same = tied link_keys link (principal, agent) t in
+          let serves = is.due.0.serves in
+          inr (record {
+            reads = reads;
+            by = is.by ∙ ap (λ (l : Link). Applicant (applicant.SetAgent l.1 reads)) (sym same);
+            cap = serves.cap;
+            has = serves.is_there;
+            own = is.due.0.own ∙ ap (λ (l : Link). l.0) (sym same);
+            kind = same_kind-is serves.cap.kind kind.Applicant serves.of_kind;
+            is =
+                ap (contains_key (applied w (SetAgent principal agent reads)).agents) same
+                ∙ link_is w (principal, agent) reads;
+          })
+      by false t = inl (link_stays w (principal, agent) reads link t)
+
+  -- a line for each change
+  due_stands : (change : Change) → IsDue digest_of w caller moment command change
+      → Stands (applied w change)
+  due_stands (Grant digest cap) is = inl refl
+  due_stands (Revoke digest) is = inl refl
+  due_stands (Define name table) is = inl refl
+  due_stands (AddPool prefix) is = inl refl
+  due_stands (Submit account reference ask) is = inl refl
+  due_stands (Close account reference state) is = inl refl
+  due_stands (Assign account reference expert) is = inl refl
+  due_stands (Advise account reference expert advice) is = inl refl
+  due_stands (GiveValue account reference entry) is = inl refl
+  due_stands (GiveBlock account reference holding) is = inl refl
+  due_stands (SetPrivate block private) is = inl refl
+  due_stands (SetHold name value held) is = inl refl
+  due_stands (SetAgent principal agent reads) is = said principal agent reads is
+
+pub links_are_theirs : (digest_of : List ℕ → List ℕ) → LinksAreTheirPrincipals digest_of
+links_are_theirs digest_of w caller moment command link =
+    each_step digest_of w caller moment command
+    (λ change. Stands digest_of w caller moment command link (applied_if w change)) (inl refl)
+    (due_stands digest_of w caller moment command link)

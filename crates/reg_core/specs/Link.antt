@@ -1,0 +1,18 @@
+-- Links: which account, a principal, has which other as its agent, who may read its requests.
+use Rattle.std.specs.Prelude.{ℕ, Bool, ◌&&◌, not, List, map}
+use Rattle.std.specs.FinMap.{keys}
+use Rattle.std.specs.FinSet.{FinSet}
+use Rattle.reg_core.specs.Maps.{same_text}
+use Rattle.reg_core.specs.Names.{is_name}
+use Rattle.reg_core.specs.World.{Link, link_cmp}
+
+-- the agents of links, and their principals, in order
+abbrev pub agent_rows : FinSet link_cmp → List (List ℕ)
+agent_rows links = map (λ link. link.1) (keys links)
+
+abbrev pub principal_names : FinSet link_cmp → List (List ℕ)
+principal_names links = map (λ link. link.0) (keys links)
+
+-- both are accounts, and not the same one
+abbrev pub has_link_form : Link → Bool
+has_link_form link = is_name link.0 && is_name link.1 && not (same_text link.1 link.0)
