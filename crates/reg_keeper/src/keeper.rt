@@ -7,10 +7,12 @@ ghost use Rattle.reg_core.specs.Entry.{entry_row};
 ghost use Rattle.reg_core.specs.File.{file as file_of};
 ghost use Rattle.reg_core.specs.Holding.{holding_row, holding_rows, listed_rows, masked_blocks};
 ghost use Rattle.reg_core.specs.LeastFree.{least_free_in};
+ghost use Rattle.reg_core.specs.Link.{agent_rows, principal_names};
+ghost use Rattle.reg_core.specs.Maps.{only_if};
 ghost use Rattle.reg_core.specs.Page.{entry_rows};
 ghost use Rattle.reg_core.specs.Queue.{queue_row, queue_rows};
 ghost use Rattle.reg_core.specs.Request.{request_row, request_rows};
-ghost use Rattle.reg_core.specs.View.{entries_of, holdings_of, queue_of, requests_of};
+ghost use Rattle.reg_core.specs.View.{agents_of, entries_of, holdings_of, principals_of, queue_of, requests_of};
 ghost use Rattle.reg_core.specs.WellKept.{WellKept, CanApply};
 ghost use Rattle.reg_core.specs.World.{World, applied};
 ghost use Rattle.reg_keeper.specs.Keeper.{Selects, Makes};
@@ -177,6 +179,31 @@ pub trait Keeper {
         ensures { Selects world Holds Sound FAILS self.old self.new result
             (λ w row. row ≡ option_map (queue_row (account.now, reference.now))
             (get (queue_of expert.now w) (account.now, reference.now))) };
+
+    /// The agents of an account, in order.
+    fn agents(&mut self, account: &Account) -> Result<Rows<Account>, Fault>
+        ensures { Selects world Holds Sound FAILS self.old self.new result
+            (λ w names. names ≡ agent_rows (agents_of account.now w)) };
+
+    /// The principals of an account, in order: the accounts whose agent it is.
+    fn principals(&mut self, account: &Account) -> Result<Rows<Account>, Fault>
+        ensures { Selects world Holds Sound FAILS self.old self.new result
+            (λ w names. names ≡ principal_names (principals_of account.now w)) };
+
+    /// All requests of a principal, by reference, if the account is its agent.
+    fn principal_rows(
+        &mut self,
+        principal: &Account,
+        agent: &Account,
+    ) -> Result<Option<Rows<Request>>, Fault>
+        ensures { Selects world Holds Sound FAILS self.old self.new result
+            (λ w rows. rows ≡ only_if (contains_key w.agents (principal.now, agent.now))
+            (request_rows (requests_of principal.now w))) };
+
+    /// Whether an account is an agent of a principal.
+    fn is_agent(&mut self, principal: &Account, agent: &Account) -> Result<bool, Fault>
+        ensures { Selects world Holds Sound FAILS self.old self.new result
+            (λ w is. is ≡ contains_key w.agents (principal.now, agent.now)) };
 
     /// Makes a change whole, or not at all.
     fn apply(&mut self, change: Change) -> Result<(), Fault>

@@ -1,26 +1,31 @@
 -- What the office answers: to all where it is closed, and to who is admitted where it is open.
 use Rattle.std.proofs.Common.{◌≡◌, ℕ, Bool, true, false, refl, ap, ◌∙◌, arith}
-use Rattle.std.specs.Prelude.{List, Option, Some, None, Result, Ok, Err, option_map, nat_le, nat_lt, if◌then◌else◌}
+use Rattle.std.specs.Prelude.{List, Option, Some, None, Result, Ok, Err, is_some, option_map, nat_le, nat_lt, if◌then◌else◌}
 use Rattle.std.specs.FinMap.{get}
 use Rattle.std.proofs.lemmas.Bool.Decides.{nat_tests}
 use Rattle.reg_early.specs.Moment.{is_in_clock, utc_day, day_of_moment}
-use Rattle.reg_core.specs.Allowance.{◌>>=◌}
-use Rattle.reg_core.specs.Answer.{Answer, admitted, as_kind, own_answer, expert_answer}
+use Rattle.reg_core.specs.Allowance.{◌>>=◌, or_refusal}
+use Rattle.reg_core.specs.Answer.{Answer, admitted, as_kind, by_rule, own_answer, expert_answer, unchanged}
 use Rattle.reg_core.specs.Capability.{same_kind}
+use Rattle.reg_core.specs.Maps.{only_if}
+use Rattle.reg_core.specs.Request.{request_rows}
+use Rattle.reg_core.specs.Rules.{agent_rule}
 use Rattle.reg_core.specs.Step.{answer_to, is_clerk}
-use Rattle.reg_core.specs.View.{Personal, published, personal, with_personal}
+use Rattle.reg_core.specs.View.{Personal, published, personal, principal_rows_of, requests_by, requests_of, with_personal}
 use Rattle.reg_core.specs.World.{World}
 use Rattle.reg_core.specs.declared.capability.Cap.{Cap}
 use Rattle.reg_core.specs.declared.capability.Kind.{Kind}
 use Rattle.reg_core.specs.declared.capability.Kind.TheVariants as kind
 use Rattle.reg_core.specs.declared.command.ApplicantCommand.{ApplicantCommand}
-use Rattle.reg_core.specs.declared.command.ApplicantCommand.TheVariants.{Own, OwnOne, Submit, Withdraw, Holdings, SetListing}
+use Rattle.reg_core.specs.declared.command.ApplicantCommand.TheVariants.{Own, OwnOne, Submit, Withdraw, Holdings, SetListing, SetAgent, Agents, Principals, PrincipalRows}
 use Rattle.reg_core.specs.declared.command.ClerkCommand.{ClerkCommand}
 use Rattle.reg_core.specs.declared.command.Command.{Command}
 use Rattle.reg_core.specs.declared.command.Command.TheVariants.{Public, Applicant, Expert, Clerk}
 use Rattle.reg_core.specs.declared.command.ExpertCommand.{ExpertCommand}
+use Rattle.reg_core.specs.declared.content.Content.TheVariants as content
 use Rattle.reg_core.specs.declared.refusal.Refusal.{Refusal}
 use Rattle.reg_core.specs.declared.refusal.Refusal.TheVariants as no
+use Rattle.reg_core.proofs.Links.{own_agent, own_principal, own_principal_rows}
 use Rattle.reg_core.proofs.Stepping.{admitted-ok, own_request}
 use Rattle.reg_office.specs.Answers.{answer_to_account, answer_to_clerk, answer_to_expert}
 use Rattle.reg_office.specs.Caller.{token_digest, admission}
@@ -85,6 +90,28 @@ as_caller w digest kind moment told (Some cap) = by (admitted (Some cap) moment 
 
 -- ---- An applicant
 
+-- the requests of a principal are told as they are among all
+principal_answered : (account principal : List ℕ) (w : World)
+    → own_answer (published w) account (personal account w) (PrincipalRows principal)
+    ≡ answer_to_account account (PrincipalRows principal) w
+principal_answered account principal w =
+    ap (λ o. or_refusal no.Principal o
+    >>= (λ link. unchanged
+    (content.Rows (request_rows (requests_by principal (principal_rows_of account w))))))
+    (own_principal account principal w)
+    ∙ by (get w.agents (principal, account)) refl
+  where
+    by : (o : Option (Unit {0})) → get w.agents (principal, account) ≡ o
+        → (or_refusal no.Principal o
+        >>= (λ link. unchanged
+        (content.Rows (request_rows (requests_by principal (principal_rows_of account w))))))
+        ≡ (or_refusal no.Principal (only_if (is_some o) (request_rows (requests_of principal w)))
+        >>= (λ rows. unchanged (content.Rows rows)))
+    by None is = refl
+    by (Some u) is =
+        ap (λ m. unchanged (content.Rows (request_rows m)))
+        (own_principal_rows account principal w (ap is_some is))
+
 -- under its own names an account's rows are those that the whole world has of it
 own_rows : (w : World) (account : List ℕ) (command : ApplicantCommand)
     → own_answer (published w) account (personal account w) command
@@ -95,6 +122,12 @@ own_rows w account (Submit reference ask) = rw (own_request account reference w)
 own_rows w account (Withdraw reference) = rw (own_request account reference w) refl
 own_rows w account Holdings = refl
 own_rows w account (SetListing block private) = refl
+own_rows w account (SetAgent agent reads) =
+    ap (λ there. by_rule (agent_rule (account, agent) reads there)
+    (λ decision. content.Agent agent reads)) (own_agent account agent w)
+own_rows w account Agents = refl
+own_rows w account Principals = refl
+own_rows w account (PrincipalRows principal) = principal_answered account principal w
 
 pub applicant_answered : (w : World) (caller : Option (List ℕ)) (moment : ℕ)
     (command : ApplicantCommand) → is_in_clock moment ≡ true

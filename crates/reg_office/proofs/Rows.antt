@@ -5,12 +5,15 @@ use Rattle.std.specs.FinMap.{get}
 use Rattle.reg_blocks.specs.Block.{SizedPrefix}
 use Rattle.reg_core.specs.Allowance.{◌>>=◌, or_refusal}
 use Rattle.reg_core.specs.Answer.{Answer}
+use Rattle.reg_core.specs.Entry.{entry_row, registration_in}
 use Rattle.reg_core.specs.File.{file, experts_of, opinions_of}
 use Rattle.reg_core.specs.Holding.{holder_in, holding_row}
 use Rattle.reg_core.specs.Queue.{queue_row}
 use Rattle.reg_core.specs.Request.{case_of, request_row}
 use Rattle.reg_core.specs.View.{Queued}
-use Rattle.reg_core.specs.World.{World, RequestName}
+use Rattle.reg_core.specs.World.{World, Place, RequestName}
+use Rattle.reg_core.specs.declared.entry.Entry.{Entry}
+use Rattle.reg_core.specs.declared.entry.Registration.{Registration}
 use Rattle.reg_core.specs.declared.file.File.{File}
 use Rattle.reg_core.specs.declared.holding.Holder.{Holder}
 use Rattle.reg_core.specs.declared.holding.Holding.{Holding}
@@ -126,4 +129,17 @@ holding_is block (Some h) row is =
     let same : row ≡ holding_row block h = cc in (
       ap (λ (r : Holding). Some (holder_in r)) (sym same),
       ap (λ (r : Holding). r.block) (sym same),
+    )
+
+-- ---- Entries
+
+-- an entry that was looked up is the registration at this place
+pub entry_is : (place : Place) (existing : Option Registration) (row : Entry)
+    → Some row ≡ option_map (entry_row place.0 place.1) existing
+    → (existing ≡ Some (registration_in row)) × (place ≡ (row.registry, row.value))
+entry_is place None row is = absurd (cc)
+entry_is place (Some a) row is =
+    let same : row ≡ entry_row place.0 place.1 a = cc in (
+      ap (λ (r : Entry). Some (registration_in r)) (sym same),
+      ap (λ (r : Entry). (r.registry, r.value)) (sym same),
     )

@@ -11,6 +11,7 @@ ghost use Rattle.reg_core.specs.declared.command.ApplicantCommand.TheVariants as
 ghost use Rattle.reg_office.specs.Answers.{answer_to_account, content_made};
 ghost use Rattle.reg_office.specs.Performs.{Finds, Performs};
 
+use crate::agents::{list_agents, list_principal_rows, list_principals, set_agent};
 use crate::carrying::{conclude, row_after};
 use crate::ground::ground_if;
 use crate::holdings::{list_holdings, set_listing};
@@ -43,6 +44,12 @@ pub fn perform<K: Keeper>(
         ApplicantCommand::Holdings => list_holdings(keeper, account),
         ApplicantCommand::SetListing(block, private) => {
             set_listing(keeper, account, block, *private)
+        }
+        ApplicantCommand::SetAgent(agent, reads) => set_agent(keeper, account, agent, *reads),
+        ApplicantCommand::Agents => list_agents(keeper, account),
+        ApplicantCommand::Principals => list_principals(keeper, account),
+        ApplicantCommand::PrincipalRows(principal) => {
+            list_principal_rows(keeper, account, principal)
         }
     }
 }

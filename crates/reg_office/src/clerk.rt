@@ -44,6 +44,9 @@ pub fn perform<K: Keeper>(
         }
         ClerkCommand::Define(name, table) => registers::define(keeper, name, table),
         ClerkCommand::AddPool(prefix) => registers::add_pool(keeper, *prefix),
+        ClerkCommand::SetHold(name, value, held) => {
+            registers::set_hold(keeper, name, *value, *held, today)
+        }
         ClerkCommand::Grant(token, cap) => tell_grant(keeper, token, cap),
         ClerkCommand::Revoke(token) => revoke(keeper, in_use, token),
     }

@@ -1,6 +1,7 @@
 //! Laws of the office at the digest that it uses, the SHA-256 of a token: the contracts of
 //! functions that change nothing and take no memory.
 ghost use Rattle.reg_early.specs.Laws.{EarlyTermsLastAYear, RenewalsLastAYear, SettledTermsAreForGood, StatusesFollowTheExpiry};
+ghost use Rattle.reg_core.specs.Agents.{LinksAreTheirPrincipals};
 ghost use Rattle.reg_core.specs.BlocksGiven.{BlockAsksAreServedDuly, BlocksAreApart, BlocksDueAreLeast, ForeignBlocksAreHidden, PrivateHoldersAreHidden};
 ghost use Rattle.reg_core.specs.EarlyAllocations.{ExpiredValuesAreTaken, ForeignEntriesAreHidden, TermsMoveDuly};
 ghost use Rattle.reg_core.specs.FirstRefusals.{FirstRefusalsAreAnswered};
@@ -97,8 +98,9 @@ pub fn no_value_is_given_twice()
 
 /// Terms move duly: whatever a command does, each entry stands after it as before; or a clerk
 /// approved, of its own assignee, a renewal, which moves the expiry of an entry that was not renewed
-/// before by a year of the calendar, or a permanence, which takes the expiry away (RFC 7120 section
-/// 3).
+/// before, or that a minute of the IESG lets be renewed again, by a year of the calendar, or a
+/// permanence, which takes the expiry away (RFC 7120 section 3); or a clerk marked it as held, before
+/// it expired, or as held no more.
 pub fn terms_move_duly()
     ensures { TermsMoveDuly token_digest }
 {
@@ -196,13 +198,22 @@ pub fn foreign_blocks_are_hidden()
 }
 
 /// What was given stays: in every run from a well kept office an entry keeps its label and its
-/// assignee, and its term but for one renewal and its permanence, a block its holder, organization
-/// and address, a registry its ranges, a request its ask and, once it is not pending, its state,
-/// its experts and all advice on it; and none of them goes away, nor does a prefix of the pool.
+/// assignee, and its term but for renewals, a clerk's mark and its permanence, a block its holder,
+/// organization and address, a registry its ranges, a request its ask and, once it is not pending,
+/// its state, its experts and all advice on it; and none of them goes away, nor does a prefix of
+/// the pool.
 pub fn given_stays()
     ensures { GivenStays token_digest }
 {
     reg_core::laws::given_stays();
+}
+
+/// Links are their principals': whatever a command does, who is whose agent stays as before; or the
+/// principal, with an applicant's capability of its own, said of its agent whether it reads.
+pub fn links_are_their_principals()
+    ensures { LinksAreTheirPrincipals token_digest }
+{
+    reg_core::laws::links_are_their_principals();
 }
 
 /// A refusal changes nothing.

@@ -2,6 +2,7 @@
 #![tactic(auto)]
 
 mod admission;
+mod agents;
 mod applicant;
 mod carrying;
 mod clerk;

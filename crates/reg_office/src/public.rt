@@ -125,8 +125,8 @@ fn shown(alloc: Global, entries: Vec<Entry>, today: Day) -> Result<Vec<PageEntry
         .collect(alloc)
 }
 
-// An entry as a page shows it on a day.
-fn show(entry: Entry, today: Day) -> PageEntry
+/// An entry as a page shows it on a day.
+pub fn show(entry: Entry, today: Day) -> PageEntry
     ensures { result ≡ shown_on today entry }
 {
     let status = entry.term.status(today);

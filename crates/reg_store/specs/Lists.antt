@@ -2,6 +2,7 @@
 use Rattle.reg_core.specs.World.{World}
 use Rattle.reg_store.specs.Lists.Blocks.{pool_held, blocks_given}
 use Rattle.reg_store.specs.Lists.Content.{content}
+use Rattle.reg_store.specs.Lists.Links.{links_held}
 use Rattle.reg_store.specs.Lists.Registrations.{entries_held}
 use Rattle.reg_store.specs.Lists.Reviews.{world_of}
 use Rattle.reg_store.specs.declared.lists.ListKeeper.{ListKeeper}
@@ -15,10 +16,12 @@ pub mod Reviews
 pub mod Registrations
 pub mod Held
 pub mod Holdings
+pub mod Pairs
+pub mod Links
 pub mod Blocks
 pub mod Content
 
 abbrev pub world_in : ListKeeper → World
 world_in k =
     content k.caps k.registries (entries_held k.registrations) (world_of k.reviews)
-    (pool_held k.blocks) (blocks_given k.blocks)
+    (pool_held k.blocks) (blocks_given k.blocks) (links_held k.links)

@@ -4,6 +4,7 @@ ghost use Rattle.reg_core.specs.WellKept.{WellKept};
 ghost use Rattle.reg_core.specs.World.{empty_world};
 ghost use Rattle.reg_store.specs.Lists.Blocks.{pool_held, blocks_given};
 ghost use Rattle.reg_store.specs.Lists.Content.{content};
+ghost use Rattle.reg_store.specs.Lists.Links.{links_held};
 ghost use Rattle.reg_store.specs.Lists.Registrations.{entries_held};
 ghost use Rattle.reg_store.specs.Lists.Reviews.{world_of};
 
@@ -12,6 +13,7 @@ mod caps;
 mod entries;
 mod file;
 mod holdings;
+mod links;
 mod opinions;
 mod panels;
 mod queues;
@@ -24,6 +26,7 @@ use crate::maps::{row_at, set_row, unset_row};
 use blocks::Blocks;
 use caps::{Caps, cap_in};
 use entries::{entries_in, entry_in};
+use links::Links;
 use reg_blocks::block::Block;
 use reg_blocks::pool::Pool;
 use reg_blocks::size::Size;
@@ -49,15 +52,16 @@ use std::collections::BTreeMap;
 /// The content of an office in memory: capabilities by digest, registries by name, entries by
 /// registry and value, with the values that have entries as runs once more, requests by account and
 /// reference, their experts and the advice on them by request, and, once more, by expert, what is
-/// assigned to each as the expert sees it; and the pool with the free places in it, the blocks that
-/// were given in order, and, once more, by account, those that each holds.
+/// assigned to each as the expert sees it; the pool with the free places in it, the blocks that
+/// were given in order, and, once more, by account, those that each holds; and the agents of each
+/// account, and, once more, its principals.
 ///
 /// A row by its key and a change take O(log n), whatever else there is, but a change of a
 /// request's state O((1 + experts) log n), for the experts of that request; the least value without
 /// an entry O(log n) for each range of its policy; the block due and whether a prefix is in the pool
-/// O(log n); a registry's ranges, its entries, an account's own requests and blocks, a request's
-/// file and an expert's queue O(log n + rows); the names of all registries, all blocks and all
-/// requests O(rows), and the pool O(rows log rows).
+/// O(log n); a registry's ranges, its entries, an account's own requests, blocks, agents and
+/// principals, a request's file and an expert's queue O(log n + rows); the names of all registries,
+/// all blocks and all requests O(rows), and the pool O(rows log rows).
 #[derive(Drop)]
 pub struct ListKeeper {
     alloc: Global,
@@ -66,8 +70,9 @@ pub struct ListKeeper {
     registrations: Registrations,
     reviews: Reviews,
     blocks: Blocks,
+    links: Links,
     ghost well: { WellKept (content caps registries (entries_held registrations)
-        (world_of reviews) (pool_held blocks) (blocks_given blocks)) },
+        (world_of reviews) (pool_held blocks) (blocks_given blocks) (links_held links)) },
 }
 
 impl ListKeeper {
@@ -84,6 +89,7 @@ impl ListKeeper {
             registrations: Registrations::new(alloc),
             reviews: Reviews::new(alloc),
             blocks: Blocks::new(alloc),
+            links: Links::new(alloc),
         }
     }
 }
@@ -184,6 +190,30 @@ impl Keeper for ListKeeper {
         Ok(self.reviews.queue_one(expert, account, reference)?)
     }
 
+    fn agents(&mut self, account: &Account) -> Result<Rows<Account>, Fault> {
+        Ok(self.links.agents(self.alloc, account)?)
+    }
+
+    fn principals(&mut self, account: &Account) -> Result<Rows<Account>, Fault> {
+        Ok(self.links.principals(self.alloc, account)?)
+    }
+
+    fn principal_rows(
+        &mut self,
+        principal: &Account,
+        agent: &Account,
+    ) -> Result<Option<Rows<Request>>, Fault> {
+        if self.links.has(principal, agent) {
+            Ok(Some(own_rows(self.alloc, self.reviews.requests(), principal)?))
+        } else {
+            Ok(None)
+        }
+    }
+
+    fn is_agent(&mut self, principal: &Account, agent: &Account) -> Result<bool, Fault> {
+        Ok(self.links.has(principal, agent))
+    }
+
     fn apply(&mut self, change: Change) -> Result<(), Fault> {
         match change {
             Change::Grant(digest, cap) => set_row(&mut self.caps, digest, cap)?,
@@ -215,6 +245,10 @@ impl Keeper for ListKeeper {
                 self.reviews.set_state(account, reference, approval);
             }
             Change::SetPrivate(block, private) => self.blocks.mark(&block, private),
+            Change::SetHold(name, value, held) => self.registrations.mark(&name, value, held),
+            Change::SetAgent(principal, agent, reads) => {
+                self.links.set(self.alloc, principal, agent, reads)?;
+            }
         }
         Ok(())
     }

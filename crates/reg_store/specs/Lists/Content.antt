@@ -7,21 +7,22 @@ use Rattle.std.specs.Ordering.{nat_cmp}
 use Rattle.reg_blocks.specs.Block.{block_cmp}
 use Rattle.reg_ranges.specs.Tables.{Table}
 use Rattle.reg_core.specs.Maps.{text_cmp}
-use Rattle.reg_core.specs.World.{World, place_cmp}
+use Rattle.reg_core.specs.World.{World, link_cmp, place_cmp}
 use Rattle.reg_core.specs.declared.capability.Cap.{Cap}
 use Rattle.reg_core.specs.declared.entry.Registration.{Registration}
 use Rattle.reg_core.specs.declared.holding.Holder.{Holder}
 use Rattle.reg_store.specs.Maps.{finite_map}
 
 -- capabilities by digest, registries by name, entries, the world of requests with their experts
--- and advice, the pool, and the blocks that were given
+-- and advice, the pool, the blocks that were given, and who reads whose requests
 abbrev pub content : BTreeMap (List ℕ) Cap → BTreeMap (List ℕ) Table
     → FinMap place_cmp Registration → World → FinSet nat_cmp → FinMap block_cmp Holder
-    → World
-content caps registries entries reviews pool blocks = record reviews {
+    → FinSet link_cmp → World
+content caps registries entries reviews pool blocks links = record reviews {
   caps = finite_map text_cmp caps;
   registries = finite_map text_cmp registries;
   entries = entries;
   pool = pool;
   blocks = blocks;
+  agents = links;
 }

@@ -3,13 +3,13 @@ ghost use Rattle.std.specs.Prelude.{◌≡◌, IfOk, OnOk, OnErr, map, option_ma
 ghost use Rattle.std.specs.FinMap as fin;
 ghost use Rattle.std.specs.List.Sorted.{IsStrictlyIncreasing};
 ghost use Rattle.std.specs.Ordering.{nat_cmp};
-ghost use Rattle.reg_core.specs.Entry.{entry_row as entry_of, registration_in};
-ghost use Rattle.reg_core.specs.Maps.{text_cmp};
+ghost use Rattle.reg_core.specs.Entry.{entry_row as entry_of, registration_in, with_hold};
+ghost use Rattle.reg_core.specs.Maps.{text_cmp, update};
 ghost use Rattle.reg_core.specs.Page.{entry_rows};
 ghost use Rattle.reg_core.specs.View.{entries_of};
 ghost use Rattle.reg_store.specs.Groups.{pair_map};
 
-use crate::groups::{list_group, put_row, row_in};
+use crate::groups::{change_row, list_group, put_row, row_in};
 use reg_core::entry::{Entry, Registration};
 use reg_core::rows::Rows;
 use reg_core::text::Name;
@@ -75,4 +75,14 @@ pub fn put_entry(alloc: Global, entries: &mut Entries, entry: Entry) -> Result<(
         term: entry.term,
     };
     put_row(alloc, entries, entry.registry, entry.value, registration)
+}
+
+/// Says of the entry of a registry at a value, if it is there, whether it is held.
+pub fn set_hold(entries: &mut Entries, registry: &Name, value: u32, held: bool)
+    ensures { pair_map text_cmp nat_cmp entries.new ≡ update
+        (pair_map text_cmp nat_cmp entries.old) (registry.now, value) (with_hold held) }
+{
+    change_row(entries, registry, &value, |registration| {
+        registration.term = registration.term.with_hold(held);
+    });
 }

@@ -2,13 +2,14 @@
 ghost use Rattle.std.specs.Prelude.{◌≡◌, OnOk, OnErr};
 ghost use Rattle.std.specs.FinMap as fin;
 ghost use Rattle.reg_ranges.specs.FreeValues.{least_value};
-ghost use Rattle.reg_core.specs.Entry.{registration_in};
+ghost use Rattle.reg_core.specs.Entry.{registration_in, with_hold};
 ghost use Rattle.reg_core.specs.LeastFree.{values_in};
+ghost use Rattle.reg_core.specs.Maps.{update};
 ghost use Rattle.reg_vacancies.specs.Values.{AreTakenBy};
 ghost use Rattle.reg_store.specs.Lists.Entries.{all_entries};
 
 use crate::groups::take_row;
-use crate::lists::entries::{Entries, put_entry};
+use crate::lists::entries::{Entries, put_entry, set_hold};
 use reg_core::entry::Entry;
 use reg_core::text::Name;
 use reg_ranges::policy::Policy;
@@ -62,6 +63,14 @@ impl Registrations {
         ensures err { OnErr result (entries_held self.new ≡ entries_held self.old) }
     {
         put_both(alloc, &mut self.entries, &mut self.taken, entry)
+    }
+
+    /// Says of the entry of a registry at a value, if it is there, whether it is held.
+    pub fn mark(&mut self, registry: &Name, value: u32, held: bool)
+        ensures { entries_held self.new
+            ≡ update (entries_held self.old) (registry.now, value) (with_hold held) }
+    {
+        set_hold(&mut self.entries, registry, value, held);
     }
 }
 

@@ -1,0 +1,5 @@
+use Rattle.reg_office.specs.Caller.{token_digest}
+use Rattle.reg_office.proofs.laws.links_are_their_principals.Goals as goal
+
+pub returns : goal.returns
+returns c = c.links_are_their_principals.ensures token_digest
