@@ -163,10 +163,15 @@ early_of-passes json =
 renewal_of-passes : (json : Data) → Passes has_renewal_form (renewal_of json)
 unfolding renewal_of
 renewal_of-passes json =
-    with_evidence-passes has_allocated_form has_early_form has_renewal_form renewal_with
-    (allocated_value_of json) (early_evidence_of json) (only renewal_items json)
-    (allocated_value_of-passes json) (early_evidence_of-passes json)
-    (λ v e hv he. rw (hv, he) refl)
+    let allocated = allocated_value_of-passes json in
+    let evidence = early_evidence_of-passes json in
+    let minute = note-passes item.Iesg json in
+    after-passes has_renewal_form (allocated_value_of json) _
+    (λ v hv. after-passes has_renewal_form (early_evidence_of json) _
+    (λ e he. after-passes has_renewal_form (optional item.Iesg (text_form is_text) json) _
+    (λ m hm. after-passes has_renewal_form (only renewal_items json) _
+    (λ o ho. ok-passes has_renewal_form (renewal_with v e m)
+    (rw (allocated.passed v hv, evidence.passed e he, minute.passed m hm) refl)))))
 
 permanence_of-passes : (json : Data) → Passes has_permanence_form (permanence_of json)
 unfolding permanence_of

@@ -6,7 +6,7 @@ use Rattle.serde_json.specs.Data.{Data}
 use Rattle.reg_ranges.specs.Numbers.{read_number}
 use Rattle.reg_ranges.specs.Tables.{Table}
 use Rattle.reg_ranges.specs.Texts.{is_text, read_text}
-use Rattle.reg_blocks.specs.Block.{SizedPrefix, is_block, make_block}
+use Rattle.reg_blocks.specs.Block.{is_block, make_block}
 use Rattle.reg_blocks.specs.Digits.{hex_value_of, read_block, read_prefix}
 use Rattle.reg_blocks.specs.Size.{size_of_digits}
 use Rattle.reg_blocks.specs.declared.size.Size.{Size}
@@ -34,11 +34,11 @@ use Rattle.reg_core.specs.declared.wire_refusal.ReadFault.{ReadFault}
 use Rattle.reg_parse.specs.declared.route.Methods.{Methods}
 use Rattle.reg_parse.specs.declared.route.Operation.{Operation}
 use Rattle.reg_parse.specs.declared.route.Operation.TheVariants as operation
-use Rattle.reg_parse.specs.Route.{operation_for, registry_path, listing_path, request_path, holding_path, review_path, case_path, expert_path, approval_path, decline_path, definition_path, prefix_path}
+use Rattle.reg_parse.specs.Route.{operation_for, registry_path, listing_path, request_path, holding_path, agent_path, principal_path, review_path, case_path, expert_path, approval_path, decline_path, hold_path, definition_path, prefix_path}
 use Rattle.reg_parse.specs.Bodies.Members.{Reading, ◌>>=◌, GivesSeen, or_refusal, object_of, needed, only, kind_form, text_form, truth_form, until_form, verdict_form}
 use Rattle.reg_parse.specs.Bodies.Ask.{ask_of}
 use Rattle.reg_parse.specs.RangeFile.{table_of}
-use Rattle.reg_parse.specs.Command.{add_pool_of, advise_of, approve_of, asked, assign_expert_of, command_of, decline_of, define_of, empty, grant_of, name_at, one_request_of, own_one_of, registry_csv_of, registry_of, revoke_of, routed, segment, set_listing_of, submit_of, withdraw_of}
+use Rattle.reg_parse.specs.Command.{add_pool_of, advise_of, approve_of, asked, assign_expert_of, command_of, decline_of, define_of, empty, grant_of, name_at, one_request_of, own_one_of, principal_rows_of, registry_csv_of, registry_of, revoke_of, routed, segment, set_agent_of, set_hold_of, set_listing_of, submit_of, withdraw_of}
 use Rattle.reg_parse.specs.Bodies.Advice.{advice_of}
 use Rattle.reg_parse.specs.Bodies.Capability.{cap_of}
 use Rattle.reg_parse.proofs.Formed.{Passes, Gives, ok-passes, err-passes, guard, after, or_refusal-passes, needed-passes, text_form-gives, until_form-gives, read_number-gives, is_below, is_until}
@@ -134,25 +134,44 @@ read_block-gives digits b e =
     (λ size. after is_block (make_block size) (made-gives size) (hex_value_of digits))
     (size_of_digits (length digits)) b e
 
-listing_last : (block : SizedPrefix) (p : Reading Bool) (o : Reading ⊤) → is_block block ≡ true
-    → Passes has_command_form
-    (p >>= (λ private. o
-    >>= (λ others. Ok (command.Applicant (applicant.SetListing block private)))))
-listing_last block (Ok p) (Ok o) h = ok-passes has_command_form _ h
-listing_last block (Ok p) (Err e) h = err-passes _ e
-listing_last block (Err e) o h = err-passes _ e
+-- a command whose body says only whether something is so
+mark_last : (make : Bool → Command) → ((b : Bool) → has_command_form (make b) ≡ true)
+    → (m : Reading Bool) (o : Reading ⊤)
+    → Passes has_command_form (m >>= (λ mark. o >>= (λ others. Ok (make mark))))
+mark_last make form (Ok m) (Ok o) = ok-passes has_command_form (make m) (form m)
+mark_last make form (Ok m) (Err e) = err-passes _ e
+mark_last make form (Err e) o = err-passes _ e
 
-listing_parts : (j : Reading Data) (b : Reading SizedPrefix) → Passes is_block b
+-- such a command about what one segment names
+marked_parts : {A : Type 0} (test : A → Bool) (part : Item) (make : A → Bool → Command)
+    → ((x : A) (b : Bool) → test x ≡ true → has_command_form (make x b) ≡ true)
+    → (j : Reading Data) (r : Reading A) → Passes test r
     → Passes has_command_form
-    (j >>= (λ json. b
-    >>= (λ block. needed item.Private truth_form json
-    >>= (λ private. only (item.Private ∷ []) json
-    >>= (λ others. Ok (command.Applicant (applicant.SetListing block private)))))))
-listing_parts (Ok json) (Ok b) h =
-    listing_last b (needed item.Private truth_form json) (only (item.Private ∷ []) json)
-    (h.passed b refl)
-listing_parts (Ok json) (Err e) h = err-passes _ e
-listing_parts (Err e) b h = err-passes _ e
+    (j >>= (λ json. r
+    >>= (λ named. needed part truth_form json
+    >>= (λ mark. only (part ∷ []) json >>= (λ others. Ok (make named mark))))))
+marked_parts test part make form (Ok json) (Ok r) h =
+    mark_last (make r) (λ b. form r b (h.passed r refl)) (needed part truth_form json)
+    (only (part ∷ []) json)
+marked_parts test part make form (Ok json) (Err e) h = err-passes _ e
+marked_parts test part make form (Err e) r h = err-passes _ e
+
+-- and about a value of a registry
+hold_parts : (j : Reading Data) (n : Reading (List ℕ)) (v : Reading ℕ) → Passes is_name n
+    → Passes is_below v
+    → Passes has_command_form
+    (j >>= (λ json. n
+    >>= (λ name. v
+    >>= (λ value. needed item.Held truth_form json
+    >>= (λ held. only (item.Held ∷ []) json
+    >>= (λ others. Ok (command.Clerk (clerk.SetHold name value held))))))))
+hold_parts (Ok json) (Ok n) (Ok v) hn hv =
+    mark_last (λ b. command.Clerk (clerk.SetHold n v b))
+    (λ b. both_true (hn.passed n refl) (hv.passed v refl)) (needed item.Held truth_form json)
+    (only (item.Held ∷ []) json)
+hold_parts (Ok json) (Ok n) (Err e) hn hv = err-passes _ e
+hold_parts (Ok json) (Err e) v hn hv = err-passes _ e
+hold_parts (Err e) n v hn hv = err-passes _ e
 
 advice_parts : (v : Reading Verdict) (t : Reading (List ℕ)) → Passes is_text t
     → Passes has_advice_form
@@ -297,8 +316,9 @@ revoke_of-passes_at (Err e) = err-passes _ e
 
 command_of-passes : (o : Operation) (path body : List ℕ)
     → Passes has_command_form (command_of o path body)
-unfolding registry_of registry_csv_of own_one_of submit_of withdraw_of set_listing_of advise_of one_request_of
-    assign_expert_of approve_of decline_of define_of add_pool_of grant_of revoke_of
+unfolding registry_of registry_csv_of own_one_of submit_of withdraw_of set_listing_of set_agent_of
+    principal_rows_of advise_of one_request_of assign_expert_of approve_of decline_of set_hold_of
+    define_of add_pool_of grant_of revoke_of
 command_of-passes operation.Registries path body = plain_parts (empty body) _ refl
 command_of-passes operation.Registry path body =
     named_parts (λ s. command.Public (public.Registry s)) (λ s h. h) (empty body)
@@ -320,8 +340,19 @@ command_of-passes operation.Withdraw path body =
     (name_at item.Reference request_path path) (name_at-passes item.Reference request_path path)
 command_of-passes operation.Holdings path body = plain_parts (empty body) _ refl
 command_of-passes operation.SetListing path body =
-    listing_parts (object_of body) (segment item.Block read_block holding_path path)
+    marked_parts is_block item.Private
+    (λ b private. command.Applicant (applicant.SetListing b private)) (λ b private h. h)
+    (object_of body) (segment item.Block read_block holding_path path)
     (segment-passes is_block item.Block read_block holding_path path read_block-gives)
+command_of-passes operation.SetAgent path body =
+    marked_parts is_name item.Reads (λ s reads. command.Applicant (applicant.SetAgent s reads))
+    (λ s reads h. h) (object_of body) (name_at item.Agent agent_path path)
+    (name_at-passes item.Agent agent_path path)
+command_of-passes operation.Agents path body = plain_parts (empty body) _ refl
+command_of-passes operation.Principals path body = plain_parts (empty body) _ refl
+command_of-passes operation.PrincipalRows path body =
+    named_parts (λ s. command.Applicant (applicant.PrincipalRows s)) (λ s h. h) (empty body)
+    (name_at item.Account principal_path path) (name_at-passes item.Account principal_path path)
 command_of-passes operation.Queue path body = plain_parts (empty body) _ refl
 command_of-passes operation.Advise path body =
     advise_parts (object_of body) (name_at item.Account review_path path)
@@ -347,6 +378,10 @@ command_of-passes operation.Decline path body =
     decline_parts (object_of body) (name_at item.Account decline_path path)
     (name_at item.Reference decline_path path) (name_at-passes item.Account decline_path path)
     (name_at-passes item.Reference decline_path path)
+command_of-passes operation.SetHold path body =
+    hold_parts (object_of body) (name_at item.Name hold_path path)
+    (segment item.Value read_number hold_path path) (name_at-passes item.Name hold_path path)
+    (segment-passes is_below item.Value read_number hold_path path read_number-gives)
 command_of-passes operation.Define path body =
     define_parts (name_at item.Name definition_path path)
     (segment item.Max read_number definition_path path) body

@@ -22,7 +22,7 @@ use Rattle.reg_parse.specs.Bodies.Advice.{advice_of}
 use Rattle.reg_parse.specs.Bodies.Ask.{ask_of}
 use Rattle.reg_parse.specs.Bodies.Capability.{cap_of}
 use Rattle.reg_parse.specs.RangeFile.{table_of}
-use Rattle.reg_parse.specs.Route.{methods_at, operation_for, registry_path, listing_path, request_path, holding_path, review_path, case_path, expert_path, approval_path, decline_path, definition_path, prefix_path}
+use Rattle.reg_parse.specs.Route.{methods_at, operation_for, registry_path, listing_path, request_path, holding_path, agent_path, principal_path, review_path, case_path, expert_path, approval_path, decline_path, hold_path, definition_path, prefix_path}
 use Rattle.reg_parse.specs.Path.{segment_named, has_empty_segment}
 
 abbrev pub empty : List ℕ → Reading ⊤
@@ -81,6 +81,20 @@ set_listing_of path body = do
   others ← only (item.Private ∷ []) json
   Ok (command.Applicant (applicant.SetListing block private))
 
+unfoldable pub set_agent_of : List ℕ → List ℕ → Reading Command
+set_agent_of path body = do
+  json ← object_of body
+  agent ← name_at item.Agent agent_path path
+  reads ← needed item.Reads truth_form json
+  others ← only (item.Reads ∷ []) json
+  Ok (command.Applicant (applicant.SetAgent agent reads))
+
+unfoldable pub principal_rows_of : List ℕ → List ℕ → Reading Command
+principal_rows_of path body = do
+  nothing ← empty body
+  principal ← name_at item.Account principal_path path
+  Ok (command.Applicant (applicant.PrincipalRows principal))
+
 unfoldable pub advise_of : List ℕ → List ℕ → Reading Command
 advise_of path body = do
   json ← object_of body
@@ -120,6 +134,15 @@ decline_of path body = do
   reason ← needed item.Reason (text_form is_text) json
   others ← only (item.Reason ∷ []) json
   Ok (command.Clerk (clerk.Decline account reference reason))
+
+unfoldable pub set_hold_of : List ℕ → List ℕ → Reading Command
+set_hold_of path body = do
+  json ← object_of body
+  name ← name_at item.Name hold_path path
+  value ← segment item.Value read_number hold_path path
+  held ← needed item.Held truth_form json
+  others ← only (item.Held ∷ []) json
+  Ok (command.Clerk (clerk.SetHold name value held))
 
 unfoldable pub define_of : List ℕ → List ℕ → Reading Command
 define_of path body = do
@@ -162,6 +185,11 @@ command_of operation.Submit path body = submit_of path body
 command_of operation.Withdraw path body = withdraw_of path body
 command_of operation.Holdings path body = without_body (command.Applicant applicant.Holdings) body
 command_of operation.SetListing path body = set_listing_of path body
+command_of operation.SetAgent path body = set_agent_of path body
+command_of operation.Agents path body = without_body (command.Applicant applicant.Agents) body
+command_of operation.Principals path body =
+    without_body (command.Applicant applicant.Principals) body
+command_of operation.PrincipalRows path body = principal_rows_of path body
 command_of operation.Queue path body = without_body (command.Expert expert.Queue) body
 command_of operation.Advise path body = advise_of path body
 command_of operation.AllRequests path body = without_body (command.Clerk clerk.AllRequests) body
@@ -169,6 +197,7 @@ command_of operation.OneRequest path body = one_request_of path body
 command_of operation.AssignExpert path body = assign_expert_of path body
 command_of operation.Approve path body = approve_of path body
 command_of operation.Decline path body = decline_of path body
+command_of operation.SetHold path body = set_hold_of path body
 command_of operation.Define path body = define_of path body
 command_of operation.AddPool path body = add_pool_of path body
 command_of operation.Grant path body = grant_of body

@@ -8,7 +8,7 @@ use Rattle.matchit.specs.Router.{RouteOf, route_from, nearest}
 use Rattle.matchit.specs.Seek.{first}
 use Rattle.matchit.specs.declared.error.InsertError.{InsertError}
 use Rattle.reg_parse.specs.declared.route.Operation.{Operation}
-use Rattle.reg_parse.specs.declared.route.Operation.TheVariants.{Registries, Registry, RegistryListing, BlockListing, PoolList, Own, OwnOne, Submit, Withdraw, Holdings, SetListing, Queue, Advise, AllRequests, OneRequest, AssignExpert, Approve, Decline, Define, AddPool, Grant, Revoke}
+use Rattle.reg_parse.specs.declared.route.Operation.TheVariants.{Registries, Registry, RegistryListing, BlockListing, PoolList, Own, OwnOne, Submit, Withdraw, Holdings, SetListing, SetAgent, Agents, Principals, PrincipalRows, Queue, Advise, AllRequests, OneRequest, AssignExpert, Approve, Decline, SetHold, Define, AddPool, Grant, Revoke}
 use Rattle.reg_parse.specs.declared.route.Methods.{Methods}
 
 abbrev pub operation_for : List ℕ → Methods → Option Operation
@@ -31,6 +31,12 @@ request_path = codes "/requests/{reference}"
 abbrev pub holding_path : List ℕ
 holding_path = codes "/holdings/{block}"
 
+abbrev pub agent_path : List ℕ
+agent_path = codes "/agents/{agent}"
+
+abbrev pub principal_path : List ℕ
+principal_path = codes "/principals/{account}/requests"
+
 abbrev pub review_path : List ℕ
 review_path = codes "/queue/{account}/{reference}"
 
@@ -45,6 +51,9 @@ approval_path = codes "/desk/approve/{account}/{reference}"
 
 abbrev pub decline_path : List ℕ
 decline_path = codes "/desk/decline/{account}/{reference}"
+
+abbrev pub hold_path : List ℕ
+hold_path = codes "/desk/holds/{name}/{value}"
 
 abbrev pub definition_path : List ℕ
 definition_path = codes "/desk/registries/{name}/{max}"
@@ -72,6 +81,10 @@ rows =
     ∷ row request_path (Some OwnOne) (Some Submit) (Some Withdraw)
     ∷ row (codes "/holdings") (Some Holdings) None None
     ∷ row holding_path None (Some SetListing) None
+    ∷ row (codes "/agents") (Some Agents) None None
+    ∷ row agent_path None (Some SetAgent) None
+    ∷ row (codes "/principals") (Some Principals) None None
+    ∷ row principal_path (Some PrincipalRows) None None
     ∷ row (codes "/queue") (Some Queue) None None
     ∷ row review_path None (Some Advise) None
     ∷ row (codes "/desk/requests") (Some AllRequests) None None
@@ -79,6 +92,7 @@ rows =
     ∷ row expert_path None (Some AssignExpert) None
     ∷ row approval_path None (Some Approve) None
     ∷ row decline_path None (Some Decline) None
+    ∷ row hold_path None (Some SetHold) None
     ∷ row definition_path None (Some Define) None
     ∷ row prefix_path None (Some AddPool) None
     ∷ row (codes "/desk/tokens") None (Some Grant) None

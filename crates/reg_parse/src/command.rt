@@ -6,15 +6,15 @@ ghost use Rattle.reg_parse.specs.Route.{operation_for};
 ghost use Rattle.reg_parse.specs.Bodies.Members.{Gives};
 ghost use Rattle.reg_ranges.specs.Numbers.{read_number};
 ghost use Rattle.reg_ranges.specs.Texts.{read_text};
-ghost use Rattle.reg_parse.specs.Command.{add_pool_of, advise_of, approve_of, asked, assign_expert_of, command_of, decline_of, define_of, empty, grant_of, one_request_of, own_one_of, registry_csv_of, registry_of, revoke_of, routed, segment, set_listing_of, submit_of, withdraw_of, without_body};
+ghost use Rattle.reg_parse.specs.Command.{add_pool_of, advise_of, approve_of, asked, assign_expert_of, command_of, decline_of, define_of, empty, grant_of, one_request_of, own_one_of, principal_rows_of, registry_csv_of, registry_of, revoke_of, routed, segment, set_agent_of, set_hold_of, set_listing_of, submit_of, withdraw_of, without_body};
 
 use crate::bodies::{advice, ask, capability, members};
 use crate::path;
 use crate::range_file::read_table;
 use crate::route::{
-    APPROVAL_PATH, CASE_PATH, DECLINE_PATH, DEFINITION_PATH, EXPERT_PATH, HOLDING_PATH,
-    LISTING_PATH, Methods, Operation, PREFIX_PATH, REGISTRY_PATH, REQUEST_PATH, REVIEW_PATH,
-    Routes,
+    AGENT_PATH, APPROVAL_PATH, CASE_PATH, DECLINE_PATH, DEFINITION_PATH, EXPERT_PATH, HOLD_PATH,
+    HOLDING_PATH, LISTING_PATH, Methods, Operation, PREFIX_PATH, PRINCIPAL_PATH, REGISTRY_PATH,
+    REQUEST_PATH, REVIEW_PATH, Routes,
 };
 use reg_blocks::block::Block;
 use reg_blocks::prefix;
@@ -89,6 +89,12 @@ fn command_of(
         Operation::Withdraw => read_withdraw(path, body),
         Operation::Holdings => without_body(Command::Applicant(ApplicantCommand::Holdings), body),
         Operation::SetListing => read_set_listing(alloc, path, body),
+        Operation::SetAgent => read_set_agent(alloc, path, body),
+        Operation::Agents => without_body(Command::Applicant(ApplicantCommand::Agents), body),
+        Operation::Principals => {
+            without_body(Command::Applicant(ApplicantCommand::Principals), body)
+        },
+        Operation::PrincipalRows => read_principal_rows(path, body),
         Operation::Queue => without_body(Command::Expert(ExpertCommand::Queue), body),
         Operation::Advise => read_advise(alloc, path, body),
         Operation::AllRequests => without_body(Command::Clerk(ClerkCommand::AllRequests), body),
@@ -96,6 +102,7 @@ fn command_of(
         Operation::AssignExpert => read_assign_expert(path, body),
         Operation::Approve => read_approve(path, body),
         Operation::Decline => read_decline(alloc, path, body),
+        Operation::SetHold => read_set_hold(alloc, path, body),
         Operation::Define => read_define(alloc, path, body),
         Operation::AddPool => read_add_pool(path, body),
         Operation::Grant => read_grant(alloc, body),
@@ -160,6 +167,26 @@ fn read_set_listing(alloc: Global, path: &str, body: &[u8]) -> Result<Command, R
     Ok(Command::Applicant(ApplicantCommand::SetListing(block, private)))
 }
 
+#[tactic(auto, unfolding(crate::specs::Command::set_agent_of))]
+fn read_set_agent(alloc: Global, path: &str, body: &[u8]) -> Result<Command, ReadFault>
+    ensures { Gives result (set_agent_of path.now body.now) }
+{
+    let json = members::object_of(alloc, body)?;
+    let agent = word_at(AGENT_PATH, path, Item::Agent)?;
+    let reads = members::truth(&json, Item::Reads)?;
+    members::only(&[Item::Reads], &json)?;
+    Ok(Command::Applicant(ApplicantCommand::SetAgent(agent, reads)))
+}
+
+#[tactic(auto, unfolding(crate::specs::Command::principal_rows_of))]
+fn read_principal_rows(path: &str, body: &[u8]) -> Result<Command, ReadFault>
+    ensures { Gives result (principal_rows_of path.now body.now) }
+{
+    empty(body)?;
+    let principal = word_at(PRINCIPAL_PATH, path, Item::Account)?;
+    Ok(Command::Applicant(ApplicantCommand::PrincipalRows(principal)))
+}
+
 #[tactic(auto, unfolding(crate::specs::Command::advise_of))]
 fn read_advise(alloc: Global, path: &str, body: &[u8]) -> Result<Command, ReadFault>
     ensures { Gives result (advise_of path.now body.now) }
@@ -213,6 +240,18 @@ fn read_decline(alloc: Global, path: &str, body: &[u8]) -> Result<Command, ReadF
     let reason = members::text(alloc, &json, Item::Reason)?;
     members::only(&[Item::Reason], &json)?;
     Ok(Command::Clerk(ClerkCommand::Decline(account, reference, reason)))
+}
+
+#[tactic(auto, unfolding(crate::specs::Command::set_hold_of))]
+fn read_set_hold(alloc: Global, path: &str, body: &[u8]) -> Result<Command, ReadFault>
+    ensures { Gives result (set_hold_of path.now body.now) }
+{
+    let json = members::object_of(alloc, body)?;
+    let name = word_at(HOLD_PATH, path, Item::Name)?;
+    let value = number_at(HOLD_PATH, path, Item::Value)?;
+    let held = members::truth(&json, Item::Held)?;
+    members::only(&[Item::Held], &json)?;
+    Ok(Command::Clerk(ClerkCommand::SetHold(name, value, held)))
 }
 
 #[tactic(auto, unfolding(crate::specs::Command::define_of))]

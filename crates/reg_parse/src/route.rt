@@ -20,6 +20,10 @@ pub enum Operation {
     Withdraw,
     Holdings,
     SetListing,
+    SetAgent,
+    Agents,
+    Principals,
+    PrincipalRows,
     Queue,
     Advise,
     AllRequests,
@@ -27,6 +31,7 @@ pub enum Operation {
     AssignExpert,
     Approve,
     Decline,
+    SetHold,
     Define,
     AddPool,
     Grant,
@@ -90,6 +95,10 @@ pub(crate) const REQUEST_PATH: &str = "/requests/{reference}";
 
 pub(crate) const HOLDING_PATH: &str = "/holdings/{block}";
 
+pub(crate) const AGENT_PATH: &str = "/agents/{agent}";
+
+pub(crate) const PRINCIPAL_PATH: &str = "/principals/{account}/requests";
+
 pub(crate) const REVIEW_PATH: &str = "/queue/{account}/{reference}";
 
 pub(crate) const CASE_PATH: &str = "/desk/requests/{account}/{reference}";
@@ -100,12 +109,14 @@ pub(crate) const APPROVAL_PATH: &str = "/desk/approve/{account}/{reference}";
 
 pub(crate) const DECLINE_PATH: &str = "/desk/decline/{account}/{reference}";
 
+pub(crate) const HOLD_PATH: &str = "/desk/holds/{name}/{value}";
+
 pub(crate) const DEFINITION_PATH: &str = "/desk/registries/{name}/{max}";
 
 pub(crate) const PREFIX_PATH: &str = "/desk/pool/{prefix}";
 
 // Each path, and what the methods do there.
-const ROWS: [(&str, Methods); 20] = [
+const ROWS: [(&str, Methods); 25] = [
     (
         "/registries",
         Methods {
@@ -171,6 +182,34 @@ const ROWS: [(&str, Methods); 20] = [
         },
     ),
     (
+        "/agents",
+        Methods {
+            get: Some(Operation::Agents),
+            ..NONE
+        },
+    ),
+    (
+        AGENT_PATH,
+        Methods {
+            put: Some(Operation::SetAgent),
+            ..NONE
+        },
+    ),
+    (
+        "/principals",
+        Methods {
+            get: Some(Operation::Principals),
+            ..NONE
+        },
+    ),
+    (
+        PRINCIPAL_PATH,
+        Methods {
+            get: Some(Operation::PrincipalRows),
+            ..NONE
+        },
+    ),
+    (
         "/queue",
         Methods {
             get: Some(Operation::Queue),
@@ -216,6 +255,13 @@ const ROWS: [(&str, Methods); 20] = [
         DECLINE_PATH,
         Methods {
             put: Some(Operation::Decline),
+            ..NONE
+        },
+    ),
+    (
+        HOLD_PATH,
+        Methods {
+            put: Some(Operation::SetHold),
             ..NONE
         },
     ),

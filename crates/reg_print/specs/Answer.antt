@@ -1,7 +1,7 @@
 -- The status and the body of an answer.
 use Rattle.std.specs.Prelude.{ℕ, List}
 use Rattle.reg_core.specs.declared.content.Content.{Content}
-use Rattle.reg_core.specs.declared.content.Content.TheVariants.{Names, Page, Listing, Pool, Blocks, Made, Row, Rows, Held, Holdings, Item, Items, Desk, Desks, Filed, Defined, Pooled, Granted, Revoked}
+use Rattle.reg_core.specs.declared.content.Content.TheVariants.{Names, Page, Listing, Pool, Blocks, Made, Row, Rows, Held, Holdings, Agent, Accounts, Item, Items, Desk, Desks, Filed, Marked, Defined, Pooled, Granted, Revoked}
 use Rattle.reg_core.specs.declared.reply.Reply.{Reply}
 use Rattle.reg_core.specs.declared.reply.Reply.TheVariants as reply
 use Rattle.reg_print.specs.declared.answer.Answer.{Answer}
@@ -9,10 +9,11 @@ use Rattle.reg_print.specs.declared.answer.Answer.TheVariants as answer
 use Rattle.reg_core.specs.declared.wire_refusal.ReadFault.{ReadFault}
 use Rattle.reg_core.specs.declared.wire_refusal.ReadFault.TheVariants.{Refused, Memory}
 use Rattle.reg_print.specs.Body.{Body, json, listing, block_listing, text_of}
+use Rattle.reg_print.specs.Trees.Agent.{agent_tree}
 use Rattle.reg_print.specs.Trees.File.{file_tree}
 use Rattle.reg_print.specs.Trees.Holding.{holding_tree, holdings_tree}
 use Rattle.reg_print.specs.Trees.Members.{names_tree}
-use Rattle.reg_print.specs.Trees.Page.{page_tree, defined_tree}
+use Rattle.reg_print.specs.Trees.Page.{page_tree, defined_tree, entry_tree}
 use Rattle.reg_print.specs.Trees.Pool.{pool_tree, pooled_tree}
 use Rattle.reg_print.specs.Trees.Queue.{queue_tree, queues_tree}
 use Rattle.reg_print.specs.Refusal.{office_row, wire_row, storage_row}
@@ -38,11 +39,14 @@ content_status (Row request) = 200
 content_status (Rows requests) = 200
 content_status (Held holding) = 200
 content_status (Holdings holdings) = 200
+content_status (Agent agent reads) = 200
+content_status (Accounts accounts) = 200
 content_status (Item row) = 200
 content_status (Items rows) = 200
 content_status (Desk request) = 200
 content_status (Desks requests) = 200
 content_status (Filed file) = 200
+content_status (Marked entry) = 200
 content_status (Defined name) = 200
 content_status (Pooled prefix) = 200
 content_status (Granted cap) = 200
@@ -70,11 +74,14 @@ content_body (Row request) = json (request_tree request)
 content_body (Rows requests) = json (requests_tree requests)
 content_body (Held holding) = json (holding_tree holding)
 content_body (Holdings holdings) = json (holdings_tree holdings)
+content_body (Agent agent reads) = json (agent_tree agent reads)
+content_body (Accounts accounts) = json (names_tree accounts)
 content_body (Item row) = json (queue_tree row)
 content_body (Items rows) = json (queues_tree rows)
 content_body (Desk request) = json (desk_tree request)
 content_body (Desks requests) = json (desks_tree requests)
 content_body (Filed file) = json (file_tree file)
+content_body (Marked entry) = json (entry_tree entry)
 content_body (Defined name) = json (defined_tree name)
 content_body (Pooled prefix) = json (pooled_tree prefix)
 content_body (Granted cap) = json (cap_tree cap)

@@ -1,7 +1,7 @@
 -- How refusals are answered: the status, the name and the item of each.
 use Rattle.std.specs.Prelude.{ℕ, List, Option, Some, None, codes}
 use Rattle.reg_core.specs.declared.refusal.Refusal.{Refusal}
-use Rattle.reg_core.specs.declared.refusal.Refusal.TheVariants.{Clock, Token, Kind, Ref, Request, Closed, Registry, Range, Policy, Early, Evidence, Entry, Permanent, Renewed, Taken, Exhausted, Advice, Own, Holding, Exists, Bits}
+use Rattle.reg_core.specs.declared.refusal.Refusal.TheVariants.{Clock, Token, Kind, Ref, Request, Principal, Closed, Registry, Range, Policy, Early, Evidence, Entry, Permanent, Renewed, Expired, Taken, Exhausted, Advice, Own, Holding, Exists, Bits}
 use Rattle.reg_core.specs.declared.wire_refusal.WireRefusal.{WireRefusal}
 use Rattle.reg_core.specs.declared.wire_refusal.WireRefusal.TheVariants.{Line, Route, Method, Body, Field, Ranges}
 use Rattle.reg_print.specs.declared.detail.Detail.{Detail}
@@ -30,6 +30,7 @@ office_row Token = row 401 (codes "token")
 office_row Kind = row 403 (codes "kind")
 office_row Ref = row 409 (codes "ref")
 office_row Request = row 404 (codes "request")
+office_row Principal = row 404 (codes "principal")
 office_row Closed = row 409 (codes "closed")
 office_row Registry = row 404 (codes "registry")
 office_row Range = row 422 (codes "range")
@@ -39,6 +40,7 @@ office_row (Evidence item) = row_about 422 (codes "evidence") (detail.Evidence i
 office_row Entry = row 404 (codes "entry")
 office_row Permanent = row 409 (codes "permanent")
 office_row Renewed = row 409 (codes "renewed")
+office_row Expired = row 409 (codes "expired")
 office_row Taken = row 409 (codes "taken")
 office_row Exhausted = row 409 (codes "exhausted")
 office_row Advice = row 409 (codes "advice")

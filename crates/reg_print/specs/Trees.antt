@@ -8,5 +8,6 @@ pub mod File
 pub mod Page
 pub mod Pool
 pub mod Holding
+pub mod Agent
 pub mod Capability
 pub mod Refusal

@@ -5,6 +5,7 @@ ghost use Rattle.reg_print.specs.Body.{format_of, json, text_of, ReadsBack};
 ghost use Rattle.reg_print.specs.Refusal.{row_view};
 ghost use Rattle.reg_print.specs.Trees.Refusal.{error_tree};
 
+use crate::bodies::agent::Agent;
 use crate::bodies::capability::Revoked;
 use crate::bodies::page::Defined;
 use crate::bodies::pool::Pooled;
@@ -107,11 +108,14 @@ fn content_status(content: &Content) -> u16
         | Content::Rows(_)
         | Content::Held(_)
         | Content::Holdings(_)
+        | Content::Agent(_, _)
+        | Content::Accounts(_)
         | Content::Item(_)
         | Content::Items(_)
         | Content::Desk(_)
         | Content::Desks(_)
         | Content::Filed(_)
+        | Content::Marked(_)
         | Content::Defined(_)
         | Content::Pooled(_)
         | Content::Granted(_)
@@ -162,11 +166,20 @@ fn content_bytes(alloc: Global, content: &Content) -> Result<Vec<u8>, AllocError
         Content::Rows(requests) => printed::<Itself, _>(alloc, requests),
         Content::Held(holding) => printed(alloc, holding),
         Content::Holdings(holdings) => printed::<Itself, _>(alloc, holdings),
+        Content::Agent(agent, reads) => printed(
+            alloc,
+            &Agent {
+                agent: *agent,
+                reads: *reads,
+            },
+        ),
+        Content::Accounts(accounts) => printed::<Itself, _>(alloc, accounts),
         Content::Item(row) => printed(alloc, row),
         Content::Items(rows) => printed::<Itself, _>(alloc, rows),
         Content::Desk(request) => printed::<Desk, _>(alloc, request),
         Content::Desks(requests) => printed::<Desk, _>(alloc, requests),
         Content::Filed(file) => printed(alloc, file),
+        Content::Marked(entry) => printed(alloc, entry),
         Content::Defined(name) => printed::<Defined, _>(alloc, name),
         Content::Pooled(prefix) => printed::<Pooled, _>(alloc, prefix),
         Content::Granted(cap) => printed(alloc, cap),

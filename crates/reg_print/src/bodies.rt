@@ -1,6 +1,7 @@
 //! The JSON of what is answered.
 
 pub mod advice;
+pub mod agent;
 pub mod ask;
 pub mod capability;
 pub mod file;

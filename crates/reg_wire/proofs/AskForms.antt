@@ -1,12 +1,13 @@
 -- What the form of an ask says of its parts.
-use Rattle.std.proofs.Common.{◌≡◌, ℕ, List, Bool, true, ◌&&◌}
+use Rattle.std.proofs.Common.{◌≡◌, ℕ, ◌^◌, List, Bool, true, ◌&&◌, nat_lt}
 use Rattle.std.specs.Cmp.{first_so, second_so}
 use Rattle.reg_ranges.specs.Texts.{is_text}
 use Rattle.reg_ranges.specs.declared.evidence.Evidence.{Evidence}
 use Rattle.reg_early.specs.Forms.{has_early_form}
 use Rattle.reg_early.specs.declared.evidence.EarlyEvidence.{EarlyEvidence}
 use Rattle.reg_core.specs.Names.{is_name}
-use Rattle.reg_core.specs.Ask.{has_evidence_form, has_note_form, has_rfc_form, has_want_form}
+use Rattle.reg_core.specs.Ask.{has_evidence_form, has_note_form, has_renewal_form, has_rfc_form, has_want_form}
+use Rattle.reg_core.specs.declared.ask.RenewalAsk.{RenewalAsk}
 use Rattle.reg_core.specs.declared.ask.Want.{Want}
 
 pub record HasEvidenceForm (e : Evidence) : Type 0 where
@@ -85,4 +86,25 @@ value_formed name below shown h =
       registry = first_so (is_name name) below before_shown;
       value = second_so (is_name name) below before_shown;
       evidence = second_so (is_name name && below) shown h;
+    }
+
+-- of an ask for another year
+pub record HasRenewalForm (ask : RenewalAsk) : Type 0 where
+  pub registry : is_name ask.registry ≡ true
+  pub value : nat_lt ask.value (2 ^ 32) ≡ true
+  pub evidence : has_early_form ask.evidence ≡ true
+  pub iesg : has_note_form ask.iesg ≡ true
+
+pub renewal_formed : (ask : RenewalAsk) → has_renewal_form ask ≡ true → HasRenewalForm ask
+renewal_formed ask h =
+    let below = nat_lt ask.value (2 ^ 32) in
+    let shown = has_early_form ask.evidence in
+    let three = is_name ask.registry && below && shown in
+    let parts =
+    value_formed ask.registry below shown (first_so three (has_note_form ask.iesg) h) in
+    record {
+      registry = parts.registry;
+      value = parts.value;
+      evidence = parts.evidence;
+      iesg = second_so three (has_note_form ask.iesg) h;
     }

@@ -33,7 +33,7 @@ use Rattle.reg_print.specs.Trees.Members.{Listed, object_with, text, text_if, tr
 use Rattle.reg_parse.specs.Bodies.Members.{object_of}
 use Rattle.reg_print.specs.Trees.Ask.{ask_tree, block_members, code_members, early_members, least_if, permanence_members, renewal_members, rfc_if, rfc_members, rfc_tree, value_if}
 use Rattle.reg_print.proofs.ListedMembers.{ascends}
-use Rattle.reg_wire.proofs.AskForms.{early_formed, evidence_formed, value_formed, want_formed}
+use Rattle.reg_wire.proofs.AskForms.{early_formed, evidence_formed, renewal_formed, value_formed, want_formed}
 use Rattle.reg_wire.proofs.TreeText.{◌▸◌, AreReadable, IfReadable, Readable, boolean-readable, member-readable, number-readable, object_of-compact_text, object_with-readable, string-readable}
 
 -- ---- words
@@ -183,12 +183,12 @@ early_readable ask h =
 renewal_readable : (ask : RenewalAsk) → has_renewal_form ask ≡ true
     → AreReadable 1 (renewal_members ask)
 renewal_readable ask h =
-    let parts =
-    value_formed ask.registry (nat_lt ask.value (2 ^ 32)) (has_early_form ask.evidence) h in
+    let parts = renewal_formed ask h in
     let shown = early_formed ask.evidence parts.evidence in
     note_member 1 (codes "chair") ask.evidence.chair refl shown.chair
     ▸ note_member 1 (codes "director") ask.evidence.director refl shown.director
     ▸ note_member 1 (codes "draft") ask.evidence.draft refl shown.draft
+    ▸ note_member 1 (codes "iesg") ask.iesg refl parts.iesg
     ▸ mark_member 1 (codes "interest") ask.evidence.interest refl
     ▸ word_member 1 (codes "kind") (codes "renew") refl refl
     ▸ name_member 1 (codes "registry") ask.registry refl parts.registry

@@ -46,7 +46,7 @@ use Rattle.reg_parse.specs.Bodies.EarlyEvidence.{early_evidence_of}
 use Rattle.reg_parse.specs.Bodies.Evidence.{evidence_of}
 use Rattle.reg_parse.specs.Bodies.Value.{allocated_value_of, want_by, want_of, wanted_value_of}
 use Rattle.reg_parse.specs.Bodies.Ask.{ask_of, ask_of_kind, ask_kind_form, block_items, block_of, size_form, size_named, code_items, code_of, code_with, early_items, early_of, early_with, permanence_items, permanence_of, permanence_with, renewal_items, renewal_of, renewal_with}
-use Rattle.reg_wire.proofs.AskForms.{HasWantedForm, early_formed, evidence_formed, value_formed, want_formed}
+use Rattle.reg_wire.proofs.AskForms.{HasWantedForm, early_formed, evidence_formed, renewal_formed, value_formed, want_formed}
 use Rattle.reg_wire.proofs.ListedMembers.{find_listed, get-object_with, needed-object_with, optional-object_with, only-object_with}
 
 -- ---- words
@@ -339,16 +339,27 @@ early_back ask h =
     parts.evidence)
     (only-object_with early_items ms refl refl)
 
+renewal_joined : (v : AllocatedValue) (e : EarlyEvidence) (m : Option (List ℕ))
+    (value : Reading AllocatedValue) (evidence : Reading EarlyEvidence)
+    (minute : Reading (Option (List ℕ))) (others : Reading ⊤) → value ≡ Ok v → evidence ≡ Ok e
+    → minute ≡ Ok m → others ≡ Ok tt
+    → (value >>= (λ x. evidence
+    >>= (λ y. minute
+    >>= (λ z. others
+    >>= (λ none. Ok (renewal_with x y z)))))) ≡ Ok (renewal_with v e m)
+renewal_joined v e m value evidence minute others hv he hm ho = rw (hv, he, hm, ho) refl
+
 renewal_back : (ask : RenewalAsk) → has_renewal_form ask ≡ true
     → renewal_of (renewal_tree ask) ≡ Ok ask
 unfolding renewal_of
 renewal_back ask h =
     let ms = renewal_members ask in
-    let parts =
-    value_formed ask.registry (nat_lt ask.value (2 ^ 32)) (has_early_form ask.evidence) h in
+    let parts = renewal_formed ask h in
     let allocated : AllocatedValue = record { registry = ask.registry; value = ask.value } in
-    ask_joined renewal_with allocated ask.evidence (allocated_value_of (object_with ms))
-    (early_evidence_of (object_with ms)) (only renewal_items (object_with ms))
+    renewal_joined allocated ask.evidence ask.iesg (allocated_value_of (object_with ms))
+    (early_evidence_of (object_with ms))
+    (optional item.Iesg (text_form is_text) (object_with ms))
+    (only renewal_items (object_with ms))
     (allocated_back ms allocated (record { ascending = refl; registry = refl; value = refl })
     parts.registry parts.value)
     (early_evidence_back ms ask.evidence
@@ -362,6 +373,8 @@ renewal_back ask h =
       will_be_rfc = refl;
     })
     parts.evidence)
+    (optional_back item.Iesg (text_form is_text) ask.iesg (text_if ask.iesg) ms refl refl
+    (note_back item.Iesg ask.iesg parts.iesg))
     (only-object_with renewal_items ms refl refl)
 
 permanence_back : (ask : PermanenceAsk) → has_permanence_form ask ≡ true

@@ -22,7 +22,7 @@ use Rattle.reg_parse.specs.declared.bodies.ask.AskKind.{AskKind}
 use Rattle.reg_parse.specs.declared.bodies.ask.AskKind.TheVariants as kind
 use Rattle.reg_parse.specs.declared.bodies.value.AllocatedValue.{AllocatedValue}
 use Rattle.reg_parse.specs.declared.bodies.value.WantedValue.{WantedValue}
-use Rattle.reg_parse.specs.Bodies.Members.{Reading, ◌>>=◌, needed, only, text_form}
+use Rattle.reg_parse.specs.Bodies.Members.{Reading, ◌>>=◌, needed, optional, only, text_form}
 use Rattle.reg_parse.specs.Bodies.EarlyEvidence.{early_evidence_of}
 use Rattle.reg_parse.specs.Bodies.Evidence.{evidence_of}
 use Rattle.reg_parse.specs.Bodies.Value.{allocated_value_of, wanted_value_of}
@@ -92,21 +92,23 @@ early_of json = do
 abbrev pub renewal_items : List Item
 renewal_items =
     item.Kind ∷ item.Registry ∷ item.Value ∷ item.Draft ∷ item.Stable ∷ item.Interest ∷ item.Chair
-    ∷ item.Director ∷ item.WillBeRfc ∷ []
+    ∷ item.Director ∷ item.WillBeRfc ∷ item.Iesg ∷ []
 
-abbrev pub renewal_with : AllocatedValue → EarlyEvidence → RenewalAsk
-renewal_with allocated evidence = record {
+abbrev pub renewal_with : AllocatedValue → EarlyEvidence → Option (List ℕ) → RenewalAsk
+renewal_with allocated evidence iesg = record {
   registry = allocated.registry;
   value = allocated.value;
   evidence = evidence;
+  iesg = iesg;
 }
 
 unfoldable pub renewal_of : Data → Reading RenewalAsk
 renewal_of json = do
   allocated ← allocated_value_of json
   evidence ← early_evidence_of json
+  iesg ← optional item.Iesg (text_form is_text) json
   others ← only renewal_items json
-  Ok (renewal_with allocated evidence)
+  Ok (renewal_with allocated evidence iesg)
 
 abbrev pub permanence_items : List Item
 permanence_items =

@@ -77,6 +77,7 @@ renewal_members ask =
     (codes "chair", text_if ask.evidence.chair)
     ∷ (codes "director", text_if ask.evidence.director)
     ∷ (codes "draft", text_if ask.evidence.draft)
+    ∷ (codes "iesg", text_if ask.iesg)
     ∷ (codes "interest", true_if ask.evidence.interest)
     ∷ (codes "kind", text (codes "renew"))
     ∷ (codes "registry", text ask.registry)

@@ -9,7 +9,7 @@ use Rattle.reg_early.specs.Terms.{status_word}
 use Rattle.reg_early.specs.declared.term.Term.{Term}
 use Rattle.reg_core.specs.declared.entry.PageEntry.{PageEntry}
 use Rattle.reg_core.specs.declared.page.Page.{Page}
-use Rattle.reg_print.specs.Trees.Members.{Listed, object_with, text, whole_number}
+use Rattle.reg_print.specs.Trees.Members.{Listed, object_with, text, true_if, whole_number}
 
 -- ---- ranges
 
@@ -47,6 +47,7 @@ entry_members entry =
     (codes "assignee", text entry.assignee)
     ∷ (codes "expires", expires_if entry.term)
     ∷ (codes "first", Some (day_data entry.term.first))
+    ∷ (codes "held", true_if entry.term.held)
     ∷ (codes "label", text entry.label)
     ∷ (codes "renewed", renewed_if entry.term)
     ∷ (codes "status", text (status_word entry.status))

@@ -79,6 +79,7 @@ impl Print<Itself> for RenewalAsk {
         out.put_if("chair", &self.evidence.chair)?;
         out.put_if("director", &self.evidence.director)?;
         out.put_if("draft", &self.evidence.draft)?;
+        out.put_if("iesg", &self.iesg)?;
         out.put_true_if("interest", self.evidence.interest)?;
         out.put_text("kind", "renew")?;
         out.put("registry", &self.registry)?;

@@ -68,6 +68,7 @@ impl Print<Itself> for PageEntry {
         out.put("assignee", &self.assignee)?;
         put_expires_if(out, self.term)?;
         put_day(out, "first", self.term.first)?;
+        out.put_true_if("held", self.term.held)?;
         out.put("label", &self.label)?;
         put_renewed_if(out, self.term)?;
         out.put_text("status", self.status.word())?;

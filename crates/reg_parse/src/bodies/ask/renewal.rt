@@ -19,6 +19,7 @@ pub fn read_renewal(alloc: Global, json: &Value) -> Result<RenewalAsk, ReadFault
 {
     let allocated = read_allocated_value(json)?;
     let evidence = read_early_evidence(alloc, json)?;
+    let iesg = members::text_if_there(alloc, json, Item::Iesg)?;
     members::only(
         &[
             Item::Kind,
@@ -30,6 +31,7 @@ pub fn read_renewal(alloc: Global, json: &Value) -> Result<RenewalAsk, ReadFault
             Item::Chair,
             Item::Director,
             Item::WillBeRfc,
+            Item::Iesg,
         ],
         json,
     )?;
@@ -37,5 +39,6 @@ pub fn read_renewal(alloc: Global, json: &Value) -> Result<RenewalAsk, ReadFault
         registry: allocated.registry,
         value: allocated.value,
         evidence,
+        iesg,
     })
 }

@@ -9,5 +9,6 @@ returns c =
     let value = rw c.from.ensures at c.in_ok-put_number.ensures in
     prints_object (entry_members c.args.self.now) refl c.in_ok-open_object.ensures
     (c.in_ok-put.ensures ▸ c.in_ok-put_expires_if.ensures ▸ c.in_ok-put_day.ensures
-    ▸ c.in_ok-put-2.ensures ▸ c.in_ok-put_renewed_if.ensures ▸ status ▸ value)
+    ▸ c.in_ok-put_true_if.ensures ▸ c.in_ok-put-2.ensures ▸ c.in_ok-put_renewed_if.ensures ▸ status
+    ▸ value)
     c.in_ok-close_object.ensures

@@ -1,0 +1,27 @@
+//! Prints agents.
+ghost use Rattle.reg_print.specs.Trees.Agent.{agent_tree};
+
+use crate::printing::{Itself, Print, Printer};
+use reg_core::text::Account;
+use std::alloc::AllocError;
+
+/// Whether an account reads the requests of the caller, whose agent it then is.
+#[derive(Clone, Copy)]
+pub(crate) struct Agent {
+    pub agent: Account,
+    pub reads: bool,
+}
+
+impl Print<Itself> for Agent {
+    ghost tree = { λ a. agent_tree a.agent a.reads };
+
+    ghost levels = { 1 };
+
+    fn print(&self, out: &mut Printer) -> Result<(), AllocError> {
+        out.open_object()?;
+        out.put("agent", &self.agent)?;
+        out.put_flag("reads", self.reads)?;
+        out.close_object()?;
+        Ok(())
+    }
+}
