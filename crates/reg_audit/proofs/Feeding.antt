@@ -61,7 +61,7 @@ module _ (audit : Audit) (next : Row) where
 
     -- one that is accepted is new and fits
     pub feeds_fit : {E : Type 0} (new : Audit) → r ≡ true → IsTrue audit.well_kept
-        → ((w : World) → Keeps audit w → IsInTurn w next → Fits w next
+        → ((w : World) → Keeps audit w → IsInTurn w next → IsNew w next → Fits w next
         → Keeps new (with_row w next))
         → new.well_kept ≡ audit.well_kept → Feeds {E = E} audit new (Ok true) next
     feeds_fit new accepts so_far keeps same = record {
@@ -73,7 +73,7 @@ module _ (audit : Audit) (next : Row) where
           let kept = ((tells w audits turn).0 accepts).1 in record {
             says = ((λ h. kept), (λ h. same ∙ so_far));
             keeps = λ h.
-                keeps w (audits.keeps so_far) turn (next_fits w next is_new kept);
+                keeps w (audits.keeps so_far) turn is_new (next_fits w next is_new kept);
           };
       says = sym (same ∙ so_far);
       stays = λ h. so_far;

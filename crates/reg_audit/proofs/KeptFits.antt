@@ -11,7 +11,7 @@ use Rattle.reg_core.specs.Ask.{registry_of}
 use Rattle.reg_core.specs.Maps.{text_cmp}
 use Rattle.reg_core.specs.MayBeGiven.{place_of}
 use Rattle.reg_core.specs.WellKept.{WellKept, is_registered_to, is_registered_at, is_held_by, is_size_asked, stands_in}
-use Rattle.reg_core.specs.World.{World, Seat, name_cmp, place_cmp, seat_cmp}
+use Rattle.reg_core.specs.World.{World, RequestName, Seat, link_cmp, name_cmp, place_cmp, seat_cmp}
 use Rattle.reg_core.specs.declared.advice.Advice.{Advice}
 use Rattle.reg_core.specs.declared.ask.Ask.{Ask}
 use Rattle.reg_core.specs.declared.capability.Cap.{Cap}
@@ -19,14 +19,15 @@ use Rattle.reg_core.specs.declared.entry.Entry.{Entry}
 use Rattle.reg_core.specs.declared.entry.Registration.{Registration}
 use Rattle.reg_core.specs.declared.holding.Holder.{Holder}
 use Rattle.reg_core.specs.declared.holding.Holding.{Holding}
+use Rattle.reg_core.specs.declared.request.Case.{Case}
 use Rattle.reg_core.specs.declared.request.Given.TheVariants as given
 use Rattle.reg_core.specs.declared.request.Request.{Request}
 use Rattle.reg_core.specs.declared.request.State.{State}
 use Rattle.reg_core.specs.declared.request.State.TheVariants.{Pending, Approved, Declined, Withdrawn}
-use Rattle.reg_audit.specs.Audits.{Keeps, assignee_of, account_of}
+use Rattle.reg_audit.specs.Audits.{Keeps, account_of, awaits_minute, standing_of}
 use Rattle.reg_audit.specs.Blocks.{AreApart, IsHeld}
-use Rattle.reg_audit.specs.Requests.{is_account, is_assigned_at, stands_by}
-use Rattle.reg_audit.specs.Rows.{Fits, IsNew, IsApart, name_of, seat_of}
+use Rattle.reg_audit.specs.Requests.{is_account, is_assigned_at, is_assignee, is_holdable, stands_by}
+use Rattle.reg_audit.specs.Rows.{Fits, IsNew, IsApart, is_markable, is_unminuted, name_of, seat_of}
 use Rattle.reg_audit.specs.declared.audit.Audit.{Audit}
 use Rattle.reg_audit.specs.declared.row.Row.{Row}
 use Rattle.reg_audit.specs.declared.row.Row.TheVariants as row
@@ -35,10 +36,20 @@ is_some-mapped : {X Y : Type 0} (f : X → Y) (o : Option X) → is_some (option
 is_some-mapped f None = refl
 is_some-mapped f (Some x) = refl
 
-is_account-assignee : (account : List ℕ) (o : Option Registration)
-    → is_account account (option_map assignee_of o) ≡ is_registered_to account o
-is_account-assignee account None = refl
-is_account-assignee account (Some a) = refl
+is_assignee-standing : (account : List ℕ) (o : Option Registration)
+    → is_assignee account (option_map standing_of o) ≡ is_registered_to account o
+is_assignee-standing account None = refl
+is_assignee-standing account (Some a) = refl
+
+is_holdable-standing : (o : Option Registration)
+    → is_holdable (option_map standing_of o) ≡ is_markable o
+is_holdable-standing None = refl
+is_holdable-standing (Some a) = refl
+
+unwrap-awaits : (o : Option Case)
+    → unwrap_or (option_map awaits_minute o) false ≡ is_unminuted o
+unwrap-awaits None = refl
+unwrap-awaits (Some case) = refl
 
 is_account-holder : (account : List ℕ) (o : Option Holder)
     → is_account account (option_map account_of o) ≡ is_held_by account o
@@ -93,16 +104,16 @@ assigned_of w kept seat (Some advice) is there = kept.advised seat advice is
 
 module _ (audit : Audit) (w : World) (keeps : Keeps audit w) where
   assigned-registered : (account : List ℕ) (registry : Option (List ℕ)) (v : ℕ)
-      → is_assigned_at audit.assignees account registry v
+      → is_assigned_at audit.standings account registry v
       ≡ is_registered_at w.entries account registry v
   assigned-registered account None v = refl
   assigned-registered account (Some registry) v =
-      ap (is_account account) (keeps.assignees (registry, v))
-      ∙ is_account-assignee account (get w.entries (registry, v))
+      ap (is_assignee account) (keeps.standings (registry, v))
+      ∙ is_assignee-standing account (get w.entries (registry, v))
 
   -- a request stands by the accounts that are kept where it stands by the rows
   pub stands_by-stands_in : (account : List ℕ) (ask : Ask) (state : State)
-      → stands_by audit.assignees audit.holders account ask state
+      → stands_by audit.standings audit.holders account ask state
       ≡ stands_in w.entries w.blocks account ask state
   stands_by-stands_in account ask Pending = refl
   stands_by-stands_in account ask (Approved (given.Value v)) =
@@ -148,6 +159,11 @@ module _ (audit : Audit) (w : World) (keeps : Keeps audit w) where
     (λ fits. (tells (holders_apart kept)).1 ((apart_kept holding.block).1 fits.1)),
   )
 
+  pub request_there : (name : RequestName)
+      → is_some (tree.get name_cmp audit.requests name) ≡ contains_key w.requests name
+  request_there name =
+      ap is_some (keeps.requests name) ∙ is_some-mapped awaits_minute (get w.requests name)
+
   -- ---- New rows
 
   pub new_cap : (digest : List ℕ) (cap : Cap) (r : Bool)
@@ -161,12 +177,20 @@ module _ (audit : Audit) (w : World) (keeps : Keeps audit w) where
       missing r (get w.registries name) (is ∙ ap is_some (keeps.registries name))
 
   pub new_entry : (entry : Entry) (r : Bool)
-      → r ≡ is_some (tree.get place_cmp audit.assignees (place_of entry))
+      → r ≡ is_some (tree.get place_cmp audit.standings (place_of entry))
       → IsTrue (not r) ↔ IsNew w (row.Entry entry)
   new_entry entry r is =
       missing r (get w.entries (place_of entry))
-      (is ∙ ap is_some (keeps.assignees (place_of entry))
-      ∙ is_some-mapped assignee_of (get w.entries (place_of entry)))
+      (is ∙ ap is_some (keeps.standings (place_of entry))
+      ∙ is_some-mapped standing_of (get w.entries (place_of entry)))
+
+  pub new_hold : (registry : List ℕ) (value : ℕ) (r : Bool)
+      → r ≡ is_holdable (tree.get place_cmp audit.standings (registry, value))
+      → IsTrue r ↔ IsNew w (row.Hold registry value)
+  new_hold registry value r is =
+      same_truth r _
+      (is ∙ ap is_holdable (keeps.standings (registry, value))
+      ∙ is_holdable-standing (get w.entries (registry, value)))
 
   pub new_prefix : (prefix : ℕ) (r : Bool) → r ≡ contains nat_cmp audit.prefixes prefix
       → IsTrue (not r) ↔ IsNew w (row.Prefix prefix)
@@ -181,10 +205,24 @@ module _ (audit : Audit) (w : World) (keeps : Keeps audit w) where
       ∙ is_some-mapped account_of (get w.blocks holding.block))
 
   pub new_request : (request : Request) (r : Bool)
-      → r ≡ contains name_cmp audit.requests (name_of request)
+      → r ≡ is_some (tree.get name_cmp audit.requests (name_of request))
       → IsTrue (not r) ↔ IsNew w (row.Request request)
   new_request request r is =
-      missing r (get w.requests (name_of request)) (is ∙ keeps.requests (name_of request))
+      missing r (get w.requests (name_of request)) (is ∙ request_there (name_of request))
+
+  pub new_minute : (account reference minute : List ℕ) (r : Bool)
+      → r ≡ unwrap_or (tree.get name_cmp audit.requests (account, reference)) false
+      → IsTrue r ↔ IsNew w (row.Minute account reference minute)
+  new_minute account reference minute r is =
+      same_truth r _
+      (is ∙ ap (λ o. unwrap_or o false) (keeps.requests (account, reference))
+      ∙ unwrap-awaits (get w.requests (account, reference)))
+
+  pub new_link : (principal agent : List ℕ) (r : Bool)
+      → r ≡ contains link_cmp audit.links (principal, agent)
+      → IsTrue (not r) ↔ IsNew w (row.Link principal agent)
+  new_link principal agent r is =
+      fails r (contains_key w.agents (principal, agent)) (is ∙ keeps.links (principal, agent))
 
   module _ (account reference expert : List ℕ) (found : Option Bool)
       (is : found ≡ tree.get seat_cmp audit.assignments (seat_of account reference expert)) where

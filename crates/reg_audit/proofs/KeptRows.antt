@@ -14,22 +14,29 @@ use Rattle.std.specs.Ordering.{nat_cmp, eq_by_cmp}
 use Rattle.std.specs.declared.cmp.Ordering.{Ordering}
 use Rattle.reg_blocks.specs.Block.{SizedPrefix, block_cmp}
 use Rattle.reg_ranges.specs.Tables.{Table}
-use Rattle.reg_core.specs.Entry.{registration_in}
+use Rattle.reg_core.specs.Entry.{registration_in, with_hold}
 use Rattle.reg_core.specs.Holding.{holder_in}
-use Rattle.reg_core.specs.Maps.{text_cmp}
+use Rattle.reg_core.specs.Maps.{text_cmp, replaced, update}
 use Rattle.reg_core.specs.MayBeGiven.{place_of}
+use Rattle.reg_core.specs.Minutes.{ask_with, with_minute}
 use Rattle.reg_core.specs.Request.{case_of}
-use Rattle.reg_core.specs.World.{World, Place, RequestName, Seat, name_cmp, place_cmp, seat_cmp, empty_world}
+use Rattle.reg_core.specs.World.{World, Link, Place, RequestName, Seat, link_cmp, name_cmp, place_cmp, seat_cmp, empty_world}
 use Rattle.reg_core.specs.declared.advice.Advice.{Advice}
 use Rattle.reg_core.specs.declared.capability.Cap.{Cap}
+use Rattle.reg_core.specs.declared.ask.Ask.{Ask}
+use Rattle.reg_core.specs.declared.ask.Ask.TheVariants.{Block, Code, Early, Permanent, Renew}
 use Rattle.reg_core.specs.declared.entry.Entry.{Entry}
+use Rattle.reg_core.specs.declared.entry.Registration.{Registration}
 use Rattle.reg_core.specs.declared.holding.Holding.{Holding}
+use Rattle.reg_core.specs.declared.request.Case.{Case}
 use Rattle.reg_core.specs.declared.request.Request.{Request}
-use Rattle.reg_core.proofs.MapLaws.{IsKeyOrder, text_keys, number_keys, name_keys, place_keys, seat_keys, block_keys, tied, get-at_insert}
+use Rattle.reg_core.proofs.MapLaws.{IsKeyOrder, text_keys, number_keys, name_keys, place_keys, seat_keys, block_keys, link_keys, tied, get-at_insert}
 use Rattle.reg_vacancies.specs.Vacancies.{MayBeOf}
 use Rattle.reg_vacancies.specs.declared.vacancies.Vacancies.{Vacancies}
-use Rattle.reg_audit.specs.Audits.{Keeps, assignee_of, account_of}
-use Rattle.reg_audit.specs.Rows.{with_row, name_of, seat_of, IsInTurn, Fits}
+use Rattle.reg_vacancies.proofs.Carrying.{contains-changed, keys_decide}
+use Rattle.reg_audit.specs.Audits.{Keeps, account_of, awaits_minute, standing_of}
+use Rattle.reg_audit.specs.Rows.{is_unminuted, lacks_minute, with_row, name_of, seat_of, IsInTurn, IsNew, Fits}
+use Rattle.reg_audit.specs.declared.requests.Standing.{Standing}
 use Rattle.reg_audit.specs.declared.audit.Audit.{Audit}
 use Rattle.reg_audit.specs.declared.row.Row.{Row}
 use Rattle.reg_audit.specs.declared.row.Row.TheVariants as row
@@ -91,10 +98,27 @@ module _ {K X : Type 0} {R : K → K → Ordering} (o : IsKeyOrder R) (m : FinMa
 
 -- what is kept of a world with a row is kept of it with an equal row
 pub of_row : {audit : Audit} (w : World) (next other : Row) → next ≡ other
-    → (IsInTurn w other → Fits w other → Keeps audit (with_row w other))
-    → IsInTurn w next → Fits w next → Keeps audit (with_row w next)
+    → (IsInTurn w other → IsNew w other → Fits w other → Keeps audit (with_row w other))
+    → IsInTurn w next → IsNew w next → Fits w next → Keeps audit (with_row w next)
 of_row {audit = audit} w next other is keeps =
-    subst (λ (r : Row). IsInTurn w r → Fits w r → Keeps audit (with_row w r)) (sym is) keeps
+    subst (λ (r : Row). IsInTurn w r → IsNew w r → Fits w r → Keeps audit (with_row w r)) (sym is)
+    keeps
+
+-- where a minute came, none lacks
+minute_came : (minute : List ℕ) (ask : Ask) → lacks_minute (ask_with (Some minute) ask) ≡ false
+minute_came minute (Renew ask) = refl
+minute_came minute (Code ask) = refl
+minute_came minute (Early ask) = refl
+minute_came minute (Permanent ask) = refl
+minute_came minute (Block ask) = refl
+
+-- what is free is so when an entry is marked
+marked_free : (w : World) (place : Place) (free : Option Vacancies) → MayBeOf w free
+    → MayBeOf (record w { entries = update w.entries place (with_hold true) }) free
+marked_free w place None are = tt
+marked_free w place (Some vacancies) are =
+    keys_decide vacancies w.entries (update w.entries place (with_hold true)) w.pool w.blocks w.blocks
+    (contains-changed place_keys w.entries place (with_hold true)) (λ block. refl) are
 
 module _ (audit : Audit) (w : World) (keeps : Keeps audit w) where
   pub keeps_cap : (new : BTreeSet (List ℕ)) (digest : List ℕ) (cap : Cap)
@@ -103,11 +127,12 @@ module _ (audit : Audit) (w : World) (keeps : Keeps audit w) where
   keeps_cap new digest cap put = record {
     caps = key_put text_keys w.caps digest cap audit.caps new put keeps.caps;
     registries = keeps.registries;
-    assignees = keeps.assignees;
+    standings = keeps.standings;
     prefixes = keeps.prefixes;
     holders = keeps.holders;
     requests = keeps.requests;
     assignments = keeps.assignments;
+    links = keeps.links;
     free = keeps.free;
   }
 
@@ -118,27 +143,30 @@ module _ (audit : Audit) (w : World) (keeps : Keeps audit w) where
     caps = keeps.caps;
     registries =
         row_put text_keys w.registries name table audit.registries new put keeps.registries;
-    assignees = keeps.assignees;
+    standings = keeps.standings;
     prefixes = keeps.prefixes;
     holders = keeps.holders;
     requests = keeps.requests;
     assignments = keeps.assignments;
+    links = keeps.links;
     free = keeps.free;
   }
 
-  pub keeps_entry : (new : BTreeMap Place (List ℕ)) (entry : Entry)
-      → tree.Updates place_cmp audit.assignees new (place_of entry) (Some entry.assignee)
+  pub keeps_entry : (new : BTreeMap Place Standing) (entry : Entry)
+      → tree.Updates place_cmp audit.standings new (place_of entry)
+      (Some (standing_of (registration_in entry)))
       → (free : Option Vacancies) → MayBeOf (with_row w (row.Entry entry)) free
-      → Keeps (record audit { assignees = new; free = free }) (with_row w (row.Entry entry))
+      → Keeps (record audit { standings = new; free = free }) (with_row w (row.Entry entry))
   keeps_entry new entry put free left = record {
     caps = keeps.caps;
     registries = keeps.registries;
-    assignees = part_put place_keys w.entries (place_of entry) (registration_in entry)
-        assignee_of audit.assignees new put keeps.assignees;
+    standings = part_put place_keys w.entries (place_of entry) (registration_in entry)
+        standing_of audit.standings new put keeps.standings;
     prefixes = keeps.prefixes;
     holders = keeps.holders;
     requests = keeps.requests;
     assignments = keeps.assignments;
+    links = keeps.links;
     free = left;
   }
 
@@ -149,11 +177,12 @@ module _ (audit : Audit) (w : World) (keeps : Keeps audit w) where
   keeps_prefix new prefix put free left = record {
     caps = keeps.caps;
     registries = keeps.registries;
-    assignees = keeps.assignees;
+    standings = keeps.standings;
     prefixes = key_put number_keys w.pool prefix tt audit.prefixes new put keeps.prefixes;
     holders = keeps.holders;
     requests = keeps.requests;
     assignments = keeps.assignments;
+    links = keeps.links;
     free = left;
   }
 
@@ -164,27 +193,130 @@ module _ (audit : Audit) (w : World) (keeps : Keeps audit w) where
   keeps_block new holding put free left = record {
     caps = keeps.caps;
     registries = keeps.registries;
-    assignees = keeps.assignees;
+    standings = keeps.standings;
     prefixes = keeps.prefixes;
     holders = part_put block_keys w.blocks holding.block (holder_in holding) account_of
         audit.holders new put keeps.holders;
     requests = keeps.requests;
     assignments = keeps.assignments;
+    links = keeps.links;
     free = left;
   }
 
-  pub keeps_request : (new : BTreeSet RequestName) (request : Request)
-      → set.Updates name_cmp audit.requests new (name_of request) true
+  pub keeps_request : (new : BTreeMap RequestName Bool) (request : Request)
+      → tree.Updates name_cmp audit.requests new (name_of request)
+      (Some (awaits_minute (case_of request)))
       → Keeps (record audit { requests = new }) (with_row w (row.Request request))
   keeps_request new request put = record {
     caps = keeps.caps;
     registries = keeps.registries;
-    assignees = keeps.assignees;
+    standings = keeps.standings;
     prefixes = keeps.prefixes;
     holders = keeps.holders;
-    requests = key_put name_keys w.requests (name_of request) (case_of request) audit.requests
-        new put keeps.requests;
+    requests = part_put name_keys w.requests (name_of request) (case_of request) awaits_minute
+        audit.requests new put keeps.requests;
     assignments = keeps.assignments;
+    links = keeps.links;
+    free = keeps.free;
+  }
+
+  -- a mark of an entry that stands: it can be held no more
+  held_with : (new : BTreeMap Place Standing) (place : Place) (a : Registration)
+      → tree.Updates place_cmp audit.standings new place
+      (Some (standing_of (with_hold true a)))
+      → get w.entries place ≡ Some a → (q : Place)
+      → tree.get place_cmp new q ≡ option_map standing_of (get (update w.entries place (with_hold true)) q)
+  held_with new place a put is q =
+      part_put place_keys w.entries place (with_hold true a) standing_of audit.standings new put
+      keeps.standings q
+      ∙ sym (ap (λ r. option_map standing_of (get (replaced w.entries place (option_map (with_hold true) r)) q)) is)
+
+  pub keeps_hold : (new : BTreeMap Place Standing) (registry : List ℕ) (value : ℕ) (was : Standing)
+      → tree.get place_cmp audit.standings (registry, value) ≡ Some was
+      → tree.Updates place_cmp audit.standings new (registry, value)
+      (Some (record was { can_be_held = false }))
+      → Keeps (record audit { standings = new }) (with_row w (row.Hold registry value))
+  keeps_hold new registry value was there put = record {
+    caps = keeps.caps;
+    registries = keeps.registries;
+    standings = by (get w.entries (registry, value)) refl
+        (sym (keeps.standings (registry, value)) ∙ there);
+    prefixes = keeps.prefixes;
+    holders = keeps.holders;
+    requests = keeps.requests;
+    assignments = keeps.assignments;
+    links = keeps.links;
+    free = marked_free w (registry, value) audit.free keeps.free;
+  }
+    where
+      by : (r : Option Registration) → get w.entries (registry, value) ≡ r
+          → option_map standing_of r ≡ Some was → (q : Place)
+          → tree.get place_cmp new q
+          ≡ option_map standing_of (get (update w.entries (registry, value) (with_hold true)) q)
+      by None is e = absurd (cc)
+      by (Some a) is e =
+          let same : standing_of a ≡ was = cc in
+          held_with new (registry, value) a
+          (subst (λ (s : Standing). tree.Updates place_cmp audit.standings new (registry, value)
+          (Some (record s { can_be_held = false }))) (sym same) put) is
+
+  -- where no entry is, none is marked
+  pub keeps_unheld : (registry : List ℕ) (value : ℕ)
+      → tree.get place_cmp audit.standings (registry, value) ≡ None
+      → Keeps audit (with_row w (row.Hold registry value))
+  keeps_unheld registry value none =
+      by (get w.entries (registry, value)) refl
+      (sym (keeps.standings (registry, value)) ∙ none)
+    where
+      by : (r : Option Registration) → get w.entries (registry, value) ≡ r
+          → option_map standing_of r ≡ None → Keeps audit (with_row w (row.Hold registry value))
+      by None is e =
+          subst (λ (m : FinMap place_cmp Registration). Keeps audit (record w { entries = m }))
+          (sym (ap (λ r. replaced w.entries (registry, value) (option_map (with_hold true) r)) is))
+          keeps
+      by (Some a) is e = absurd (cc)
+
+  -- a minute of a renewal that is there: no other comes
+  pub keeps_minute : (new : BTreeMap RequestName Bool) (account reference minute : List ℕ)
+      → tree.Updates name_cmp audit.requests new (account, reference) (Some false)
+      → IsNew w (row.Minute account reference minute)
+      → Keeps (record audit { requests = new }) (with_row w (row.Minute account reference minute))
+  keeps_minute new account reference minute put new_row = record {
+    caps = keeps.caps;
+    registries = keeps.registries;
+    standings = keeps.standings;
+    prefixes = keeps.prefixes;
+    holders = keeps.holders;
+    requests = by (get w.requests (account, reference)) refl new_row;
+    assignments = keeps.assignments;
+    links = keeps.links;
+    free = keeps.free;
+  }
+    where
+      by : (r : Option Case) → get w.requests (account, reference) ≡ r → is_unminuted r ≡ true
+          → (q : RequestName) → tree.get name_cmp new q
+          ≡ option_map awaits_minute (get (update w.requests (account, reference) (with_minute (Some minute))) q)
+      by None is e = absurd (cc)
+      by (Some case) is e = λ q.
+          part_put name_keys w.requests (account, reference) (with_minute (Some minute) case) awaits_minute
+          audit.requests new
+          (subst (λ (b : Bool). tree.Updates name_cmp audit.requests new (account, reference) (Some b))
+          (sym (minute_came minute case.ask)) put) keeps.requests q
+          ∙ sym (ap (λ r. option_map awaits_minute
+          (get (replaced w.requests (account, reference) (option_map (with_minute (Some minute)) r)) q)) is)
+
+  pub keeps_link : (new : BTreeSet Link) (principal agent : List ℕ)
+      → set.Updates link_cmp audit.links new (principal, agent) true
+      → Keeps (record audit { links = new }) (with_row w (row.Link principal agent))
+  keeps_link new principal agent put = record {
+    caps = keeps.caps;
+    registries = keeps.registries;
+    standings = keeps.standings;
+    prefixes = keeps.prefixes;
+    holders = keeps.holders;
+    requests = keeps.requests;
+    assignments = keeps.assignments;
+    links = key_put link_keys w.agents (principal, agent) tt audit.links new put keeps.links;
     free = keeps.free;
   }
 
@@ -198,7 +330,7 @@ module _ (audit : Audit) (w : World) (keeps : Keeps audit w) where
   keeps_assignment new account reference expert turn put = record {
     caps = keeps.caps;
     registries = keeps.registries;
-    assignees = keeps.assignees;
+    standings = keeps.standings;
     prefixes = keeps.prefixes;
     holders = keeps.holders;
     requests = keeps.requests;
@@ -213,6 +345,7 @@ module _ (audit : Audit) (w : World) (keeps : Keeps audit w) where
         (eq_by_cmp seat_cmp q (seat_of account reference expert)) tt (get w.queue q)
         ∙ sym (ap (option_map (λ there. is_some (get w.advice q)))
         (get-at_insert seat_keys w.queue (seat_of account reference expert) tt q));
+    links = keeps.links;
     free = keeps.free;
   }
 
@@ -225,7 +358,7 @@ module _ (audit : Audit) (w : World) (keeps : Keeps audit w) where
   keeps_advice new account reference expert advice assigned put = record {
     caps = keeps.caps;
     registries = keeps.registries;
-    assignees = keeps.assignees;
+    standings = keeps.standings;
     prefixes = keeps.prefixes;
     holders = keeps.holders;
     requests = keeps.requests;
@@ -239,6 +372,7 @@ module _ (audit : Audit) (w : World) (keeps : Keeps audit w) where
         assigned)
         ∙ sym (ap (λ o. option_map (λ there. is_some o) (get w.queue q))
         (get-at_insert seat_keys w.advice seat advice q));
+    links = keeps.links;
     free = keeps.free;
   }
 
@@ -248,11 +382,26 @@ module _ (audit : Audit) (w : World) (keeps : Keeps audit w) where
   keeps_still new same = record {
     caps = keeps.caps;
     registries = keeps.registries;
-    assignees = keeps.assignees;
+    standings = keeps.standings;
     prefixes = keeps.prefixes;
     holders = keeps.holders;
     requests = keeps.requests;
     assignments = λ q. ap (lookup (is_at (seat_cmp q))) same ∙ keeps.assignments q;
+    links = keeps.links;
+    free = keeps.free;
+  }
+
+  pub keeps_requests_still : (new : BTreeMap RequestName Bool)
+      → tree.IsUnchanged audit.requests new → Keeps (record audit { requests = new }) w
+  keeps_requests_still new same = record {
+    caps = keeps.caps;
+    registries = keeps.registries;
+    standings = keeps.standings;
+    prefixes = keeps.prefixes;
+    holders = keeps.holders;
+    requests = λ q. ap (lookup (is_at (name_cmp q))) same ∙ keeps.requests q;
+    assignments = keeps.assignments;
+    links = keeps.links;
     free = keeps.free;
   }
 
@@ -268,26 +417,28 @@ none_in_set R s none q = ap (list_any (is_at (R q))) none
 
 -- maps and sets without rows keep a world without rows
 pub keeps_none : (audit : Audit) → set.IsEmpty audit.caps → tree.IsEmpty audit.registries
-    → tree.IsEmpty audit.assignees → set.IsEmpty audit.prefixes → tree.IsEmpty audit.holders
-    → set.IsEmpty audit.requests → tree.IsEmpty audit.assignments → MayBeOf empty_world audit.free
-    → Keeps audit empty_world
-keeps_none audit caps registries assignees prefixes holders requests assignments free = record {
+    → tree.IsEmpty audit.standings → set.IsEmpty audit.prefixes → tree.IsEmpty audit.holders
+    → tree.IsEmpty audit.requests → tree.IsEmpty audit.assignments → set.IsEmpty audit.links
+    → MayBeOf empty_world audit.free → Keeps audit empty_world
+keeps_none audit caps registries standings prefixes holders requests assignments links free = record {
   caps = λ q. none_in_set text_cmp audit.caps caps q ∙ sym (ap is_some (get-empty text_cmp q));
   registries = λ q.
       none_in_map text_cmp audit.registries registries q ∙ sym (get-empty text_cmp q);
-  assignees = λ q.
-      none_in_map place_cmp audit.assignees assignees q
-      ∙ sym (ap (option_map assignee_of) (get-empty place_cmp q));
+  standings = λ q.
+      none_in_map place_cmp audit.standings standings q
+      ∙ sym (ap (option_map standing_of) (get-empty place_cmp q));
   prefixes = λ q.
       none_in_set nat_cmp audit.prefixes prefixes q ∙ sym (ap is_some (get-empty nat_cmp q));
   holders = λ q.
       none_in_map block_cmp audit.holders holders q
       ∙ sym (ap (option_map account_of) (get-empty block_cmp q));
   requests = λ q.
-      none_in_set name_cmp audit.requests requests q ∙ sym (ap is_some (get-empty name_cmp q));
+      none_in_map name_cmp audit.requests requests q
+      ∙ sym (ap (option_map awaits_minute) (get-empty name_cmp q));
   assignments = λ q.
       none_in_map seat_cmp audit.assignments assignments q
       ∙ sym (ap (option_map (λ there. is_some (get empty_world.advice q)))
       (get-empty seat_cmp q));
+  links = λ q. none_in_set link_cmp audit.links links q ∙ sym (ap is_some (get-empty link_cmp q));
   free = free;
 }

@@ -1,4 +1,5 @@
 pub mod Neighbours
+pub mod Minutes
 pub mod Parts
 pub mod RowsDecide
 pub mod KeptRows

@@ -1,17 +1,22 @@
 -- Parts of well kept worlds are well kept.
-use Rattle.std.proofs.Common.{◌≡◌, true, refl, ap, ◌∙◌, inl, inr}
+use Rattle.std.proofs.Common.{◌≡◌, ℕ, true, List, refl, sym, ap, ◌∙◌, inl, inr}
 use Rattle.std.specs.Prelude.{Option, Some, None, IsSome, is_some, ◌⊎◌}
 use Rattle.std.specs.FinMap as map
 use Rattle.std.specs.FinMap.{FinMap, get, contains_key, get-empty}
 use Rattle.std.specs.declared.cmp.Ordering.{Ordering}
 use Rattle.reg_blocks.specs.Block.{SizedPrefix, leading_24}
-use Rattle.reg_core.specs.WellKept.{WellKept, is_open_at, stands_in}
+use Rattle.reg_early.specs.Terms.{may_be_held}
+use Rattle.reg_core.specs.Entry.{with_hold}
+use Rattle.reg_core.specs.Minutes.{with_minute}
+use Rattle.reg_core.specs.WellKept.{WellKept, has_entry_form, has_request_form, is_open_at, stands_in}
 use Rattle.reg_core.specs.World.{World, Place, RequestName, Seat}
 use Rattle.reg_core.specs.declared.advice.Advice.{Advice}
 use Rattle.reg_core.specs.declared.entry.Registration.{Registration}
 use Rattle.reg_core.specs.declared.holding.Holder.{Holder}
 use Rattle.reg_core.specs.declared.request.Case.{Case}
 use Rattle.reg_audit.specs.Laws.{IsPart}
+use Rattle.reg_audit.specs.Rows.{lacks_minute}
+use Rattle.reg_audit.proofs.Minutes.{hold_lowered, named_stands, request_lowered}
 
 -- a map without rows has none
 pub no_row : {K X P : Type 0} {R : K → K → Ordering} (m : FinMap R X) → m ≡ map.empty → (k : K)
@@ -35,13 +40,43 @@ still_there {X = X} m n each k there = from (get m k) refl there
     from (Some x) is there = ap is_some (each k x is)
 
 module _ (part whole : World) (rows : IsPart part whole) (kept : WellKept whole) where
+  -- what holds of each entry of the whole, and of one without its mark if it does with it, holds of
+  -- each of the part
+  entered : (P : Place → Registration → Type 0)
+      → ((place : Place) (a : Registration) → P place (with_hold true a) → P place a)
+      → ((place : Place) (a : Registration) → get whole.entries place ≡ Some a → P place a)
+      → (place : Place) (a : Registration) → get part.entries place ≡ Some a → P place a
+  entered P unmarked each place a there = by (rows.entries place a there)
+    where
+      by : (get whole.entries place ≡ Some a) ⊎ (get whole.entries place ≡ Some (with_hold true a))
+          → P place a
+      by (inl is) = each place a is
+      by (inr is) = unmarked place a (each place (with_hold true a) is)
+
+  -- and so of each request
+  asked : (P : RequestName → Case → Type 0)
+      → ((name : RequestName) (case : Case) (minute : List ℕ) → lacks_minute case.ask ≡ true
+      → P name (with_minute (Some minute) case) → P name case)
+      → ((name : RequestName) (case : Case) → get whole.requests name ≡ Some case → P name case)
+      → (name : RequestName) (case : Case) → get part.requests name ≡ Some case → P name case
+  asked P unminuted each name case there = by (rows.requests name case there)
+    where
+      by : (get whole.requests name ≡ Some case)
+          ⊎ ((minute : List ℕ) × (lacks_minute case.ask ≡ true)
+          × (get whole.requests name ≡ Some (with_minute (Some minute) case)))
+          → P name case
+      by (inl is) = each name case is
+      by (inr (minute, lacks, is)) =
+          unminuted name case minute lacks (each name (with_minute (Some minute) case) is)
+
   opened : (part.entries ≡ map.empty) ⊎ (part.registries ≡ whole.registries) → (place : Place)
       (a : Registration) → get part.entries place ≡ Some a
       → is_open_at (get part.registries place.0) place.1 ≡ true
   opened (inl none) place a there = no_row part.entries none place a there
   opened (inr all) place a there =
       ap (λ m. is_open_at (get m place.0) place.1) all
-      ∙ kept.open_values place a (rows.entries place a there)
+      ∙ entered (λ place a. is_open_at (get whole.registries place.0) place.1 ≡ true)
+      (λ place a opened. opened) kept.open_values place a there
 
   standing : (part.requests ≡ map.empty)
       ⊎ ((part.entries ≡ whole.entries) × (part.blocks ≡ whole.blocks)) → (name : RequestName)
@@ -50,7 +85,10 @@ module _ (part whole : World) (rows : IsPart part whole) (kept : WellKept whole)
   standing (inl none) name case there = no_row part.requests none name case there
   standing (inr (entries, blocks)) name case there =
       (λ i. stands_in (entries i) (blocks i) name.0 case.ask case.state)
-      ∙ kept.given name case (rows.requests name case there)
+      ∙ asked (λ name case. stands_in whole.entries whole.blocks name.0 case.ask case.state ≡ true)
+      (λ name case minute lacks stands.
+      sym (named_stands whole.entries whole.blocks name.0 minute case.ask case.state) ∙ stands)
+      kept.given name case there
 
   requested : (part.queue ≡ map.empty) ⊎ (part.requests ≡ whole.requests) → (seat : Seat)
       → contains_key part.queue seat ≡ true → IsSome (get part.requests seat.0)
@@ -78,9 +116,12 @@ module _ (part whole : World) (rows : IsPart part whole) (kept : WellKept whole)
   part_kept = record {
     caps = λ digest cap there. kept.caps digest cap (rows.caps digest cap there);
     registries = λ name table there. kept.registries name table (rows.registries name table there);
-    entries = λ place a there. kept.entries place a (rows.entries place a there);
+    entries = entered (λ place a. has_entry_form place a ≡ true) (λ place a form. form) kept.entries;
+    held = entered (λ place a. may_be_held a.term ≡ true)
+        (λ place a expires. hold_lowered a.term.held (is_some a.term.expires) expires) kept.held;
     open_values = opened rows.all_registries;
-    requests = λ name case there. kept.requests name case (rows.requests name case there);
+    requests = asked (λ name case. has_request_form name case ≡ true)
+        (λ name case minute lacks form. request_lowered name minute case lacks form) kept.requests;
     given = standing rows.all_given;
     queue = λ seat there. kept.queue seat (rows.queue seat there);
     queued = requested rows.all_requests;
@@ -92,4 +133,5 @@ module _ (part whole : World) (rows : IsPart part whole) (kept : WellKept whole)
     apart = λ a b in_a in_b.
         kept.apart a b (still_there part.blocks whole.blocks rows.blocks a in_a)
         (still_there part.blocks whole.blocks rows.blocks b in_b);
+    agents = λ link there. kept.agents link (rows.agents link there);
   }

@@ -7,42 +7,51 @@ use Rattle.std.specs.Ordering.{nat_cmp}
 use Rattle.reg_blocks.specs.Block.{SizedPrefix, block_cmp}
 use Rattle.reg_core.specs.Maps.{text_cmp}
 use Rattle.reg_core.specs.WellKept.{WellKept}
-use Rattle.reg_core.specs.World.{World, Place, RequestName, Seat, name_cmp, place_cmp, seat_cmp}
+use Rattle.reg_core.specs.World.{World, Link, Place, RequestName, Seat, link_cmp, name_cmp, place_cmp, seat_cmp}
 use Rattle.reg_core.specs.declared.entry.Registration.{Registration}
 use Rattle.reg_core.specs.declared.holding.Holder.{Holder}
+use Rattle.reg_core.specs.declared.request.Case.{Case}
 use Rattle.reg_vacancies.specs.Vacancies.{MayBeOf}
-use Rattle.reg_audit.specs.Rows.{with_row, IsNew, IsInTurn}
+use Rattle.reg_audit.specs.Rows.{can_be_held, lacks_minute, with_row, IsNew, IsInTurn}
 use Rattle.reg_audit.specs.declared.audit.Audit.{Audit}
+use Rattle.reg_audit.specs.declared.requests.Standing.{Standing}
 use Rattle.reg_audit.specs.declared.row.Row.{Row}
 
-abbrev pub assignee_of : Registration → List ℕ
-assignee_of a = a.assignee
+abbrev pub standing_of : Registration → Standing
+standing_of a = record { assignee = a.assignee; can_be_held = can_be_held a.term }
 
 abbrev pub account_of : Holder → List ℕ
 account_of h = h.account
+
+-- whether a minute may come to the request
+abbrev pub awaits_minute : Case → Bool
+awaits_minute case = lacks_minute case.ask
 
 -- whether the expert gave an advice, of an expert to whom the request is assigned
 abbrev pub advised_at : World → Seat → Option Bool
 advised_at w seat = option_map (λ there. is_some (get w.advice seat)) (get w.queue seat)
 
--- the keys of the world's capabilities, its registries and its pool, the assignees of its entries,
--- the accounts that hold its blocks, the names of its requests, which of its assignments were
--- advised, and what is free in it, where there was memory for that
+-- the keys of the world's capabilities, its registries, its pool and its links, the assignees of its
+-- entries and which of them can be held, the accounts that hold its blocks, which of its requests
+-- await a minute and which of its assignments were advised, and what is free in it, where there was
+-- memory for that
 pub record Keeps (audit : Audit) (w : World) : Type 0 where
   pub caps : (digest : List ℕ)
       → set.contains text_cmp audit.caps digest ≡ contains_key w.caps digest
   pub registries : (name : List ℕ)
       → tree.get text_cmp audit.registries name ≡ get w.registries name
-  pub assignees : (place : Place)
-      → tree.get place_cmp audit.assignees place ≡ option_map assignee_of (get w.entries place)
+  pub standings : (place : Place)
+      → tree.get place_cmp audit.standings place ≡ option_map standing_of (get w.entries place)
   pub prefixes : (prefix : ℕ)
       → set.contains nat_cmp audit.prefixes prefix ≡ contains_key w.pool prefix
   pub holders : (block : SizedPrefix)
       → tree.get block_cmp audit.holders block ≡ option_map account_of (get w.blocks block)
   pub requests : (name : RequestName)
-      → set.contains name_cmp audit.requests name ≡ contains_key w.requests name
+      → tree.get name_cmp audit.requests name ≡ option_map awaits_minute (get w.requests name)
   pub assignments : (seat : Seat)
       → tree.get seat_cmp audit.assignments seat ≡ advised_at w seat
+  pub links : (link : Link)
+      → set.contains link_cmp audit.links link ≡ contains_key w.agents link
   pub free : MayBeOf w audit.free
 
 -- what the audit says of the rows that it was fed

@@ -1,10 +1,10 @@
 //! The audit of an office's rows.
-ghost use Rattle.std.specs.Prelude.{◌≡◌, ◌↔◌, IsTrue, OnOk, OnErr};
+ghost use Rattle.std.specs.Prelude.{◌≡◌, ◌↔◌, false, IsTrue, OnOk, OnErr, unwrap_or};
 ghost use Rattle.std.specs.BTreeMap.{get};
 ghost use Rattle.std.specs.FinMap.{contains_key};
 ghost use Rattle.reg_blocks.specs.Block.{leading_24};
 ghost use Rattle.reg_core.specs.WellKept.{WellKept};
-ghost use Rattle.reg_core.specs.World.{World, empty_world, seat_cmp};
+ghost use Rattle.reg_core.specs.World.{World, empty_world, name_cmp, seat_cmp};
 ghost use Rattle.reg_vacancies.specs.Vacancies.{MayBeOf};
 ghost use Rattle.reg_audit.specs.Rows.{with_row, seat_of, IsNew, IsInTurn, Fits};
 ghost use Rattle.reg_audit.specs.declared.row.Row.TheVariants as row;
@@ -12,13 +12,15 @@ ghost use Rattle.reg_audit.specs.declared.row.Row.TheVariants as row;
 use crate::blocks::{Holders, is_apart, leading_bits};
 use crate::free::{with_block, with_prefix, with_value};
 use crate::maps::{add_key, set_row};
-use crate::requests::{Assignees, stands};
+use crate::marks::{can_be_held, lacks_minute, may_be_held};
+use crate::requests::{Standing, Standings, is_holdable, stands};
 use crate::row::Row;
 use crate::values::{Registries, is_open};
 use reg_blocks::pool::is_pool_prefix;
 use reg_core::entry::Entry;
 use reg_core::holding::Holding;
-use reg_core::text::{Account, Digest, Ref};
+use reg_core::request::Request;
+use reg_core::text::{Account, Digest, Name, Ref};
 use reg_ranges::formed::Formed;
 use reg_vacancies::vacancies::Vacancies;
 use std::alloc::{AllocError, Global};
@@ -27,18 +29,21 @@ use std::collections::{BTreeMap, BTreeSet};
 /// Finds whether rows make a well kept office, as they are read one by one. Of each row it keeps
 /// only what later rows are judged by, and after a row that does not fit nothing more.
 ///
-/// Registries come before entries, prefixes before blocks, entries and blocks before requests,
-/// requests before assignments, and these before advice.
+/// Registries come before entries, and these before marks; prefixes before blocks; entries, marks and
+/// blocks before requests, and these before minutes; requests and minutes before assignments, and
+/// these before advice.
 #[derive(Drop)]
 pub struct Audit {
     caps: BTreeSet<Digest>,
     registries: Registries,
-    assignees: Assignees,
+    standings: Standings,
     prefixes: BTreeSet<u32>,
     holders: Holders,
-    requests: BTreeSet<(Account, Ref)>,
+    // Whether it is for a renewal that names no minute, so that one may come.
+    requests: BTreeMap<(Account, Ref), bool>,
     // Whether the expert gave an advice.
     assignments: BTreeMap<((Account, Ref), Account), bool>,
+    links: BTreeSet<(Account, Account)>,
     // What the entries, the prefixes and the blocks leave free; none where there was no memory.
     free: Option<Vacancies>,
     // Whether all rows were new and fitted.
@@ -55,11 +60,12 @@ impl Audit {
         Audit {
             caps: BTreeSet::new(alloc),
             registries: BTreeMap::new(alloc),
-            assignees: BTreeMap::new(alloc),
+            standings: BTreeMap::new(alloc),
             prefixes: BTreeSet::new(alloc),
             holders: BTreeMap::new(alloc),
-            requests: BTreeSet::new(alloc),
+            requests: BTreeMap::new(alloc),
             assignments: BTreeMap::new(alloc),
+            links: BTreeSet::new(alloc),
             free: Some(Vacancies::new(alloc)),
             well_kept: true,
         }
@@ -119,18 +125,21 @@ impl Audit {
         match row {
             Row::Cap(digest, _) => !self.caps.contains(digest),
             Row::Registry(name, _) => !self.registries.contains_key(name),
-            Row::Entry(entry) => !self.assignees.contains_key(&(entry.registry, entry.value)),
+            Row::Entry(entry) => !self.standings.contains_key(&(entry.registry, entry.value)),
+            Row::Hold(registry, value) => is_holdable(self.standings.get(&(*registry, *value))),
             Row::Prefix(prefix) => !self.prefixes.contains(prefix),
             Row::Block(holding) => !self.holders.contains_key(&holding.block),
             Row::Request(request) => !self
                 .requests
-                .contains(&(request.account, request.reference)),
+                .contains_key(&(request.account, request.reference)),
+            Row::Minute(account, reference, _) => self.awaits_minute(account, reference),
             Row::Assignment(account, reference, expert) => {
                 self.advised(account, reference, expert).is_none()
             }
             Row::Advice(account, reference, expert, _) => {
                 !self.advised(account, reference, expert).unwrap_or(false)
             }
+            Row::Link(principal, agent) => !self.links.contains(&(*principal, *agent)),
         }
     }
 
@@ -140,20 +149,35 @@ impl Audit {
     {
         match row {
             Row::Cap(_, _) | Row::Registry(_, _) => true,
-            Row::Entry(entry) => is_open(&self.registries, &entry.registry, entry.value),
+            Row::Hold(_, _) | Row::Minute(_, _, _) => true,
+            Row::Entry(entry) => {
+                is_open(&self.registries, &entry.registry, entry.value) && may_be_held(&entry.term)
+            }
             Row::Prefix(prefix) => is_pool_prefix(*prefix),
             Row::Block(holding) => {
                 self.prefixes.contains(&leading_bits(&holding.block))
                     && is_apart(&self.holders, &holding.block)
             }
-            Row::Request(request) => stands(&self.assignees, &self.holders, request),
+            Row::Request(request) => stands(&self.standings, &self.holders, request),
             Row::Assignment(account, reference, expert) => {
-                expert != account && self.requests.contains(&(*account, *reference))
+                expert != account && self.requests.contains_key(&(*account, *reference))
             }
             Row::Advice(account, reference, expert, _) => {
                 self.advised(account, reference, expert).is_some()
             }
+            Row::Link(principal, agent) => agent != principal,
         }
+    }
+
+    // Whether a request is for a renewal, and no minute came of it yet.
+    fn awaits_minute(&self, account: &Account, reference: &Ref) -> bool
+        ensures { result ≡ unwrap_or
+            (get name_cmp self.now.requests (account.now, reference.now)) false }
+    {
+        self.requests
+            .get(&(*account, *reference))
+            .copied()
+            .unwrap_or(false)
     }
 
     // Whether an expert gave an advice on a request, if it is assigned to the expert.
@@ -168,8 +192,8 @@ impl Audit {
 
     // Keeps of a row that is in turn, and fits, what later rows are judged by.
     fn keep(&mut self, row: Row) -> Result<(), AllocError>
-        ensures ok { OnOk result ((w : World) → Keeps self.old w → IsInTurn w row → Fits w row
-            → Keeps self.new (with_row w row)) }
+        ensures ok { OnOk result ((w : World) → Keeps self.old w → IsInTurn w row → IsNew w row
+            → Fits w row → Keeps self.new (with_row w row)) }
         ensures err { OnErr result ((w : World) → Keeps self.old w → Keeps self.new w) }
         ensures same { self.new.well_kept ≡ self.old.well_kept }
     {
@@ -177,10 +201,12 @@ impl Audit {
             Row::Cap(digest, _) => add_key(&mut self.caps, digest),
             Row::Registry(name, table) => set_row(&mut self.registries, name, table),
             Row::Entry(entry) => self.keep_entry(&entry),
+            Row::Hold(registry, value) => self.keep_hold(registry, value),
             Row::Prefix(prefix) => self.keep_prefix(prefix),
             Row::Block(holding) => self.keep_block(&holding),
-            Row::Request(request) => {
-                add_key(&mut self.requests, (request.account, request.reference))
+            Row::Request(request) => self.keep_request(&request),
+            Row::Minute(account, reference, _) => {
+                set_row(&mut self.requests, (account, reference), false)
             }
             Row::Assignment(account, reference, expert) => {
                 set_row(&mut self.assignments, ((account, reference), expert), false)
@@ -188,23 +214,56 @@ impl Audit {
             Row::Advice(account, reference, expert, _) => {
                 set_row(&mut self.assignments, ((account, reference), expert), true)
             }
+            Row::Link(principal, agent) => add_key(&mut self.links, (principal, agent)),
         }
     }
 
-    // Keeps the assignee of an entry, whose value is free no more.
+    // Keeps the assignee of an entry, and whether it can be held. Its value is free no more.
     fn keep_entry(&mut self, entry: &Entry) -> Result<(), AllocError>
         ensures ok { OnOk result ((w : World) → Keeps self.old w
             → Keeps self.new (with_row w (row.Entry entry.now))) }
         ensures err { OnErr result ((w : World) → Keeps self.old w → Keeps self.new w) }
         ensures same { self.new.well_kept ≡ self.old.well_kept }
     {
-        set_row(
-            &mut self.assignees,
-            (entry.registry, entry.value),
-            entry.assignee,
-        )?;
+        let standing = Standing {
+            assignee: entry.assignee,
+            can_be_held: can_be_held(&entry.term),
+        };
+        set_row(&mut self.standings, (entry.registry, entry.value), standing)?;
         self.free = with_value(self.free.take(), entry);
         Ok(())
+    }
+
+    // Keeps that an entry is held. Its value is free no more than before.
+    fn keep_hold(&mut self, registry: Name, value: u32) -> Result<(), AllocError>
+        ensures ok { OnOk result ((w : World) → Keeps self.old w
+            → Keeps self.new (with_row w (row.Hold registry value))) }
+        ensures err { OnErr result ((w : World) → Keeps self.old w → Keeps self.new w) }
+        ensures same { self.new.well_kept ≡ self.old.well_kept }
+    {
+        let place = (registry, value);
+        let Some(standing) = self.standings.get(&place).copied() else {
+            return Ok(());
+        };
+        let held = Standing {
+            can_be_held: false,
+            ..standing
+        };
+        set_row(&mut self.standings, place, held)
+    }
+
+    // Keeps the name of a request, and whether it awaits a minute.
+    fn keep_request(&mut self, request: &Request) -> Result<(), AllocError>
+        ensures ok { OnOk result ((w : World) → Keeps self.old w
+            → Keeps self.new (with_row w (row.Request request.now))) }
+        ensures err { OnErr result ((w : World) → Keeps self.old w → Keeps self.new w) }
+        ensures same { self.new.well_kept ≡ self.old.well_kept }
+    {
+        set_row(
+            &mut self.requests,
+            (request.account, request.reference),
+            lacks_minute(&request.ask),
+        )
     }
 
     // Keeps a prefix that may be in a pool, and the places in it.

@@ -6,6 +6,7 @@ mod blocks;
 mod free;
 pub mod laws;
 mod maps;
+mod marks;
 mod requests;
 pub mod row;
 mod values;

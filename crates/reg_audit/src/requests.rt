@@ -5,7 +5,7 @@ ghost use Rattle.std.specs.Option.{option_copied};
 ghost use Rattle.reg_blocks.specs.Block.{block_cmp};
 ghost use Rattle.reg_core.specs.Ask.{registry_of};
 ghost use Rattle.reg_core.specs.WellKept.{is_size_asked};
-ghost use Rattle.reg_audit.specs.Requests.{is_account, is_assigned_at, stands_by};
+ghost use Rattle.reg_audit.specs.Requests.{is_account, is_assigned_at, is_assignee, is_holdable, stands_by};
 
 use crate::blocks::Holders;
 use reg_blocks::block::Block;
@@ -15,19 +15,38 @@ use reg_core::request::{Given, Request, State};
 use reg_core::text::{Account, Name};
 use std::collections::BTreeMap;
 
-/// The assignee of each entry, by registry and value.
-pub type Assignees = BTreeMap<(Name, u32), Account>;
+/// What is kept of an entry.
+#[derive(Clone, Copy)]
+pub struct Standing {
+    /// To whom the value is assigned.
+    pub assignee: Account,
+    /// Whether the entry expires and is not held, so that a mark of it may come.
+    pub can_be_held: bool,
+}
+
+/// What is kept of each entry, by registry and value.
+pub type Standings = BTreeMap<(Name, u32), Standing>;
+
+/// Whether there is an entry that expires, and no mark of it came yet.
+pub fn is_holdable(found: Option<&Standing>) -> bool
+    ensures { result ≡ is_holdable (option_copied found.entry) }
+{
+    match found {
+        Some(standing) => standing.can_be_held,
+        None => false,
+    }
+}
 
 /// Whether an approved request was given an entry of its account's, or a block of the size that it
 /// asked for, which its account holds.
-pub fn stands(assignees: &Assignees, holders: &Holders, request: &Request) -> bool
-    ensures { result ≡ stands_by assignees.now holders.now request.now.account request.now.ask
+pub fn stands(standings: &Standings, holders: &Holders, request: &Request) -> bool
+    ensures { result ≡ stands_by standings.now holders.now request.now.account request.now.ask
         request.now.state }
 {
     match &request.state {
         State::Approved(Given::Value(value)) => {
             is_assigned(
-                assignees,
+                standings,
                 &request.account,
                 registry_of(&request.ask),
                 *value,
@@ -41,11 +60,21 @@ pub fn stands(assignees: &Assignees, holders: &Holders, request: &Request) -> bo
 }
 
 // Whether the account has the entry at a value of a registry.
-fn is_assigned(assignees: &Assignees, account: &Account, registry: Option<Name>, value: u32) -> bool
-    ensures { result ≡ is_assigned_at assignees.now account.now registry value }
+fn is_assigned(standings: &Standings, account: &Account, registry: Option<Name>, value: u32) -> bool
+    ensures { result ≡ is_assigned_at standings.now account.now registry value }
 {
     match registry {
-        Some(name) => is_same(assignees.get(&(name, value)), account),
+        Some(name) => is_assignee(standings.get(&(name, value)), account),
+        None => false,
+    }
+}
+
+// Whether there is an entry and the account is its assignee.
+fn is_assignee(found: Option<&Standing>, account: &Account) -> bool
+    ensures { result ≡ is_assignee account.now (option_copied found.entry) }
+{
+    match found {
+        Some(standing) => standing.assignee == *account,
         None => false,
     }
 }

@@ -12,7 +12,7 @@ use reg_core::capability::Cap;
 use reg_core::entry::Entry;
 use reg_core::holding::Holding;
 use reg_core::request::Request;
-use reg_core::text::{Account, Digest, Name, Ref};
+use reg_core::text::{Account, Digest, Name, Ref, Text};
 use reg_ranges::formed::Formed;
 use reg_ranges::table::RangeTable;
 
@@ -25,17 +25,23 @@ pub enum Row {
     Registry(Name, RangeTable),
     /// An entry of a registry.
     Entry(Entry),
+    /// A clerk's mark by which an entry is held: the entry's registry and value.
+    Hold(Name, u32),
     /// A prefix of the pool.
     Prefix(u32),
     /// A block that was given, with its holder.
     Block(Holding),
     /// A request.
     Request(Request),
+    /// A minute of the IESG that a renewal names: the request's account and reference, the minute.
+    Minute(Account, Ref, Text),
     /// An expert to whom a request is assigned: the request's account and reference, the expert.
     Assignment(Account, Ref, Account),
     /// What an expert says of a request: the request's account and reference, the expert, the
     /// advice.
     Advice(Account, Ref, Account, Advice),
+    /// An agent who may read a principal's requests: the principal, the agent.
+    Link(Account, Account),
 }
 
 impl Formed for Row {
@@ -55,11 +61,20 @@ impl Formed for Row {
                 table.formed();
             }
             Row::Entry(entry) => entry_formed(entry),
+            Row::Hold(registry, value) => {
+                registry.formed();
+                let _value = *value;
+            }
             Row::Prefix(prefix) => {
                 let _prefix = *prefix;
             }
             Row::Block(holding) => holding_formed(holding),
             Row::Request(request) => request_formed(request),
+            Row::Minute(account, reference, minute) => {
+                account.formed();
+                reference.formed();
+                minute.formed();
+            }
             Row::Assignment(account, reference, expert) => {
                 account.formed();
                 reference.formed();
@@ -70,6 +85,10 @@ impl Formed for Row {
                 reference.formed();
                 expert.formed();
                 advice.formed();
+            }
+            Row::Link(principal, agent) => {
+                principal.formed();
+                agent.formed();
             }
         }
     }

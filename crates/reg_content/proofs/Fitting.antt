@@ -1,13 +1,18 @@
 -- What a change that fits has for the rows that it writes.
-use Rattle.std.proofs.Common.{◌≡◌, true, Option, Some, None, IsSome, option_map, refl, sym, ap, ◌∙◌}
+use Rattle.std.proofs.Common.{◌≡◌, Bool, true, false, not, ◌||◌, Option, Some, None, IsSome, is_some}
+use Rattle.std.proofs.Common.{option_map, refl, sym, ap, ◌∙◌}
 use Rattle.std.specs.FinMap.{FinMap, get}
 use Rattle.std.specs.Ordering.{eq_by_cmp}
+use Rattle.reg_core.specs.Entry.{with_hold}
+use Rattle.reg_core.specs.Maps.{update}
 use Rattle.reg_core.specs.WellKept.{WellKept}
-use Rattle.reg_core.specs.World.{World, RequestName, in_state, name_cmp, with_state}
+use Rattle.reg_core.specs.World.{World, Place, RequestName, in_state, name_cmp, with_state}
+use Rattle.reg_core.specs.declared.entry.Registration.{Registration}
 use Rattle.reg_core.specs.declared.request.Case.{Case}
 use Rattle.reg_core.specs.declared.request.State.{State}
-use Rattle.reg_core.proofs.MapLaws.{get-updated, name_keys, tied}
+use Rattle.reg_core.proofs.MapLaws.{get-updated, name_keys, place_keys, tied}
 use Rattle.reg_records.specs.Requests.Forms.{gives_its_kind}
+use Rattle.reg_content.specs.Marks.{IsHeldSo}
 use Rattle.reg_records.proofs.RequestLaws.Kept.{stands_in-gives_its_kind}
 
 there : {X : Type 0} (o : Option X) → IsSome o → (x : X) × (o ≡ Some x)
@@ -39,3 +44,28 @@ given_kind w after name state some kept same =
       stands_in-gives_its_kind after.entries after.blocks name.0 it.0.ask state
           (kept.given name (in_state state it.0) now),
     )
+
+-- an entry that is held expires
+pub given_expires : (a : Registration) → (not a.term.held || is_some a.term.expires) ≡ true
+    → a.term.held ≡ true → IsSome a.term.expires
+given_expires a may held = ap (λ b. not b || is_some a.term.expires) (sym held) ∙ may
+
+-- and so does one whose mark is turned
+pub may_turn : (w : World) (place : Place) (held : Bool) → WellKept w
+    → WellKept (record w { entries = update w.entries place (with_hold held) })
+    → (a : Registration) × (get w.entries place ≡ Some a) × (a.term.held ≡ not held)
+    → IsHeldSo (not held) place w
+may_turn w place true kept after found = (
+  found.0,
+  found.1,
+  found.2,
+  after.held place (with_hold true found.0)
+      (get-updated place_keys w.entries place (with_hold true)
+      ∙ ap (option_map (with_hold true)) found.1),
+)
+may_turn w place false kept after found = (
+  found.0,
+  found.1,
+  found.2,
+  ap (λ b. not b || is_some found.0.term.expires) (sym found.2) ∙ kept.held place found.0 found.1,
+)

@@ -2,6 +2,9 @@ pub mod Found
 pub mod Statements
 pub mod Looking
 pub mod EntryRowsAscending
+pub mod MappedRows
+pub mod MarkedRows
+pub mod MinutedRows
 pub mod BlockRows
 pub mod BlockRowsListed
 pub mod BlockRowsFound
@@ -19,3 +22,6 @@ pub mod JoinedRows
 pub mod QueuedRows
 pub mod QueuedRowsFound
 pub mod SeatRows
+pub mod MarksWritten
+pub mod MinutesWritten
+pub mod LinkRows

@@ -7,9 +7,9 @@ use Rattle.sqlite.specs.State.{State}
 use Rattle.reg_core.specs.World.{World}
 use Rattle.reg_tables.specs.Connection.{Endures, Holds, IsIdle, Stays}
 use Rattle.reg_content.specs.Calls.{IsKeeping, Looks, LooksAt, LooksIn}
-use Rattle.reg_tables.proofs.Enduring.{endures_then, holds_then, stays_on}
+use Rattle.reg_tables.proofs.Enduring.{endures_still, endures_then, holds_then, stays_on}
 use Rattle.reg_tables.proofs.RestLemmas.{stays_held, stays_same, stays_then}
-use Rattle.reg_statements.specs.Content.{IsStored, assembled, content_of, parts_of, world_in}
+use Rattle.reg_statements.specs.Content.{AreTied, IsStored, assembled, content_of, parts_of}
 use Rattle.reg_statements.specs.Parts.{Parts}
 
 pub keeps_on : (old new : State) → IsKeeping old → IsIdle new → Stays old new → IsKeeping new
@@ -42,6 +42,21 @@ looks_as {old = old} {result = result} {F = F} {G = G} it gives = record {
       (gives (parts_of old.now)) (it.value h);
 }
 
+-- and what is so of them by what their rows owe to one another
+pub looks_tied : {T E : Type 0} {old new : State} {result : Result T E} {F : Parts → T → Type 0}
+    {G : World → T → Type 0} → IsKeeping old → LooksIn old new result F
+    → ((p : Parts) (x : T) → AreTied p → F p x → G (assembled p) x) → Looks old new result G
+looks_tied {old = old} {result = result} {F = F} {G = G} keeping it gives = record {
+  keeping = it.keeping;
+  endures = it.endures;
+  stays = it.stays;
+  on = it.on;
+  value = λ h.
+      let was = keeping.stored (stays_held it.stays h) in
+      IfOk-weaker result (F (parts_of old.now)) (G (content_of old.now))
+      (λ x. gives (parts_of old.now) x was.kept.tied) (it.value h);
+}
+
 -- and of what a later step makes of it, or gives up
 pub looks_if : {T U E F : Type 0} {old new : State} {x : T} {result : Result U E}
     {G : Parts → T → Type 0} {H : World → U → Type 0} → LooksIn {E = F} old new (Ok x) G
@@ -54,7 +69,32 @@ looks_if {old = old} it gives = record {
   value = λ h. gives (parts_of old.now) (it.value h);
 }
 
+-- what is told of a call tells more of it
+pub looks_so : {W T E : Type 0} {seen : Database → W} {old new : State} {result : Result T E}
+    {F G : W → T → Type 0} → LooksAt seen old new result F → ((w : W) (x : T) → F w x → G w x)
+    → LooksAt seen old new result G
+looks_so {seen = seen} {old = old} {result = result} {F = F} {G = G} it tells = record {
+  keeping = it.keeping;
+  endures = it.endures;
+  stays = it.stays;
+  on = it.on;
+  value = λ h. IfOk-weaker result (F (seen old.now)) (G (seen old.now)) (tells (seen old.now))
+      (it.value h);
+}
+
 -- and of what is made of it
+pub looks_told : {W T U E : Type 0} {seen : Database → W} {old new : State} {x : T} {y : U}
+    {F : W → T → Type 0} {G : W → U → Type 0} → LooksAt {E = E} seen old new (Ok x) F
+    → ((w : W) → F w x → G w y) → LooksAt {E = E} seen old new (Ok y) G
+looks_told {seen = seen} {old = old} it gives = record {
+  keeping = it.keeping;
+  endures = it.endures;
+  stays = it.stays;
+  on = it.on;
+  value = λ h. gives (seen old.now) (it.value h);
+}
+
+-- and so of the office
 pub looks_made : {T U E : Type 0} {old new : State} {x : T} {y : U} {F : Parts → T → Type 0}
     {G : World → U → Type 0} → LooksIn {E = E} old new (Ok x) F
     → ((p : Parts) → F p x → G (assembled p) y) → Looks {E = E} old new (Ok y) G
@@ -70,51 +110,63 @@ pub first_of : {T : Type 0} (o : Option T) → slice_get (option_to_list o) 0 �
 first_of None = refl
 first_of (Some x) = refl
 
+-- a call that does nothing looks
+pub looks_still : {W T E : Type 0} {seen : Database → W} {s : State} {x : T}
+    {Gives : W → T → Type 0} → IsKeeping s → ((w : W) → Gives w x)
+    → LooksAt {E = E} seen s s (Ok x) Gives
+looks_still {seen = seen} {s = s} keeping gives =
+    looks keeping keeping.idle (endures_still s)
+    (record { worked = λ h. h; unchanged = λ h. refl })
+    (λ h. gives (seen s.now))
+
 -- two calls that look, one after the other, look as one
-pub looks_then : {T U V E : Type 0} {a b c : State} {x : T} {y : U} {z : V}
-    {F : World → T → Type 0} {G : World → U → Type 0} {H : World → V → Type 0}
-    → Looks {E = E} a b (Ok x) F → Looks {E = E} b c (Ok y) G
-    → ((w : World) → F w x → G w y → H w z) → Looks {E = E} a c (Ok z) H
-looks_then {a = a} {b = b} {c = c} {y = y} {G = G} first second joins = record {
+pub looks_then : {W T U V E : Type 0} {seen : Database → W} {a b c : State} {x : T} {y : U} {z : V}
+    {F : W → T → Type 0} {G : W → U → Type 0} {H : W → V → Type 0}
+    → LooksAt {E = E} seen a b (Ok x) F → LooksAt {E = E} seen b c (Ok y) G
+    → ((w : W) → F w x → G w y → H w z) → LooksAt {E = E} seen a c (Ok z) H
+looks_then {seen = seen} {a = a} {b = b} {c = c} {y = y} {G = G} first second joins = record {
   keeping = second.keeping;
   endures = endures_then a b c first.endures second.endures;
   stays = stays_then a b c first.stays second.stays;
   on = holds_then a b c second.endures first.on second.on;
   value = λ h.
       let held = stays_held second.stays h in
-      let same : world_in b ≡ world_in a = ap content_of (stays_same first.stays held) in
-      joins (world_in a) (first.value held) (subst (λ w. G w y) same (second.value h));
+      let same : seen b.now ≡ seen a.now = ap seen (stays_same first.stays held) in
+      joins (seen a.now) (first.value held) (subst (λ w. G w y) same (second.value h));
 }
 
 -- and so does a call after one that looks
-pub looks_before : {T U E : Type 0} {a b c : State} {x : T} {result : Result U E}
-    {F : World → T → Type 0} {G H : World → U → Type 0}
-    → Looks {E = E} a b (Ok x) F → Looks b c result G
-    → ((w : World) (y : U) → F w x → G w y → H w y) → Looks a c result H
-looks_before {a = a} {b = b} {c = c} {result = result} {G = G} {H = H} first second joins = record {
-  keeping = second.keeping;
-  endures = endures_then a b c first.endures second.endures;
-  stays = stays_then a b c first.stays second.stays;
-  on = holds_then a b c second.endures first.on second.on;
-  value = λ h.
-      let held = stays_held second.stays h in
-      let same : world_in b ≡ world_in a = ap content_of (stays_same first.stays held) in
-      IfOk-weaker result (G (world_in a)) (H (world_in a))
-      (λ y. joins (world_in a) y (first.value held))
-      (subst (λ w. IfOk result (G w)) same (second.value h));
-}
+pub looks_before : {W T U E : Type 0} {seen : Database → W} {a b c : State} {x : T}
+    {result : Result U E} {F : W → T → Type 0} {G H : W → U → Type 0}
+    → LooksAt {E = E} seen a b (Ok x) F → LooksAt seen b c result G
+    → ((w : W) (y : U) → F w x → G w y → H w y) → LooksAt seen a c result H
+looks_before {seen = seen} {a = a} {b = b} {c = c} {result = result} {G = G} {H = H} first second
+    joins = record {
+      keeping = second.keeping;
+      endures = endures_then a b c first.endures second.endures;
+      stays = stays_then a b c first.stays second.stays;
+      on = holds_then a b c second.endures first.on second.on;
+      value = λ h.
+          let held = stays_held second.stays h in
+          let same : seen b.now ≡ seen a.now = ap seen (stays_same first.stays held) in
+          IfOk-weaker result (G (seen a.now)) (H (seen a.now))
+          (λ y. joins (seen a.now) y (first.value held))
+          (subst (λ w. IfOk result (G w)) same (second.value h));
+    }
 
 -- and where the second was given up, nothing is told
-pub looks_failed : {T U V E : Type 0} {a b c : State} {first : Result T E} {second : Result U E}
-    {result : Result V E} {F : World → T → Type 0} {G : World → U → Type 0} {H : World → V → Type 0}
-    → Looks a b first F → Looks b c second G → IsErr result → Looks a c result H
-looks_failed {a = a} {b = b} {c = c} {result = result} {H = H} before after failed = record {
-  keeping = after.keeping;
-  endures = endures_then a b c before.endures after.endures;
-  stays = stays_then a b c before.stays after.stays;
-  on = holds_then a b c after.endures before.on after.on;
-  value = λ h. IfOk-from_err result (H (world_in a)) failed;
-}
+pub looks_failed : {W T U V E : Type 0} {seen : Database → W} {a b c : State} {first : Result T E}
+    {second : Result U E} {result : Result V E} {F : W → T → Type 0} {G : W → U → Type 0}
+    {H : W → V → Type 0} → LooksAt seen a b first F → LooksAt seen b c second G → IsErr result
+    → LooksAt seen a c result H
+looks_failed {seen = seen} {a = a} {b = b} {c = c} {result = result} {H = H} before after failed =
+    record {
+      keeping = after.keeping;
+      endures = endures_then a b c before.endures after.endures;
+      stays = stays_then a b c before.stays after.stays;
+      on = holds_then a b c after.endures before.on after.on;
+      value = λ h. IfOk-from_err result (H (seen a.now)) failed;
+    }
 
 -- two facts of one result
 pub with_both : {T E : Type 0} (result : Result T E) (F G H : T → Type 0) → IfOk result F

@@ -1,4 +1,5 @@
--- What the query on the queue, the requests and the advice finds: the queue of an expert.
+-- What the query on the queue, the requests and the advice finds: the queue of an expert, without the
+-- minutes of its requests.
 use Rattle.std.proofs.Common.{◌≡◌, ℕ, Bool, true, false, cond, List, [], ◌∷◌, ◌++◌, filter}
 use Rattle.std.proofs.Common.{filter_map, refl, sym, ap, subst, ◌∙◌, inl, inr}
 use Rattle.std.proofs.Common.{Option, Some, None, option_map, option_to_list}
@@ -25,10 +26,11 @@ use Rattle.reg_tables.specs.Joining.{advice_agrees, is_of, queued_at, queued_col
 use Rattle.reg_tables.specs.Editing.{has_all}
 use Rattle.reg_tables.specs.Selecting.{stored}
 use Rattle.reg_tables.specs.Values.{same_value}
-use Rattle.reg_statements.specs.Content.{IsStored, advice_at, case_at, content_of, seat_at}
+use Rattle.reg_statements.specs.Content.{IsStored, advice_at, case_at, parts_of, seat_at}
 use Rattle.reg_statements.specs.RowMaps.{PassesAt}
 use Rattle.reg_content.specs.Seats.{assigned_to}
 use Rattle.reg_content.proofs.JoinedRows.{joined_reads, own_advice_at, was_made}
+use Rattle.reg_content.proofs.MinutedRows.{bare_world}
 use Rattle.reg_statements.proofs.RowMaps.Alone.{AreAlone, alone_at}
 use Rattle.reg_statements.proofs.RowMaps.KeyTests.{text_test}
 use Rattle.reg_statements.specs.Office as office
@@ -101,7 +103,7 @@ unfollowed (x ∷ xs) = ap (λ more. x ∷ more) (unfollowed xs)
 
 module _ (db : Database) (was : IsStored db) where
   abbrev w : World
-  w = content_of db
+  w = bare_world (parts_of db)
 
   abbrev joined_at : Row → List Row
   joined_at seat = queued_at (db.trees 9) (db.trees 14) seat

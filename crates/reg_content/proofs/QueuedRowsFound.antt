@@ -1,4 +1,5 @@
--- The queue of an expert, told by the rows that the query on it shows.
+-- The queue of an expert, without the minutes of its requests, told by the rows that the query on it
+-- shows.
 use Rattle.std.proofs.Common.{◌≡◌, ℕ, Bool, true, false, ◌&&◌, cond, List, [], ◌∷◌, map, filter_map}
 use Rattle.std.proofs.Common.{refl, sym, ap, ◌∙◌}
 use Rattle.std.proofs.Common.{Option, Some, None, option_and_then}
@@ -20,10 +21,11 @@ use Rattle.reg_tables.specs.Joining.{queued_rows}
 use Rattle.reg_tables.specs.Texts.{select_queued}
 use Rattle.reg_tables.proofs.JoinLemmas.{queued_selected}
 use Rattle.reg_tables.proofs.SelectLemmas.{office_begins}
-use Rattle.reg_statements.specs.Content.{IsStored, seat_at, world_in}
+use Rattle.reg_statements.specs.Content.{IsStored, parts_of, seat_at}
 use Rattle.reg_statements.specs.Loading.{IsAscending, ReadAs}
 use Rattle.reg_content.specs.Seats.{assigned_to, seen_row}
 use Rattle.reg_content.proofs.JoinedRows.{pairs_ascend, shown_at}
+use Rattle.reg_content.proofs.MinutedRows.{bare_world}
 use Rattle.reg_content.proofs.QueueRows.{by_seat}
 use Rattle.reg_content.proofs.QueuedRows.{queue_reads, queued_pair, seen_by}
 use Rattle.reg_statements.proofs.RowMaps.Ascending.{entries_are}
@@ -103,9 +105,9 @@ module _ (old new : State) (shown : List Row) (was : IsStored old.now) (expert :
 
   -- each request that is found is in the queue, and so each that is in it
   each : (name : RequestName)
-      → get (queue_of expert (world_in old)) name ≡ find name_cmp name pairs
+      → get (queue_of expert (bare_world (parts_of old.now))) name ≡ find name_cmp name pairs
   each name =
-      let w = world_in old in
+      let w = bare_world (parts_of old.now) in
       let seats = filter_map seat_at (old.now.trees 11) in
       by_seat w expert name
       ∙ ap (seen w expert name) (get-from_entries seat_keys.total seats (name, expert))
@@ -117,9 +119,9 @@ module _ (old new : State) (shown : List Row) (was : IsStored old.now) (expert :
       name
 
   -- the requests that are assigned to an expert, as the expert sees them
-  pub queue_found : map seen_row values ≡ queue_rows (queue_of expert (world_in old))
+  pub queue_found : map seen_row values ≡ queue_rows (queue_of expert (bare_world (parts_of old.now)))
   queue_found =
       seen_rows values
       ∙ sym (ap (map (λ (e : RequestName × Queued). queue_row e.0 e.1))
-      (entries_are name_keys (queue_of expert (world_in old)) pairs
+      (entries_are name_keys (queue_of expert (bare_world (parts_of old.now))) pairs
       (pairs_ascend name_keys queued_pair queued_in values up) each))

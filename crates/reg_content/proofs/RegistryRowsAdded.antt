@@ -56,9 +56,17 @@ registry_added r db was none =
     let absent : get largest r.name ≡ None =
     no_more (registry_table m r.name) (get largest r.name)
     (sym (registry-at largest m r.name) ∙ none) in (
-      (absent, λ tied place there. still_there largest r.name r.max place.0 (tied place there)),
+      (
+        absent,
+        λ tied. record {
+          ranges = λ place there.
+              still_there largest r.name r.max place.0 (tied.ranges place there);
+          holds = tied.holds;
+          minutes = tied.minutes;
+        },
+      ),
       ap (λ registries. record (content_of db) { registries = registries })
-          (registry_more largest m r.name r.max absent was.kept.tied),
+          (registry_more largest m r.name r.max absent was.kept.tied.ranges),
     )
 
 -- ---- Ranges
@@ -107,7 +115,14 @@ one_range r db was follows =
     let there : IsSome (get largest r.registry) =
     some_of (registry_table m r.registry) (get largest r.registry) follows.0
     (sym (registry-at largest m r.registry) ∙ follows.1) in (
-      (place_free m r.registry r.range first low, owned m largest place r.range there),
+      (
+        place_free m r.registry r.range first low,
+        λ tied. record {
+          ranges = owned m largest place r.range there tied.ranges;
+          holds = tied.holds;
+          minutes = tied.minutes;
+        },
+      ),
       ap (λ registries. record (content_of db) { registries = registries })
           (range_more m r.registry r.range first low largest),
     )

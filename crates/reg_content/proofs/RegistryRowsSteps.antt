@@ -1,6 +1,6 @@
 -- Writes inside a transaction, one after the other, and the ranges that are written so.
 use Rattle.std.proofs.Common.{◌≡◌, ℕ, zero, suc, ◌+◌, ◌<◌, ◌≤◌, List, [], ◌∷◌, ◌++◌, length, map}
-use Rattle.std.proofs.Common.{take, get_or, true, false, cond, Some, Ok}
+use Rattle.std.proofs.Common.{take, get_or, true, false, cond, Some, Ok, Err, Result}
 use Rattle.std.proofs.Common.{option_map, refl, sym, ap, subst, ◌∙◌, arith}
 use Rattle.std.specs.FinMap.{FinMap, get, insert}
 use Rattle.std.specs.List.{AllByRecursion}
@@ -48,6 +48,24 @@ module _ {T U E : Type 0} {a b c : State} {x : T} {F G : World → Type 0} {f g 
         let both = joins _ fits in
         let two = second.turns clean one.0 (subst G (sym one.1) both.0) in
         (two.0, two.1 ∙ ap g one.1 ∙ both.1);
+  }
+
+  -- and so where the second may fail
+  pub steps_last : {h : World → World} (result : Result U E) → Steps b c result G g
+      → ((w : World) → F w → G (f w) × (g (f w) ≡ h w)) → Steps a c result F h
+  steps_last (Ok y) second joins = steps_then y second joins
+  steps_last (Err e) second joins = record {
+    endures = endures_then a b c first.endures second.endures;
+    kept = λ clean.
+        let one = first.kept (second.endures.clean clean) in
+        let two = second.kept clean in
+        record {
+          was_open = λ is_open. one.was_open (two.was_open is_open);
+          committed = λ is_open. two.committed is_open ∙ one.committed (two.was_open is_open);
+        };
+    went = λ clean. tt;
+    tables = λ clean. tt;
+    turns = λ clean. tt;
   }
 
 -- ---- The ranges of a table

@@ -1,5 +1,5 @@
 -- The rows of requests that are written.
-use Rattle.std.proofs.Common.{◌≡◌, ℕ, pos, length, List, ◌∷◌, ◌++◌, Bool, true, Option, Some, None, refl, ap}
+use Rattle.std.proofs.Common.{◌≡◌, ℕ, pos, length, List, ◌∷◌, ◌++◌, Bool, Option, Some, None, refl}
 use Rattle.std.specs.Prelude.{if◌then◌else◌}
 use Rattle.sqlite.specs.Cast.{cast, cast_all}
 use Rattle.sqlite.specs.Values.{or_null}
@@ -7,26 +7,17 @@ use Rattle.sqlite.specs.Kind.TheVariants as kind
 use Rattle.sqlite.specs.declared.types.Value.TheVariants.{Text}
 use Rattle.reg_ranges.specs.Rfcs.{PublishedRfc}
 use Rattle.reg_ranges.specs.Words.{stream_word, track_word}
-use Rattle.reg_core.specs.Request.{case_of}
 use Rattle.reg_core.specs.declared.ask.Ask.{Ask}
 use Rattle.reg_core.specs.declared.ask.Ask.TheVariants as ask
 use Rattle.reg_core.specs.declared.ask.Want.{Want}
 use Rattle.reg_core.specs.declared.ask.Want.TheVariants as want
 use Rattle.reg_core.specs.declared.request.State.{State}
-use Rattle.reg_core.specs.declared.request.State.TheVariants.{Pending}
-use Rattle.reg_core.specs.WellKept.{has_request_form}
 use Rattle.reg_core.specs.declared.request.Request.{Request}
-use Rattle.reg_records.specs.Requests.Forms.{gives_its_kind, is_request}
 use Rattle.reg_records.specs.Requests.Values.{ask_values, request_values, state_values, value_wanted, least_wanted}
 use Rattle.reg_records.specs.Requests.Values.{given_text, reason_text}
 use Rattle.reg_records.specs.Columns.{flag_value, whole_value}
 use Rattle.reg_tables.specs.Schema.{requests_table}
 use Rattle.reg_tables.proofs.Library.Casts.{cast_int, cast_null}
-
-pub pending_form : (r : Request)
-    → has_request_form (r.account, r.reference) (case_of r) ≡ true → r.state ≡ Pending
-    → is_request r ≡ true
-pending_form r form is = rw (form, ap (gives_its_kind r.ask) is) refl
 
 -- ---- What is written is stored as it is
 

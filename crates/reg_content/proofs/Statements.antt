@@ -14,7 +14,7 @@ use Rattle.reg_core.specs.Advice.{verdict_word}
 use Rattle.reg_core.specs.Maps.{same_text}
 use Rattle.reg_core.specs.Holding.{with_mark}
 use Rattle.reg_core.specs.Request.{has_state_form, word_of}
-use Rattle.reg_core.specs.World.{Place, RequestName, Seat, in_state, name_cmp}
+use Rattle.reg_core.specs.World.{Link, Place, RequestName, Seat, in_state, name_cmp}
 use Rattle.reg_core.specs.declared.request.State as request
 use Rattle.reg_core.specs.declared.entry.Entry.{Entry}
 use Rattle.reg_core.specs.declared.holding.Holder.{Holder}
@@ -26,9 +26,12 @@ use Rattle.reg_records.specs.Requests.Words.{state_word}
 use Rattle.reg_records.proofs.RequestLaws.Rows.{state_replaced}
 use Rattle.reg_tables.specs.Schema.{entries_table}
 use Rattle.reg_tables.specs.Selecting.{equals, stored}
-use Rattle.reg_tables.specs.Texts.{change_block, change_request, delete_cap, insert_blocks}
+use Rattle.reg_tables.specs.Texts.{change_block, change_request, delete_agent, delete_cap, delete_hold}
+use Rattle.reg_tables.specs.Texts.{insert_agents, insert_blocks, insert_holds, insert_minutes}
 use Rattle.reg_tables.specs.Texts.{insert_caps, insert_pool, insert_queue, insert_ranges}
 use Rattle.reg_tables.specs.Texts.{insert_registries, insert_requests, put_advice, put_entry}
+use Rattle.reg_tables.specs.Texts.{select_agent, select_agents_of, select_hold, select_holds_of}
+use Rattle.reg_tables.specs.Texts.{select_minute, select_principals_of}
 use Rattle.reg_tables.specs.Texts.{select_advice_row, select_block, select_blocks, select_blocks_of}
 use Rattle.reg_tables.specs.Texts.{select_cap, select_entries, select_entries_of, select_entry}
 use Rattle.reg_tables.specs.Texts.{select_pool, select_prefix, select_queue_row, select_ranges_of}
@@ -39,6 +42,9 @@ use Rattle.reg_tables.proofs.InsertStatements as inserts
 use Rattle.reg_tables.proofs.Library.Casts.{cast_int, cast_null}
 use Rattle.reg_tables.proofs.PutStatements as puts
 use Rattle.reg_tables.proofs.Statements.Advice.{advice_by_key}
+use Rattle.reg_tables.proofs.Statements.Agents.{agent_by_key, agents_of_principal, principals_of_agent}
+use Rattle.reg_tables.proofs.Statements.Holds.{hold_by_key, holds_of_registry}
+use Rattle.reg_tables.proofs.Statements.Minutes.{minute_by_key}
 use Rattle.reg_tables.proofs.Statements.Blocks.{all_blocks, block_by_key, blocks_of_holder}
 use Rattle.reg_tables.proofs.Statements.Ranges.{ranges_of_registry}
 use Rattle.reg_tables.proofs.Statements.Registries.{all_registries, registry_by_key}
@@ -53,6 +59,7 @@ use Rattle.reg_statements.specs.Office as office
 use Rattle.reg_statements.proofs.Defined.{by_all, by_first, by_key, key_has, passes_cells}
 use Rattle.reg_statements.proofs.Office as laws
 use Rattle.reg_content.proofs.BlockRows.{begins_at, held_by, mark_read}
+use Rattle.reg_content.proofs.LinkRows.{read_by}
 use Rattle.reg_content.proofs.RequestRowsWritten as written
 
 -- ---- Capabilities
@@ -115,6 +122,33 @@ puts_entry = record {
       (or_null whole_value e.term.expires) (pos (if e.term.renewed then 1 else 0))
       (expires_typed e.term.expires) (kept_as_written e);
   keeps = λ row e. refl;
+}
+
+-- ---- Marks
+
+pub finds_hold : (place : Place)
+    → Finds office.holds select_hold (Text place.0 ∷ whole_value place.1 ∷ []) place
+finds_hold place = by_key office.holds laws.holds _ _ place hold_by_key
+
+pub lists_holds : (registry : List ℕ)
+    → Chooses office.holds select_holds_of (Text registry ∷ [])
+    (λ place u. same_text place.0 registry)
+lists_holds registry =
+    by_first office.holds laws.holds _ _ 1 (Text registry ∷ []) _ (λ row. refl) (λ h. and-true _)
+    holds_of_registry
+
+pub adds_hold : Adds office.holds insert_holds
+adds_hold = record {
+  writes = writes.insert_holds_writes;
+  given = inserts.adds_holds;
+  long = λ h. refl;
+  kept = λ h. rw (cast_int (pos h.value)) refl;
+}
+
+pub takes_hold : Takes office.holds delete_hold
+takes_hold = record {
+  writes = writes.delete_hold_writes;
+  takes = edits.hold_deletes;
 }
 
 -- ---- The queue
@@ -238,6 +272,58 @@ changes_state name s form = record {
   agree = key_has office.requests laws.requests name;
   becomes = λ row r is can.
       ap (option_map office.requests.pair) (state_replaced (stored 25 row) r s is form can);
+}
+
+-- ---- Minutes
+
+pub finds_minute : (name : RequestName)
+    → Finds office.minutes select_minute (Text name.0 ∷ Text name.1 ∷ []) name
+finds_minute name = by_key office.minutes laws.minutes _ _ name minute_by_key
+
+pub adds_minute : Adds office.minutes insert_minutes
+adds_minute = record {
+  writes = writes.insert_minutes_writes;
+  given = inserts.adds_minutes;
+  long = λ m. refl;
+  kept = λ m. refl;
+}
+
+-- ---- Agents
+
+pub finds_link : (link : Link)
+    → Finds office.agents select_agent (Text link.0 ∷ Text link.1 ∷ []) link
+finds_link link = by_key office.agents laws.agents _ _ link agent_by_key
+
+pub lists_agents : (principal : List ℕ)
+    → Chooses office.agents select_agents_of (Text principal ∷ [])
+    (λ link u. same_text link.0 principal)
+lists_agents principal =
+    by_first office.agents laws.agents _ _ 1 (Text principal ∷ []) _ (λ row. refl) (λ l. and-true _)
+    agents_of_principal
+
+pub lists_principals : (agent : List ℕ)
+    → Chooses office.agents select_principals_of (Text agent ∷ [])
+    (λ link u. same_text link.1 agent)
+lists_principals agent = record {
+  tests = equals ((2, 0) ∷ []);
+  order = _;
+  selects = principals_of_agent;
+  agree = λ row l is.
+      passes_cells ((2, 0) ∷ []) (Text agent ∷ []) row ∙ read_by agent row l is;
+}
+
+pub adds_link : Adds office.agents insert_agents
+adds_link = record {
+  writes = writes.insert_agents_writes;
+  given = inserts.adds_agents;
+  long = λ l. refl;
+  kept = λ l. refl;
+}
+
+pub takes_link : Takes office.agents delete_agent
+takes_link = record {
+  writes = writes.delete_agent_writes;
+  takes = edits.agent_deletes;
 }
 
 -- ---- Blocks

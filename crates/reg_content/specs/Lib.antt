@@ -1,4 +1,5 @@
 pub mod Calls
 pub mod Seats
 pub mod Registries
+pub mod Marks
 pub mod Changing

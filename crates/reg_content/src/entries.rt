@@ -1,19 +1,21 @@
 //! Entries in their table.
-ghost use Rattle.std.specs.Prelude.{◌≡◌, true, IfOk, IsTrue, map, option_map};
+ghost use Rattle.std.specs.Prelude.{◌≡◌, true, false, IfOk, IsSome, IsTrue, map, option_map};
 ghost use Rattle.std.specs.FinMap.{get, insert};
 ghost use Rattle.std.specs.List.Sorted.{IsStrictlyIncreasing};
 ghost use Rattle.sqlite.specs.Held.{state};
-ghost use Rattle.reg_core.specs.Entry.{entry_row, registration_in};
+ghost use Rattle.reg_core.specs.Entry.{entry_row, registration_in, with_hold};
 ghost use Rattle.reg_core.specs.Page.{entry_rows};
 ghost use Rattle.reg_core.specs.View.{entries_of};
+ghost use Rattle.reg_core.specs.WellKept.{has_entry_form};
 ghost use Rattle.reg_core.specs.World.{World, place_cmp};
-ghost use Rattle.reg_records.specs.Entries.{is_entry};
 ghost use Rattle.reg_tables.specs.Connection.{Endures, Holds, IsIdle, Stays};
 ghost use Rattle.reg_tables.specs.Schema.{entries_table};
 ghost use Rattle.reg_content.specs.Calls.{IsKeeping, Looks, Steps};
+ghost use Rattle.reg_content.specs.Marks.{IsUnheld};
 ghost use Rattle.reg_statements.specs.Content.{registration_at};
 ghost use Rattle.reg_statements.specs.RowMaps.{IsTable, held_in};
 
+use crate::holds::{add_hold, marked, marked_all, take_hold};
 use crate::kept::{find, list, put};
 use reg_core::entry::Entry;
 use reg_core::rows::Rows;
@@ -39,12 +41,16 @@ pub fn entry<S: Alter>(
         (λ w entry. entry ≡
         option_map (entry_row registry.now value) (get w.entries (registry.now, value))) }
 {
-    find::<S, Entry>(
+    let found = find::<S, Entry>(
         alloc,
         conn,
         SELECT_ENTRY,
         &[name_value(registry), number_value(value)],
-    )
+    )?;
+    match found {
+        Some(entry) => Ok(Some(marked(alloc, conn, entry)?)),
+        None => Ok(None),
+    }
 }
 
 /// All entries of a registry, by value. Their values ascend whatever the premise.
@@ -60,6 +66,7 @@ pub fn entries<S: Alter>(
         (λ entries. IsStrictlyIncreasing (map (λ e. e.value) entries)) }
 {
     let rows = list::<S, Entry>(alloc, conn, SELECT_ENTRIES_OF, &[name_value(registry)])?;
+    let rows = marked_all(alloc, conn, registry, rows)?;
     if values_ascend(rows.as_slice()) {
         Ok(Rows::from_vec(rows))
     } else {
@@ -67,8 +74,8 @@ pub fn entries<S: Alter>(
     }
 }
 
-/// The entries of all registries, by registry and then by value. Where there is an answer, the
-/// rows of the table are these entries, no two at one place.
+/// The entries of all registries, by registry and then by value, without their marks. Where there
+/// is an answer, the rows of the table are these entries, no two at one place.
 pub fn all_entries<S: Alter>(alloc: Global, conn: &mut Connection<S>) -> Result<Vec<Entry>, Fault>
     requires { IsIdle (state S.Store conn.old) }
     ensures idle { IsIdle (state S.Store conn.new) }
@@ -83,15 +90,33 @@ pub fn all_entries<S: Alter>(alloc: Global, conn: &mut Connection<S>) -> Result<
     all(alloc, conn, SELECT_ENTRIES, &[])
 }
 
-/// Puts an entry in the place of the one at its value of its registry, or adds it where there is
-/// none.
+/// Puts an entry with its mark in the place of the one at its value of its registry, or adds it
+/// where there is none. One that does not expire has no mark.
 pub fn put_entry<S: Alter>(tx: &mut Transaction<'_, S>, entry: &Entry) -> Result<(), Fault>
     ensures same_reference { tx.new.conn.ghost_name ≡ tx.old.conn.ghost_name }
     ensures steps { Steps (state S.Store tx.old.conn.now) (state S.Store tx.new.conn.now) result
-        (λ (w : World). Unit {0})
+        (λ (w : World). entry.now.term.held ≡ true → IsSome entry.now.term.expires)
         (λ (w : World). record w {
           entries = insert w.entries (entry.now.registry, entry.now.value)
               (registration_in entry.now);
+        }) }
+{
+    take_hold(tx, &entry.registry, entry.value)?;
+    put_unheld(tx, entry)?;
+    if entry.term.held {
+        return add_hold(tx, &entry.registry, entry.value);
+    }
+    Ok(())
+}
+
+/// Puts an entry without its mark at its value of its registry, where none stands that is held.
+fn put_unheld<S: Alter>(tx: &mut Transaction<'_, S>, entry: &Entry) -> Result<(), Fault>
+    ensures same_reference { tx.new.conn.ghost_name ≡ tx.old.conn.ghost_name }
+    ensures steps { Steps (state S.Store tx.old.conn.now) (state S.Store tx.new.conn.now) result
+        (IsUnheld (entry.now.registry, entry.now.value))
+        (λ (w : World). record w {
+          entries = insert w.entries (entry.now.registry, entry.now.value)
+              (with_hold false (registration_in entry.now));
         }) }
 {
     formed(entry);
@@ -108,7 +133,8 @@ fn values_ascend(entries: &[Entry]) -> bool
 /// Does nothing: the parts of an entry have their forms.
 #[tactic(auto, using(std::proofs::lemmas::Bool::Decides::nat_tests))]
 fn formed(entry: &Entry)
-    ensures { is_entry entry.now ≡ true }
+    ensures { has_entry_form (entry.now.registry, entry.now.value) (registration_in entry.now)
+        ≡ true }
 {
     entry.registry.formed();
     let _value = entry.value;

@@ -1,5 +1,5 @@
 //! Changes that write more than one row.
-ghost use Rattle.std.specs.Prelude.{◌≡◌, true, None, Some};
+ghost use Rattle.std.specs.Prelude.{◌≡◌, true, IsSome, None, Some, option_map};
 ghost use Rattle.std.specs.FinMap.{get, insert};
 ghost use Rattle.sqlite.specs.Held.{state};
 ghost use Rattle.reg_core.specs.Entry.{registration_in};
@@ -9,21 +9,23 @@ ghost use Rattle.reg_core.specs.declared.request.Case.{Case};
 ghost use Rattle.reg_core.specs.declared.request.Given.TheVariants as given;
 ghost use Rattle.reg_core.specs.declared.request.State.TheVariants.{Approved};
 ghost use Rattle.reg_records.specs.Requests.Forms.{gives_its_kind};
+ghost use Rattle.reg_core.specs.Minutes.{minute_of};
 ghost use Rattle.reg_content.specs.Calls.{Steps};
 
 use crate::blocks::add_block;
 use crate::entries::put_entry;
+use crate::minutes::add_minute;
 use crate::requests::{add_request, set_state};
 use reg_core::ask::Ask;
 use reg_core::entry::Entry;
 use reg_core::holding::Holding;
 use reg_core::request::{Request, State};
-use reg_core::text::{Account, Ref};
+use reg_core::text::{Account, Ref, Text};
 use reg_keeper::keeper::Fault;
 use sqlite::{Alter, Transaction};
 use std::alloc::Global;
 
-/// Adds a pending request at a name that has none.
+/// Adds a pending request, with the minute that it names, at a name that has none.
 pub fn submit<S: Alter>(
     tx: &mut Transaction<'_, S>,
     account: &Account,
@@ -43,12 +45,27 @@ pub fn submit<S: Alter>(
         ask: ask.copy()?,
         state: State::Pending,
     };
-    let done = add_request(tx, &request);
+    let added = add_request(tx, &request);
     drop(request);
-    done
+    added?;
+    match minute_of(ask) {
+        Some(minute) => add_minute(tx, account, reference, minute),
+        None => Ok(()),
+    }
 }
 
-/// Approves a request and adds the entry that it is given, or puts it in the place of one.
+/// The minute that an ask names, if it names one.
+fn minute_of(ask: &Ask) -> Option<&Text>
+    ensures { option_map (λ minute. minute.now) result ≡ minute_of ask.now }
+{
+    match ask {
+        Ask::Renew(renewal) => renewal.iesg.as_ref(),
+        Ask::Code(_) | Ask::Early(_) | Ask::Permanent(_) | Ask::Block(_) => None,
+    }
+}
+
+/// Approves a request and adds the entry that it is given, or puts it in the place of one. The mark
+/// that stands there is that of the new term after it.
 pub fn give_value<S: Alter>(
     alloc: Global,
     tx: &mut Transaction<'_, S>,
@@ -58,9 +75,10 @@ pub fn give_value<S: Alter>(
 ) -> Result<(), Fault>
     ensures same_reference { tx.new.conn.ghost_name ≡ tx.old.conn.ghost_name }
     ensures steps { Steps (state S.Store tx.old.conn.now) (state S.Store tx.new.conn.now) result
-        (λ (w : World). (case : Case)
+        (λ (w : World). ((case : Case)
         × (get w.requests (account.now, reference.now) ≡ Some case)
         × (gives_its_kind case.ask (Approved (given.Value entry.now.value)) ≡ true))
+        × (entry.now.term.held ≡ true → IsSome entry.now.term.expires))
         (λ (w : World). record (with_state w (account.now, reference.now)
         (Approved (given.Value entry.now.value))) {
           entries = insert w.entries (entry.now.registry, entry.now.value)

@@ -2,12 +2,15 @@
 #![tactic(auto)]
 
 pub mod advice;
+pub mod agents;
 pub mod blocks;
 pub mod caps;
 pub mod change;
 pub mod entries;
 mod give;
+mod holds;
 pub mod kept;
+mod minutes;
 pub mod pool;
 pub mod queue;
 pub mod registries;

@@ -12,10 +12,12 @@ ghost use Rattle.reg_core.specs.World.{World, pending, with_state};
 ghost use Rattle.reg_core.specs.declared.request.Case.{Case};
 ghost use Rattle.reg_core.specs.declared.request.State.TheVariants.{Pending};
 ghost use Rattle.reg_records.specs.Requests.Forms.{gives_its_kind};
+ghost use Rattle.reg_core.specs.Minutes.{bare_ask};
 ghost use Rattle.reg_records.specs.Requests.Values.{given_text, state_values};
 ghost use Rattle.reg_content.specs.Calls.{IsKeeping, Looks, Steps};
 
 use crate::kept::{add, change, find, list};
+use crate::minutes::{minuted, minuted_all};
 use reg_core::request::{Request, State};
 use reg_core::rows::Rows;
 use reg_core::text::{Account, Ref};
@@ -42,12 +44,16 @@ pub fn own_one<S: Alter>(
         (λ w row. row ≡ option_map (request_row (account.now, reference.now))
         (get w.requests (account.now, reference.now))) }
 {
-    find::<S, Request>(
+    let found = find::<S, Request>(
         alloc,
         conn,
         SELECT_REQUEST,
         &[name_value(account), name_value(reference)],
-    )
+    )?;
+    match found {
+        Some(request) => Ok(Some(minuted(alloc, conn, request)?)),
+        None => Ok(None),
+    }
 }
 
 /// All requests of an account, by reference.
@@ -61,6 +67,7 @@ pub fn own<S: Alter>(
         (λ w rows. rows ≡ request_rows (requests_of account.now w)) }
 {
     let requests = list::<S, Request>(alloc, conn, SELECT_REQUESTS_OF, &[name_value(account)])?;
+    let requests = minuted_all(alloc, conn, requests)?;
     Ok(Rows::from_vec(requests))
 }
 
@@ -71,10 +78,11 @@ pub fn all<S: Alter>(alloc: Global, conn: &mut Connection<S>) -> Result<Rows<Req
         (λ w rows. rows ≡ request_rows w.requests) }
 {
     let requests = list::<S, Request>(alloc, conn, SELECT_REQUESTS, &[])?;
+    let requests = minuted_all(alloc, conn, requests)?;
     Ok(Rows::from_vec(requests))
 }
 
-/// Adds a pending request at a name that has none.
+/// Adds a pending request, without the minute that it names, at a name that has none.
 pub fn add_request<S: Alter>(tx: &mut Transaction<'_, S>, request: &Request) -> Result<(), Fault>
     requires { request.now.state ≡ Pending }
     ensures same_reference { tx.new.conn.ghost_name ≡ tx.old.conn.ghost_name }
@@ -82,7 +90,7 @@ pub fn add_request<S: Alter>(tx: &mut Transaction<'_, S>, request: &Request) -> 
         (λ (w : World). get w.requests (request.now.account, request.now.reference) ≡ None)
         (λ (w : World). record w {
           requests = insert w.requests (request.now.account, request.now.reference)
-              (pending request.now.ask);
+              (pending (bare_ask request.now.ask));
         }) }
 {
     formed(request);

@@ -1,15 +1,17 @@
 //! Requests with what experts say of them.
-ghost use Rattle.std.specs.Prelude.{◌≡◌, IfOk, filter_map, map, option_map};
+ghost use Rattle.std.specs.Prelude.{◌≡◌, ◌++◌, ◌∷◌, [], IfOk, filter_map, map, option_map};
 ghost use Rattle.std.specs.FinMap.{get};
 ghost use Rattle.sqlite.specs.Held.{state};
 ghost use Rattle.reg_core.specs.File.{experts_of, file as file_of, opinions_of};
 ghost use Rattle.reg_core.specs.Queue.{queue_row, queue_rows};
 ghost use Rattle.reg_core.specs.Request.{case_of};
 ghost use Rattle.reg_core.specs.View.{as_queued, queue_of};
-ghost use Rattle.reg_content.specs.Calls.{IsKeeping, Looks};
-ghost use Rattle.reg_content.specs.Seats.{assigned_to, opinion_at, seen_row};
+ghost use Rattle.reg_content.specs.Calls.{IsKeeping, Looks, LooksIn};
+ghost use Rattle.reg_content.specs.Marks.{seen_minuted};
+ghost use Rattle.reg_content.specs.Seats.{assigned_to, opinion_at};
 
 use crate::advice::advice;
+use crate::minutes::minuted;
 use crate::queue::is_queued;
 use crate::requests::own_one;
 use reg_core::advice::{Advice, Opinion};
@@ -85,7 +87,7 @@ pub fn queue<S: Alter>(
         (λ w rows. rows ≡ queue_rows (queue_of expert.now w)) }
 {
     let requests = all::<S, QueuedRequest>(alloc, conn, SELECT_QUEUED, &[name_value(expert)])?;
-    Ok(Rows::from_vec(queued_all(alloc, requests)?))
+    Ok(Rows::from_vec(seen_all(alloc, conn, requests)?))
 }
 
 /// The request of an account under a reference, with the expert's own advice, if it is assigned to
@@ -168,13 +170,45 @@ fn queued(request: Request, advice: Option<Advice>) -> QueueRow
     }
 }
 
-// Requests that are assigned, as their expert sees them.
-fn queued_all(alloc: Global, requests: Vec<QueuedRequest>) -> Result<Vec<QueueRow>, AllocError>
-    ensures { IfOk result (λ rows. rows.items ≡ map seen_row requests.items) }
+/// Requests that are assigned, as their expert sees them, with the minutes that they name.
+fn seen_all<S: Alter>(
+    alloc: Global,
+    conn: &mut Connection<S>,
+    requests: Vec<QueuedRequest>,
+) -> Result<Vec<QueueRow>, Fault>
+    requires { IsKeeping (state S.Store conn.old) }
+    ensures { LooksIn (state S.Store conn.old) (state S.Store conn.new) result
+        (λ p rows. rows.items ≡ map (seen_minuted p) requests.items) }
 {
     let mut rows = Vec::new(alloc);
-    for row in requests {
-        rows.push(queued(row.request, row.advice))?;
+    for request in requests {
+        let row = seen(alloc, conn, request)?;
+        rows = with_row(rows, row)?;
     }
+    Ok(rows)
+}
+
+/// A request that is assigned, as its expert sees it, with the minute that it names.
+fn seen<S: Alter>(
+    alloc: Global,
+    conn: &mut Connection<S>,
+    row: QueuedRequest,
+) -> Result<QueueRow, Fault>
+    requires { IsKeeping (state S.Store conn.old) }
+    ensures { LooksIn (state S.Store conn.old) (state S.Store conn.new) result
+        (λ p seen. seen ≡ seen_minuted p row) }
+{
+    let advice = row.advice;
+    match minuted(alloc, conn, row.request) {
+        Ok(request) => Ok(queued(request, advice)),
+        Err(fault) => Err(fault),
+    }
+}
+
+/// Rows with one more.
+fn with_row(mut rows: Vec<QueueRow>, row: QueueRow) -> Result<Vec<QueueRow>, AllocError>
+    ensures { IfOk result (λ more. more.items ≡ rows.items ++ row ∷ []) }
+{
+    rows.push(row)?;
     Ok(rows)
 }

@@ -2,7 +2,7 @@
 ghost use Rattle.std.specs.Prelude.{ℕ, List, refl};
 ghost use Rattle.reg_blocks.specs.Block.{SizedPrefix};
 ghost use Rattle.reg_ranges.specs.declared.range.Range.{Range as RangeValue};
-ghost use Rattle.reg_core.specs.World.{Place, RequestName, Seat as SeatName};
+ghost use Rattle.reg_core.specs.World.{Link as LinkName, Place, RequestName, Seat as SeatName};
 ghost use Rattle.reg_core.specs.declared.advice.Advice.{Advice as AdviceValue};
 ghost use Rattle.reg_core.specs.declared.capability.Cap.{Cap};
 ghost use Rattle.reg_core.specs.declared.holding.Holder.{Holder};
@@ -16,7 +16,10 @@ use reg_core::entry::Entry;
 use reg_core::holding::Holding;
 use reg_core::request::Request;
 use reg_records::advice::ExpertAdvice;
+use reg_records::agents::Link;
 use reg_records::caps::Grant;
+use reg_records::holds::Hold;
+use reg_records::minutes::Minute;
 use reg_records::pool::Prefix;
 use reg_records::queue::Seat;
 use reg_records::ranges::RegistryRange;
@@ -142,6 +145,48 @@ impl Kept for Holding {
     ghost table = { office.blocks };
 
     ghost defined = { laws.blocks };
+
+    ghost reads = { refl };
+
+    ghost compares = { refl };
+}
+
+impl Kept for Hold {
+    ghost Key = { Place };
+
+    ghost Value = { Unit {0} };
+
+    ghost table = { office.holds };
+
+    ghost defined = { laws.holds };
+
+    ghost reads = { refl };
+
+    ghost compares = { refl };
+}
+
+impl Kept for Minute {
+    ghost Key = { RequestName };
+
+    ghost Value = { List ℕ };
+
+    ghost table = { office.minutes };
+
+    ghost defined = { laws.minutes };
+
+    ghost reads = { refl };
+
+    ghost compares = { refl };
+}
+
+impl Kept for Link {
+    ghost Key = { LinkName };
+
+    ghost Value = { Unit {0} };
+
+    ghost table = { office.agents };
+
+    ghost defined = { laws.agents };
 
     ghost reads = { refl };
 

@@ -33,8 +33,8 @@ use Rattle.reg_opening.specs.Partitions.{IsEither, IsFedPartitions, ranges_named
 use Rattle.reg_statements.specs.RowMaps.{AreApart, IsTable}
 use Rattle.reg_statements.specs.Tables.{Tables}
 use Rattle.reg_opening.specs.declared.partitions.Partition.{Partition}
-use Rattle.reg_opening.proofs.FedTables.{apart_from_new, new_from_apart, turns, with_all}
-use Rattle.reg_opening.specs.Feeding.{IsPart}
+use Rattle.reg_opening.proofs.FedTables.{apart_from_new, new_from_apart, turns, untied, with_all}
+use Rattle.reg_opening.specs.Feeding.{IsPart, Untied}
 use Rattle.reg_statements.proofs.Neighbours.{strict}
 use Rattle.reg_statements.proofs.RegistryRows.{registry-at}
 use Rattle.reg_statements.proofs.RowMaps.Entries.{IsFree, apart_head, apart_tail, find-free}
@@ -55,15 +55,12 @@ table_of partition = (partition.name, partition.table)
 abbrev Before : World → Type 0
 Before w = (w.registries ≡ empty) × (w.entries ≡ empty)
 
-part : IsPart table_of partition_row (λ w. w.registries) (λ w m. record w { registries = m }) Before
+part : IsPart table_of partition_row (λ (w : World) m. record w { registries = m }) Before Untied
 part = record {
-  got = λ w m. refl;
-  over = λ w m n. refl;
-  same = λ w. refl;
-  with = λ w x. refl;
-  free = λ w x new. new;
-  new = λ w x none. none;
-  none = λ w before. before.0;
+  none = λ w before. ap (λ m. record w { registries = m }) (sym before.0);
+  with = λ w m x. refl;
+  free = λ w m x before new. (new, tt);
+  new = λ w m x before none tied. none;
   turn = λ w m x before. before.1;
 }
 
@@ -191,15 +188,17 @@ module _ (t : Tables) (gs : List Registry) (rs : List RegistryRange)
           let all = rows.loaded text_keys (map max_of gs) held.registries moved read in
           let apart = subst (IsDistinct (eq_by_cmp text_cmp)) (sym (same_names rs gs)) all.0 in
           let fed = feeds.audits w audits
-          (turns text_keys table_of partition_row _ _ Before part w ts before)
-          (new_from_apart text_keys table_of partition_row _ _ Before part w ts before.0 apart) in
+          (turns text_keys table_of partition_row _ Before Untied part w ts before)
+          (new_from_apart text_keys table_of partition_row _ Before Untied part w ts before apart
+          (untied ts)) in
           subst (Audits new)
-          (with_all text_keys table_of partition_row _ _ Before part w ts before.0
+          (with_all text_keys table_of partition_row _ Before Untied part w ts before
           ∙ ap (λ m. record w { registries = m }) (all_tables all.1)) fed;
       held = λ w audits before kept.
           let fresh = feeds.fresh w audits
-          (turns text_keys table_of partition_row _ _ Before part w ts before) kept in
-          let apart = apart_from_new text_keys table_of partition_row _ _ Before part w ts before.0 fresh in
+          (turns text_keys table_of partition_row _ Before Untied part w ts before) kept in
+          let apart = (apart_from_new text_keys table_of partition_row _ Before Untied part w ts before
+          fresh).0 in
           let all = rows.is_table_apart text_keys (map max_of gs) moved read
           (subst (IsDistinct (eq_by_cmp text_cmp)) (same_names rs gs) apart) in
           record {

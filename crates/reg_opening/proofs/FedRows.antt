@@ -131,3 +131,48 @@ shows_advice = record {
     unlisted = λ more indexes. refl;
   };
 }
+
+abbrev pub holds_text : List ℕ
+holds_text = codes "SELECT registry, value, rowid FROM holds ORDER BY rowid"
+
+pub shows_holds : ShowsNumbered office.holds holds_text
+unfolding understood everything
+shows_holds = record {
+  order = by_rowid;
+  selects = record {
+    names = codes "registry" ∷ codes "value" ∷ codes "rowid" ∷ [];
+    is = λ more indexes. refl;
+    plain = (refl, refl);
+    unlisted = λ more indexes. refl;
+  };
+}
+
+abbrev pub minutes_text : List ℕ
+minutes_text = codes "SELECT account, reference, minute, rowid FROM minutes ORDER BY rowid"
+
+pub shows_minutes : ShowsNumbered office.minutes minutes_text
+unfolding understood everything
+shows_minutes = record {
+  order = by_rowid;
+  selects = record {
+    names = codes "account" ∷ codes "reference" ∷ codes "minute" ∷ codes "rowid" ∷ [];
+    is = λ more indexes. refl;
+    plain = (refl, refl);
+    unlisted = λ more indexes. refl;
+  };
+}
+
+abbrev pub agents_text : List ℕ
+agents_text = codes "SELECT principal, agent, rowid FROM agents ORDER BY rowid"
+
+pub shows_agents : ShowsNumbered office.agents agents_text
+unfolding understood everything
+shows_agents = record {
+  order = by_rowid;
+  selects = record {
+    names = codes "principal" ∷ codes "agent" ∷ codes "rowid" ∷ [];
+    is = λ more indexes. refl;
+    plain = (refl, refl);
+    unlisted = λ more indexes. refl;
+  };
+}

@@ -1,3 +1,4 @@
+pub mod Versions
 pub mod Feeding
 pub mod FedTables
 pub mod FedRows

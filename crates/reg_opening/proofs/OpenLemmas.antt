@@ -1,5 +1,5 @@
 -- What the version and the rows of tables tell of a store.
-use Rattle.std.proofs.Common.{◌≡◌, ℤ, pos, List, [], ◌∷◌, map, length, refl, sym, ap, subst, ◌∙◌, arith}
+use Rattle.std.proofs.Common.{◌≡◌, ◌⊎◌, ℤ, List, [], ◌∷◌, map, length, refl, sym, ap, subst, ◌∙◌, arith, inl, inr}
 use Rattle.std.proofs.Common.{IsPermutation, Option, Some, None, IsSome, is_some}
 use Rattle.std.specs.Prelude.{IfOk, Ok, Result}
 use Rattle.std.specs.List.{AllByRecursion}
@@ -8,36 +8,40 @@ use Rattle.std.proofs.lemmas.List.{length-map}
 use Rattle.std.proofs.lemmas.List.Sorted.{IsPermutation-sym, length_permutation}
 use Rattle.sqlite.specs.Effect.{Database}
 use Rattle.sqlite.specs.Order.{Row}
+use Rattle.sqlite.specs.Schema.{Schema}
 use Rattle.sqlite.specs.State.{State, IsLive}
 use Rattle.reg_audit.specs.Audits.{Audits}
 use Rattle.reg_audit.specs.declared.audit.Audit.{Audit}
 use Rattle.reg_core.specs.WellKept.{WellKept}
 use Rattle.reg_core.specs.World.{empty_world}
 use Rattle.reg_records.specs.Office.{version_in}
-use Rattle.reg_tables.specs.Connection.{Endures, Holds, IsIdle, Stays, Works}
-use Rattle.reg_tables.specs.Having.{AreFreeLater, FindsTablesOf}
-use Rattle.reg_tables.specs.Schema.{office_schema}
+use Rattle.reg_tables.specs.Connection.{Endures, IsIdle, Stays, Works}
+use Rattle.reg_tables.specs.Editing.{AreKeyed}
+use Rattle.reg_tables.specs.Having.{FindsTablesOf, HasTable}
+use Rattle.reg_tables.specs.Schema.{office_schema, office_table}
 use Rattle.reg_tables.specs.Selecting.{BeginsWith, stored}
-use Rattle.reg_tables.specs.Version.{newest}
+use Rattle.reg_tables.specs.Version.{IsOther, number_of, rows_of, schema_of}
+use Rattle.reg_tables.specs.declared.version.Version.{Version}
+use Rattle.reg_tables.specs.declared.version.Version.TheVariants.{First, Second, Third}
 use Rattle.reg_tables.proofs.HavingLemmas.{version_found}
 use Rattle.reg_tables.proofs.Enduring.{endures_then}
-use Rattle.reg_tables.proofs.RestLemmas.{stays_held, stays_then}
-use Rattle.reg_statements.specs.Content.{content, content_of, world_in}
-use Rattle.reg_opening.specs.Feeding.{FeedsTable}
+use Rattle.reg_tables.proofs.RestLemmas.{stays_then}
+use Rattle.reg_statements.specs.Content.{HasVersion, content, content_at}
 use Rattle.reg_statements.specs.Loading.{ReadAs}
-use Rattle.reg_opening.specs.Opening.{AreRowsOf, HasVersion, IsFoundAs, IsFreeBy, IsOurs}
-use Rattle.reg_opening.specs.Opening.{Finds, IsReadAs, IsVersionOf, LeaveFree, Reads, free_in}
-use Rattle.reg_opening.specs.Opening.{only, verdict_of}
+use Rattle.reg_statements.specs.Tables.{Tables, tables_in}
+use Rattle.reg_statements.proofs.RowMaps.Lists.{all_permuted, shown_rows}
+use Rattle.reg_opening.specs.Feeding.{FeedsTable, tables_at}
+use Rattle.reg_opening.specs.Opening.{AreRowsOf, Finds, HasVersionTables, IsFoundAs, IsFree, IsFreeBy}
+use Rattle.reg_opening.specs.Opening.{IsOurs, IsReadAs, IsVersionOf, LeaveFree, Reads, only, verdict_of}
+use Rattle.reg_opening.specs.Partitions.{AreRegistries}
+use Rattle.reg_opening.specs.Parts.{AreParts, IsBlank, with_parts}
 use Rattle.reg_opening.specs.Rowids.{AreOrderedKeyed}
 use Rattle.reg_opening.specs.declared.open.Found.{Found}
 use Rattle.reg_opening.specs.declared.open.Found.TheVariants as found
-use Rattle.reg_vacancies.specs.Vacancies.{MayBeOf}
+use Rattle.reg_opening.specs.declared.open.Verdict.TheVariants as verdict
+use Rattle.reg_opening.proofs.Versions.{first_begins, keyed_version, number_exact, office_rows, ranges_rows, registries_rows, version_keyed}
+use Rattle.reg_vacancies.specs.Vacancies.{AreVacanciesOf}
 use Rattle.reg_vacancies.specs.declared.vacancies.Vacancies.{Vacancies}
-use Rattle.reg_opening.specs.declared.open.Verdict.TheVariants.{NotOurs}
-use Rattle.reg_opening.specs.Partitions.{AreRegistries}
-use Rattle.reg_opening.specs.Parts.{AreParts, IsBlank, with_parts}
-use Rattle.reg_statements.specs.Tables.{Tables, tables_in}
-use Rattle.reg_statements.proofs.RowMaps.Lists.{all_permuted, shown_rows}
 
 -- ---- The version
 
@@ -103,7 +107,7 @@ blank : IsBlank empty_world
 blank = record {
   assigned = record { caps = refl; registries = refl; entries = refl; requests = refl };
   given = record { pool = refl; blocks = refl; requests = refl; queue = refl };
-  reviewed = record { queue = refl; advice = refl };
+  reviewed = record { queue = refl; advice = refl; agents = refl };
 }
 
 -- what an audit says that was fed all rows
@@ -117,54 +121,94 @@ rows_leave t old new (Some free) audits feeds are =
     let left = are.1 (content t) (feeds.audits empty_world audits blank held) in
     ((held, left.0), left.1)
 
+-- where they are told, so are their rowids
+pub rows_told : (v : Version) (db : Database) (free : Option Vacancies) → AreOrderedKeyed db.trees
+    → LeaveFree (tables_at v db) free → AreRowsOf v db free
+rows_told v db None keyed leave = leave
+rows_told v db (Some free) keyed leave = (keyed, leave)
+
+-- a store of a version has the tables of registries and their ranges first
+pub version_first : (v : Version) (db : Database) → db.schema ≡ schema_of v
+    → BeginsWith 4 db.schema
+version_first v db is = first_begins v 4 (omega arith) is
+
 -- ---- The store
 
-pub is_ours : (s : State) → IsLive s → Holds s → HasVersion (pos 1) (tables_in s.now.trees).office
-    → AreOrderedKeyed s.now.trees → AreParts (tables_in s.now.trees) → WellKept (content_of s.now)
-    → IsOurs s.now
-is_ours s live h version keyed parts kept =
+-- the rows of a version's tables, by rowids
+rows_keyed : (v : Version) (db : Database) → AreOrderedKeyed db.trees → AreParts (tables_at v db)
+    → AllByRecursion (λ t. AreKeyed (rows_of v db.trees t.tree)) office_schema.tables
+rows_keyed v db keyed parts =
+    let assigned = parts.0 in
+    let given = parts.1.0 in
+    let reviewed = parts.1.1 in (
+      subst AreKeyed (sym (office_rows v db.trees)) keyed.0,
+      (
+        assigned.0.0.1,
+        (
+          subst AreKeyed (sym (registries_rows v db.trees)) keyed.1.0,
+          (
+            subst AreKeyed (sym (ranges_rows v db.trees)) keyed.1.1.0,
+            (
+              assigned.1.1.0.0.1,
+              (
+                given.1.1.0.0.1,
+                (
+                  reviewed.0.0.1,
+                  (
+                    reviewed.1.0.0.1,
+                    (
+                      given.0.0.1,
+                      (
+                        given.1.0.0.1,
+                        (assigned.1.1.1.0.1, (given.1.1.1.0.1, (reviewed.1.1.0.1, tt))),
+                      ),
+                    ),
+                  ),
+                ),
+              ),
+            ),
+          ),
+        ),
+      ),
+    )
+
+pub is_ours : (v : Version) (s : State) → IsLive s → Works s → s.now.schema ≡ schema_of v
+    → HasVersion (number_of v) (tables_in s.now.trees).office → AreOrderedKeyed s.now.trees
+    → AreParts (tables_at v s.now) → WellKept (content_at v s.now) → IsOurs v s.now
+is_ours v s live works schema version keyed parts kept =
     let assigned = parts.0 in
     let given = parts.1.0 in
     let reviewed = parts.1.1 in (
       record {
         office = record {
-          schema = h.tables;
-          sound = (live h.works.is_open).0;
-          tables = (
-            keyed.0,
-            (
-              assigned.0.1,
-              (
-                keyed.1.0,
-                (
-                  keyed.1.1.0,
-                  (
-                    assigned.1.1.1,
-                    (given.1.1.1, (reviewed.0.1, (reviewed.1.1, (given.0.1, (given.1.0.1, tt))))),
-                  ),
-                ),
-              ),
-            ),
-          );
+          schema = schema;
+          sound = (live works.is_open).0;
+          tables = version_keyed v s.now.trees (rows_keyed v s.now keyed parts);
         };
         kept = record {
           whole = (
-            version,
+            subst (HasVersion (number_of v)) (sym (office_rows v s.now.trees)) version,
             (
-              assigned.0.0,
+              assigned.0.0.0,
               (
                 assigned.1.0.registries,
                 (
                   assigned.1.0.ranges,
                   (
-                    assigned.1.1.0,
+                    assigned.1.1.0.0.0,
                     (
-                      given.1.1.0,
+                      given.1.1.0.0.0,
                       (
-                        reviewed.0.0,
+                        reviewed.0.0.0,
                         (
-                          reviewed.1.0,
-                          (given.0.0, given.1.0.0),
+                          reviewed.1.0.0.0,
+                          (
+                            given.0.0.0,
+                            (
+                              given.1.0.0.0,
+                              (assigned.1.1.1.0.0, (given.1.1.1.0.0, reviewed.1.1.0.0)),
+                            ),
+                          ),
                         ),
                       ),
                     ),
@@ -173,97 +217,187 @@ is_ours s live h version keyed parts kept =
               ),
             ),
           );
-          tied = assigned.1.0.owned;
+          tied = record {
+            ranges = assigned.1.0.owned;
+            holds = assigned.1.1.1.1;
+            minutes = given.1.1.1.1;
+          };
         };
       },
       kept,
     )
 
-pub ours_parts : (db : Database) → IsOurs db → AreParts (tables_in db.trees) × WellKept (content_of db)
-ours_parts db ours =
+pub ours_parts : (v : Version) (db : Database) → IsOurs v db
+    → AreParts (tables_at v db) × WellKept (content_at v db)
+ours_parts v db ours =
     let t = ours.0.kept.whole in
-    let keyed = ours.0.office.tables in
-    let registries : AreRegistries (tables_in db.trees) =
-    record { registries = t.1.1.0; ranges = t.1.1.1.0; owned = ours.0.kept.tied } in (
+    let tied = ours.0.kept.tied in
+    let keyed = keyed_version v db.trees ours.0.office.tables in
+    let registries : AreRegistries (tables_at v db) =
+    record { registries = t.1.1.0; ranges = t.1.1.1.0; owned = tied.ranges } in (
       (
-        ((t.1.0, keyed.1.0), (registries, (t.1.1.1.1.0, keyed.1.1.1.1.0))),
+        (
+          ((t.1.0, keyed.1.0), λ k there. tt),
+          (
+            registries,
+            (
+              ((t.1.1.1.1.0, keyed.1.1.1.1.0), λ k there. tt),
+              (
+                (t.1.1.1.1.1.1.1.1.1.1.0, keyed.1.1.1.1.1.1.1.1.1.1.0),
+                tied.holds,
+              ),
+            ),
+          ),
+        ),
         (
           (
-            (t.1.1.1.1.1.1.1.1.0, keyed.1.1.1.1.1.1.1.1.0),
-            ((t.1.1.1.1.1.1.1.1.1, keyed.1.1.1.1.1.1.1.1.1.0), (t.1.1.1.1.1.0, keyed.1.1.1.1.1.0)),
+            ((t.1.1.1.1.1.1.1.1.0, keyed.1.1.1.1.1.1.1.1.0), λ k there. tt),
+            (
+              ((t.1.1.1.1.1.1.1.1.1.0, keyed.1.1.1.1.1.1.1.1.1.0), λ k there. tt),
+              (
+                ((t.1.1.1.1.1.0, keyed.1.1.1.1.1.0), λ k there. tt),
+                (
+                  (t.1.1.1.1.1.1.1.1.1.1.1.0, keyed.1.1.1.1.1.1.1.1.1.1.1.0),
+                  tied.minutes,
+                ),
+              ),
+            ),
           ),
-          ((t.1.1.1.1.1.1.0, keyed.1.1.1.1.1.1.0), (t.1.1.1.1.1.1.1.0, keyed.1.1.1.1.1.1.1.0)),
+          (
+            ((t.1.1.1.1.1.1.0, keyed.1.1.1.1.1.1.0), λ k there. tt),
+            (
+              ((t.1.1.1.1.1.1.1.0, keyed.1.1.1.1.1.1.1.0), λ k there. tt),
+              (
+                (t.1.1.1.1.1.1.1.1.1.1.1.1, keyed.1.1.1.1.1.1.1.1.1.1.1.1.0),
+                λ k there. tt,
+              ),
+            ),
+          ),
         ),
       ),
       ours.1,
     )
 
--- a store that has not an office's tables
-pub lacks_tables : (s : State)
-    → (¬ (FindsTablesOf newest s.now.schema × AreFreeLater newest s.now.schema))
-    → IsReadAs s.now found.NotOurs
-lacks_tables s lacks is = absurd (lacks (version_found newest s.now.schema is))
+-- a store that has not the tables of a version
+pub lacks_tables : (v : Version) (s : State) → (¬ HasVersionTables v s.now)
+    → IsReadAs v s.now found.NotOurs
+lacks_tables v s lacks is = absurd (lacks (version_found v s.now.schema is))
 
-module _ (old new : State) (stays : Stays old new) (live : IsLive old)
-    (first : BeginsWith 1 old.now.schema)
-    (version : Works new → HasVersion (pos 1) (tables_in old.now.trees).office) where
-  as_ours : (free : Vacancies) → Works new → old.now.schema ≡ office_schema
-      → AreRowsOf old.now (found.Ours free) → IsOurs old.now
+-- where a store says a version, it is none of another
+other_ours : (v w : Version) (db : Database)
+    → HasVersion (number_of v) (tables_in db.trees).office → IsOurs w db → w ≡ v
+other_ours v w db says ours =
+    number_exact w v
+    (one_version (number_of w) (number_of v) (tables_in db.trees).office
+    (subst (HasVersion (number_of w)) (office_rows w db.trees) ours.0.kept.whole.0) says)
+
+-- the schema of a version begins with the table of the version
+pub schema_begins : (v : Version) (db : Database) → db.schema ≡ schema_of v
+    → BeginsWith 1 db.schema
+schema_begins v db is = first_begins v 1 (omega arith) is
+
+module _ (v : Version) (old new : State) (stays : Stays old new) (live : IsLive old)
+    (version : Works new → BeginsWith 1 old.now.schema
+    → HasVersion (number_of v) (tables_in old.now.trees).office) where
+  as_ours : (free : Vacancies) → Works new → old.now.schema ≡ schema_of v
+      → AreRowsOf v old.now (Some free) → IsOurs v old.now
   as_ours free works is rows =
-      is_ours old live (record { works = stays.worked works; tables = is }) (version works) rows.0
+      is_ours v old live (stays.worked works) is (version works (schema_begins v old.now is)) rows.0
       rows.1.0.0 rows.1.0.1
 
-  -- what the rows of a store of this version tell
-  pub read_as : (f : Found) → Works new → IsReadAs old.now f → IsFoundAs old.now (verdict_of f)
-  read_as (found.Ours free) works read = (read.0, λ is. as_ours free works is (read.1 is))
+  -- what the rows of a store that says this version tell
+  pub read_as : (f : Found) → Works new → IsReadAs v old.now f → IsFoundAs old.now (verdict_of f)
+  read_as (found.Ours w free) works read =
+      subst (λ (w : Version). HasVersionTables w old.now
+      × (old.now.schema ≡ schema_of w → IsOurs w old.now)) (sym read.0)
+      (read.1, λ is. as_ours free works is (read.2 is))
   read_as (found.OtherVersion n) works read = absurd read
   read_as found.NotOurs works read = (
-    λ ours. read ours.0.office.schema (ours_parts old.now ours),
-    λ n is. one_version n (pos 1) (tables_in old.now.trees).office is.1 (version works),
+    (λ w ours.
+        let begins = schema_begins w old.now ours.0.office.schema in
+        let same = other_ours v w old.now (version works begins) ours in
+        let mine = subst (λ (w : Version). IsOurs w old.now) same ours in
+        read mine.0.office.schema (ours_parts v old.now mine)),
+    (λ n is other. other v (one_version n (number_of v) (tables_in old.now.trees).office is.1
+        (version works is.0))),
   )
 
-  pub read_free : (f : Found) → Holds new → IsReadAs old.now f → MayBeOf (world_in old) (free_in f)
-  read_free (found.Ours free) h read = (read.1 (stays_held stays h).tables).1.1
-  read_free (found.OtherVersion n) h read = absurd read
-  read_free found.NotOurs h read = tt
+  pub read_free : (f : Found) → IsReadAs v old.now f → IsFree old.now f
+  read_free (found.Ours w free) read =
+      subst (λ (w : Version). old.now.schema ≡ schema_of w
+      → AreVacanciesOf (content_at w old.now) free) (sym read.0) (λ is. (read.2 is).1.1)
+  read_free (found.OtherVersion n) read = absurd read
+  read_free found.NotOurs read = tt
 
 -- ---- What is found, call after call
 
 -- the rows were read of a store that says this version
-pub read_finds : {E : Type 0} (old mid new : State) (result : Result Found E) → IsLive old
-    → BeginsWith 1 old.now.schema → Endures old mid → Stays old mid
-    → (Works mid → HasVersion (pos 1) (tables_in old.now.trees).office) → Reads mid new result
-    → Finds old new result
-read_finds old mid new result live first endures stays version reads =
+pub read_finds : {E : Type 0} (v : Version) (old mid new : State) (result : Result Found E)
+    → IsLive old → Endures old mid → Stays old mid
+    → (BeginsWith 1 old.now.schema → Works mid
+    → HasVersion (number_of v) (tables_in old.now.trees).office)
+    → Reads v mid new result → Finds old new result
+read_finds v old mid new result live endures stays version reads =
     let both = stays_then old mid new stays reads.stays in
-    let says : Works new → HasVersion (pos 1) (tables_in old.now.trees).office =
-    λ works. version (reads.stays.worked works) in
-    let found : Works new → IfOk result (IsReadAs old.now) =
-    λ works. subst (λ db. IfOk result (IsReadAs db)) (stays.unchanged (reads.stays.worked works))
+    let says : Works new → BeginsWith 1 old.now.schema
+    → HasVersion (number_of v) (tables_in old.now.trees).office =
+    λ works begins. version begins (reads.stays.worked works) in
+    let found : Works new → IfOk result (IsReadAs v old.now) =
+    λ works. subst (λ db. IfOk result (IsReadAs v db)) (stays.unchanged (reads.stays.worked works))
     (reads.found works) in
     record {
       rest = reads.rest;
       endures = endures_then old mid new endures reads.endures;
       stays = both;
       verdict = λ works.
-          IfOk-weaker result _ _ (λ f read. read_as old new both live first says f works read)
+          IfOk-weaker result _ _ (λ f read. read_as v old new both live says f works read)
           (found works);
-      free = λ h.
-          IfOk-weaker result _ _ (λ f read. read_free old new both live first says f h read)
-          (found h.works);
+      free = λ works.
+          IfOk-weaker result _ _ (λ f read. read_free v old new both live says f read)
+          (found works);
     }
 
--- the store says no version
+-- the store says no version, if it begins with the table of the version
 pub none_finds : {E : Type 0} (old new : State) → IsIdle new → Endures old new → Stays old new
-    → (Works new → (n : ℤ) → ¬ HasVersion n (tables_in old.now.trees).office)
+    → (BeginsWith 1 old.now.schema → Works new
+    → (n : ℤ) → ¬ HasVersion n (tables_in old.now.trees).office)
     → Finds {E = E} old new (Ok found.NotOurs)
 none_finds old new rest endures stays none = record {
   rest = rest;
   endures = endures;
   stays = stays;
   verdict = λ works. (
-    λ ours. none works (pos 1) ours.0.kept.whole.0,
-    λ n is. absurd (none works n is.1),
+    (λ v ours. none (schema_begins v old.now ours.0.office.schema) works (number_of v)
+        (subst (HasVersion (number_of v)) (office_rows v old.now.trees) ours.0.kept.whole.0)),
+    (λ n is. absurd (none is.0 works n is.1)),
   );
-  free = λ h. tt;
+  free = λ works. tt;
 }
+
+-- it says a version that is not known, if it begins with the table of the version; that is there
+pub other_finds : {E : Type 0} (n : ℤ) (old new : State) → IsIdle new → Endures old new
+    → Stays old new → IsOther n
+    → (BeginsWith 1 old.now.schema → Works new → HasVersion n (tables_in old.now.trees).office)
+    → (BeginsWith 1 old.now.schema ⊎ ((¬ BeginsWith 1 old.now.schema)
+    × HasTable old.now.schema office_table))
+    → Finds {E = E} old new (Ok (found.OtherVersion n))
+other_finds n old new rest endures stays other version at = record {
+  rest = rest;
+  endures = endures;
+  stays = stays;
+  verdict = λ works. found_at works at;
+  free = λ works. tt;
+}
+  where
+    found_at : Works new → (BeginsWith 1 old.now.schema ⊎ ((¬ BeginsWith 1 old.now.schema)
+        × HasTable old.now.schema office_table))
+        → IsFoundAs old.now (verdict.OtherVersion n)
+    found_at works (inl begins) = inl ((begins, version begins works), other)
+    found_at works (inr beside) = inr (other, beside.0, beside.1)
+
+-- the first of a version's tables is that of the version
+pub has_first : (v : Version) (schema : Schema) → FindsTablesOf v schema
+    → HasTable schema office_table
+has_first First schema finds = finds.0.has
+has_first Second schema finds = finds.0.has
+has_first Third schema finds = finds.0.has

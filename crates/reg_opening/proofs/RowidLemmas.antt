@@ -1,7 +1,7 @@
 -- A table whose rowids a query shows, each below the next, has its rows by rowids.
 use Rattle.std.proofs.Common.{◌≡◌, ℕ, ℤ, List, [], ◌∷◌, map, true, refl, sym, ap, subst, ◌∙◌}
 use Rattle.std.proofs.Common.{Option, Some, None, IsSome, is_some, option_map, IsPermutation}
-use Rattle.std.proofs.lemmas.List.Sorted.{IsPermutation-map}
+use Rattle.std.proofs.lemmas.List.Sorted.{IsPermutation-map, IsPermutation-refl}
 use Rattle.std.proofs.lemmas.Simd.{map-map}
 use Rattle.std.specs.Cmp.{int_cmp_total}
 use Rattle.std.specs.FinMap.{int_cmp-IsAntisymmetric}
@@ -22,10 +22,9 @@ use Rattle.sqlite_value.proofs.OrderLemmas.{value_cmp-Int}
 use Rattle.reg_core.proofs.MapLaws.{IsKeyOrder}
 use Rattle.reg_records.specs.Columns.{int_in}
 use Rattle.reg_tables.specs.Editing.{AreKeyed}
-use Rattle.reg_tables.specs.Schema.{office_schema}
-use Rattle.reg_tables.specs.Selecting.{shows}
+use Rattle.reg_tables.specs.Selecting.{BeginsWith, shows}
 use Rattle.reg_tables.proofs.Library.Rowids.{keyed_if_shown}
-use Rattle.reg_tables.proofs.SelectLemmas.{office_begins, selected}
+use Rattle.reg_tables.proofs.SelectLemmas.{selected}
 use Rattle.reg_statements.specs.Loading.{IsAscending, ReadAs}
 use Rattle.reg_opening.specs.Numbered.{IsRising, either_cmp, numbered_in}
 use Rattle.reg_opening.specs.Rowids.{SelectsRowids, rowid_in}
@@ -88,13 +87,16 @@ keyed_at f at same table shown ids moved read up =
     keyed_if_shown (λ r. first (f r)) same table shows all
     (rise shows ids reads (strict int_keys (λ n. n) ids up), whole shows ids reads)
 
+pub keyed_none : AreKeyed []
+keyed_none = keyed_at (λ (r : Row). rowid r ∷ []) 0 (λ r. refl) [] [] [] (IsPermutation-refl []) refl tt
+
 pub keyed_shown : (sql : List ℕ) (t : ℕ) (order : List (Term × Key)) (old new : State)
     (rows : List Row) (ids : List ℤ) → SelectsRowids sql t order
-    → old.now.schema ≡ office_schema → Shown sql [] old new rows → ReadAs rowid_in rows ids
+    → BeginsWith 4 old.now.schema → Shown sql [] old new rows → ReadAs rowid_in rows ids
     → IsAscending int_cmp ids → AreKeyed (old.now.trees t)
-keyed_shown sql t order old new rows ids selects schema answer read up =
+keyed_shown sql t order old new rows ids selects begins answer read up =
     let found = selected sql t [] (col 1 0 ∷ []) order [] old new rows selects
-    (office_begins 4 schema) answer in
+    begins answer in
     let all = subst (λ rs. IsPermutation (map (shows (col 1 0 ∷ []) []) rs) rows)
     (filter_true (old.now.trees t)) found in
     keyed_at (shows (col 1 0 ∷ []) []) 0 (λ r. refl) (old.now.trees t) rows ids all read up

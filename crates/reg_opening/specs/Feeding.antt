@@ -3,6 +3,7 @@ use Rattle.std.specs.FinMap.{FinMap, get, insert, empty}
 use Rattle.std.specs.declared.cmp.Ordering.{Ordering}
 use Rattle.std.specs.Prelude.{◌≡◌, None, Result, IfOk, List, [], ◌∷◌, map, Bool, true, false, IsTrue, IsSome, Option}
 use Rattle.std.specs.List.{AllByRecursion}
+use Rattle.sqlite.specs.Effect.{Database}
 use Rattle.sqlite.specs.Order.{Row as SqlRow}
 use Rattle.sqlite.specs.State.{State}
 use Rattle.reg_core.specs.WellKept.{WellKept}
@@ -11,12 +12,20 @@ use Rattle.reg_audit.specs.Audits.{Audits, is_well_kept}
 use Rattle.reg_audit.specs.Rows.{with_row, IsInTurn, IsNew}
 use Rattle.reg_audit.specs.declared.audit.Audit.{Audit}
 use Rattle.reg_audit.specs.declared.row.Row.{Row}
-use Rattle.reg_tables.specs.Connection.{Endures, Holds, IsIdle, Stays}
+use Rattle.reg_tables.specs.Connection.{Endures, IsIdle, Stays, Works}
+use Rattle.reg_tables.specs.Editing.{AreKeyed}
+use Rattle.reg_tables.specs.Version.{rows_of, schema_of}
+use Rattle.reg_tables.specs.declared.version.Version.{Version}
 use Rattle.reg_opening.specs.Numbered.{IsRising}
 use Rattle.reg_opening.specs.declared.numbered.Numbered.{Numbered}
-use Rattle.reg_statements.specs.Content.{world_in}
+use Rattle.reg_statements.specs.Content.{content_at}
 use Rattle.reg_statements.specs.Loading.{ReadAs}
+use Rattle.reg_statements.specs.RowMaps.{IsTable, held_in}
 use Rattle.reg_statements.specs.Tables.{Tables, tables_in}
+
+-- the rows of the tables of a version; those that it lacks have none
+abbrev pub tables_at : Version → Database → Tables
+tables_at v db = tables_in (rows_of v db.trees)
 
 -- the world with the rows, from the last to the first
 abbrev pub with_rows : World → List Row → World
@@ -66,27 +75,42 @@ abbrev pub TellsTable : (World → Type 0) → Type 0 → (World → World) → 
 TellsTable Before IsHeld with whole old new true = FeedsTable Before IsHeld with old new
 TellsTable Before IsHeld with whole old new false = IsHeld → ¬ WellKept whole
 
--- A call that feeds the rows of a part of the office to an audit. The store stays as it was.
-pub record FeedsPart {E : Type 0} (Before : World → Type 0) (IsHeld : Tables → Type 0)
-    (with : Tables → World → World) (old new : State) (before after : Audit)
-    (result : Result Bool E) : Type 0 where
+-- A call that feeds the rows of a part of an office of a version to an audit. The store stays as it
+-- was.
+pub record FeedsPart {E : Type 0} (v : Version) (Before : Tables → World → Type 0)
+    (IsHeld : Tables → Type 0) (with : Tables → World → World) (old new : State)
+    (before after : Audit) (result : Result Bool E) : Type 0 where
   pub idle : IsIdle new
   pub endures : Endures old new
   pub stays : Stays old new
-  pub tells : Holds new → IfOk result
-      (TellsTable Before (IsHeld (tables_in old.now.trees)) (with (tables_in old.now.trees))
-      (world_in old) before after)
+  pub tells : Works new → old.now.schema ≡ schema_of v
+      → let t = tables_at v old.now in
+      IfOk result (TellsTable (Before t) (IsHeld t) (with t) (content_at v old.now) before after)
 
--- the rows that make a part of the world, in which none of them is before
+-- the rows that make a part of the world, in which none of them is before: each can come just where
+-- its key is new and tied to what is there
 pub record IsPart {T K X : Type 0} {R : K → K → Ordering} (pair : T → K × X) (row : T → Row)
-    (field : World → FinMap R X) (put : World → FinMap R X → World) (Before : World → Type 0)
+    (put : World → FinMap R X → World) (Before : World → Type 0) (IsTied : K → Type 0)
     : Type 0 where
-  pub got : (w : World) (m : FinMap R X) → field (put w m) ≡ m
-  pub over : (w : World) (m n : FinMap R X) → put (put w m) n ≡ put w n
-  pub same : (w : World) → put w (field w) ≡ w
-  pub with : (w : World) (t : T)
-      → with_row w (row t) ≡ put w (insert (field w) (pair t).0 (pair t).1)
-  pub free : (w : World) (t : T) → IsNew w (row t) → get (field w) (pair t).0 ≡ None
-  pub new : (w : World) (t : T) → get (field w) (pair t).0 ≡ None → IsNew w (row t)
-  pub none : (w : World) → Before w → field w ≡ empty
+  pub none : (w : World) → Before w → put w empty ≡ w
+  pub with : (w : World) (m : FinMap R X) (t : T)
+      → with_row (put w m) (row t) ≡ put w (insert m (pair t).0 (pair t).1)
+  pub free : (w : World) (m : FinMap R X) (t : T) → Before w → IsNew (put w m) (row t)
+      → (get m (pair t).0 ≡ None) × IsTied (pair t).0
+  pub new : (w : World) (m : FinMap R X) (t : T) → Before w → get m (pair t).0 ≡ None
+      → IsTied (pair t).0 → IsNew (put w m) (row t)
   pub turn : (w : World) (m : FinMap R X) (t : T) → Before w → IsInTurn (put w m) (row t)
+
+-- each key of the map is tied
+abbrev pub EachIsTied : {K X : Type 0} {R : K → K → Ordering} → FinMap R X → (K → Type 0) → Type 0
+EachIsTied {K} m IsTied = (k : K) → IsSome (get m k) → IsTied k
+
+-- the rows are a table, by rowids, and each key is tied
+abbrev pub IsTiedTable : {K X : Type 0} → (K → K → Ordering) → (SqlRow → Option (K × X))
+    → List SqlRow → (K → Type 0) → Type 0
+IsTiedTable R at rows IsTied =
+    (IsTable R at rows × AreKeyed rows) × EachIsTied (held_in {R = R} at rows) IsTied
+
+-- of keys that owe nothing to other tables
+abbrev pub Untied : {K : Type 0} → K → Type 0
+Untied k = Unit {0}

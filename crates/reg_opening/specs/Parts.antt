@@ -1,30 +1,52 @@
 -- The parts of an office in the order in which an audit is fed them, each with its rows by rowids,
 -- but for the registries and their ranges.
-use Rattle.std.specs.Prelude.{◌≡◌}
-use Rattle.std.specs.FinMap.{empty}
+use Rattle.std.specs.Prelude.{◌≡◌, true, Some, IsSome}
+use Rattle.std.specs.FinMap.{empty, get}
 use Rattle.std.specs.Ordering.{nat_cmp}
 use Rattle.reg_blocks.specs.Block.{block_cmp}
 use Rattle.reg_core.specs.Maps.{text_cmp}
-use Rattle.reg_core.specs.World.{World, name_cmp, place_cmp, seat_cmp}
-use Rattle.reg_tables.specs.Editing.{AreKeyed}
+use Rattle.reg_core.specs.World.{World, Place, RequestName, link_cmp, name_cmp, place_cmp, seat_cmp}
+use Rattle.reg_core.specs.declared.entry.Registration.{Registration}
+use Rattle.reg_core.specs.declared.request.Case.{Case}
+use Rattle.reg_core.specs.Minutes.{is_renewal}
 use Rattle.reg_statements.specs.Content.{cap_at, registration_at, case_at, seat_at, advice_at, prefix_at}
+use Rattle.reg_statements.specs.Content.{hold_at, link_at, minute_at, marked, minuted}
 use Rattle.reg_statements.specs.Content.{content, holder_at, maxes_in, ranges_in, registries_in}
+use Rattle.reg_opening.specs.Feeding.{IsTiedTable, Untied}
 use Rattle.reg_opening.specs.Partitions.{AreRegistries}
-use Rattle.reg_statements.specs.RowMaps.{IsTable, held_in}
+use Rattle.reg_statements.specs.RowMaps.{held_in}
 use Rattle.reg_statements.specs.Tables.{Tables}
 
--- ---- Capabilities, registries and entries
+-- ---- Capabilities, registries, entries and their marks
+
+-- the entry at the place is there, and expires
+abbrev pub ExpiresIn : Tables → Place → Type 0
+ExpiresIn t place =
+    (a : Registration) × (get (held_in {R = place_cmp} registration_at t.entries) place ≡ Some a)
+    × IsSome a.term.expires
+
+abbrev pub AreEntered : Tables → Type 0
+AreEntered t =
+    IsTiedTable place_cmp registration_at t.entries Untied
+    × IsTiedTable place_cmp hold_at t.holds (ExpiresIn t)
+
+abbrev pub with_entered : Tables → World → World
+with_entered t w = record w {
+  entries = marked (held_in hold_at t.holds) (held_in registration_at t.entries);
+}
+
+abbrev pub NoneEntered : World → Type 0
+NoneEntered w = (w.entries ≡ empty) × (w.requests ≡ empty)
 
 abbrev pub AreAssigned : Tables → Type 0
 AreAssigned t =
-    (IsTable text_cmp cap_at t.caps × AreKeyed t.caps)
-    × (AreRegistries t × (IsTable place_cmp registration_at t.entries × AreKeyed t.entries))
+    IsTiedTable text_cmp cap_at t.caps Untied × (AreRegistries t × AreEntered t)
 
 abbrev pub with_assigned : Tables → World → World
 with_assigned t w = record w {
   caps = held_in cap_at t.caps;
   registries = registries_in (maxes_in t) (ranges_in t);
-  entries = held_in registration_at t.entries;
+  entries = marked (held_in hold_at t.holds) (held_in registration_at t.entries);
 }
 
 -- none is there, and none of what is judged by them
@@ -34,19 +56,42 @@ pub record NoneAssigned (w : World) : Type 0 where
   pub entries : w.entries ≡ empty
   pub requests : w.requests ≡ empty
 
--- ---- The pool, blocks and requests
+-- what marks are of is there, and no mark
+pub record AreUnmarked (t : Tables) (w : World) : Type 0 where
+  pub entries : w.entries ≡ held_in registration_at t.entries
+  pub requests : w.requests ≡ empty
+
+-- ---- The pool, blocks, requests and their minutes
+
+-- the request of the name is there, and for a renewal
+abbrev pub RenewsIn : Tables → RequestName → Type 0
+RenewsIn t name =
+    (case : Case) × (get (held_in {R = name_cmp} case_at t.requests) name ≡ Some case)
+    × (is_renewal case.ask ≡ true)
+
+abbrev pub AreRequested : Tables → Type 0
+AreRequested t =
+    IsTiedTable name_cmp case_at t.requests Untied
+    × IsTiedTable name_cmp minute_at t.minutes (RenewsIn t)
+
+abbrev pub with_requested : Tables → World → World
+with_requested t w = record w {
+  requests = minuted (held_in minute_at t.minutes) (held_in case_at t.requests);
+}
+
+abbrev pub NoneRequested : World → Type 0
+NoneRequested w = (w.requests ≡ empty) × (w.queue ≡ empty)
 
 abbrev pub AreGiven : Tables → Type 0
 AreGiven t =
-    (IsTable nat_cmp prefix_at t.pool × AreKeyed t.pool)
-    × ((IsTable block_cmp holder_at t.blocks × AreKeyed t.blocks)
-    × (IsTable name_cmp case_at t.requests × AreKeyed t.requests))
+    IsTiedTable nat_cmp prefix_at t.pool Untied
+    × (IsTiedTable block_cmp holder_at t.blocks Untied × AreRequested t)
 
 abbrev pub with_given : Tables → World → World
 with_given t w = record w {
   pool = held_in prefix_at t.pool;
   blocks = held_in holder_at t.blocks;
-  requests = held_in case_at t.requests;
+  requests = minuted (held_in minute_at t.minutes) (held_in case_at t.requests);
 }
 
 pub record NoneGiven (w : World) : Type 0 where
@@ -55,22 +100,30 @@ pub record NoneGiven (w : World) : Type 0 where
   pub requests : w.requests ≡ empty
   pub queue : w.queue ≡ empty
 
--- ---- Assignments and advice
+-- what minutes are of is there, and no minute
+pub record AreUnminuted (t : Tables) (w : World) : Type 0 where
+  pub requests : w.requests ≡ held_in case_at t.requests
+  pub queue : w.queue ≡ empty
+
+-- ---- Assignments, advice and agents
 
 abbrev pub AreReviewed : Tables → Type 0
 AreReviewed t =
-    (IsTable seat_cmp seat_at t.queue × AreKeyed t.queue)
-    × (IsTable seat_cmp advice_at t.advice × AreKeyed t.advice)
+    IsTiedTable seat_cmp seat_at t.queue Untied
+    × (IsTiedTable seat_cmp advice_at t.advice Untied
+    × IsTiedTable link_cmp link_at t.agents Untied)
 
 abbrev pub with_reviewed : Tables → World → World
 with_reviewed t w = record w {
   queue = held_in seat_at t.queue;
   advice = held_in advice_at t.advice;
+  agents = held_in link_at t.agents;
 }
 
 pub record NoneReviewed (w : World) : Type 0 where
   pub queue : w.queue ≡ empty
   pub advice : w.advice ≡ empty
+  pub agents : w.agents ≡ empty
 
 -- ---- All
 

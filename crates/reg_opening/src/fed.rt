@@ -3,15 +3,17 @@ ghost use Rattle.std.specs.Prelude.{◌≡◌, ℕ, List, refl};
 ghost use Rattle.std.specs.FinMap.{empty};
 ghost use Rattle.reg_audit.specs.declared.row.Row.TheVariants as row;
 ghost use Rattle.reg_blocks.specs.Block.{SizedPrefix};
-ghost use Rattle.reg_core.specs.World.{Place, RequestName, Seat as SeatName};
+ghost use Rattle.reg_core.specs.World.{Link as LinkName, Place, RequestName, Seat as SeatName};
 ghost use Rattle.reg_core.specs.declared.advice.Advice.{Advice as AdviceValue};
 ghost use Rattle.reg_core.specs.declared.capability.Cap.{Cap};
 ghost use Rattle.reg_core.specs.declared.entry.Registration.{Registration};
 ghost use Rattle.reg_core.specs.declared.holding.Holder.{Holder};
 ghost use Rattle.reg_core.specs.declared.request.Case.{Case};
+ghost use Rattle.reg_statements.specs.Content.{marked, minuted};
 ghost use Rattle.reg_statements.specs.Office as office;
 ghost use Rattle.reg_statements.proofs.Office as laws;
 ghost use Rattle.reg_opening.specs.FedRows as rows;
+ghost use Rattle.reg_opening.specs.Parts.{AreUnmarked, AreUnminuted, ExpiresIn, RenewsIn};
 
 use crate::feed::{Fed, FedRow};
 use reg_audit::row::Row;
@@ -19,7 +21,10 @@ use reg_core::entry::Entry;
 use reg_core::holding::Holding;
 use reg_core::request::Request;
 use reg_records::advice::ExpertAdvice;
+use reg_records::agents::Link;
 use reg_records::caps::Grant;
+use reg_records::holds::Hold;
+use reg_records::minutes::Minute;
 use reg_records::pool::Prefix;
 use reg_records::queue::Seat;
 
@@ -79,6 +84,30 @@ impl Fed for ExpertAdvice {
     }
 }
 
+impl Fed for Hold {
+    ghost row_of = { λ hold. row.Hold hold.registry hold.value };
+
+    fn row(self) -> Row {
+        Row::Hold(self.registry, self.value)
+    }
+}
+
+impl Fed for Minute {
+    ghost row_of = { λ named. row.Minute named.account named.reference named.minute };
+
+    fn row(self) -> Row {
+        Row::Minute(self.account, self.reference, self.minute)
+    }
+}
+
+impl Fed for Link {
+    ghost row_of = { λ link. row.Link link.principal link.agent };
+
+    fn row(self) -> Row {
+        Row::Link(self.principal, self.agent)
+    }
+}
+
 impl FedRow for Grant {
     ghost Key = { List ℕ };
 
@@ -86,11 +115,11 @@ impl FedRow for Grant {
 
     ghost table = { office.caps };
 
-    ghost field = { λ w. w.caps };
-
     ghost put = { λ w m. record w { caps = m } };
 
-    ghost Before = { λ w. w.caps ≡ empty };
+    ghost Before = { λ t w. w.caps ≡ empty };
+
+    ghost IsTied = { λ t k. Unit {0} };
 
     fn all() -> &'static str {
         "SELECT digest, account, kind, until, rowid FROM caps ORDER BY rowid"
@@ -100,11 +129,17 @@ impl FedRow for Grant {
         4
     }
 
+    fn slot() -> usize {
+        1
+    }
+
     ghost defined = { laws.caps };
 
     ghost reads = { λ row. refl };
 
     ghost behind = { λ row. refl };
+
+    ghost placed = { rows.caps_placed };
 
     ghost fed = { rows.caps };
 }
@@ -116,11 +151,11 @@ impl FedRow for Entry {
 
     ghost table = { office.entries };
 
-    ghost field = { λ w. w.entries };
-
     ghost put = { λ w m. record w { entries = m } };
 
-    ghost Before = { λ w. (w.entries ≡ empty) × (w.requests ≡ empty) };
+    ghost Before = { λ t w. (w.entries ≡ empty) × (w.requests ≡ empty) };
+
+    ghost IsTied = { λ t k. Unit {0} };
 
     fn all() -> &'static str {
         "SELECT registry, value, label, assignee, first, expires, renewed, rowid FROM entries \
@@ -131,11 +166,17 @@ impl FedRow for Entry {
         7
     }
 
+    fn slot() -> usize {
+        4
+    }
+
     ghost defined = { laws.entries };
 
     ghost reads = { λ row. refl };
 
     ghost behind = { λ row. refl };
+
+    ghost placed = { rows.entries_placed };
 
     ghost fed = { rows.entries };
 }
@@ -147,11 +188,11 @@ impl FedRow for Prefix {
 
     ghost table = { office.pool };
 
-    ghost field = { λ w. w.pool };
-
     ghost put = { λ w m. record w { pool = m } };
 
-    ghost Before = { λ w. (w.pool ≡ empty) × (w.blocks ≡ empty) };
+    ghost Before = { λ t w. (w.pool ≡ empty) × (w.blocks ≡ empty) };
+
+    ghost IsTied = { λ t k. Unit {0} };
 
     fn all() -> &'static str {
         "SELECT prefix, rowid FROM pool ORDER BY rowid"
@@ -161,11 +202,17 @@ impl FedRow for Prefix {
         1
     }
 
+    fn slot() -> usize {
+        8
+    }
+
     ghost defined = { laws.pool };
 
     ghost reads = { λ row. refl };
 
     ghost behind = { λ row. refl };
+
+    ghost placed = { rows.pool_placed };
 
     ghost fed = { rows.pool };
 }
@@ -177,11 +224,11 @@ impl FedRow for Holding {
 
     ghost table = { office.blocks };
 
-    ghost field = { λ w. w.blocks };
-
     ghost put = { λ w m. record w { blocks = m } };
 
-    ghost Before = { λ w. (w.blocks ≡ empty) × (w.requests ≡ empty) };
+    ghost Before = { λ t w. (w.blocks ≡ empty) × (w.requests ≡ empty) };
+
+    ghost IsTied = { λ t k. Unit {0} };
 
     fn all() -> &'static str {
         "SELECT first, size, holder, organization, address, private, rowid FROM blocks \
@@ -192,11 +239,17 @@ impl FedRow for Holding {
         6
     }
 
+    fn slot() -> usize {
+        9
+    }
+
     ghost defined = { laws.blocks };
 
     ghost reads = { λ row. refl };
 
     ghost behind = { λ row. refl };
+
+    ghost placed = { rows.blocks_placed };
 
     ghost fed = { rows.blocks };
 }
@@ -208,11 +261,11 @@ impl FedRow for Request {
 
     ghost table = { office.requests };
 
-    ghost field = { λ w. w.requests };
-
     ghost put = { λ w m. record w { requests = m } };
 
-    ghost Before = { λ w. (w.requests ≡ empty) × (w.queue ≡ empty) };
+    ghost Before = { λ t w. (w.requests ≡ empty) × (w.queue ≡ empty) };
+
+    ghost IsTied = { λ t k. Unit {0} };
 
     fn all() -> &'static str {
         "SELECT account, reference, kind, registry, value, least, label, contact, specification, \
@@ -225,11 +278,17 @@ impl FedRow for Request {
         25
     }
 
+    fn slot() -> usize {
+        5
+    }
+
     ghost defined = { laws.requests };
 
     ghost reads = { rows.request_reads };
 
     ghost behind = { λ row. refl };
+
+    ghost placed = { rows.requests_placed };
 
     ghost fed = { rows.requests };
 }
@@ -241,11 +300,11 @@ impl FedRow for Seat {
 
     ghost table = { office.queue };
 
-    ghost field = { λ w. w.queue };
-
     ghost put = { λ w m. record w { queue = m } };
 
-    ghost Before = { λ w. (w.queue ≡ empty) × (w.advice ≡ empty) };
+    ghost Before = { λ t w. (w.queue ≡ empty) × (w.advice ≡ empty) };
+
+    ghost IsTied = { λ t k. Unit {0} };
 
     fn all() -> &'static str {
         "SELECT account, reference, expert, rowid FROM queue ORDER BY rowid"
@@ -255,11 +314,17 @@ impl FedRow for Seat {
         3
     }
 
+    fn slot() -> usize {
+        6
+    }
+
     ghost defined = { laws.queue };
 
     ghost reads = { λ row. refl };
 
     ghost behind = { λ row. refl };
+
+    ghost placed = { rows.queue_placed };
 
     ghost fed = { rows.queue };
 }
@@ -271,11 +336,11 @@ impl FedRow for ExpertAdvice {
 
     ghost table = { office.advice };
 
-    ghost field = { λ w. w.advice };
-
     ghost put = { λ w m. record w { advice = m } };
 
-    ghost Before = { λ w. w.advice ≡ empty };
+    ghost Before = { λ t w. w.advice ≡ empty };
+
+    ghost IsTied = { λ t k. Unit {0} };
 
     fn all() -> &'static str {
         "SELECT account, reference, expert, verdict, text, rowid FROM advice ORDER BY rowid"
@@ -285,11 +350,125 @@ impl FedRow for ExpertAdvice {
         5
     }
 
+    fn slot() -> usize {
+        7
+    }
+
     ghost defined = { laws.advice };
 
     ghost reads = { λ row. refl };
 
     ghost behind = { λ row. refl };
 
+    ghost placed = { rows.advice_placed };
+
     ghost fed = { rows.advice };
+}
+
+impl FedRow for Hold {
+    ghost Key = { Place };
+
+    ghost Value = { Unit {0} };
+
+    ghost table = { office.holds };
+
+    ghost put = { λ w m. record w { entries = marked m w.entries } };
+
+    ghost Before = { AreUnmarked };
+
+    ghost IsTied = { ExpiresIn };
+
+    fn all() -> &'static str {
+        "SELECT registry, value, rowid FROM holds ORDER BY rowid"
+    }
+
+    fn width() -> usize {
+        2
+    }
+
+    fn slot() -> usize {
+        10
+    }
+
+    ghost defined = { laws.holds };
+
+    ghost reads = { λ row. refl };
+
+    ghost behind = { λ row. refl };
+
+    ghost placed = { rows.holds_placed };
+
+    ghost fed = { rows.holds };
+}
+
+impl FedRow for Minute {
+    ghost Key = { RequestName };
+
+    ghost Value = { List ℕ };
+
+    ghost table = { office.minutes };
+
+    ghost put = { λ w m. record w { requests = minuted m w.requests } };
+
+    ghost Before = { AreUnminuted };
+
+    ghost IsTied = { RenewsIn };
+
+    fn all() -> &'static str {
+        "SELECT account, reference, minute, rowid FROM minutes ORDER BY rowid"
+    }
+
+    fn width() -> usize {
+        3
+    }
+
+    fn slot() -> usize {
+        11
+    }
+
+    ghost defined = { laws.minutes };
+
+    ghost reads = { λ row. refl };
+
+    ghost behind = { λ row. refl };
+
+    ghost placed = { rows.minutes_placed };
+
+    ghost fed = { rows.minutes };
+}
+
+impl FedRow for Link {
+    ghost Key = { LinkName };
+
+    ghost Value = { Unit {0} };
+
+    ghost table = { office.agents };
+
+    ghost put = { λ w m. record w { agents = m } };
+
+    ghost Before = { λ t w. w.agents ≡ empty };
+
+    ghost IsTied = { λ t k. Unit {0} };
+
+    fn all() -> &'static str {
+        "SELECT principal, agent, rowid FROM agents ORDER BY rowid"
+    }
+
+    fn width() -> usize {
+        2
+    }
+
+    fn slot() -> usize {
+        12
+    }
+
+    ghost defined = { laws.agents };
+
+    ghost reads = { λ row. refl };
+
+    ghost behind = { λ row. refl };
+
+    ghost placed = { rows.agents_placed };
+
+    ghost fed = { rows.agents };
 }

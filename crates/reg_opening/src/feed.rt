@@ -8,13 +8,14 @@ ghost use Rattle.sqlite.specs.Tree.{rowid};
 ghost use Rattle.reg_core.specs.World.{World};
 ghost use Rattle.reg_audit.specs.declared.row.Row.{Row as AuditRow};
 ghost use Rattle.reg_tables.specs.Connection.{Endures, IsIdle, Stays, Works};
-ghost use Rattle.reg_tables.specs.Editing.{AreKeyed};
 ghost use Rattle.reg_tables.specs.Kinds.{IsQuery};
 ghost use Rattle.reg_tables.specs.Selecting.{shows, stored};
 ghost use Rattle.reg_statements.specs.Defined.{IsDefined};
 ghost use Rattle.reg_statements.specs.Parts.{TableDef};
-ghost use Rattle.reg_statements.specs.RowMaps.{IsTable, held_in};
-ghost use Rattle.reg_opening.specs.Feeding.{FeedsPart, FeedsRows, IsFed, IsPart};
+ghost use Rattle.reg_statements.specs.RowMaps.{held_in};
+ghost use Rattle.reg_statements.specs.Tables.{Tables};
+ghost use Rattle.reg_opening.specs.FedRows.{IsPlaced};
+ghost use Rattle.reg_opening.specs.Feeding.{FeedsPart, FeedsRows, IsFed, IsPart, IsTiedTable};
 ghost use Rattle.reg_opening.specs.Numbered.{ShowsNumbered, numbered_columns, numbered_in};
 
 use crate::numbered::{Numbered, rise};
@@ -23,6 +24,7 @@ use reg_audit::row::Row;
 use reg_keeper::keeper::Fault;
 use reg_records::record::Record;
 use reg_statements::read::load;
+use reg_tables::version::Version;
 use sqlite::{Alter, Connection};
 use std::alloc::{AllocError, Global};
 
@@ -46,24 +48,27 @@ pub trait FedRow: Record + Fed {
     /// The definition of its table.
     ghost table: { TableDef Self Key Value };
 
-    /// The part of the world that the rows of the table are, and the world with another one.
-    ghost field: { World → FinMap table.key.order Value };
-
+    /// The world with what the rows of the table add to it.
     ghost put: { World → FinMap table.key.order Value → World };
 
-    /// What the world has before any of them is fed.
-    ghost Before: { World → Type 0 };
+    /// What the world has before any of them is fed, and what a key owes to rows of other tables.
+    ghost Before: { Tables → World → Type 0 };
+
+    ghost IsTied: { Tables → Key → Type 0 };
 
     /// The query of all rows of the table, each with its rowid behind its columns.
     fn all() -> &'static str
         ensures { ShowsNumbered table result.now };
 
-    /// How many columns the table has.
+    /// How many columns the table has, and how many tables stand before it.
     fn width() -> usize
         ensures { result ≡ table.width };
 
+    fn slot() -> usize
+        ensures { result ≡ table.slot };
+
     /// The definition is right, rows are read by it from what the query shows of them, behind which
-    /// the rowid stands, and they are that part.
+    /// the rowid stands; a version that has the table has its tree; and they are that part.
     ghost defined: { IsDefined table };
 
     ghost reads: { (row : SqlRow) → Self.of (shows (numbered_columns table.width) [] row)
@@ -72,7 +77,9 @@ pub trait FedRow: Record + Fed {
     ghost behind: { (row : SqlRow)
         → column (shows (numbered_columns table.width) [] row) table.width ≡ rowid row };
 
-    ghost fed: { IsPart table.pair Self.row_of field put Before };
+    ghost placed: { IsPlaced table };
+
+    ghost fed: { (t : Tables) → IsPart table.pair Self.row_of put (Before t) (IsTied t) };
 }
 
 /// Feeds values to an audit, from the last to the first.
@@ -113,18 +120,22 @@ fn feed_table<S: Alter, T: FedRow>(
     Ok(true)
 }
 
-/// Feeds the rows of a table to an audit, where each has its form, and tells whether each has. Rows
-/// whose rowids do not rise are a fault of the store.
+/// Feeds the rows of a table to an audit, where each has its form, and tells whether each has; a
+/// table that the version lacks has none. Rows whose rowids do not rise are a fault of the store.
 pub fn feed<S: Alter, T: FedRow>(
     alloc: Global,
     conn: &mut Connection<S>,
     audit: &mut Audit,
+    version: Version,
 ) -> Result<bool, Fault>
     requires { IsIdle (state S.Store conn.old) }
-    ensures { FeedsPart T.Before (λ t. IsTable T.table.key.order T.table.at (T.table.rows t)
-        × AreKeyed (T.table.rows t))
+    ensures { FeedsPart version T.Before
+        (λ t. IsTiedTable T.table.key.order T.table.at (T.table.rows t) (T.IsTied t))
         (λ t w. T.put w (held_in T.table.at (T.table.rows t)))
         (state S.Store conn.old) (state S.Store conn.new) audit.old audit.new result }
 {
+    if version.tables() <= T::slot() {
+        return Ok(true);
+    }
     feed_table::<S, T>(alloc, conn, audit, T::all())
 }

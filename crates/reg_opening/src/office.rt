@@ -2,9 +2,10 @@
 ghost use Rattle.sqlite.specs.Held.{state};
 ghost use Rattle.reg_tables.specs.Connection.{IsIdle};
 ghost use Rattle.reg_opening.specs.Feeding.{FeedsPart};
-ghost use Rattle.reg_opening.specs.Parts.{AreAssigned, AreGiven, AreParts, AreReviewed, IsBlank};
-ghost use Rattle.reg_opening.specs.Parts.{NoneAssigned, NoneGiven, NoneReviewed, with_assigned};
-ghost use Rattle.reg_opening.specs.Parts.{with_given, with_parts, with_reviewed};
+ghost use Rattle.reg_opening.specs.Parts.{AreAssigned, AreEntered, AreGiven, AreParts, AreRequested};
+ghost use Rattle.reg_opening.specs.Parts.{AreReviewed, IsBlank, NoneAssigned, NoneEntered, NoneGiven};
+ghost use Rattle.reg_opening.specs.Parts.{NoneRequested, NoneReviewed, with_assigned, with_entered};
+ghost use Rattle.reg_opening.specs.Parts.{with_given, with_parts, with_requested, with_reviewed};
 
 use crate::feed::feed;
 use crate::partitions::feed_registries;
@@ -14,81 +15,126 @@ use reg_core::holding::Holding;
 use reg_core::request::Request;
 use reg_keeper::keeper::Fault;
 use reg_records::advice::ExpertAdvice;
+use reg_records::agents::Link;
 use reg_records::caps::Grant;
+use reg_records::holds::Hold;
+use reg_records::minutes::Minute;
 use reg_records::pool::Prefix;
 use reg_records::queue::Seat;
+use reg_tables::version::Version;
 use sqlite::{Alter, Connection};
 use std::alloc::Global;
 
-/// Feeds the capabilities, the registries and the entries.
+/// Feeds the entries and their marks.
+fn feed_entries<S: Alter>(
+    alloc: Global,
+    conn: &mut Connection<S>,
+    audit: &mut Audit,
+    version: Version,
+) -> Result<bool, Fault>
+    requires { IsIdle (state S.Store conn.old) }
+    ensures { FeedsPart version (λ t. NoneEntered) AreEntered with_entered
+        (state S.Store conn.old) (state S.Store conn.new) audit.old audit.new result }
+{
+    if !feed::<S, Entry>(alloc, conn, audit, version)? {
+        return Ok(false);
+    }
+    feed::<S, Hold>(alloc, conn, audit, version)
+}
+
+/// Feeds the capabilities, the registries and the entries with their marks.
 fn feed_assigned<S: Alter>(
     alloc: Global,
     conn: &mut Connection<S>,
     audit: &mut Audit,
+    version: Version,
 ) -> Result<bool, Fault>
     requires { IsIdle (state S.Store conn.old) }
-    ensures { FeedsPart NoneAssigned AreAssigned with_assigned
+    ensures { FeedsPart version (λ t. NoneAssigned) AreAssigned with_assigned
         (state S.Store conn.old) (state S.Store conn.new) audit.old audit.new result }
 {
-    if !feed::<S, Grant>(alloc, conn, audit)? {
+    if !feed::<S, Grant>(alloc, conn, audit, version)? {
         return Ok(false);
     }
     if !feed_registries(alloc, conn, audit)? {
         return Ok(false);
     }
-    feed::<S, Entry>(alloc, conn, audit)
+    feed_entries(alloc, conn, audit, version)
 }
 
-/// Feeds the pool, the blocks and the requests.
+/// Feeds the requests and the minutes that renewals name.
+fn feed_requests<S: Alter>(
+    alloc: Global,
+    conn: &mut Connection<S>,
+    audit: &mut Audit,
+    version: Version,
+) -> Result<bool, Fault>
+    requires { IsIdle (state S.Store conn.old) }
+    ensures { FeedsPart version (λ t. NoneRequested) AreRequested with_requested
+        (state S.Store conn.old) (state S.Store conn.new) audit.old audit.new result }
+{
+    if !feed::<S, Request>(alloc, conn, audit, version)? {
+        return Ok(false);
+    }
+    feed::<S, Minute>(alloc, conn, audit, version)
+}
+
+/// Feeds the pool, the blocks and the requests with their minutes.
 fn feed_given<S: Alter>(
     alloc: Global,
     conn: &mut Connection<S>,
     audit: &mut Audit,
+    version: Version,
 ) -> Result<bool, Fault>
     requires { IsIdle (state S.Store conn.old) }
-    ensures { FeedsPart NoneGiven AreGiven with_given
+    ensures { FeedsPart version (λ t. NoneGiven) AreGiven with_given
         (state S.Store conn.old) (state S.Store conn.new) audit.old audit.new result }
 {
-    if !feed::<S, Prefix>(alloc, conn, audit)? {
+    if !feed::<S, Prefix>(alloc, conn, audit, version)? {
         return Ok(false);
     }
-    if !feed::<S, Holding>(alloc, conn, audit)? {
+    if !feed::<S, Holding>(alloc, conn, audit, version)? {
         return Ok(false);
     }
-    feed::<S, Request>(alloc, conn, audit)
+    feed_requests(alloc, conn, audit, version)
 }
 
-/// Feeds the assignments and the advice.
+/// Feeds the assignments, the advice and the agents.
 fn feed_reviewed<S: Alter>(
     alloc: Global,
     conn: &mut Connection<S>,
     audit: &mut Audit,
+    version: Version,
 ) -> Result<bool, Fault>
     requires { IsIdle (state S.Store conn.old) }
-    ensures { FeedsPart NoneReviewed AreReviewed with_reviewed
+    ensures { FeedsPart version (λ t. NoneReviewed) AreReviewed with_reviewed
         (state S.Store conn.old) (state S.Store conn.new) audit.old audit.new result }
 {
-    if !feed::<S, Seat>(alloc, conn, audit)? {
+    if !feed::<S, Seat>(alloc, conn, audit, version)? {
         return Ok(false);
     }
-    feed::<S, ExpertAdvice>(alloc, conn, audit)
+    if !feed::<S, ExpertAdvice>(alloc, conn, audit, version)? {
+        return Ok(false);
+    }
+    feed::<S, Link>(alloc, conn, audit, version)
 }
 
-/// Feeds all rows of an office.
+/// Feeds all rows of an office of a version.
 pub fn feed_parts<S: Alter>(
     alloc: Global,
     conn: &mut Connection<S>,
     audit: &mut Audit,
+    version: Version,
 ) -> Result<bool, Fault>
     requires { IsIdle (state S.Store conn.old) }
-    ensures { FeedsPart IsBlank AreParts with_parts
+    ensures { FeedsPart version (λ t. IsBlank) AreParts with_parts
         (state S.Store conn.old) (state S.Store conn.new) audit.old audit.new result }
 {
-    if !feed_assigned(alloc, conn, audit)? {
+    if !feed_assigned(alloc, conn, audit, version)? {
         return Ok(false);
     }
-    if !feed_given(alloc, conn, audit)? {
+    if !feed_given(alloc, conn, audit, version)? {
         return Ok(false);
     }
-    feed_reviewed(alloc, conn, audit)
+    feed_reviewed(alloc, conn, audit, version)
 }

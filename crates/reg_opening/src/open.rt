@@ -2,38 +2,35 @@
 ghost use Rattle.std.specs.Prelude.{◌≡◌, IfOk};
 ghost use Rattle.sqlite.specs.Held.{state};
 ghost use Rattle.sqlite.specs.State.{IsLive};
-ghost use Rattle.reg_tables.specs.Connection.{Endures, Holds, IsIdle, Stays, Tells, Works};
+ghost use Rattle.reg_tables.specs.Connection.{Endures, IsIdle, Stays, Tells, Works};
 ghost use Rattle.reg_tables.specs.Having.{AreFreeLater, FindsTablesOf};
 ghost use Rattle.reg_tables.specs.Selecting.{BeginsWith};
-ghost use Rattle.reg_tables.specs.Version.{newest};
+ghost use Rattle.reg_tables.specs.Version.{schema_of};
+ghost use Rattle.reg_tables.specs.declared.version.Version.{Version as OfVersion};
 ghost use Rattle.reg_statements.specs.Tables.{tables_in};
-ghost use Rattle.reg_opening.specs.Opening.{AreRowsOf, Decides, Finds, IsFreeBy, IsOwn, IsVersionOf};
-ghost use Rattle.reg_opening.specs.Opening.{LeaveFree, Reads, only, verdict_of};
-ghost use Rattle.reg_opening.specs.Rowids.{AreOrderedKeyed};
+ghost use Rattle.reg_opening.specs.Opening.{AreRowsOf, Decides, Finds, IsFreeBy, IsNumberOf, IsVersionOf};
+ghost use Rattle.reg_opening.specs.Opening.{Reads, only, verdict_of};
 
 use crate::office::feed_parts;
 use crate::rowids::check_rowids;
 use reg_audit::audit::Audit;
 use reg_keeper::keeper::Fault;
-use reg_records::office::Version;
+use reg_records::office::Version as VersionRow;
 use reg_statements::read::load;
 use reg_statements::write::fault;
 use reg_tables::schema::{begins_with_office, has_version};
 use reg_tables::texts::SELECT_VERSION;
-use reg_tables::version::NEWEST;
+use reg_tables::version::Version;
 use reg_vacancies::vacancies::Vacancies;
 use sqlite::{Alter, Connection};
 use std::alloc::Global;
 
-/// The version of the tables that this library makes.
-const VERSION: i64 = 1;
-
 /// What a store is to an office that opens it.
 #[derive(Clone, Copy, Debug, PartialEq, Eq)]
 pub enum Verdict {
-    /// An office's store, whose content is well kept.
-    Ours,
-    /// An office's, of this version and not of the first.
+    /// An office's store, of this version, whose content is well kept.
+    Ours(Version),
+    /// An office's, of a version that this library does not know.
     OtherVersion(i64),
     /// Anything else.
     NotOurs,
@@ -42,9 +39,9 @@ pub enum Verdict {
 /// What a store is, and of an office's what is free in it.
 #[derive(Drop)]
 pub enum Found {
-    /// An office's store, whose content is well kept, and what is free in it.
-    Ours(Vacancies),
-    /// An office's, of this version and not of the first.
+    /// An office's store, of this version, whose content is well kept, and what is free in it.
+    Ours(Version, Vacancies),
+    /// An office's, of a version that this library does not know.
     OtherVersion(i64),
     /// Anything else.
     NotOurs,
@@ -56,15 +53,16 @@ impl Found {
         ensures { result ≡ verdict_of self }
     {
         match self {
-            Found::Ours(_) => Verdict::Ours,
-            Found::OtherVersion(version) => Verdict::OtherVersion(version),
+            Found::Ours(version, _) => Verdict::Ours(version),
+            Found::OtherVersion(number) => Verdict::OtherVersion(number),
             Found::NotOurs => Verdict::NotOurs,
         }
     }
 }
 
 /// Tells what a store is. The tables of an office are looked for by their names, and those beside
-/// them are not looked at. Rows that the store does not give in their order are a fault of it.
+/// them are not looked at, but that none has the name of a table that the version lacks. Rows that
+/// the store does not give in their order are a fault of it.
 pub fn check<S: Alter>(alloc: Global, conn: &mut Connection<S>) -> Result<Verdict, Fault>
     requires { IsIdle (state S.Store conn.old) }
     ensures { Decides (state S.Store conn.old) (state S.Store conn.new) result }
@@ -92,70 +90,95 @@ fn find_first<S: Alter>(alloc: Global, conn: &mut Connection<S>) -> Result<Found
     requires first { BeginsWith 1 (state S.Store conn.old).now.schema }
     ensures { Finds (state S.Store conn.old) (state S.Store conn.new) result }
 {
-    match version(alloc, conn)? {
-        Some(VERSION) => find_office(alloc, conn),
-        Some(other) => Ok(Found::OtherVersion(other)),
-        None => Ok(Found::NotOurs),
-    }
-}
-
-/// Tells what a store of this version is.
-fn find_office<S: Alter>(alloc: Global, conn: &mut Connection<S>) -> Result<Found, Fault>
-    requires { IsIdle (state S.Store conn.old) }
-    ensures { Reads (state S.Store conn.old) (state S.Store conn.new) result }
-{
-    if !has_office(alloc, conn)? {
+    let Some(number) = version(alloc, conn)? else {
         return Ok(Found::NotOurs);
+    };
+    match version_of(number) {
+        Some(version) => find_office(alloc, conn, version),
+        None => Ok(Found::OtherVersion(number)),
     }
-    find_rows(alloc, conn)
 }
 
 /// Tells what a store is that begins with another table, or has views. An office's tables are looked
 /// for by their names.
 fn find_beside<S: Alter>(alloc: Global, conn: &mut Connection<S>) -> Result<Found, Fault>
     requires idle { IsIdle (state S.Store conn.old) }
+    requires live { IsLive (state S.Store conn.old) }
     requires beside { ¬ BeginsWith 1 (state S.Store conn.old).now.schema }
     ensures { Finds (state S.Store conn.old) (state S.Store conn.new) result }
 {
-    if !has_office(alloc, conn)? {
+    if !has_any(alloc, conn)? {
         return Ok(Found::NotOurs);
     }
-    match version(alloc, conn)? {
-        Some(VERSION) => find_rows(alloc, conn),
-        Some(other) => Ok(Found::OtherVersion(other)),
+    let Some(number) = version(alloc, conn)? else {
+        return Ok(Found::NotOurs);
+    };
+    match version_of(number) {
+        Some(version) => find_office(alloc, conn, version),
+        None => Ok(Found::OtherVersion(number)),
+    }
+}
+
+/// The version of a number.
+fn version_of(number: i64) -> Option<Version>
+    ensures { IsNumberOf number result }
+{
+    match number {
+        1 => Some(Version::First),
+        2 => Some(Version::Second),
+        3 => Some(Version::Third),
+        _ => None,
+    }
+}
+
+/// Tells what a store of a version is.
+fn find_office<S: Alter>(
+    alloc: Global,
+    conn: &mut Connection<S>,
+    version: Version,
+) -> Result<Found, Fault>
+    requires { IsIdle (state S.Store conn.old) }
+    ensures { Reads version (state S.Store conn.old) (state S.Store conn.new) result }
+{
+    if !has_office(alloc, conn, version)? {
+        return Ok(Found::NotOurs);
+    }
+    match read_rows(alloc, conn, version)? {
+        Some(free) => Ok(Found::Ours(version, free)),
         None => Ok(Found::NotOurs),
     }
 }
 
-/// Whether a store has the tables of an office, wherever they stand.
-fn has_office<S: Alter>(alloc: Global, conn: &Connection<S>) -> Result<bool, Fault>
+/// Whether a store has the tables of a version, wherever they stand, and no other of the name of a
+/// table that the version lacks.
+fn has_office<S: Alter>(
+    alloc: Global,
+    conn: &Connection<S>,
+    version: Version,
+) -> Result<bool, Fault>
     ensures { IfOk result (λ has. Tells has
-        (FindsTablesOf newest (state S.Store conn.now).now.schema
-        × AreFreeLater newest (state S.Store conn.now).now.schema)) }
+        (FindsTablesOf version (state S.Store conn.now).now.schema
+        × AreFreeLater version (state S.Store conn.now).now.schema)) }
 {
-    match has_version(alloc, conn.schema(), NEWEST) {
+    match has_version(alloc, conn.schema(), version) {
         Ok(has) => Ok(has),
         Err(error) => Err(fault(&error)),
     }
 }
 
-/// Whether the rows of an office's tables are those of one that is well kept.
-fn find_rows<S: Alter>(alloc: Global, conn: &mut Connection<S>) -> Result<Found, Fault>
-    requires { IsIdle (state S.Store conn.old) }
-    ensures idle { IsIdle (state S.Store conn.new) }
-    ensures endures { Endures (state S.Store conn.old) (state S.Store conn.new) }
-    ensures stays { Stays (state S.Store conn.old) (state S.Store conn.new) }
-    ensures rows { Holds (state S.Store conn.new)
-        → IfOk result (AreRowsOf (state S.Store conn.old).now) }
-    ensures own { IfOk result IsOwn }
+/// Whether a store has the tables of a version, of whichever.
+fn has_any<S: Alter>(alloc: Global, conn: &Connection<S>) -> Result<bool, Fault>
+    ensures { IfOk result (λ has. Tells has ((v : OfVersion)
+        × FindsTablesOf v (state S.Store conn.now).now.schema
+        × AreFreeLater v (state S.Store conn.now).now.schema)) }
 {
-    match read_rows(alloc, conn)? {
-        Some(free) => Ok(Found::Ours(free)),
-        None => Ok(Found::NotOurs),
+    if has_office(alloc, conn, Version::Third)? || has_office(alloc, conn, Version::Second)? {
+        return Ok(true);
     }
+    has_office(alloc, conn, Version::First)
 }
 
-/// The version of the tables, if there is one.
+/// The number of the version of the tables, if there is one.
 fn version<S: Alter>(alloc: Global, conn: &mut Connection<S>) -> Result<Option<i64>, Fault>
     requires { IsIdle (state S.Store conn.old) }
     ensures idle { IsIdle (state S.Store conn.new) }
@@ -165,14 +188,14 @@ fn version<S: Alter>(alloc: Global, conn: &mut Connection<S>) -> Result<Option<i
         → Works (state S.Store conn.new) → IfOk result
         (IsVersionOf (tables_in (state S.Store conn.old).now.trees).office) }
 {
-    match load::<S, Version>(alloc, conn, SELECT_VERSION, &[])? {
+    match load::<S, VersionRow>(alloc, conn, SELECT_VERSION, &[])? {
         Some(rows) => Ok(only(rows.as_slice())),
         None => Ok(None),
     }
 }
 
 /// The one version of a list.
-fn only(versions: &[Version]) -> Option<i64>
+fn only(versions: &[VersionRow]) -> Option<i64>
     ensures { result ≡ only versions.now }
 {
     match versions {
@@ -181,20 +204,23 @@ fn only(versions: &[Version]) -> Option<i64>
     }
 }
 
-/// What the rows of the tables leave free, if they make an office that is well kept.
-fn read_rows<S: Alter>(alloc: Global, conn: &mut Connection<S>) -> Result<Option<Vacancies>, Fault>
+/// What the rows of the tables of a version leave free, if they make an office that is well kept.
+fn read_rows<S: Alter>(
+    alloc: Global,
+    conn: &mut Connection<S>,
+    version: Version,
+) -> Result<Option<Vacancies>, Fault>
     requires { IsIdle (state S.Store conn.old) }
     ensures idle { IsIdle (state S.Store conn.new) }
     ensures endures { Endures (state S.Store conn.old) (state S.Store conn.new) }
     ensures stays { Stays (state S.Store conn.old) (state S.Store conn.new) }
-    ensures keyed { Holds (state S.Store conn.new)
-        → IfOk result (λ _. AreOrderedKeyed (state S.Store conn.old).now.trees) }
-    ensures tells { Holds (state S.Store conn.new) → IfOk result
-        (LeaveFree (tables_in (state S.Store conn.old).now.trees)) }
+    ensures rows { Works (state S.Store conn.new)
+        → (state S.Store conn.old).now.schema ≡ schema_of version
+        → IfOk result (AreRowsOf version (state S.Store conn.old).now) }
 {
     check_rowids(alloc, conn)?;
     let mut audit = Audit::new(alloc);
-    if !feed_parts(alloc, conn, &mut audit)? {
+    if !feed_parts(alloc, conn, &mut audit, version)? {
         return Ok(None);
     }
     free_of(audit)

@@ -3,6 +3,7 @@ ghost use Rattle.std.specs.Prelude.{◌≡◌, IfOk, false};
 ghost use Rattle.std.specs.FinMap.{empty};
 ghost use Rattle.sqlite.specs.Held.{state};
 ghost use Rattle.reg_tables.specs.Connection.{IsIdle};
+ghost use Rattle.reg_tables.specs.declared.version.Version.{Version};
 ghost use Rattle.reg_statements.specs.Content.{maxes_in, ranges_in, registries_in};
 ghost use Rattle.reg_opening.specs.Feeding.{FeedsPart};
 ghost use Rattle.reg_opening.specs.Partitions.{ArePartitions, AreRegistries, IsFedPartitions, leading};
@@ -128,7 +129,8 @@ pub fn feed_registries<S: Alter>(
     audit: &mut Audit,
 ) -> Result<bool, Fault>
     requires { IsIdle (state S.Store conn.old) }
-    ensures { FeedsPart (λ w. (w.registries ≡ empty) × (w.entries ≡ empty)) AreRegistries
+    ensures { (v : Version) → FeedsPart v
+        (λ t w. (w.registries ≡ empty) × (w.entries ≡ empty)) AreRegistries
         (λ t w. record w { registries = registries_in (maxes_in t) (ranges_in t) })
         (state S.Store conn.old) (state S.Store conn.new) audit.old audit.new result }
 {

@@ -5,9 +5,10 @@ ghost use Rattle.std.specs.Ordering.{int_cmp};
 ghost use Rattle.sqlite.specs.Held.{state};
 ghost use Rattle.sqlite.specs.Term.{Term};
 ghost use Rattle.sqlite_value.specs.declared.keys.Key.{Key};
-ghost use Rattle.reg_tables.specs.Connection.{Endures, Holds, IsIdle, Stays};
+ghost use Rattle.reg_tables.specs.Connection.{Endures, IsIdle, Stays, Works};
 ghost use Rattle.reg_tables.specs.Editing.{AreKeyed};
 ghost use Rattle.reg_tables.specs.Kinds.{IsQuery};
+ghost use Rattle.reg_tables.specs.Selecting.{BeginsWith};
 ghost use Rattle.reg_opening.specs.Rowids.{AreOrderedKeyed, KeysEach, SelectsRowids, rowid_in};
 
 use reg_keeper::keeper::Fault;
@@ -67,7 +68,8 @@ fn check_table<S: Alter>(alloc: Global, conn: &mut Connection<S>, sql: &str) -> 
     ensures idle { IsIdle (state S.Store conn.new) }
     ensures endures { Endures (state S.Store conn.old) (state S.Store conn.new) }
     ensures stays { Stays (state S.Store conn.old) (state S.Store conn.new) }
-    ensures keyed { Holds (state S.Store conn.new) → IfOk result (λ _. (t : ℕ)
+    ensures keyed { Works (state S.Store conn.new)
+        → BeginsWith 4 (state S.Store conn.old).now.schema → IfOk result (λ _. (t : ℕ)
         (order : List (Term × Key)) → SelectsRowids sql.now t order
         → AreKeyed ((state S.Store conn.old).now.trees t)) }
 {
@@ -93,7 +95,8 @@ fn check_each<S: Alter>(
     ensures idle { IsIdle (state S.Store conn.new) }
     ensures endures { Endures (state S.Store conn.old) (state S.Store conn.new) }
     ensures stays { Stays (state S.Store conn.old) (state S.Store conn.new) }
-    ensures keyed { Holds (state S.Store conn.new)
+    ensures keyed { Works (state S.Store conn.new)
+        → BeginsWith 4 (state S.Store conn.old).now.schema
         → IfOk result (λ _. KeysEach (map (λ text. text.now) texts.entry.now)
         (state S.Store conn.old).now.trees) }
 {
@@ -111,7 +114,8 @@ pub fn check_rowids<S: Alter>(alloc: Global, conn: &mut Connection<S>) -> Result
     ensures idle { IsIdle (state S.Store conn.new) }
     ensures endures { Endures (state S.Store conn.old) (state S.Store conn.new) }
     ensures stays { Stays (state S.Store conn.old) (state S.Store conn.new) }
-    ensures keyed { Holds (state S.Store conn.new)
+    ensures keyed { Works (state S.Store conn.new)
+        → BeginsWith 4 (state S.Store conn.old).now.schema
         → IfOk result (λ _. AreOrderedKeyed (state S.Store conn.old).now.trees) }
 {
     check_each(alloc, conn, &QUERIES)

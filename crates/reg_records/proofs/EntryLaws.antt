@@ -1,5 +1,6 @@
 -- The rows of `entries` keep entries: what is written reads back, and only that reads.
-use Rattle.std.proofs.Common.{◌≡◌, true, Some, refl, subst}
+use Rattle.std.proofs.Common.{◌≡◌, true, Some, refl, sym, ap, ◌∙◌, subst}
+use Rattle.std.proofs.lemmas.Bool.{and_from, not-true}
 use Rattle.std.proofs.lemmas.Option.{same_Some}
 use Rattle.sqlite.specs.Order.{Row, column}
 use Rattle.sqlite.specs.Values.{or_null}
@@ -7,9 +8,11 @@ use Rattle.reg_early.specs.Forms.{is_day}
 use Rattle.reg_ranges.specs.Forms.{is_none_or}
 use Rattle.reg_ranges.specs.Texts.{is_text}
 use Rattle.reg_core.specs.Names.{is_name}
+use Rattle.reg_core.specs.Entry.{registration_in}
+use Rattle.reg_core.specs.WellKept.{has_entry_form}
 use Rattle.reg_core.specs.declared.entry.Entry.{Entry}
 use Rattle.reg_records.specs.Columns.{is_number, number_in, or_null_in, whole_value}
-use Rattle.reg_records.specs.Entries.{entry_columns, entry_in, entry_values, is_entry}
+use Rattle.reg_records.specs.Entries.{EntriesReadUnheld, entry_columns, entry_in, entry_values, is_entry, unheld}
 use Rattle.reg_records.specs.Laws.{KeepsRows}
 use Rattle.reg_records.proofs.ColumnLaws.{IsColumn, both, column_some, column-at, flags, formed_texts, numbers, or_nulls}
 
@@ -17,9 +20,8 @@ use Rattle.reg_records.proofs.ColumnLaws.{IsColumn, both, column_some, column-at
 expiries : IsColumn (or_null_in (number_in is_day)) (or_null whole_value) (is_none_or is_day)
 expiries = or_nulls (numbers is_day) (λ n. refl)
 
-pub entry_back : (entry : Entry) → is_entry entry ≡ true
-    → entry_in (entry_values entry) ≡ Some entry
-entry_back entry form =
+pub entry_unheld : EntriesReadUnheld
+entry_unheld entry form =
     both _ _ form (λ form rest. both _ _ form (λ registry value. both _ _ rest (λ form term.
     both _ _ form (λ label assignee. both _ _ term (λ first expires.
     column-at (formed_texts is_name) entry.registry registry _ _ (
@@ -29,6 +31,20 @@ entry_back entry form =
     column-at (numbers is_day) entry.term.first first _ _ (
     column-at expiries entry.term.expires expires _ _ (
     column-at flags entry.term.renewed refl _ _ refl)))))))))))
+
+pub entry_back : (entry : Entry) → is_entry entry ≡ true
+    → entry_in (entry_values entry) ≡ Some entry
+entry_back entry form = both _ _ form (λ form bare.
+    entry_unheld entry form
+    ∙ ap (λ held. Some (record entry { term = record entry.term { held = held } }))
+    (sym (not-true entry.term.held bare)))
+
+-- without its mark it has the form of one that a row holds
+pub unheld_form : (entry : Entry)
+    → has_entry_form (entry.registry, entry.value) (registration_in entry) ≡ true
+    → is_entry (unheld entry) ≡ true
+unheld_form entry form =
+    and_from (has_entry_form (entry.registry, entry.value) (registration_in entry)) true form refl
 
 entry_read : (row : Row) (entry : Entry) → entry_in row ≡ Some entry
     → (entry_columns row ≡ entry_values entry) × (is_entry entry ≡ true)

@@ -8,6 +8,9 @@ pub mod SeatLaws
 pub mod AdviceLaws
 pub mod PrefixLaws
 pub mod HoldingLaws
+pub mod HoldLaws
+pub mod MinuteLaws
+pub mod LinkLaws
 pub mod VersionLaws
 pub mod RequestLaws
 pub mod QueuedLaws

@@ -13,3 +13,6 @@ pub mod Laws
 pub mod Requests
 pub mod Queued
 pub mod Advised
+pub mod Holds
+pub mod Minutes
+pub mod Agents

@@ -54,6 +54,7 @@ impl Record for Entry {
                 first,
                 expires,
                 renewed,
+                held: false,
             },
         }))
     }
@@ -69,6 +70,7 @@ impl Keyed for Entry {
 }
 
 /// The row that is written for an entry: registry, value, label, assignee, first, expires, renewed.
+/// Its mark is a row of `holds`.
 pub fn entry_values(entry: &Entry) -> [ValueRef<'_>; 7]
     ensures { bound result ≡ entry_values entry.now }
 {

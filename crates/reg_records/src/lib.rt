@@ -3,11 +3,14 @@
 
 pub mod advice;
 pub mod advised;
+pub mod agents;
 pub mod blocks;
 pub mod caps;
 pub mod column;
 pub mod entries;
+pub mod holds;
 pub mod laws;
+pub mod minutes;
 pub mod office;
 pub mod pool;
 pub mod queue;

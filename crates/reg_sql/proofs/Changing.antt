@@ -1,14 +1,17 @@
 -- What is free, as a change leaves it.
 use Rattle.std.proofs.Common.{◌≡◌, ℕ, List, refl}
 use Rattle.std.specs.Prelude.{Result, Ok, Err, IsTrue, OnOk, is_ok}
+use Rattle.reg_core.specs.Entry.{with_hold}
 use Rattle.reg_core.specs.Holding.{with_mark}
+use Rattle.reg_core.specs.Maps.{update}
 use Rattle.reg_core.specs.World.{World, applied}
 use Rattle.reg_core.specs.declared.change.Change.{Change}
-use Rattle.reg_core.specs.declared.change.Change.TheVariants.{AddPool, Advise, Assign, Close, Define, GiveBlock, GiveValue, Grant, Revoke, SetPrivate, Submit}
+use Rattle.reg_core.specs.declared.change.Change.TheVariants.{AddPool, Advise, Assign, Close, Define, GiveBlock, GiveValue, Grant, Revoke, SetAgent, SetHold, SetPrivate, Submit}
 use Rattle.reg_core.specs.declared.entry.Entry.{Entry}
 use Rattle.reg_core.specs.declared.holding.Holding.{Holding}
+use Rattle.reg_core.proofs.MapLaws.{place_keys}
 use Rattle.reg_vacancies.specs.declared.vacancies.Vacancies.{Vacancies}
-use Rattle.reg_vacancies.proofs.Carrying.{holders_are_changed}
+use Rattle.reg_vacancies.proofs.Carrying.{contains-changed, holders_are_changed, keys_decide}
 use Rattle.reg_vacancies.specs.Vacancies.{AreVacanciesOf}
 
 -- what a call gives that went through
@@ -38,3 +41,7 @@ left_free w vacancies (GiveBlock account reference holding) pool value block are
     absurd (block account reference holding refl)
 left_free w vacancies (SetPrivate mark private) pool value block are =
     holders_are_changed vacancies w.entries w.pool w.blocks are mark (with_mark private)
+left_free w vacancies (SetHold name at held) pool value block are =
+    keys_decide vacancies w.entries (update w.entries (name, at) (with_hold held)) w.pool w.blocks
+    w.blocks (contains-changed place_keys w.entries (name, at) (with_hold held)) (λ block. refl) are
+left_free w vacancies (SetAgent principal agent reads) pool value block are = are

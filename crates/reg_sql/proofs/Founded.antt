@@ -2,23 +2,26 @@
 use Rattle.std.proofs.Common.{◌≡◌, List, [], refl, sym, ap, subst, ◌∙◌}
 use Rattle.std.specs.Prelude.{Option, Some, None, IsSome, is_some, option_and_then}
 use Rattle.std.specs.declared.cmp.Ordering.{Ordering}
-use Rattle.std.specs.FinMap.{empty, get-empty}
+use Rattle.std.specs.FinMap.{contains_key, empty, get, get-empty}
 use Rattle.sqlite.specs.Effect.{Database}
 use Rattle.sqlite.specs.Order.{Row}
+use Rattle.reg_core.specs.Entry.{with_hold}
 use Rattle.reg_core.specs.Maps.{select}
+use Rattle.reg_core.specs.Minutes.{with_minute}
 use Rattle.sqlite.specs.State.{State}
 use Rattle.reg_core.specs.WellKept.{WellKept}
-use Rattle.reg_core.specs.World.{empty_world, place_cmp}
+use Rattle.reg_core.specs.World.{empty_world, name_cmp, place_cmp}
 use Rattle.reg_core.proofs.Keeping.RunsKeepWell.{first_worlds_kept}
-use Rattle.reg_core.proofs.MapLaws.{IsKeyOrder, get-select, same_at, text_keys}
+use Rattle.reg_core.proofs.MapLaws.{IsKeyOrder, get-select, name_keys, place_keys, same_at, text_keys}
 use Rattle.reg_vacancies.specs.Vacancies.{AreVacancies, AreVacanciesOf}
 use Rattle.reg_vacancies.specs.declared.vacancies.Vacancies.{Vacancies}
 use Rattle.reg_tables.specs.Connection.{Holds, IsIdle}
-use Rattle.reg_tables.specs.Having.{Gains}
+use Rattle.reg_tables.specs.Having.{GainsTables}
 use Rattle.reg_tables.specs.Making.{IsBlank, IsFounded, no_schema}
 use Rattle.reg_tables.specs.Schema.{office_schema}
+use Rattle.reg_tables.specs.Version.{newest, number_of}
 use Rattle.reg_tables.proofs.GrowLemmas.{none_before}
-use Rattle.reg_statements.specs.Content.{AreKept, IsStored, IsVersion, content, content_of, registry_table}
+use Rattle.reg_statements.specs.Content.{AreKept, HasVersion, IsStored, content, content_of, registry_table}
 use Rattle.reg_statements.specs.RowMaps.{IsTable}
 use Rattle.reg_statements.specs.Tables.{Tables, tables_in}
 use Rattle.reg_statements.proofs.RowMaps.Tables.{empty_table}
@@ -38,6 +41,9 @@ bare rows = record {
   advice = [];
   pool = [];
   blocks = [];
+  holds = [];
+  minutes = [];
+  agents = [];
 }
 
 are_bare : (db : Database) → IsFounded db → tables_in db.trees ≡ bare (tables_in db.trees).office
@@ -54,6 +60,9 @@ are_bare db it =
       advice = e.1.1.1.1.1.1.0 i;
       pool = e.1.1.1.1.1.1.1.0 i;
       blocks = e.1.1.1.1.1.1.1.1.0 i;
+      holds = e.1.1.1.1.1.1.1.1.1.0 i;
+      minutes = e.1.1.1.1.1.1.1.1.1.1.0 i;
+      agents = e.1.1.1.1.1.1.1.1.1.1.1.0 i;
     }
 
 select-empty : {K X Y : Type 0} {R : K → K → Ordering} (o : IsKeyOrder R) (f : K → X → Option Y)
@@ -63,38 +72,80 @@ select-empty {R = R} o f = same_at o _ _ (λ q.
     ∙ ap (option_and_then (f q)) (get-empty R q)
     ∙ sym (get-empty R q))
 
-no_range : {P : Type 0} {A : Type 0} (o : Option A) → o ≡ None → IsSome o → P
-no_range o none some = let gone = ap is_some none in absurd (cc)
+absent : {P : Type 0} {A : Type 0} (o : Option A) → o ≡ None → IsSome o → P
+absent o none some = let gone = ap is_some none in absurd (cc)
 
 none : {K X : Type 0} {R : K → K → Ordering} {of : Row → Option (K × X)} → IsTable R of []
 none {R = R} {of = of} = (empty_table R of).0
 
-bare_kept : (rows : List Row) → IsVersion 1 rows → AreKept (bare rows)
+bare_kept : (rows : List Row) → HasVersion (number_of newest) rows → AreKept newest (bare rows)
 bare_kept rows version = record {
-  whole = (version, (none, (none, (none, (none, (none, (none, (none, (none, none)))))))));
-  tied = λ place some. no_range _ (get-empty place_cmp place) some;
+  whole = (
+    version,
+    (
+      none,
+      (
+        none,
+        (
+          none,
+          (
+            none,
+            (
+              none,
+              (
+                none,
+                (
+                  none,
+                  (
+                    none,
+                    (
+                      none,
+                      (
+                        none,
+                        (
+                          none,
+                          none,
+                        ),
+                      ),
+                    ),
+                  ),
+                ),
+              ),
+            ),
+          ),
+        ),
+      ),
+    ),
+  );
+  tied = record {
+    ranges = λ place some. absent _ (get-empty place_cmp place) some;
+    holds = λ place marked. absent _ (get-empty place_cmp place) marked;
+    minutes = λ name some. absent _ (get-empty name_cmp name) some;
+  };
 }
 
 bare_content : (rows : List Row) → content (bare rows) ≡ empty_world
-bare_content rows =
-    ap (λ registries. record empty_world { registries = registries })
-    (select-empty text_keys (λ name max. Some (registry_table empty name max)))
+bare_content rows = λ i. record empty_world {
+  registries =
+      select-empty text_keys (λ name max. Some (registry_table empty name max)) i;
+  entries =
+      select-empty place_keys (λ place a. Some (with_hold (contains_key {X = Unit {0}} {R = place_cmp} empty place) a)) i;
+  requests = select-empty name_keys (λ name case. Some (with_minute (get {R = name_cmp} empty name) case)) i;
+}
 
-first_version : (db : Database) → IsFounded db → IsVersion 1 (tables_in db.trees).office
+first_version : (db : Database) → IsFounded db
+    → HasVersion (number_of newest) (tables_in db.trees).office
 first_version db it = (it.version.row, it.version.only, rw it.version.says refl)
 
-founded_kept : (db : Database) → IsFounded db → IsStored db
-founded_kept db it = record {
+pub founded_stored : (db : Database) → IsFounded db → IsStored db
+founded_stored db it = record {
   office = it.office;
-  kept = subst AreKept (sym (are_bare db it)) (bare_kept _ (first_version db it));
+  kept = subst (AreKept newest) (sym (are_bare db it)) (bare_kept _ (first_version db it));
 }
 
 -- it holds the empty office
 pub founded_empty : (db : Database) → IsFounded db → content_of db ≡ empty_world
 founded_empty db it = ap content (are_bare db it) ∙ bare_content (tables_in db.trees).office
-
-pub founded_stored : (db : Database) → IsFounded db → IsStored db
-founded_stored = founded_kept
 
 -- an office keeps to it
 pub keeps_founded : (s : State) → IsIdle s → (Holds s → IsFounded s.now) → (v : Vacancies)
@@ -110,7 +161,8 @@ pub blank : (db : Database) → HasNoTables db → IsBlank no_schema db
 blank db none = record { has = none; empty = tt }
 
 -- where the office's tables came and there are no others, there were none before
-pub founded_alone : (old new : State) → Gains office_schema.tables 10 11 old.now.schema new.now.schema
+pub founded_alone : (old new : State)
+    → GainsTables office_schema.tables old.now.schema new.now.schema
     → (IsBlank no_schema old.now → IsFounded new.now) → Holds new
     → HasNoTables old.now × IsFounded new.now
 founded_alone old new gained made h =

@@ -1,26 +1,35 @@
 -- What an opening makes of a store, in each way that it can go.
-use Rattle.std.proofs.Common.{◌≡◌, ℤ, Bool, inl, inr, true, Ok, Err, Result, refl, sym, ap, subst, ◌∙◌}
-use Rattle.std.specs.Prelude.{IfErr, IfOk, IsTrue, Some}
+use Rattle.std.proofs.Common.{◌≡◌, ℕ, ℤ, Bool, List, [], ◌∷◌, inl, inr, true, Ok, Err, Result, refl, sym, ap, subst, ◌∙◌}
+use Rattle.std.specs.Prelude.{◌≢◌, IfErr, IfOk, IsTrue, Some}
+use Rattle.std.specs.List.{AllByRecursion}
 use Rattle.sqlite.specs.Effect.{Database}
 use Rattle.sqlite.specs.Schema.{Schema}
+use Rattle.sqlite.specs.Table.{Table}
 use Rattle.sqlite.specs.State.{State, HasCleanDisk}
 use Rattle.sqlite_schema.specs.Names.{same_name}
+use Rattle.reg_core.specs.WellKept.{WellKept}
 use Rattle.reg_core.specs.World.{empty_world}
 use Rattle.reg_keeper.specs.declared.keeper.Fault.{Fault as KeeperFault}
 use Rattle.reg_vacancies.specs.declared.vacancies.Vacancies.{Vacancies}
 use Rattle.reg_tables.specs.Connection.{Holds, Works}
-use Rattle.reg_tables.specs.Having.{AreFree, HasTables}
-use Rattle.reg_tables.specs.Making.{no_schema}
+use Rattle.reg_tables.specs.Having.{AreFree, AreFreeLater, Extends, FindsTablesOf, GainsTables, HasTable, HasTables}
+use Rattle.reg_tables.specs.Making.{IsMigrated, no_schema}
 use Rattle.reg_tables.specs.Schema.{office_schema}
+use Rattle.reg_tables.specs.Version.{later_than, newest, schema_of, tables_of}
+use Rattle.reg_tables.specs.declared.version.Version.{Version}
+use Rattle.reg_tables.specs.declared.version.Version.TheVariants.{First, Second, Third}
 use Rattle.reg_tables.proofs.HavingLemmas.{all_has}
+use Rattle.reg_tables.proofs.Library.GrowingSchemas.{still_has}
+use Rattle.reg_tables.proofs.PartLemmas.{part_before}
 use Rattle.reg_tables.proofs.RestLemmas.{stays_held, stays_same}
-use Rattle.reg_statements.specs.Content.{content_of, world_in}
-use Rattle.reg_opening.specs.Opening.{Finds, IsFoundAs, IsOurs, free_in, verdict_of}
+use Rattle.reg_statements.specs.Content.{IsStoredAs, content_at, content_of, world_in}
+use Rattle.reg_statements.proofs.Migrated.{migrated_same}
+use Rattle.reg_opening.specs.Opening.{Finds, HasVersionTables, IsFoundAs, IsFree, IsOurs, verdict_of}
 use Rattle.reg_opening.specs.declared.open.Found.{Found}
 use Rattle.reg_opening.specs.declared.open.Found.TheVariants as finding
-use Rattle.reg_vacancies.specs.Vacancies.{AreVacanciesOf, MayBeOf}
+use Rattle.reg_vacancies.specs.Vacancies.{AreVacanciesOf}
 use Rattle.reg_sql.specs.Keeping.{KeepsOffice}
-use Rattle.reg_sql.specs.Opening.{HasNoTables, IsRefused, IsTakenOver, TakesOver}
+use Rattle.reg_sql.specs.Opening.{Brings, HasNoTables, IsRefused, IsTakenOver, TakesOver}
 use Rattle.reg_sql.specs.declared.open.OpenFault.{OpenFault}
 use Rattle.reg_sql.specs.declared.open.OpenFault.TheVariants as refusals
 
@@ -42,10 +51,12 @@ module _ (fresh : Bool) (old new : State) where
 
 -- ---- An office that is founded
 
--- an office's own names are taken in it
-not_free : (schema : Schema) → schema ≡ office_schema → ¬ AreFree schema
+-- an office's own names are taken in it, of whatever version it is
+not_free : (v : Version) (schema : Schema) → schema ≡ schema_of v → ¬ AreFree schema
 unfolding same_name
-not_free schema is free = let taken = (subst AreFree is free).0 in absurd (cc)
+not_free First schema is free = let taken = (subst AreFree is free).0 in absurd (cc)
+not_free Second schema is free = let taken = (subst AreFree is free).0 in absurd (cc)
+not_free Third schema is free = let taken = (subst AreFree is free).0 in absurd (cc)
 
 module _ (old new : State) (free : AreFree old.now.schema) where
   founded_taken : HasTables new.now.schema
@@ -54,9 +65,9 @@ module _ (old new : State) (free : AreFree old.now.schema) where
       → IsTakenOver true old.now new.now
   founded_taken has alone was = record {
     has = has;
-    from = inr (refl, free);
+    from = inr (inl (refl, free));
     alone = λ stands. elim stands [
-      | inl is ↦ absurd (not_free old.now.schema is free)
+      | inl version ↦ absurd (not_free version.0 old.now.schema version.1 free)
       | inr none ↦ alone none
     ];
     was_alone = λ is. inr (was is);
@@ -88,9 +99,102 @@ module _ (old new : State) (free : AreFree old.now.schema) where
 
 -- ---- An office that is there
 
-none_there : (schema : Schema) → schema ≡ no_schema → ¬ HasTables schema
-none_there schema is has =
-    let named = (subst HasTables is has).0.named in absurd (cc)
+-- no schema has the tables of one version, and is that of another
+only_version : (v u : Version) (schema : Schema) → schema ≡ schema_of u
+    → FindsTablesOf v schema × AreFreeLater v schema → u ≡ v
+unfolding same_name
+only_version First First schema is tables = refl
+only_version First Second schema is tables =
+    let free = (subst (AreFreeLater First) is tables.1).0 in absurd (cc)
+only_version First Third schema is tables =
+    let free = (subst (AreFreeLater First) is tables.1).0 in absurd (cc)
+only_version Second First schema is tables =
+    let named = (subst (FindsTablesOf Second) is tables.0).1.1.1.1.1.1.1.1.1.1.0.has.named in
+    absurd (cc)
+only_version Second Second schema is tables = refl
+only_version Second Third schema is tables =
+    let free = (subst (AreFreeLater Second) is tables.1).0 in absurd (cc)
+only_version Third First schema is tables =
+    let named = (subst (FindsTablesOf Third) is tables.0).1.1.1.1.1.1.1.1.1.1.0.has.named in
+    absurd (cc)
+only_version Third Second schema is tables =
+    let named = (subst (FindsTablesOf Third) is tables.0).1.1.1.1.1.1.1.1.1.1.1.1.0.has.named in
+    absurd (cc)
+only_version Third Third schema is tables = refl
+
+-- tables that were there are there where others came
+all_still : {n m : ℕ} {old new : Schema} (all : List Table) → Extends n m old new
+    → AllByRecursion (HasTable old) all → AllByRecursion (HasTable new) all
+all_still [] grows has = tt
+all_still (t ∷ all) grows has = (still_has t grows has.0, all_still all grows has.1)
+
+-- the tables that were there and those that came are an office's
+brought : (v : Version) (old new : Schema) → FindsTablesOf v old
+    → GainsTables (later_than v) old new → HasTables new
+brought v old new finds gained = go v
+    (all_still (tables_of v) gained.extends (all_has old (tables_of v) finds)) gained.has
+  where
+    go : (v : Version) → AllByRecursion (HasTable new) (tables_of v)
+        → AllByRecursion (HasTable new) (later_than v) → HasTables new
+    go First a b = (
+      a.0,
+      (
+        a.1.0,
+        (
+          a.1.1.0,
+          (
+            a.1.1.1.0,
+            (
+              a.1.1.1.1.0,
+              (
+                a.1.1.1.1.1.0,
+                (a.1.1.1.1.1.1.0, (a.1.1.1.1.1.1.1.0, (a.1.1.1.1.1.1.1.1.0, (a.1.1.1.1.1.1.1.1.1.0, b)))),
+              ),
+            ),
+          ),
+        ),
+      ),
+    )
+    go Second a b = (
+      a.0,
+      (
+        a.1.0,
+        (
+          a.1.1.0,
+          (
+            a.1.1.1.0,
+            (
+              a.1.1.1.1.0,
+              (
+                a.1.1.1.1.1.0,
+                (
+                  a.1.1.1.1.1.1.0,
+                  (
+                    a.1.1.1.1.1.1.1.0,
+                    (
+                      a.1.1.1.1.1.1.1.1.0,
+                      (
+                        a.1.1.1.1.1.1.1.1.1.0,
+                        (a.1.1.1.1.1.1.1.1.1.1.0, (a.1.1.1.1.1.1.1.1.1.1.1.0, b)),
+                      ),
+                    ),
+                  ),
+                ),
+              ),
+            ),
+          ),
+        ),
+      ),
+    )
+    go Third a b = a
+
+none_there : (v : Version) (schema : Schema) → schema ≡ no_schema → ¬ FindsTablesOf v schema
+none_there First schema is finds =
+    let named = (subst (FindsTablesOf First) is finds).0.has.named in absurd (cc)
+none_there Second schema is finds =
+    let named = (subst (FindsTablesOf Second) is finds).0.has.named in absurd (cc)
+none_there Third schema is finds =
+    let named = (subst (FindsTablesOf Third) is finds).0.has.named in absurd (cc)
 
 module _ (fresh : Bool) (old new : State) {E : Type 0} (f : Found)
     (finds : Finds {E = E} old new (Ok f)) where
@@ -102,15 +206,10 @@ module _ (fresh : Bool) (old new : State) {E : Type 0} (f : Found)
       → TakesOver fresh old new (Err (refusals.Version n))
   version_over n is =
       refused_over fresh old new (refusals.Version n) finds.stays.worked finds.stays.unchanged
-      (λ w.
-      let other = told (finding.OtherVersion n) is w in (
-        other.0,
-        elim other.1 [
-          | inl first ↦ inl first
-          | inr beside ↦
-              inr (beside.0, all_has old.now.schema office_schema.tables beside.1)
-        ],
-      ))
+      (λ w. elim (told (finding.OtherVersion n) is w) [
+        | inl first ↦ (first.1, inl first.0)
+        | inr beside ↦ (beside.0, inr (beside.1, beside.2))
+      ])
 
   pub not_ours_over : f ≡ finding.NotOurs → (fresh ≡ true → ¬ AreFree old.now.schema)
       → TakesOver fresh old new (Err refusals.NotOurs)
@@ -120,25 +219,39 @@ module _ (fresh : Bool) (old new : State) {E : Type 0} (f : Found)
       let none = told finding.NotOurs is w in
       (none.0, none.1, taken))
 
-  module _ (free : Vacancies) (is : f ≡ finding.Ours free) where
-    ours_was : Holds new → IsOurs old.now
-    ours_was h = (told (finding.Ours free) is h.works).1 (stays_held finds.stays h).tables
+  module _ (v : Version) (free : Vacancies) (is : f ≡ finding.Ours v free) where
+    -- its tables were there
+    had : Works new → HasVersionTables v old.now
+    had w = (told (finding.Ours v free) is w).0
 
-    ours_at : Holds new → IsOurs new.now
-    ours_at h = subst IsOurs (sym (stays_same finds.stays h)) (ours_was h)
+    ours_was : Works new → old.now.schema ≡ schema_of v → IsOurs v old.now
+    ours_was w alone = (told (finding.Ours v free) is w).1 alone
+
+    free_was : Works new → old.now.schema ≡ schema_of v → AreVacanciesOf (content_at v old.now) free
+    free_was w = subst (IsFree old.now) is (finds.free w)
+
+  -- ---- Of the newest version
+
+  module _ (free : Vacancies) (is : f ≡ finding.Ours newest free) where
+    ours_at : Holds new → IsOurs newest new.now
+    ours_at h = subst (IsOurs newest) (sym (stays_same finds.stays h))
+        (ours_was newest free is h.works (stays_held finds.stays h).tables)
 
     ours_taken : Works new → IsTakenOver fresh old.now new.now
     ours_taken w =
         let same = finds.stays.unchanged w in
-        let has = all_has old.now.schema office_schema.tables (told (finding.Ours free) is w).0 in
+        let tables = had newest free is w in
+        let has = all_has old.now.schema office_schema.tables tables.0 in
         record {
           has = subst (λ (db : Database). HasTables db.schema) (sym same) has;
           from = inl same;
           alone = λ stands. elim stands [
-            | inl is ↦ ap (λ (db : Database). db.schema) same ∙ is
-            | inr none ↦ absurd (none_there old.now.schema none has)
+            | inl version ↦
+                ap (λ (db : Database). db.schema) same ∙ version.1
+                ∙ ap schema_of (only_version newest version.0 old.now.schema version.1 tables)
+            | inr none ↦ absurd (none_there newest old.now.schema none tables.0)
           ];
-          was_alone = λ is. inl (ap (λ (db : Database). db.schema) (sym same) ∙ is);
+          was_alone = λ is. inl (newest, ap (λ (db : Database). db.schema) (sym same) ∙ is);
         }
 
     ours_kept : KeepsOffice (Some free) new
@@ -147,7 +260,7 @@ module _ (fresh : Bool) (old new : State) {E : Type 0} (f : Found)
       kept = λ h. (ours_at h).1;
       follows = λ h. subst (λ (db : Database). AreVacanciesOf (content_of db) free)
           (sym (stays_same finds.stays h))
-          (subst (λ f. MayBeOf (world_in old) (free_in f)) is (finds.free h));
+          (free_was newest free is h.works (stays_held finds.stays h).tables);
     }
 
     pub ours_over : TakesOver fresh old new (Ok free)
@@ -155,7 +268,11 @@ module _ (fresh : Bool) (old new : State) {E : Type 0} (f : Found)
       worked = finds.stays.worked;
       keeps = ours_kept;
       taken = ours_taken;
-      opened = λ h. inl (ours_was h, ap content_of (stays_same finds.stays h));
+      opened = λ h. inl (
+        newest,
+        ours_was newest free is h.works (stays_held finds.stays h).tables,
+        ap content_of (stays_same finds.stays h),
+      );
       live = λ honest. (
         finds.endures.clean honest.clean,
         finds.endures.stays_open honest.clean honest.unfailed,
@@ -163,3 +280,66 @@ module _ (fresh : Bool) (old new : State) {E : Type 0} (f : Found)
       refused = λ auto w. tt;
       unchanged = λ w. tt;
     }
+
+  -- ---- Of an older version
+
+  module _ (v : Version) (free : Vacancies) (is : f ≡ finding.Ours v free) (older : v ≢ newest)
+      (last : State) where
+    pub older_over : (result : Result Vacancies OpenFault) → Brings v free new last result
+        → TakesOver fresh old last result
+    older_over (Err e) brings =
+        refused_over fresh old last e (λ w. finds.stays.worked (brings.worked w))
+        (λ w. brings.unchanged w ∙ finds.stays.unchanged (brings.worked w))
+        (λ w. subst (IsRefused fresh old.now) (sym brings.fault.1) tt)
+    older_over (Ok kept) brings =
+        let same = λ (w : Works last). finds.stays.unchanged (brings.worked w) in
+        let before = λ (w : Works last) (alone : last.now.schema ≡ office_schema).
+        part_before v old.now.schema last.now.schema (had v free is (brings.worked w)).0
+        (subst (λ (db : Database). GainsTables (later_than v) db.schema last.now.schema) (same w)
+        (brings.gained w)) alone in
+        let migrated = λ (w : Works last) (alone : old.now.schema ≡ schema_of v).
+        subst (λ (db : Database). IsStoredAs v db → IsMigrated v db last.now) (same w)
+        (brings.migrated w) (ours_was v free is (brings.worked w) alone).0 in
+        let stays = λ (h : Holds last).
+        let alone = before h.works h.tables in
+        migrated_same v old.now last.now (ours_was v free is (brings.worked h.works) alone).0
+        (migrated h.works alone) in
+        record {
+          worked = λ w. finds.stays.worked (brings.worked w);
+          keeps = record {
+            keeping = record { idle = brings.rest; stored = λ h. (stays h).0 };
+            kept = λ h. subst WellKept (sym (stays h).1)
+                (ours_was v free is (brings.worked h.works) (before h.works h.tables)).1;
+            follows = λ h. subst (λ w. AreVacanciesOf w kept) (sym (stays h).1)
+                (subst (λ (free : Vacancies). AreVacanciesOf (content_at v old.now) free)
+                (sym brings.free)
+                (free_was v free is (brings.worked h.works) (before h.works h.tables)));
+          };
+          taken = λ w.
+              let tables = had v free is (brings.worked w) in
+              let gained = subst (λ (db : Database).
+              GainsTables (later_than v) db.schema last.now.schema) (same w) (brings.gained w) in
+              record {
+                has = brought v old.now.schema last.now.schema tables.0 gained;
+                from = inr (inr (v, older, tables.0, tables.1));
+                alone = λ stands. elim stands [
+                  | inl version ↦
+                      let is = migrated w (version.1
+                      ∙ ap schema_of (only_version v version.0 old.now.schema version.1 tables)) in
+                      is.office.schema
+                  | inr none ↦ absurd (none_there v old.now.schema none tables.0)
+                ];
+                was_alone = λ is. inl (v, before w is);
+              };
+          opened = λ h. inl (
+            v,
+            ours_was v free is (brings.worked h.works) (before h.works h.tables),
+            (stays h).1,
+          );
+          live = λ honest.
+              let is_open = brings.live honest.clean in
+              let worked = brings.worked (record { clean = honest.clean; is_open = is_open }) in
+              (finds.endures.clean worked.clean, λ was_open. is_open);
+          refused = λ auto w. tt;
+          unchanged = λ w. tt;
+        }

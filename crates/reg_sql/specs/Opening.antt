@@ -1,5 +1,5 @@
 -- What an opening finds in a store, and what it leaves of it.
-use Rattle.std.specs.Prelude.{◌≡◌, ◌≢◌, ◌⊎◌, ℤ, pos, Bool, true, false, Result, IfOk, IfErr, IsTrue, Some}
+use Rattle.std.specs.Prelude.{◌≡◌, ◌≢◌, ◌⊎◌, ℤ, Bool, true, false, Result, IfOk, IfErr, IsTrue, Some}
 use Rattle.sqlite.specs.Effect.{Database, IsDatabase}
 use Rattle.sqlite.specs.Files.{AreFoundIn, HoldsDatabase}
 use Rattle.sqlite.specs.Tree.{Trees}
@@ -9,18 +9,21 @@ use Rattle.sqlite.specs.declared.error.Error.{Error}
 use Rattle.sqlite.specs.declared.error.Error.TheVariants.{SqliteFailure}
 use Rattle.sqlite.specs.declared.error.ErrorCode.TheVariants.{NotADatabase, DatabaseCorrupt, OutOfMemory, CannotOpen, DatabaseBusy}
 use Rattle.reg_core.specs.World.{World, empty_world}
+use Rattle.reg_keeper.specs.declared.keeper.Fault.{Fault as Given}
 use Rattle.reg_keeper.specs.declared.keeper.Fault.TheVariants.{Memory, Store}
 use Rattle.reg_vacancies.specs.declared.vacancies.Vacancies.{Vacancies}
-use Rattle.reg_tables.specs.Connection.{Holds, Works}
-use Rattle.reg_tables.specs.Having.{AreFree, HasTables}
-use Rattle.reg_tables.specs.Making.{no_schema}
-use Rattle.reg_tables.specs.Schema.{office_schema}
+use Rattle.reg_tables.specs.Connection.{Holds, IsIdle, Works}
+use Rattle.reg_tables.specs.Having.{AreFree, AreFreeLater, FindsTablesOf, GainsTables, HasTable, HasTables}
+use Rattle.reg_tables.specs.Making.{IsMigrated, no_schema}
+use Rattle.reg_tables.specs.Schema.{office_schema, office_table}
 use Rattle.reg_tables.specs.Selecting.{BeginsWith}
-use Rattle.reg_statements.specs.Content.{content_of, world_in}
+use Rattle.reg_tables.specs.Version.{IsOther, later_than, newest, schema_of}
+use Rattle.reg_tables.specs.declared.version.Version.{Version}
+use Rattle.reg_statements.specs.Content.{IsStoredAs, content_at, world_in}
 use Rattle.reg_opening.specs.Opening.{IsOfVersion, IsOurs}
 use Rattle.reg_sql.specs.Keeping.{IsHonest, KeepsOffice}
 use Rattle.reg_sql.specs.declared.open.OpenFault.{OpenFault}
-use Rattle.reg_sql.specs.declared.open.OpenFault.TheVariants.{Version, NotOurs, Fault}
+use Rattle.reg_sql.specs.declared.open.OpenFault.TheVariants as refusals
 
 -- the store has no tables
 abbrev pub HasNoTables : Database → Type 0
@@ -32,33 +35,40 @@ pub record IsFoundIn (image : Image) (db : Database) : Type 0 where
   pub reads : AreFoundIn image db.trees
   pub sound : IsDatabase db
 
--- the tables of the store are an office's, or it has none
+-- the tables of the store are those of a version of an office, or it has none
 abbrev pub StandsAlone : Database → Type 0
-StandsAlone db = (db.schema ≡ office_schema) ⊎ HasNoTables db
+StandsAlone db = ((v : Version) × (db.schema ≡ schema_of v)) ⊎ HasNoTables db
 
--- the office that the tables hold; or, where a new one is wanted and there are no tables, the empty
--- one
+-- the office that the tables of a version hold; or, where a new one is wanted and there are no
+-- tables, the empty one
 abbrev pub IsOpened : Bool → Database → World → Type 0
 IsOpened fresh db w =
-    (IsOurs db × (w ≡ content_of db))
+    ((v : Version) × IsOurs v db × (w ≡ content_at v db))
     ⊎ ((fresh ≡ true) × HasNoTables db × (w ≡ empty_world))
 
+-- the tables of an older version are there, and no name of those that it lacks is taken
+abbrev pub WasOlder : Database → Type 0
+WasOlder db =
+    (v : Version) × (v ≢ newest) × FindsTablesOf v db.schema × AreFreeLater v db.schema
+
 -- The tables of an office are there, whatever stands beside them. They were there before, and
--- nothing was changed; or a new office was wanted and none of their names was taken.
+-- nothing was changed; or a new office was wanted and none of their names was taken; or those of an
+-- older version were there, and no name of the others was taken.
 pub record IsTakenOver (fresh : Bool) (old new : Database) : Type 0 where
   pub has : HasTables new.schema
-  pub from : (new ≡ old) ⊎ ((fresh ≡ true) × AreFree old.schema)
+  pub from : (new ≡ old) ⊎ (((fresh ≡ true) × AreFree old.schema) ⊎ WasOlder old)
   pub alone : StandsAlone old → new.schema ≡ office_schema
   pub was_alone : new.schema ≡ office_schema → StandsAlone old
 
 -- why it is refused
 abbrev pub IsRefused : Bool → Database → OpenFault → Type 0
-IsRefused fresh db (Version n) =
-    (n ≢ pos 1) × (IsOfVersion n db ⊎ ((¬ BeginsWith 1 db.schema) × HasTables db.schema))
-IsRefused fresh db NotOurs =
-    (¬ IsOurs db) × ((n : ℤ) → IsOfVersion n db → n ≡ pos 1)
+IsRefused fresh db (refusals.Version n) =
+    IsOther n
+    × (IsOfVersion n db ⊎ ((¬ BeginsWith 1 db.schema) × HasTable db.schema office_table))
+IsRefused fresh db refusals.NotOurs =
+    ((v : Version) → ¬ IsOurs v db) × ((n : ℤ) → IsOfVersion n db → ¬ IsOther n)
     × (fresh ≡ true → ¬ AreFree db.schema)
-IsRefused fresh db (Fault fault) = Unit {0}
+IsRefused fresh db (refusals.Fault fault) = Unit {0}
 
 -- the disk was honest before, and nothing has shut the store
 abbrev pub StaysLive : State → State → Type 0
@@ -75,12 +85,27 @@ pub record TakesOver (fresh : Bool) (old new : State) (result : Result Vacancies
   pub refused : old.in_transaction ≡ false → Works new → IfErr result (IsRefused fresh old.now)
   pub unchanged : Works new → IfErr result (λ fault. new.now ≡ old.now)
 
+-- A call that brings an office of an older version to the newest, or leaves it as it was. What was
+-- free in it is handed back.
+pub record Brings (v : Version) (was : Vacancies) (old new : State)
+    (result : Result Vacancies OpenFault) : Type 0 where
+  pub rest : IsIdle new
+  pub worked : Works new → Works old
+  pub live : HasCleanDisk new → IfOk result (λ kept. IsTrue new.is_open)
+  pub migrated : Works new
+      → IfOk result (λ kept. IsStoredAs v old.now → IsMigrated v old.now new.now)
+  pub gained : Works new
+      → IfOk result (λ kept. GainsTables (later_than v) old.now.schema new.now.schema)
+  pub free : IfOk result (λ kept. kept ≡ was)
+  pub fault : IfErr result (λ refusal. (given : Given) × (refusal ≡ refusals.Fault given))
+  pub unchanged : Works new → IfErr result (λ refusal. new.now ≡ old.now)
+
 -- what an error of an opened file is to an office: it is none of an office's, but where there was
 -- no memory, or the disk failed, or it is too big
 abbrev pub refusal_of : Error → OpenFault
-refusal_of (SqliteFailure OutOfMemory) = Fault Memory
-refusal_of (SqliteFailure NotADatabase) = NotOurs
-refusal_of (SqliteFailure DatabaseCorrupt) = NotOurs
-refusal_of (SqliteFailure CannotOpen) = NotOurs
-refusal_of (SqliteFailure DatabaseBusy) = NotOurs
-refusal_of _ = Fault Store
+refusal_of (SqliteFailure OutOfMemory) = refusals.Fault Memory
+refusal_of (SqliteFailure NotADatabase) = refusals.NotOurs
+refusal_of (SqliteFailure DatabaseCorrupt) = refusals.NotOurs
+refusal_of (SqliteFailure CannotOpen) = refusals.NotOurs
+refusal_of (SqliteFailure DatabaseBusy) = refusals.NotOurs
+refusal_of _ = refusals.Fault Store

@@ -2,6 +2,7 @@
 ghost use Rattle.std.specs.Prelude.{◌≡◌, false, Some};
 ghost use Rattle.sqlite.specs.Held.{state};
 ghost use Rattle.reg_tables.specs.Connection.{Holds};
+ghost use Rattle.reg_tables.specs.Version.{newest};
 ghost use Rattle.reg_content.specs.Calls.{Alters, Looks};
 ghost use Rattle.reg_statements.specs.Content.{world_in};
 ghost use Rattle.reg_opening.specs.Opening.{IsOurs};
@@ -15,6 +16,7 @@ use crate::vacancies::vacancies_of;
 use reg_blocks::block::Block;
 use reg_blocks::pool::Pool;
 use reg_blocks::size::Size;
+use reg_content::agents::{agents, is_agent, principal_rows, principals};
 use reg_content::blocks::{blocks, holding, holdings};
 use reg_content::caps::cap;
 use reg_content::change;
@@ -40,10 +42,11 @@ use sqlite::{Alter, Connection};
 use std::alloc::Global;
 use std::marker::Model;
 
-/// The content of an office in the ten tables of a store.
+/// The content of an office in the thirteen tables of a store.
 ///
 /// A row by its key takes a statement by that key, and a list one by the first columns of a key; that
-/// of a queue joins its assignments with their requests and advice. A change is one transaction, with
+/// of a queue joins its assignments with their requests and advice. The mark of an entry that expires
+/// and the minute of a renewal take a statement more. A change is one transaction, with
 /// a statement for each row that it touches. What is free is kept beside the tables: the least value
 /// without an entry takes O(log n) for each range of its policy, the block due O(log n). It is found
 /// with the rows when the office is opened, follows each change, and is made anew of the rows after
@@ -125,7 +128,7 @@ impl<S: Alter> SqlKeeper<S> {
     pub fn into_connection(self) -> Connection<S>
         ensures same { result ≡ self.tables }
         ensures idle { (state S.Store result).in_transaction ≡ false }
-        ensures ours { Holds (state S.Store result) → IsOurs (state S.Store result).now }
+        ensures ours { Holds (state S.Store result) → IsOurs newest (state S.Store result).now }
     {
         let SqlKeeper { tables } = self;
         let Tables {
@@ -246,6 +249,26 @@ impl<S: Alter> Keeper for SqlKeeper<S> {
             account,
             reference,
         )
+    }
+
+    fn agents(&mut self, account: &Account) -> Result<Rows<Account>, Fault> {
+        agents(self.tables.alloc, &mut self.tables.conn, account)
+    }
+
+    fn principals(&mut self, account: &Account) -> Result<Rows<Account>, Fault> {
+        principals(self.tables.alloc, &mut self.tables.conn, account)
+    }
+
+    fn principal_rows(
+        &mut self,
+        principal: &Account,
+        agent: &Account,
+    ) -> Result<Option<Rows<Request>>, Fault> {
+        principal_rows(self.tables.alloc, &mut self.tables.conn, principal, agent)
+    }
+
+    fn is_agent(&mut self, principal: &Account, agent: &Account) -> Result<bool, Fault> {
+        is_agent(self.tables.alloc, &mut self.tables.conn, principal, agent)
     }
 
     fn apply(&mut self, change: Change) -> Result<(), Fault> {

@@ -1,5 +1,6 @@
 //! Stores that an office is opened from.
 ghost use Rattle.std.specs.Prelude.{◌≡◌, true, false, IfErr, IfOk, IsTrue, Some};
+ghost use Rattle.std.specs.Bool.{Decides};
 ghost use Rattle.sqlite.specs.Effect.{Database};
 ghost use Rattle.sqlite.specs.Files.{file_state};
 ghost use Rattle.sqlite.specs.Held.{state};
@@ -11,9 +12,10 @@ ghost use Rattle.reg_keeper.specs.declared.keeper.Fault.{Fault as KeeperFault};
 ghost use Rattle.reg_tables.specs.Connection.{Holds, IsIdle, Tells, Works};
 ghost use Rattle.reg_tables.specs.Having.{AreFree, HasTables};
 ghost use Rattle.reg_tables.specs.Schema.{office_schema};
+ghost use Rattle.reg_tables.specs.Version.{newest};
 ghost use Rattle.reg_statements.specs.Content.{world_in};
 ghost use Rattle.reg_sql.specs.Keeping.{IsHonest, KeepsOffice};
-ghost use Rattle.reg_sql.specs.Opening.{HasNoTables, IsFoundIn, IsOpened, IsRefused, IsTakenOver};
+ghost use Rattle.reg_sql.specs.Opening.{Brings, HasNoTables, IsFoundIn, IsOpened, IsRefused, IsTakenOver};
 ghost use Rattle.reg_sql.specs.Opening.{StandsAlone, TakesOver, refusal_of};
 ghost use Rattle.reg_sql.specs.declared.open.OpenFault.TheVariants as refusals;
 
@@ -22,7 +24,9 @@ use reg_keeper::keeper::Fault;
 use reg_opening::open::{Found, find};
 use reg_statements::write::fault;
 use reg_tables::make::make_office;
+use reg_tables::migrate::migrate;
 use reg_tables::schema::has_room;
+use reg_tables::version::Version;
 use reg_vacancies::vacancies::Vacancies;
 use sqlite::{Alter, Connection, Error, ErrorCode, FileFrom, FileStore, MemStore, Start};
 use std::alloc::{AllocError, Global};
@@ -30,7 +34,7 @@ use std::alloc::{AllocError, Global};
 /// Why no office is opened. The store is as it was.
 #[derive(Clone, Copy, Debug, PartialEq, Eq)]
 pub enum OpenFault {
-    /// The store is an office's, of this version and not of the first.
+    /// The store is an office's, of this version, which is none that this library knows.
     Version(i64),
     /// Anything else than an office's tables with rows of a well kept office in them.
     NotOurs,
@@ -52,9 +56,11 @@ impl From<Fault> for OpenFault {
 impl<S: Alter> SqlKeeper<S> {
     /// Takes over the store of a connection. A `fresh` office is founded where no name of its tables
     /// is taken; else the store must have the tables of an office whose content is well kept, and
-    /// each row is read once. Other tables may stand beside them, and are not looked at. A
-    /// connection inside a transaction is not ours. Where it is refused the connection comes back,
-    /// and nothing was changed.
+    /// each row is read once. An office of an older version is brought to the newest in one
+    /// transaction: the tables that it lacks come, their names not being taken, and its content is
+    /// the same. Other tables may stand beside them, and are not looked at. A connection inside a
+    /// transaction is not ours. Where it is refused the connection comes back, and nothing was
+    /// changed.
     pub fn adopt(
         alloc: Global,
         mut conn: Connection<S>,
@@ -84,7 +90,8 @@ impl<S: Alter> SqlKeeper<S> {
     }
 }
 
-/// Founds an office where one is wanted, or finds the one that is there, and what is free in it.
+/// Founds an office where one is wanted, or finds the one that is there, and what is free in it, and
+/// brings it to the newest version.
 fn take_over<S: Alter>(
     alloc: Global,
     conn: &mut Connection<S>,
@@ -99,9 +106,36 @@ fn take_over<S: Alter>(
         return found(alloc, conn);
     }
     match find(alloc, conn)? {
-        Found::Ours(vacancies) => Ok(vacancies),
+        Found::Ours(version, vacancies) if is_newest(version) => Ok(vacancies),
+        Found::Ours(older, vacancies) => bring(conn, older, vacancies),
         Found::OtherVersion(version) => Err(OpenFault::Version(version)),
         Found::NotOurs => Err(OpenFault::NotOurs),
+    }
+}
+
+/// Whether a version is the newest.
+fn is_newest(version: Version) -> bool
+    ensures { Decides result (version ≡ newest) }
+{
+    match version {
+        Version::Third => true,
+        Version::First | Version::Second => false,
+    }
+}
+
+/// Brings an office of an older version to the newest. What is free in it stays so, and nothing is
+/// read once its tables are changed.
+fn bring<S: Alter>(
+    conn: &mut Connection<S>,
+    older: Version,
+    vacancies: Vacancies,
+) -> Result<Vacancies, OpenFault>
+    requires { IsIdle (state S.Store conn.old) }
+    ensures { Brings older vacancies (state S.Store conn.old) (state S.Store conn.new) result }
+{
+    match migrate(conn, older) {
+        Ok(()) => Ok(vacancies),
+        Err(error) => Err(OpenFault::Fault(fault(&error))),
     }
 }
 

@@ -23,6 +23,7 @@ use Rattle.reg_tables.specs.Inserting.{AddedRow}
 use Rattle.reg_tables.specs.Putting.{PutRow}
 use Rattle.reg_tables.specs.Selecting.{BeginsWith, Selects, columns_of, equals, passes, shows, stored}
 use Rattle.reg_tables.specs.Values.{same_value}
+use Rattle.reg_tables.specs.Version.{newest}
 use Rattle.reg_tables.proofs.EditLemmas.Tables.{office_after_change, office_after_loss}
 use Rattle.reg_tables.proofs.SelectLemmas.{office_begins, selected, shows_columns}
 use Rattle.reg_tables.proofs.ValueLemmas.{passes_equals}
@@ -227,7 +228,7 @@ module _ {T K X : Type 0} (d : TableDef T K X) (l : IsDefined d) where
         record {
           office = office;
           kept = record {
-            whole = subst AreWhole (sym same) (l.kept old.trees rows held.0 was.kept.whole);
+            whole = subst (AreWhole newest) (sym same) (l.kept old.trees rows held.0 was.kept.whole);
             tied = subst AreTied (sym parts) (ties was.kept.tied);
           };
         },

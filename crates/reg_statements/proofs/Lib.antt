@@ -5,3 +5,8 @@ pub mod ReadLemmas
 pub mod OneTable
 pub mod Defined
 pub mod Office
+pub mod Mapped
+pub mod Marks
+pub mod Minutes
+pub mod Bare
+pub mod Migrated

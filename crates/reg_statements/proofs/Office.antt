@@ -12,23 +12,26 @@ use Rattle.reg_core.specs.Maps.{text_cmp}
 use Rattle.reg_core.specs.declared.ask.Ask.{Ask}
 use Rattle.reg_core.specs.declared.ask.Ask.TheVariants as ask
 use Rattle.reg_core.specs.declared.request.Request.{Request}
-use Rattle.reg_core.proofs.MapLaws.{block_keys, name_keys, number_keys, place_keys, seat_keys, text_keys}
+use Rattle.reg_core.proofs.MapLaws.{block_keys, link_keys, name_keys, number_keys, place_keys, seat_keys, text_keys}
 use Rattle.reg_records.proofs.AdviceLaws.{advice_back, advice_exact}
 use Rattle.reg_records.proofs.EntryLaws.{entry_back, entry_exact}
 use Rattle.reg_records.proofs.GrantLaws.{grant_back, grant_exact}
 use Rattle.reg_records.specs.Requests.Values.{request_values}
 use Rattle.reg_records.proofs.HoldingLaws.{holding_back, holding_exact}
+use Rattle.reg_records.proofs.HoldLaws.{hold_back, hold_exact}
+use Rattle.reg_records.proofs.LinkLaws.{link_back, link_exact}
+use Rattle.reg_records.proofs.MinuteLaws.{minute_back, minute_exact}
 use Rattle.reg_records.proofs.RangeLaws.{range_back, range_exact}
 use Rattle.reg_records.proofs.RegistryLaws.{registry_back, registry_exact}
 use Rattle.reg_records.proofs.RequestLaws.Rows.{request_back, request_exact}
 use Rattle.reg_records.proofs.PrefixLaws.{prefix_back, prefix_exact}
 use Rattle.reg_records.proofs.SeatLaws.{seat_back, seat_exact}
 use Rattle.reg_tables.specs.Selecting.{stored}
-use Rattle.reg_statements.specs.Content.{advice_at, cap_at, case_at, holder_at, max_at}
-use Rattle.reg_statements.specs.Content.{prefix_at, range_at, registration_at, seat_at}
+use Rattle.reg_statements.specs.Content.{advice_at, cap_at, case_at, hold_at, holder_at, link_at}
+use Rattle.reg_statements.specs.Content.{max_at, minute_at, prefix_at, range_at, registration_at, seat_at}
 use Rattle.reg_statements.specs.Defined.{IsDefined, IsKey}
 use Rattle.reg_statements.specs.Office as office
-use Rattle.reg_statements.specs.Parts.{block_key, name_key, number_key, place_key, seat_key, text_key}
+use Rattle.reg_statements.specs.Parts.{block_key, link_key, name_key, number_key, place_key, seat_key, text_key}
 use Rattle.reg_statements.proofs.RowMaps.KeyTests.{block_test, name_test, pair_test, seat_test, text_test}
 
 -- ---- Keys
@@ -53,6 +56,12 @@ number_is_key = record { keys = number_keys; ties = λ a b. and-true _ ∙ whole
 pub name_is_key : IsKey name_key
 name_is_key = record {
   keys = name_keys;
+  ties = λ a b. ap (λ x. bytes_eq a.0 b.0 && x) (and-true (bytes_eq a.1 b.1)) ∙ name_test a b;
+}
+
+pub link_is_key : IsKey link_key
+link_is_key = record {
+  keys = link_keys;
   ties = λ a b. ap (λ x. bytes_eq a.0 b.0 && x) (and-true (bytes_eq a.1 b.1)) ∙ name_test a b;
 }
 
@@ -260,6 +269,60 @@ blocks = record {
   rows = λ trees. refl;
   part = λ trees. refl;
   put = λ trees rows. refl;
-  held = λ trees was. was.1.1.1.1.1.1.1.1.1;
-  kept = λ trees rows held was. (was.0, (was.1.0, (was.1.1.0, (was.1.1.1.0, (was.1.1.1.1.0, (was.1.1.1.1.1.0, (was.1.1.1.1.1.1.0, (was.1.1.1.1.1.1.1.0, (was.1.1.1.1.1.1.1.1.0, held)))))))));
+  held = λ trees was. was.1.1.1.1.1.1.1.1.1.0;
+  kept = λ trees rows held was. (was.0, (was.1.0, (was.1.1.0, (was.1.1.1.0, (was.1.1.1.1.0, (was.1.1.1.1.1.0, (was.1.1.1.1.1.1.0, (was.1.1.1.1.1.1.1.0, (was.1.1.1.1.1.1.1.1.0, (held, was.1.1.1.1.1.1.1.1.1.1))))))))));
+}
+
+pub holds : IsDefined office.holds
+unfolding hold_at
+holds = record {
+  key = place_is_key;
+  at = refl;
+  item = λ t. refl;
+  back = hold_back;
+  exact = λ row. hold_exact (stored 2 row);
+  whole = λ id t. refl;
+  first = λ t. refl;
+  tests = λ row k. refl;
+  rows = λ trees. refl;
+  part = λ trees. refl;
+  put = λ trees rows. refl;
+  held = λ trees was. was.1.1.1.1.1.1.1.1.1.1.0;
+  kept = λ trees rows held was. (was.0, (was.1.0, (was.1.1.0, (was.1.1.1.0, (was.1.1.1.1.0, (was.1.1.1.1.1.0, (was.1.1.1.1.1.1.0, (was.1.1.1.1.1.1.1.0, (was.1.1.1.1.1.1.1.1.0, (was.1.1.1.1.1.1.1.1.1.0, (held, was.1.1.1.1.1.1.1.1.1.1.1)))))))))));
+}
+
+pub minutes : IsDefined office.minutes
+unfolding minute_at
+minutes = record {
+  key = name_is_key;
+  at = refl;
+  item = λ t. refl;
+  back = minute_back;
+  exact = λ row. minute_exact (stored 3 row);
+  whole = λ id t. refl;
+  first = λ t. refl;
+  tests = λ row k. refl;
+  rows = λ trees. refl;
+  part = λ trees. refl;
+  put = λ trees rows. refl;
+  held = λ trees was. was.1.1.1.1.1.1.1.1.1.1.1.0;
+  kept = λ trees rows held was. (was.0, (was.1.0, (was.1.1.0, (was.1.1.1.0, (was.1.1.1.1.0, (was.1.1.1.1.1.0, (was.1.1.1.1.1.1.0, (was.1.1.1.1.1.1.1.0, (was.1.1.1.1.1.1.1.1.0, (was.1.1.1.1.1.1.1.1.1.0, (was.1.1.1.1.1.1.1.1.1.1.0, (held, was.1.1.1.1.1.1.1.1.1.1.1.1))))))))))));
+}
+
+pub agents : IsDefined office.agents
+unfolding link_at
+agents = record {
+  key = link_is_key;
+  at = refl;
+  item = λ t. refl;
+  back = link_back;
+  exact = λ row. link_exact (stored 2 row);
+  whole = λ id t. refl;
+  first = λ t. refl;
+  tests = λ row k. refl;
+  rows = λ trees. refl;
+  part = λ trees. refl;
+  put = λ trees rows. refl;
+  held = λ trees was. was.1.1.1.1.1.1.1.1.1.1.1.1;
+  kept = λ trees rows held was. (was.0, (was.1.0, (was.1.1.0, (was.1.1.1.0, (was.1.1.1.1.0, (was.1.1.1.1.1.0, (was.1.1.1.1.1.1.0, (was.1.1.1.1.1.1.1.0, (was.1.1.1.1.1.1.1.1.0, (was.1.1.1.1.1.1.1.1.1.0, (was.1.1.1.1.1.1.1.1.1.1.0, (was.1.1.1.1.1.1.1.1.1.1.1.0, held))))))))))));
 }

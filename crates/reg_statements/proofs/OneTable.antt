@@ -6,7 +6,8 @@ use Rattle.sqlite.specs.Tree.{Trees}
 use Rattle.sqlite_schema.specs.declared.schema.Index.{Index}
 use Rattle.reg_tables.specs.Schema.{office_schema, office_table, caps_table, registries_table}
 use Rattle.reg_tables.specs.Schema.{ranges_table, entries_table, requests_table, queue_table}
-use Rattle.reg_tables.specs.Schema.{advice_table, pool_table, blocks_table}
+use Rattle.reg_tables.specs.Schema.{advice_table, pool_table, blocks_table, holds_table}
+use Rattle.reg_tables.specs.Schema.{minutes_table, agents_table}
 use Rattle.reg_statements.specs.Tables.{OthersStay, put_tree, tables_in}
 
 -- no index has this tree
@@ -41,4 +42,7 @@ module _ (t : ℕ) (old new : Trees) (rest : OthersStay t old new) where
     advice = at advice_table.tree refl i;
     pool = at pool_table.tree refl i;
     blocks = at blocks_table.tree refl i;
+    holds = at holds_table.tree refl i;
+    minutes = at minutes_table.tree refl i;
+    agents = at agents_table.tree refl i;
   }

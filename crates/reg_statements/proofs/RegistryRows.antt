@@ -9,6 +9,7 @@ use Rattle.reg_core.specs.Maps.{keyed, select, text_cmp}
 use Rattle.reg_core.specs.World.{place_cmp}
 use Rattle.reg_core.proofs.MapLaws.{IsKeyOrder, entries-select, get-select, same_at, text_keys}
 use Rattle.reg_statements.specs.Content.{ranges_of, registries_in, registry_table}
+use Rattle.reg_statements.proofs.Mapped.{get-mapped, map_map}
 
 -- ---- The registries that the two tables hold
 
@@ -21,17 +22,10 @@ pub select-all : {K X : Type 0} {R : K → K → Ordering} → IsKeyOrder R → 
     → select (λ k x. Some x) m ≡ m
 select-all o m = same_at o _ _ (λ q. get-select o (λ k x. Some x) m q ∙ some_again (get m q))
 
-then_some : {X Y : Type 0} (f : X → Y) (r : Option X)
-    → option_and_then (λ x. Some (f x)) r ≡ option_map f r
-then_some f None = refl
-then_some f (Some x) = refl
-
 -- a registry is there where its largest value is
 pub registry-at : (largest : FinMap text_cmp ℕ) (m : FinMap place_cmp Range) (name : List ℕ)
     → get (registries_in largest m) name ≡ option_map (registry_table m name) (get largest name)
-registry-at largest m name =
-    get-select text_keys (λ name max. Some (registry_table m name max)) largest name
-    ∙ then_some (registry_table m name) (get largest name)
+registry-at largest m name = get-mapped text_keys (registry_table m) largest name
 
 same_keys : {K X Y : Type 0} (f : K → X → Y) (es : List (K × X))
     → map (λ e. e.0) (filter_map (λ e. keyed e.0 (Some (f e.0 e.1))) es) ≡ map (λ e. e.0) es
@@ -45,11 +39,6 @@ registry-keys largest m =
     (entries-select text_keys (λ name max. Some (registry_table m name max)) largest)
     ∙ same_keys (registry_table m) (entries largest)
 
-kept : {X Y Z : Type 0} (f : X → Y) (g : Y → Z) (r : Option X)
-    → option_map g (option_map f r) ≡ option_map (λ x. g (f x)) r
-kept f g None = refl
-kept f g (Some x) = refl
-
 same_option : {X : Type 0} (r : Option X) → option_map (λ x. x) r ≡ r
 same_option None = refl
 same_option (Some x) = refl
@@ -59,7 +48,7 @@ pub max-at : (largest : FinMap text_cmp ℕ) (m : FinMap place_cmp Range) (name 
     → option_map (λ (t : Table). t.max) (get (registries_in largest m) name) ≡ get largest name
 max-at largest m name =
     ap (option_map (λ (t : Table). t.max)) (registry-at largest m name)
-    ∙ kept (registry_table m name) (λ (t : Table). t.max) (get largest name)
+    ∙ map_map (registry_table m name) (λ (t : Table). t.max) (get largest name)
     ∙ same_option (get largest name)
 
 kept_some : {X Y : Type 0} (f : X → Y) (r : Option X) (y : Y) → option_map f r ≡ Some y

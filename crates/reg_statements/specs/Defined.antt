@@ -20,6 +20,7 @@ use Rattle.reg_tables.proofs.GivenRows.{AddsGiven}
 use Rattle.reg_tables.specs.Editing.{front, has_all}
 use Rattle.reg_tables.specs.Kinds.{WritesRows}
 use Rattle.reg_tables.specs.Selecting.{Selects, columns_of, equals, passes, shows, stored}
+use Rattle.reg_tables.specs.Version.{newest}
 use Rattle.reg_statements.specs.Content.{AreTied, AreWhole, parts_in}
 use Rattle.reg_statements.specs.Parts.{KeyDef, Parts, TableDef, cells_of, pairs, same_cells}
 use Rattle.reg_statements.specs.RowMaps.{IsTable, changed_where, held_in}
@@ -49,10 +50,11 @@ pub record IsDefined {T K X : Type 0} (d : TableDef T K X) : Type 0 where
   pub put : (trees : Trees) (rows : List Row)
       → parts_in (tables_in (put_tree d.table.tree rows trees))
       ≡ d.put (held_in d.at rows) (parts_in (tables_in trees))
-  pub held : (trees : Trees) → AreWhole (tables_in trees)
+  pub held : (trees : Trees) → AreWhole newest (tables_in trees)
       → IsTable d.key.order d.at (trees d.table.tree)
   pub kept : (trees : Trees) (rows : List Row) → IsTable d.key.order d.at rows
-      → AreWhole (tables_in trees) → AreWhole (tables_in (put_tree d.table.tree rows trees))
+      → AreWhole newest (tables_in trees)
+      → AreWhole newest (tables_in (put_tree d.table.tree rows trees))
 
 -- what the rows of tables owe to one another is so after a change, where it was
 abbrev pub KeepsTies : (Parts → Parts) → Parts → Type 0

@@ -9,15 +9,18 @@ use Rattle.reg_core.specs.declared.holding.Holding.{Holding}
 use Rattle.reg_core.specs.declared.request.Case.{Case}
 use Rattle.reg_core.specs.declared.request.Request.{Request}
 use Rattle.reg_core.specs.Entry.{entry_row, registration_in}
-use Rattle.reg_core.specs.World.{Place, RequestName, Seat}
+use Rattle.reg_core.specs.World.{Link, Place, RequestName, Seat}
 use Rattle.reg_core.specs.declared.advice.Advice.{Advice}
 use Rattle.reg_core.specs.declared.capability.Cap.{Cap}
 use Rattle.reg_core.specs.declared.entry.Entry.{Entry}
 use Rattle.reg_core.specs.declared.entry.Registration.{Registration}
 use Rattle.reg_records.specs.Advice.{advice_in, advice_values, is_expert_advice}
+use Rattle.reg_records.specs.Agents.{is_link, link_in, link_values}
 use Rattle.reg_records.specs.Caps.{grant_in, grant_values, is_grant}
 use Rattle.reg_records.specs.Entries.{entry_in, entry_values, is_entry}
 use Rattle.reg_records.specs.Blocks.{holding_in, holding_values, is_holding}
+use Rattle.reg_records.specs.Holds.{hold_in, hold_values, is_hold}
+use Rattle.reg_records.specs.Minutes.{is_minute, minute_in, minute_values}
 use Rattle.reg_records.specs.Ranges.{is_registry_range, range_in, range_values}
 use Rattle.reg_records.specs.Registries.{is_registry, registry_in, registry_values}
 use Rattle.reg_records.specs.Requests.Reading.{request_in}
@@ -28,13 +31,17 @@ use Rattle.reg_records.specs.declared.registries.Registry.{Registry}
 use Rattle.reg_records.specs.Pool.{is_prefix, prefix_in, prefix_values}
 use Rattle.reg_records.specs.Queue.{is_seat, seat_in, seat_values}
 use Rattle.reg_records.specs.declared.advice.ExpertAdvice.{ExpertAdvice}
+use Rattle.reg_records.specs.declared.agents.Link as linked
 use Rattle.reg_records.specs.declared.caps.Grant.{Grant}
+use Rattle.reg_records.specs.declared.holds.Hold.{Hold}
+use Rattle.reg_records.specs.declared.minutes.Minute.{Minute}
 use Rattle.reg_records.specs.declared.queue.Seat as queued
 use Rattle.reg_tables.specs.Schema.{advice_table, blocks_table, caps_table, entries_table, pool_table}
 use Rattle.reg_tables.specs.Schema.{queue_table, ranges_table, registries_table, requests_table}
-use Rattle.reg_statements.specs.Content.{advice_at, cap_at, case_at, holder_at, max_at}
-use Rattle.reg_statements.specs.Content.{prefix_at, range_at, registration_at, seat_at}
-use Rattle.reg_statements.specs.Parts.{TableDef, block_key, name_key, number_key, place_key}
+use Rattle.reg_tables.specs.Schema.{agents_table, holds_table, minutes_table}
+use Rattle.reg_statements.specs.Content.{advice_at, cap_at, case_at, hold_at, holder_at, link_at}
+use Rattle.reg_statements.specs.Content.{max_at, minute_at, prefix_at, range_at, registration_at, seat_at}
+use Rattle.reg_statements.specs.Parts.{TableDef, block_key, link_key, name_key, number_key, place_key}
 use Rattle.reg_statements.specs.Parts.{seat_key, text_key}
 
 abbrev pub caps : TableDef Grant (List ℕ) Cap
@@ -189,4 +196,55 @@ blocks = record {
   rows = λ t. t.blocks;
   part = λ p. p.blocks;
   put = λ m p. record p { blocks = m };
+}
+
+abbrev pub holds : TableDef Hold Place (Unit {0})
+holds = record {
+  key = place_key;
+  table = holds_table;
+  slot = 10;
+  width = 2;
+  read = hold_in;
+  values = hold_values;
+  form = is_hold;
+  pair = λ h. ((h.registry, h.value), tt);
+  item = λ place u. record { registry = place.0; value = place.1 };
+  at = hold_at;
+  rows = λ t. t.holds;
+  part = λ p. p.holds;
+  put = λ m p. record p { holds = m };
+}
+
+abbrev pub minutes : TableDef Minute RequestName (List ℕ)
+minutes = record {
+  key = name_key;
+  table = minutes_table;
+  slot = 11;
+  width = 3;
+  read = minute_in;
+  values = minute_values;
+  form = is_minute;
+  pair = λ m. ((m.account, m.reference), m.minute);
+  item = λ name minute. record { account = name.0; reference = name.1; minute = minute };
+  at = minute_at;
+  rows = λ t. t.minutes;
+  part = λ p. p.minutes;
+  put = λ m p. record p { minutes = m };
+}
+
+abbrev pub agents : TableDef linked.Link Link (Unit {0})
+agents = record {
+  key = link_key;
+  table = agents_table;
+  slot = 12;
+  width = 2;
+  read = link_in;
+  values = link_values;
+  form = is_link;
+  pair = λ l. ((l.principal, l.agent), tt);
+  item = λ link u. record { principal = link.0; agent = link.1 };
+  at = link_at;
+  rows = λ t. t.agents;
+  part = λ p. p.agents;
+  put = λ m p. record p { agents = m };
 }

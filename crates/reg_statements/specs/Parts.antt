@@ -12,7 +12,7 @@ use Rattle.reg_blocks.specs.Block.{SizedPrefix, block_cmp, first_address}
 use Rattle.reg_blocks.specs.Size.{word_of}
 use Rattle.reg_ranges.specs.declared.range.Range.{Range}
 use Rattle.reg_core.specs.Maps.{text_cmp}
-use Rattle.reg_core.specs.World.{Place, RequestName, Seat, name_cmp, place_cmp, seat_cmp}
+use Rattle.reg_core.specs.World.{Link, Place, RequestName, Seat, link_cmp, name_cmp, place_cmp, seat_cmp}
 use Rattle.reg_core.specs.declared.advice.Advice.{Advice}
 use Rattle.reg_core.specs.declared.capability.Cap.{Cap}
 use Rattle.reg_core.specs.declared.entry.Registration.{Registration}
@@ -22,7 +22,9 @@ use Rattle.reg_records.specs.Columns.{whole_value}
 use Rattle.reg_tables.specs.Values.{same_value}
 use Rattle.reg_statements.specs.Tables.{Tables}
 
--- what each table holds; of a registry its largest value, and its ranges by their first values
+-- what each table holds; of a registry its largest value, and its ranges by their first values; of
+-- entries and requests what their own rows have, and in parts of their own the marks of those that
+-- are held and the minutes of those that name one
 pub record Parts : Type 0 where
   pub caps : FinMap text_cmp Cap
   pub maxes : FinMap text_cmp ℕ
@@ -33,6 +35,9 @@ pub record Parts : Type 0 where
   pub advice : FinMap seat_cmp Advice
   pub pool : FinMap nat_cmp (Unit {0})
   pub blocks : FinMap block_cmp Holder
+  pub holds : FinMap place_cmp (Unit {0})
+  pub minutes : FinMap name_cmp (List ℕ)
+  pub agents : FinMap link_cmp (Unit {0})
 
 -- ---- Keys
 
@@ -74,6 +79,13 @@ block_key = record {
   order = block_cmp;
   width = 2;
   cells = λ block. whole_value (first_address block) ∷ Text (word_of block.size) ∷ [];
+}
+
+abbrev pub link_key : KeyDef Link
+link_key = record {
+  order = link_cmp;
+  width = 2;
+  cells = λ link. Text link.0 ∷ Text link.1 ∷ [];
 }
 
 -- the first n columns of a table, each with the parameter of its place

@@ -1,9 +1,10 @@
--- The rows of an office's ten tables.
+-- The rows of an office's tables.
 use Rattle.std.specs.Prelude.{◌≡◌, ◌≢◌, ◌==◌, if◌then◌else◌, ℕ, List}
 use Rattle.sqlite.specs.Order.{Row}
 use Rattle.sqlite.specs.Tree.{Trees}
 use Rattle.sqlite_rules.specs.Edit.{IsNoIndex}
 use Rattle.reg_tables.specs.Schema.{office_schema, office_table, caps_table, registries_table, ranges_table, entries_table, requests_table, queue_table, advice_table, pool_table, blocks_table}
+use Rattle.reg_tables.specs.Schema.{holds_table, minutes_table, agents_table}
 
 pub record Tables : Type 0 where
   pub office : List Row
@@ -16,6 +17,9 @@ pub record Tables : Type 0 where
   pub advice : List Row
   pub pool : List Row
   pub blocks : List Row
+  pub holds : List Row
+  pub minutes : List Row
+  pub agents : List Row
 
 abbrev pub tables_in : Trees → Tables
 tables_in trees = record {
@@ -29,6 +33,9 @@ tables_in trees = record {
   advice = trees advice_table.tree;
   pool = trees pool_table.tree;
   blocks = trees blocks_table.tree;
+  holds = trees holds_table.tree;
+  minutes = trees minutes_table.tree;
+  agents = trees agents_table.tree;
 }
 
 -- each tree that is neither this one nor an index's is as it was

@@ -7,12 +7,27 @@ use Rattle.sqlite.specs.Listing.{understood}
 use Rattle.sqlite.specs.Term.{Term, col}
 use Rattle.sqlite_schema.specs.Rules.{is_of}
 use Rattle.sqlite_tied.specs.Compute.{everything}
-use Rattle.reg_tables.specs.Schema.{caps_table, requests_table}
-use Rattle.reg_tables.specs.Schema.{blocks_table}
+use Rattle.reg_tables.specs.Schema.{agents_table, blocks_table, caps_table}
+use Rattle.reg_tables.specs.Schema.{holds_table, office_table, requests_table}
 use Rattle.reg_tables.specs.Selecting.{equals, columns_of}
-use Rattle.reg_tables.specs.Texts.{delete_cap, change_request, change_block}
+use Rattle.reg_tables.specs.Texts.{change_block, change_request, change_version}
+use Rattle.reg_tables.specs.Texts.{delete_agent, delete_cap, delete_hold}
 use Rattle.reg_tables.proofs.EditLemmas.Deleting.{Deletes}
 use Rattle.reg_tables.proofs.EditLemmas.Changing.{Changes}
+
+-- ---- the version
+
+pub version_changes : (n : ℤ)
+    → Changes change_version 0 office_table [] (col 0 0 ∷ []) (Int n ∷ [])
+unfolding understood everything
+version_changes n = record {
+  slot = refl;
+  is = refl;
+  plain = (refl, refl);
+  keyless = refl;
+  simple = refl;
+  given = (refl, tt);
+}
 
 -- ---- capabilities
 
@@ -57,3 +72,15 @@ module _ (first private : ℤ) where
     simple = refl;
     given = (refl, tt);
   }
+
+-- ---- entries that are held
+
+pub hold_deletes : Deletes delete_hold 10 holds_table (equals ((1, 0) ∷ (2, 1) ∷ []))
+unfolding understood everything
+hold_deletes = record { slot = refl; is = refl; plain = (refl, refl) }
+
+-- ---- agents
+
+pub agent_deletes : Deletes delete_agent 12 agents_table (equals ((1, 0) ∷ (2, 1) ∷ []))
+unfolding understood everything
+agent_deletes = record { slot = refl; is = refl; plain = (refl, refl) }

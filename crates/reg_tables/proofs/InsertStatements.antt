@@ -4,10 +4,11 @@ use Rattle.sqlite.specs.Listing.{understood}
 use Rattle.sqlite_tied.specs.Compute.{everything}
 use Rattle.reg_tables.specs.Schema.{office_table, caps_table, registries_table, ranges_table}
 use Rattle.reg_tables.specs.Schema.{requests_table, queue_table, pool_table}
-use Rattle.reg_tables.specs.Schema.{blocks_table}
+use Rattle.reg_tables.specs.Schema.{blocks_table, holds_table, minutes_table, agents_table}
 use Rattle.reg_tables.specs.Texts.{insert_version, insert_caps, insert_registries}
 use Rattle.reg_tables.specs.Texts.{insert_ranges, insert_requests, insert_queue}
-use Rattle.reg_tables.specs.Texts.{insert_pool, insert_blocks}
+use Rattle.reg_tables.specs.Texts.{insert_pool, insert_blocks, insert_holds}
+use Rattle.reg_tables.specs.Texts.{insert_minutes, insert_agents}
 use Rattle.reg_tables.proofs.GivenRows.{AddsGiven}
 
 pub adds_version : AddsGiven insert_version 0 office_table
@@ -41,3 +42,15 @@ adds_pool = record { slot = refl; is = refl; plain = (refl, refl); counts = refl
 pub adds_blocks : AddsGiven insert_blocks 9 blocks_table
 unfolding understood everything
 adds_blocks = record { slot = refl; is = refl; plain = (refl, refl); counts = refl; stamps = refl }
+
+pub adds_holds : AddsGiven insert_holds 10 holds_table
+unfolding understood everything
+adds_holds = record { slot = refl; is = refl; plain = (refl, refl); counts = refl; stamps = refl }
+
+pub adds_minutes : AddsGiven insert_minutes 11 minutes_table
+unfolding understood everything
+adds_minutes = record { slot = refl; is = refl; plain = (refl, refl); counts = refl; stamps = refl }
+
+pub adds_agents : AddsGiven insert_agents 12 agents_table
+unfolding understood everything
+adds_agents = record { slot = refl; is = refl; plain = (refl, refl); counts = refl; stamps = refl }

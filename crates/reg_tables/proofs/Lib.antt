@@ -5,6 +5,8 @@ pub mod GivenRows
 pub mod InsertStatements
 pub mod PutStatements
 pub mod MakeLemmas
+pub mod MigrateLemmas
+pub mod PartLemmas
 pub mod TextSlices
 pub mod SelectLemmas
 pub mod ValueLemmas

@@ -164,7 +164,7 @@ module _ {E : Type 0} (all texts : List (List ℕ)) (text : List ℕ) (old mid n
 
 -- ---- An office
 
-abbrev is_other : Table → Bool
+abbrev pub is_other : Table → Bool
 is_other t = not (t.tree == office_table.tree)
     && list_all (λ i. not (i.tree == t.tree)) office_schema.indexes
 

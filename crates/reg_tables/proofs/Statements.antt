@@ -11,3 +11,6 @@ pub mod Seats
 pub mod Advice
 pub mod Pool
 pub mod Blocks
+pub mod Holds
+pub mod Minutes
+pub mod Agents

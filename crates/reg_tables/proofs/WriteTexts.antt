@@ -3,7 +3,9 @@ use Rattle.std.proofs.Common.{refl}
 use Rattle.sqlite_tied.specs.Compute.{everything}
 use Rattle.reg_tables.specs.Kinds.{WritesRows}
 use Rattle.reg_tables.specs.Texts.{insert_version}
-use Rattle.reg_tables.specs.Texts.{change_block, change_request, delete_cap}
+use Rattle.reg_tables.specs.Texts.{change_block, change_request, change_version}
+use Rattle.reg_tables.specs.Texts.{delete_agent, delete_cap, delete_hold}
+use Rattle.reg_tables.specs.Texts.{insert_agents, insert_holds, insert_minutes}
 use Rattle.reg_tables.specs.Texts.{insert_blocks, insert_caps}
 use Rattle.reg_tables.specs.Texts.{insert_pool, insert_queue}
 use Rattle.reg_tables.specs.Texts.{insert_ranges, insert_registries, insert_requests}
@@ -60,3 +62,27 @@ put_advice_writes = refl
 pub put_entry_writes : WritesRows put_entry
 unfolding everything
 put_entry_writes = refl
+
+pub insert_holds_writes : WritesRows insert_holds
+unfolding everything
+insert_holds_writes = refl
+
+pub insert_minutes_writes : WritesRows insert_minutes
+unfolding everything
+insert_minutes_writes = refl
+
+pub insert_agents_writes : WritesRows insert_agents
+unfolding everything
+insert_agents_writes = refl
+
+pub delete_hold_writes : WritesRows delete_hold
+unfolding everything
+delete_hold_writes = refl
+
+pub delete_agent_writes : WritesRows delete_agent
+unfolding everything
+delete_agent_writes = refl
+
+pub change_version_writes : WritesRows change_version
+unfolding everything
+change_version_writes = refl

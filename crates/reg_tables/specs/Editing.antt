@@ -15,6 +15,8 @@ use Rattle.sqlite_rules.specs.Lists.{Has}
 use Rattle.reg_tables.specs.Schema.{office_schema}
 use Rattle.reg_tables.specs.Selecting.{passes, shows}
 use Rattle.reg_tables.specs.Values.{same_value}
+use Rattle.reg_tables.specs.Version.{newest, schema_of, tables_of}
+use Rattle.reg_tables.specs.declared.version.Version.{Version}
 
 -- each rowid is an integer, and a row is known by it
 pub record AreKeyed (rows : List Row) : Type 0 where
@@ -25,11 +27,15 @@ pub record AreKeyed (rows : List Row) : Type 0 where
 abbrev pub AreTables : Trees → Type 0
 AreTables trees = AllByRecursion (λ t. AreKeyed (trees t.tree)) office_schema.tables
 
--- the tables are the office's, obey its rules, and have their rows by rowids
-pub record IsOffice (db : Database) : Type 0 where
-  pub schema : db.schema ≡ office_schema
+-- the tables are those of a version, obey their rules, and have their rows by rowids
+pub record IsOfficeOf (v : Version) (db : Database) : Type 0 where
+  pub schema : db.schema ≡ schema_of v
   pub sound : IsDatabase db
-  pub tables : AreTables db.trees
+  pub tables : AllByRecursion (λ t. AreKeyed (db.trees t.tree)) (tables_of v)
+
+-- they are those of the newest
+abbrev pub IsOffice : Database → Type 0
+IsOffice = IsOfficeOf newest
 
 -- the rows of the table that pass are gone, and each other table is as it was
 pub record LosesRows (t : ℕ) (goes : Row → Bool) (old new : Database) : Type 0 where

@@ -9,3 +9,8 @@ pub record GoesInside {A E : Type 0} (old new : State) (result : Result A E) : T
   pub clean : doubt old.is_clean ≤ doubt new.is_clean
   pub kept : HasCleanDisk new → KeepsCommit old new
   pub went : HasCleanDisk new → OnOk result (WentOn old new)
+
+-- nothing is committed
+pub record StaysInside (old new : State) : Type 0 where
+  pub clean : doubt old.is_clean ≤ doubt new.is_clean
+  pub kept : HasCleanDisk new → KeepsCommit old new

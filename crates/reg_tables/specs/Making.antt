@@ -1,5 +1,5 @@
 -- What CREATE TABLE texts leave, and a store that holds no more than the version of its tables.
-use Rattle.std.specs.Prelude.{◌≡◌, ℕ, List, [], ◌∷◌, drop, fold, false}
+use Rattle.std.specs.Prelude.{ℤ, ◌≡◌, ℕ, List, [], ◌∷◌, drop, fold, false}
 use Rattle.std.specs.List.{AllByRecursion, list_any}
 use Rattle.sqlite.specs.declared.types.Value.TheVariants.{Int}
 use Rattle.sqlite.specs.Order.{Row, column}
@@ -11,7 +11,8 @@ use Rattle.sqlite.specs.Effect.{Database, IsDatabase}
 use Rattle.reg_tables.specs.Editing.{IsOffice}
 use Rattle.reg_tables.specs.Having.{AreDefined, Defines, unplaced}
 use Rattle.reg_tables.specs.Schema.{office_table, office_schema}
-use Rattle.reg_tables.specs.Version.{number_of, newest}
+use Rattle.reg_tables.specs.Version.{later_than, newest, number_of, tables_of}
+use Rattle.reg_tables.specs.declared.version.Version.{Version}
 
 -- the schema without a table
 abbrev pub no_schema : Schema
@@ -66,14 +67,38 @@ pub record IsBlank (schema : Schema) (db : Database) : Type 0 where
 abbrev pub version_row : Row
 version_row = Int (number_of newest) ∷ []
 
--- the table of the office has one row, which says that the schema is the newest
-pub record IsVersioned (trees : Trees) : Type 0 where
+-- there is one row, which says this version
+pub record HasVersion (n : ℤ) (rows : List Row) : Type 0 where
   pub row : Row
-  pub only : trees office_table.tree ≡ row ∷ []
-  pub says : column row 1 ≡ Int (number_of newest)
+  pub only : rows ≡ row ∷ []
+  pub says : column row 1 ≡ Int n
+
+-- the row of the table of the office says the newest version
+abbrev pub IsVersioned : Trees → Type 0
+IsVersioned trees = HasVersion (number_of newest) (trees office_table.tree)
 
 -- the store has the tables of an office, and holds no more than their version
 pub record IsFounded (db : Database) : Type 0 where
   pub office : IsOffice db
   pub version : IsVersioned db.trees
   pub empty : AllByRecursion (λ t. db.trees t.tree ≡ []) (drop 1 office_schema.tables)
+
+-- the tables that a version lacks came, all empty, and the others have the rows that they had
+pub record HasLater (v : Version) (old new : Database) : Type 0 where
+  pub office : IsOffice new
+  pub kept : AllByRecursion (λ t. new.trees t.tree ≡ old.trees t.tree) (tables_of v)
+  pub empty : AllByRecursion (λ t. new.trees t.tree ≡ []) (later_than v)
+
+-- an office of a version is one of the newest, with all rows that it had, and no others
+pub record IsMigrated (v : Version) (old new : Database) : Type 0 where
+  pub office : IsOffice new
+  pub version : IsVersioned new.trees
+  pub kept : AllByRecursion (λ t. new.trees t.tree ≡ old.trees t.tree) (drop 1 (tables_of v))
+  pub empty : AllByRecursion (λ t. new.trees t.tree ≡ []) (later_than v)
+
+-- the row of the office says the newest version, and each other table is as it was
+pub record IsRaised (old new : Database) : Type 0 where
+  pub office : IsOffice new
+  pub version : IsVersioned new.trees
+  pub others : AllByRecursion (λ t. new.trees t.tree ≡ old.trees t.tree)
+      (drop 1 office_schema.tables)

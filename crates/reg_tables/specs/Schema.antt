@@ -13,7 +13,8 @@ use Rattle.sqlite_schema.specs.declared.schema.Index.{Index}
 use Rattle.sqlite_schema.specs.declared.schema.Reference.{Reference}
 use Rattle.reg_tables.specs.Texts.{make_office, make_caps, make_registries, make_ranges}
 use Rattle.reg_tables.specs.Texts.{make_entries, make_requests, make_queue, make_advice}
-use Rattle.reg_tables.specs.Texts.{make_pool, make_blocks}
+use Rattle.reg_tables.specs.Texts.{make_pool, make_blocks, make_holds, make_minutes}
+use Rattle.reg_tables.specs.Texts.{make_agents}
 
 -- a column of a STRICT table
 abbrev column : Kind → Bool → List ℕ → Column
@@ -293,6 +294,66 @@ blocks_table = record {
   is_counted = false;
 }
 
+abbrev pub holds_table : Table
+holds_table = record {
+  name = codes "holds";
+  tree = 21;
+  columns =
+      text (codes "registry") ∷
+      whole (codes "value") ∷
+      [];
+  key = None;
+  primary = 1 ∷ 2 ∷ [];
+  uniques = (1 ∷ 2 ∷ []) ∷ [];
+  orders = plain ∷ [];
+  checks = [];
+  references = refers (1 ∷ 2 ∷ []) (codes "entries")
+      (codes "registry" ∷ codes "value" ∷ []) ∷ [];
+  computed = [];
+  stamps = record { places = []; terms = []; formats = [] };
+  is_counted = false;
+}
+
+abbrev pub minutes_table : Table
+minutes_table = record {
+  name = codes "minutes";
+  tree = 23;
+  columns =
+      text (codes "account") ∷
+      text (codes "reference") ∷
+      text (codes "minute") ∷
+      [];
+  key = None;
+  primary = 1 ∷ 2 ∷ [];
+  uniques = (1 ∷ 2 ∷ []) ∷ [];
+  orders = plain ∷ [];
+  checks = [];
+  references = refers (1 ∷ 2 ∷ []) (codes "requests")
+      (codes "account" ∷ codes "reference" ∷ []) ∷ [];
+  computed = [];
+  stamps = record { places = []; terms = []; formats = [] };
+  is_counted = false;
+}
+
+abbrev pub agents_table : Table
+agents_table = record {
+  name = codes "agents";
+  tree = 25;
+  columns =
+      text (codes "principal") ∷
+      text (codes "agent") ∷
+      [];
+  key = None;
+  primary = 1 ∷ 2 ∷ [];
+  uniques = (1 ∷ 2 ∷ []) ∷ (2 ∷ 1 ∷ []) ∷ [];
+  orders = plain ∷ plain ∷ [];
+  checks = [];
+  references = [];
+  computed = [];
+  stamps = record { places = []; terms = []; formats = [] };
+  is_counted = false;
+}
+
 -- the texts that make the tables, in order
 abbrev pub office_texts : List (List ℕ)
 office_texts =
@@ -306,6 +367,9 @@ office_texts =
     make_advice ∷
     make_pool ∷
     make_blocks ∷
+    make_holds ∷
+    make_minutes ∷
+    make_agents ∷
     []
 
 abbrev pub office_schema : Schema
@@ -321,6 +385,9 @@ office_schema = record {
       advice_table ∷
       pool_table ∷
       blocks_table ∷
+      holds_table ∷
+      minutes_table ∷
+      agents_table ∷
       [];
   indexes =
       index (codes "sqlite_autoindex_caps_1") 2 1 (1 ∷ []) ∷
@@ -334,6 +401,10 @@ office_schema = record {
       index (codes "sqlite_autoindex_pool_1") 17 16 (1 ∷ []) ∷
       index (codes "sqlite_autoindex_blocks_1") 19 18 (1 ∷ []) ∷
       index (codes "sqlite_autoindex_blocks_2") 20 18 (3 ∷ 1 ∷ []) ∷
+      index (codes "sqlite_autoindex_holds_1") 22 21 (1 ∷ 2 ∷ []) ∷
+      index (codes "sqlite_autoindex_minutes_1") 24 23 (1 ∷ 2 ∷ []) ∷
+      index (codes "sqlite_autoindex_agents_1") 26 25 (1 ∷ 2 ∷ []) ∷
+      index (codes "sqlite_autoindex_agents_2") 27 25 (2 ∷ 1 ∷ []) ∷
       [];
   views = [];
 }

@@ -3,7 +3,8 @@ use Rattle.std.specs.Prelude.{ℕ, List}
 use Rattle.reg_tables.specs.declared.texts.TheConstants.{MAKE_OFFICE, MAKE_CAPS, MAKE_REGISTRIES}
 use Rattle.reg_tables.specs.declared.texts.TheConstants.{MAKE_RANGES, MAKE_ENTRIES, MAKE_REQUESTS}
 use Rattle.reg_tables.specs.declared.texts.TheConstants.{MAKE_QUEUE, MAKE_ADVICE, MAKE_POOL}
-use Rattle.reg_tables.specs.declared.texts.TheConstants.{MAKE_BLOCKS, SELECT_VERSION, SELECT_CAP}
+use Rattle.reg_tables.specs.declared.texts.TheConstants.{MAKE_BLOCKS, MAKE_HOLDS, MAKE_MINUTES, MAKE_AGENTS}
+use Rattle.reg_tables.specs.declared.texts.TheConstants.{SELECT_VERSION, SELECT_CAP}
 use Rattle.reg_tables.specs.declared.texts.TheConstants.{SELECT_REGISTRY}
 use Rattle.reg_tables.specs.declared.texts.TheConstants.{SELECT_REGISTRIES, SELECT_RANGES_OF}
 use Rattle.reg_tables.specs.declared.texts.TheConstants.{SELECT_RANGES, SELECT_ENTRY}
@@ -15,10 +16,14 @@ use Rattle.reg_tables.specs.declared.texts.TheConstants.{SELECT_SEATS}
 use Rattle.reg_tables.specs.declared.texts.TheConstants.{SELECT_ADVICE_ROW}
 use Rattle.reg_tables.specs.declared.texts.TheConstants.{SELECT_PREFIX, SELECT_POOL}
 use Rattle.reg_tables.specs.declared.texts.TheConstants.{SELECT_BLOCK, SELECT_BLOCKS_OF}
-use Rattle.reg_tables.specs.declared.texts.TheConstants.{SELECT_BLOCKS, INSERT_VERSION, INSERT_CAPS}
+use Rattle.reg_tables.specs.declared.texts.TheConstants.{SELECT_BLOCKS, SELECT_HOLD, SELECT_HOLDS_OF}
+use Rattle.reg_tables.specs.declared.texts.TheConstants.{SELECT_MINUTE, SELECT_AGENT, SELECT_AGENTS_OF}
+use Rattle.reg_tables.specs.declared.texts.TheConstants.{SELECT_PRINCIPALS_OF, INSERT_VERSION, INSERT_CAPS}
 use Rattle.reg_tables.specs.declared.texts.TheConstants.{INSERT_REGISTRIES, INSERT_RANGES}
 use Rattle.reg_tables.specs.declared.texts.TheConstants.{INSERT_REQUESTS, INSERT_QUEUE, INSERT_POOL}
-use Rattle.reg_tables.specs.declared.texts.TheConstants.{INSERT_BLOCKS, PUT_ADVICE, PUT_ENTRY}
+use Rattle.reg_tables.specs.declared.texts.TheConstants.{INSERT_BLOCKS, INSERT_HOLDS, INSERT_MINUTES}
+use Rattle.reg_tables.specs.declared.texts.TheConstants.{INSERT_AGENTS, PUT_ADVICE, PUT_ENTRY, DELETE_HOLD}
+use Rattle.reg_tables.specs.declared.texts.TheConstants.{DELETE_AGENT, CHANGE_VERSION}
 use Rattle.reg_tables.specs.declared.texts.TheConstants.{DELETE_CAP, CHANGE_REQUEST, CHANGE_BLOCK}
 
 abbrev pub make_office : List ℕ
@@ -50,6 +55,15 @@ make_pool = MAKE_POOL.now
 
 abbrev pub make_blocks : List ℕ
 make_blocks = MAKE_BLOCKS.now
+
+abbrev pub make_holds : List ℕ
+make_holds = MAKE_HOLDS.now
+
+abbrev pub make_minutes : List ℕ
+make_minutes = MAKE_MINUTES.now
+
+abbrev pub make_agents : List ℕ
+make_agents = MAKE_AGENTS.now
 
 abbrev pub select_version : List ℕ
 select_version = SELECT_VERSION.now
@@ -114,6 +128,24 @@ select_blocks_of = SELECT_BLOCKS_OF.now
 abbrev pub select_blocks : List ℕ
 select_blocks = SELECT_BLOCKS.now
 
+abbrev pub select_hold : List ℕ
+select_hold = SELECT_HOLD.now
+
+abbrev pub select_holds_of : List ℕ
+select_holds_of = SELECT_HOLDS_OF.now
+
+abbrev pub select_minute : List ℕ
+select_minute = SELECT_MINUTE.now
+
+abbrev pub select_agent : List ℕ
+select_agent = SELECT_AGENT.now
+
+abbrev pub select_agents_of : List ℕ
+select_agents_of = SELECT_AGENTS_OF.now
+
+abbrev pub select_principals_of : List ℕ
+select_principals_of = SELECT_PRINCIPALS_OF.now
+
 abbrev pub insert_version : List ℕ
 insert_version = INSERT_VERSION.now
 
@@ -138,6 +170,15 @@ insert_pool = INSERT_POOL.now
 abbrev pub insert_blocks : List ℕ
 insert_blocks = INSERT_BLOCKS.now
 
+abbrev pub insert_holds : List ℕ
+insert_holds = INSERT_HOLDS.now
+
+abbrev pub insert_minutes : List ℕ
+insert_minutes = INSERT_MINUTES.now
+
+abbrev pub insert_agents : List ℕ
+insert_agents = INSERT_AGENTS.now
+
 abbrev pub put_advice : List ℕ
 put_advice = PUT_ADVICE.now
 
@@ -146,6 +187,15 @@ put_entry = PUT_ENTRY.now
 
 abbrev pub delete_cap : List ℕ
 delete_cap = DELETE_CAP.now
+
+abbrev pub delete_hold : List ℕ
+delete_hold = DELETE_HOLD.now
+
+abbrev pub delete_agent : List ℕ
+delete_agent = DELETE_AGENT.now
+
+abbrev pub change_version : List ℕ
+change_version = CHANGE_VERSION.now
 
 abbrev pub change_request : List ℕ
 change_request = CHANGE_REQUEST.now

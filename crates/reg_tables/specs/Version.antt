@@ -1,24 +1,32 @@
 -- The versions of the schema, each with its tables.
-use Rattle.std.specs.Prelude.{◌≢◌, ℕ, ℤ, pos, List, [], take, drop}
+use Rattle.std.specs.Prelude.{nat_lt, if◌then◌else◌, ◌≢◌, ℕ, ℤ, pos, List, [], take, drop}
 use Rattle.sqlite.specs.Schema.{Schema}
+use Rattle.sqlite.specs.Tree.{Trees}
+use Rattle.sqlite_catalog.specs.Change.{next_tree}
 use Rattle.sqlite.specs.Table.{Table}
 use Rattle.reg_tables.specs.Schema.{office_schema}
 use Rattle.reg_tables.specs.declared.version.Version.{Version}
-use Rattle.reg_tables.specs.declared.version.Version.TheVariants.{First}
+use Rattle.reg_tables.specs.declared.version.Version.TheVariants.{First, Second, Third}
 
 -- how many tables a version has, and how many indexes
 abbrev pub table_count : Version → ℕ
 table_count First = 10
+table_count Second = 12
+table_count Third = 13
 
 abbrev pub index_count : Version → ℕ
 index_count First = 11
+index_count Second = 13
+index_count Third = 15
 
 abbrev pub number_of : Version → ℤ
 number_of First = pos 1
+number_of Second = pos 2
+number_of Third = pos 3
 
 -- the version that the tables are made of
 abbrev pub newest : Version
-newest = First
+newest = Third
 
 -- the tables of a version are the first of the newest's: a later version only adds some
 abbrev pub tables_of : Version → List Table
@@ -34,6 +42,18 @@ schema_of v = record {
   indexes = take (index_count v) office_schema.indexes;
   views = [];
 }
+
+-- the first tree that is none of a version's tables and indexes
+abbrev pub end_of : Version → ℕ
+end_of v = next_tree (schema_of v)
+
+-- the rows in the trees below this one; the others have none
+abbrev pub below : ℕ → Trees → Trees
+below n trees = λ t. if nat_lt t n then trees t else []
+
+-- the rows of a version's tables; those that it lacks have none
+abbrev pub rows_of : Version → Trees → Trees
+rows_of v = below (end_of v)
 
 -- no version has this number
 abbrev pub IsOther : ℤ → Type 0

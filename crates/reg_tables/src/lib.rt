@@ -2,6 +2,7 @@
 #![tactic(auto)]
 
 pub mod make;
+pub mod migrate;
 mod same;
 pub mod schema;
 pub mod texts;

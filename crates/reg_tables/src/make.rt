@@ -1,27 +1,28 @@
 //! The tables are made, all or none.
 
-ghost use Rattle.std.specs.Prelude.{◌≡◌, ◌≢◌, [], ◌∷◌, false, true, length, map, IsTrue, OnOk, OnErr};
+ghost use Rattle.std.specs.Prelude.{◌≡◌, ◌≢◌, [], ◌∷◌, false, true, drop, length, map, IsTrue, OnOk, OnErr};
 ghost use Rattle.sqlite.specs.Held.{state};
 ghost use Rattle.sqlite.specs.State.{HasCleanDisk};
 ghost use Rattle.sqlite.specs.Table.{Table as SqlTable};
 ghost use Rattle.sqlite_schema.specs.Names.{same_name};
-ghost use Rattle.reg_tables.specs.Schema.{office_schema, office_table};
-ghost use Rattle.reg_tables.specs.Connection.{IsIdle, Works};
+ghost use Rattle.reg_tables.specs.Schema.{office_schema, office_table, office_texts};
+ghost use Rattle.reg_tables.specs.Connection.{IsIdle, WentOn, Works};
 ghost use Rattle.reg_tables.specs.Editing.{IsOffice};
 ghost use Rattle.reg_tables.specs.Having.{Defines, Gains, GainsEach, GainsTables, unplaced};
-ghost use Rattle.reg_tables.specs.Inside.{GoesInside};
+ghost use Rattle.reg_tables.specs.Inside.{GoesInside, StaysInside};
 ghost use Rattle.reg_tables.specs.Making.{IsBlank, IsFounded, MakesEach, MakesOne};
 ghost use Rattle.reg_tables.specs.Making.{no_schema, version_row};
+ghost use Rattle.reg_tables.specs.Version.{table_count};
 ghost use Rattle.reg_tables.specs.Inserting.{AddedRow};
 
 use crate::texts;
-use crate::version::NEWEST;
+use crate::version::{NEWEST, Version};
 use crate::write::run;
 use sqlite::types::ValueRef;
 use sqlite::{Alter, Connection, Error, Transaction};
 
 /// The statements that make the tables, in the order in which the versions brought them.
-const TABLES: [&str; 10] = [
+const TABLES: [&str; 13] = [
     texts::MAKE_OFFICE,
     texts::MAKE_CAPS,
     texts::MAKE_REGISTRIES,
@@ -32,7 +33,17 @@ const TABLES: [&str; 10] = [
     texts::MAKE_ADVICE,
     texts::MAKE_POOL,
     texts::MAKE_BLOCKS,
+    texts::MAKE_HOLDS,
+    texts::MAKE_MINUTES,
+    texts::MAKE_AGENTS,
 ];
+
+/// Those of them that make the tables that a version lacks.
+pub(crate) fn later_texts(from: Version) -> &'static [&'static str]
+    ensures { map (λ text. text.now) result.now ≡ drop (table_count from) office_texts }
+{
+    &TABLES[from.tables()..]
+}
 
 /// Makes a table.
 fn make<S: Alter>(tx: &mut Transaction<'_, S>, text: &str) -> Result<(), Error>
@@ -53,10 +64,15 @@ fn make<S: Alter>(tx: &mut Transaction<'_, S>, text: &str) -> Result<(), Error>
 }
 
 /// Makes tables, one after the other.
-fn make_each<S: Alter>(tx: &mut Transaction<'_, S>, mut texts: &[&str]) -> Result<(), Error>
+pub(crate) fn make_each<S: Alter>(
+    tx: &mut Transaction<'_, S>,
+    mut texts: &[&str],
+) -> Result<(), Error>
     ensures same_reference { tx.new.conn.ghost_name ≡ tx.old.conn.ghost_name }
-    ensures inside { map (λ text. text.now) texts.entry.now ≢ []
-        → GoesInside (state S.Store tx.old.conn.now) (state S.Store tx.new.conn.now) result }
+    ensures inside { StaysInside (state S.Store tx.old.conn.now) (state S.Store tx.new.conn.now) }
+    ensures went { map (λ text. text.now) texts.entry.now ≢ []
+        → HasCleanDisk (state S.Store tx.new.conn.now)
+        → OnOk result (WentOn (state S.Store tx.old.conn.now) (state S.Store tx.new.conn.now)) }
     ensures made { HasCleanDisk (state S.Store tx.new.conn.now)
         → OnOk result (MakesEach (map (λ text. text.now) texts.entry.now)
         (state S.Store tx.old.conn.now).now (state S.Store tx.new.conn.now).now) }

@@ -54,6 +54,22 @@ pub const MAKE_BLOCKS: &str =
      NULL, organization TEXT NOT NULL, address TEXT NOT NULL, private INTEGER NOT NULL, UNIQUE \
      (holder, first)) STRICT";
 
+/// Makes the table of the entries that are held.
+pub const MAKE_HOLDS: &str =
+    "CREATE TABLE holds (registry TEXT NOT NULL, value INTEGER NOT NULL, PRIMARY KEY (registry, \
+     value), FOREIGN KEY (registry, value) REFERENCES entries (registry, value)) STRICT";
+
+/// Makes the table of the minutes that renewals name.
+pub const MAKE_MINUTES: &str =
+    "CREATE TABLE minutes (account TEXT NOT NULL, reference TEXT NOT NULL, minute TEXT NOT NULL, \
+     PRIMARY KEY (account, reference), FOREIGN KEY (account, reference) REFERENCES requests \
+     (account, reference)) STRICT";
+
+/// Makes the table of agents.
+pub const MAKE_AGENTS: &str =
+    "CREATE TABLE agents (principal TEXT NOT NULL, agent TEXT NOT NULL, PRIMARY KEY (principal, \
+     agent), UNIQUE (agent, principal)) STRICT";
+
 /// The version of the schema.
 pub const SELECT_VERSION: &str = "SELECT version FROM office";
 
@@ -155,6 +171,30 @@ pub const SELECT_BLOCKS_OF: &str =
 pub const SELECT_BLOCKS: &str =
     "SELECT first, size, holder, organization, address, private FROM blocks ORDER BY first";
 
+/// The row that says that the entry of a value is held.
+pub const SELECT_HOLD: &str =
+    "SELECT registry, value FROM holds WHERE registry = ?1 AND value = ?2";
+
+/// The values of a registry whose entries are held, in their order.
+pub const SELECT_HOLDS_OF: &str =
+    "SELECT registry, value FROM holds WHERE registry = ?1 ORDER BY value";
+
+/// The minute that a renewal names.
+pub const SELECT_MINUTE: &str =
+    "SELECT account, reference, minute FROM minutes WHERE account = ?1 AND reference = ?2";
+
+/// The row that makes an account the agent of a principal.
+pub const SELECT_AGENT: &str =
+    "SELECT principal, agent FROM agents WHERE principal = ?1 AND agent = ?2";
+
+/// The agents of a principal, by their names.
+pub const SELECT_AGENTS_OF: &str =
+    "SELECT principal, agent FROM agents WHERE principal = ?1 ORDER BY agent";
+
+/// The principals of an agent, by their names.
+pub const SELECT_PRINCIPALS_OF: &str =
+    "SELECT principal, agent FROM agents WHERE agent = ?1 ORDER BY principal";
+
 /// Adds the row that says the version.
 pub const INSERT_VERSION: &str = "INSERT INTO office (version) VALUES (?1)";
 
@@ -188,6 +228,16 @@ pub const INSERT_BLOCKS: &str =
     "INSERT INTO blocks (first, size, holder, organization, address, private) VALUES (?1, ?2, ?3, \
      ?4, ?5, ?6)";
 
+/// Says that the entry of a value is held.
+pub const INSERT_HOLDS: &str = "INSERT INTO holds (registry, value) VALUES (?1, ?2)";
+
+/// Adds the minute that a renewal names.
+pub const INSERT_MINUTES: &str =
+    "INSERT INTO minutes (account, reference, minute) VALUES (?1, ?2, ?3)";
+
+/// Makes an account the agent of a principal.
+pub const INSERT_AGENTS: &str = "INSERT INTO agents (principal, agent) VALUES (?1, ?2)";
+
 /// Adds the advice of an expert on a request, or puts it in the place of what the expert gave.
 pub const PUT_ADVICE: &str =
     "INSERT INTO advice (account, reference, expert, verdict, text) VALUES (?1, ?2, ?3, ?4, ?5) \
@@ -203,6 +253,15 @@ pub const PUT_ENTRY: &str =
 
 /// Takes the capability of a digest away.
 pub const DELETE_CAP: &str = "DELETE FROM caps WHERE digest = ?1";
+
+/// Says no longer that the entry of a value is held.
+pub const DELETE_HOLD: &str = "DELETE FROM holds WHERE registry = ?1 AND value = ?2";
+
+/// Makes an account the agent of a principal no longer.
+pub const DELETE_AGENT: &str = "DELETE FROM agents WHERE principal = ?1 AND agent = ?2";
+
+/// Changes the row that says the version.
+pub const CHANGE_VERSION: &str = "UPDATE office SET version = ?1";
 
 /// Changes the state of a request.
 pub const CHANGE_REQUEST: &str =

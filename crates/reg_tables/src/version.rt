@@ -7,10 +7,12 @@ ghost use Rattle.reg_tables.specs.Version.{number_of, table_count};
 #[derive(Clone, Copy, Debug, PartialEq, Eq, Drop)]
 pub enum Version {
     First,
+    Second,
+    Third,
 }
 
 /// The version that the tables are made of.
-pub const NEWEST: Version = Version::First;
+pub const NEWEST: Version = Version::Third;
 
 impl Version {
     /// The number by which a store says its version.
@@ -19,6 +21,8 @@ impl Version {
     {
         match self {
             Version::First => 1,
+            Version::Second => 2,
+            Version::Third => 3,
         }
     }
 
@@ -28,6 +32,8 @@ impl Version {
     {
         match self {
             Version::First => 10,
+            Version::Second => 12,
+            Version::Third => 13,
         }
     }
 }

@@ -1,8 +1,8 @@
 -- What a request asks for, kind by kind: the columns of an ask read exactly where they have the
 -- values that are written for it, and none of another ask.
-use Rattle.std.proofs.Common.{◌≡◌, ◌^◌, true, ◌∷◌, drop, Some, refl, ap, subst}
+use Rattle.std.proofs.Common.{◌≡◌, ◌^◌, Bool, true, ◌&&◌, List, ℕ, ◌∷◌, drop, Option, Some, None, is_none, refl, sym, ap, subst}
 use Rattle.std.specs.Prelude.{nat_lt}
-use Rattle.std.proofs.lemmas.Bool.{and_parts}
+use Rattle.std.proofs.lemmas.Bool.{and_from, and_parts}
 use Rattle.std.proofs.lemmas.Option.{same_Some}
 use Rattle.sqlite.specs.Order.{Row, column}
 use Rattle.sqlite.specs.declared.types.Value.TheVariants.{Text}
@@ -11,7 +11,7 @@ use Rattle.reg_ranges.specs.Texts.{is_text}
 use Rattle.reg_ranges.specs.Words.{ReadsWords}
 use Rattle.reg_ranges.proofs.WordsReadBack.{reads_words}
 use Rattle.reg_early.specs.Forms.{has_early_form}
-use Rattle.reg_core.specs.Ask.{has_ask_form, has_block_form, has_code_form, has_early_ask_form, has_permanence_form, has_renewal_form, has_want_form}
+use Rattle.reg_core.specs.Ask.{has_ask_form, has_block_form, has_note_form, has_code_form, has_early_ask_form, has_permanence_form, has_renewal_form, has_want_form}
 use Rattle.reg_core.specs.Names.{is_name}
 use Rattle.reg_core.specs.declared.ask.Ask.{Ask}
 use Rattle.reg_core.specs.declared.ask.Ask.TheVariants as ask
@@ -21,6 +21,7 @@ use Rattle.reg_core.specs.declared.ask.EarlyAsk.{EarlyAsk}
 use Rattle.reg_core.specs.declared.ask.PermanenceAsk.{PermanenceAsk}
 use Rattle.reg_core.specs.declared.ask.RenewalAsk.{RenewalAsk}
 use Rattle.reg_records.specs.Columns.{is_number}
+use Rattle.reg_core.specs.Minutes.{is_bare}
 use Rattle.reg_records.specs.Requests.Reading.{columns, are_null, code_in, early_ask_in, renewal_in, permanence_in, block_in, ask_of, ask_in}
 use Rattle.reg_records.specs.Requests.Values.{nulls, evidence_values, early_values, asked_values, ask_values}
 use Rattle.reg_records.specs.Requests.Words.{kind_of, kinds, kind_word, read_kind}
@@ -106,8 +107,16 @@ early_asks = record { back = early_back; kept = early_kept }
 
 -- ---- Asks for what becomes of a value
 
+-- the form of a renewal that a row holds
+abbrev is_bare_renewal : RenewalAsk → Bool
+is_bare_renewal a = has_renewal_form a && is_none a.iesg
+
+pub no_minute : (minute : Option (List ℕ)) → is_none minute ≡ true → minute ≡ None
+no_minute None e = refl
+no_minute (Some text) e = absurd (cc)
+
 renewal_kept : (row : Row) (a : RenewalAsk) → renewal_in row ≡ Some a
-    → (columns row 3 19 ≡ asked_values (ask.Renew a)) × (has_renewal_form a ≡ true)
+    → (columns row 3 19 ≡ asked_values (ask.Renew a)) × (is_bare_renewal a ≡ true)
 unfolding renewal_in
 renewal_kept row a h =
     test_some (are_null row 5 8) _ a h (λ none0 h.
@@ -115,17 +124,19 @@ renewal_kept row a h =
     column_some names (column row 3) _ a h (λ registry is0 form0 h.
     column_some (numbers is_number) (column row 4) _ a h (λ value is1 form1 h.
     part_some earlies row _ a h (λ evidence is2 form2 h.
-    subst (λ a. (columns row 3 19 ≡ asked_values (ask.Renew a)) × (has_renewal_form a ≡ true))
+    subst (λ a. (columns row 3 19 ≡ asked_values (ask.Renew a)) × (is_bare_renewal a ≡ true))
     (same_Some _ a h) (
       one is0 ⊕ one is1 ⊕ nulls_kept row 8 5 none0 ⊕ is2 ⊕ nulls_kept row 3 19 none1,
       rw (form0, form1, form2) refl,
     ))))))
 
 renewal_back : (row : Row) (a : RenewalAsk) → columns row 3 19 ≡ asked_values (ask.Renew a)
-    → has_renewal_form a ≡ true → renewal_in row ≡ Some a
+    → is_bare_renewal a ≡ true → renewal_in row ≡ Some a
 unfolding renewal_in
 renewal_back row a h form =
-    let two = and_parts _ (has_early_form a.evidence) form in
+    let four = and_parts (has_renewal_form a) (is_none a.iesg) form in
+    let three = and_parts _ (has_note_form a.iesg) four.0 in
+    let two = and_parts _ (has_early_form a.evidence) three.0 in
     let ones = and_parts (is_name a.registry) (nat_lt a.value (2 ^ 32)) two.0 in
     let evidence : columns row 13 6 ≡ early_values a.evidence = within 10 6 h in
     let none0 : columns row 5 8 ≡ nulls 8 = within 2 8 h in
@@ -134,9 +145,10 @@ renewal_back row a h form =
     test-at (are_null row 19 3) _ _ (nulls_back row 19 3 none1) (
     value-at names (column row 3) a.registry (cell 0 h) ones.0 _ _ (
     value-at (numbers is_number) (column row 4) a.value (cell 1 h) ones.1 _ _ (
-    part-at earlies row a.evidence evidence two.1 _ _ refl))))
+    part-at earlies row a.evidence evidence two.1 _ _
+    (ap (λ minute. Some (record a { iesg = minute })) (sym (no_minute a.iesg four.1)))))))
 
-pub renewals : IsPart renewal_in 3 19 (λ a. asked_values (ask.Renew a)) has_renewal_form
+pub renewals : IsPart renewal_in 3 19 (λ a. asked_values (ask.Renew a)) is_bare_renewal
 renewals = record { back = renewal_back; kept = renewal_kept }
 
 permanence_kept : (row : Row) (a : PermanenceAsk) → permanence_in row ≡ Some a
@@ -214,47 +226,55 @@ kinds_read = reads_words kinds kind_word (elim [
   | kind.Block ↦ refl
 ])
 
+-- the form of an ask that a row holds
+abbrev pub is_asked : Ask → Bool
+is_asked a = has_ask_form a && is_bare a
+
 -- an ask of the kind, as its own reading makes it
 of_kind_kept : (kind : AskKind) (row : Row) (a : Ask) → ask_of kind row ≡ Some a
-    → (columns row 3 19 ≡ asked_values a) × (kind ≡ kind_of a) × (has_ask_form a ≡ true)
+    → (columns row 3 19 ≡ asked_values a) × (kind ≡ kind_of a) × (is_asked a ≡ true)
 of_kind_kept kind.Code row a h = map_some ask.Code (code_in row) a h (λ b is same.
     subst (λ a. (columns row 3 19 ≡ asked_values a) × (kind.Code ≡ kind_of a)
-    × (has_ask_form a ≡ true)) same
-    (let k = codes.kept row b is in (k.0, refl, k.1)))
+    × (is_asked a ≡ true)) same
+    (let k = codes.kept row b is in (k.0, refl, and_from _ true k.1 refl)))
 of_kind_kept kind.Early row a h = map_some ask.Early (early_ask_in row) a h (λ b is same.
     subst (λ a. (columns row 3 19 ≡ asked_values a) × (kind.Early ≡ kind_of a)
-    × (has_ask_form a ≡ true)) same
-    (let k = early_asks.kept row b is in (k.0, refl, k.1)))
+    × (is_asked a ≡ true)) same
+    (let k = early_asks.kept row b is in (k.0, refl, and_from _ true k.1 refl)))
 of_kind_kept kind.Renew row a h = map_some ask.Renew (renewal_in row) a h (λ b is same.
     subst (λ a. (columns row 3 19 ≡ asked_values a) × (kind.Renew ≡ kind_of a)
-    × (has_ask_form a ≡ true)) same
+    × (is_asked a ≡ true)) same
     (let k = renewals.kept row b is in (k.0, refl, k.1)))
 of_kind_kept kind.Permanent row a h = map_some ask.Permanent (permanence_in row) a h (λ b is same.
     subst (λ a. (columns row 3 19 ≡ asked_values a) × (kind.Permanent ≡ kind_of a)
-    × (has_ask_form a ≡ true)) same
-    (let k = permanences.kept row b is in (k.0, refl, k.1)))
+    × (is_asked a ≡ true)) same
+    (let k = permanences.kept row b is in (k.0, refl, and_from _ true k.1 refl)))
 of_kind_kept kind.Block row a h = map_some ask.Block (block_in row) a h (λ b is same.
     subst (λ a. (columns row 3 19 ≡ asked_values a) × (kind.Block ≡ kind_of a)
-    × (has_ask_form a ≡ true)) same
-    (let k = blocks.kept row b is in (k.0, refl, k.1)))
+    × (is_asked a ≡ true)) same
+    (let k = blocks.kept row b is in (k.0, refl, and_from _ true k.1 refl)))
 
 of_kind_back : (row : Row) (a : Ask) → columns row 3 19 ≡ asked_values a
-    → has_ask_form a ≡ true → ask_of (kind_of a) row ≡ Some a
-of_kind_back row (ask.Code a) h form = rw (codes.back row a h form) refl
-of_kind_back row (ask.Early a) h form = rw (early_asks.back row a h form) refl
+    → is_asked a ≡ true → ask_of (kind_of a) row ≡ Some a
+of_kind_back row (ask.Code a) h form =
+    rw (codes.back row a h ((and_parts (has_code_form a) true form).0)) refl
+of_kind_back row (ask.Early a) h form =
+    rw (early_asks.back row a h ((and_parts (has_early_ask_form a) true form).0)) refl
 of_kind_back row (ask.Renew a) h form = rw (renewals.back row a h form) refl
-of_kind_back row (ask.Permanent a) h form = rw (permanences.back row a h form) refl
-of_kind_back row (ask.Block a) h form = rw (blocks.back row a h form) refl
+of_kind_back row (ask.Permanent a) h form =
+    rw (permanences.back row a h ((and_parts (has_permanence_form a) true form).0)) refl
+of_kind_back row (ask.Block a) h form =
+    rw (blocks.back row a h ((and_parts (has_block_form a) true form).0)) refl
 
 ask_kept : (row : Row) (a : Ask) → ask_in row ≡ Some a
-    → (columns row 2 20 ≡ ask_values a) × (has_ask_form a ≡ true)
+    → (columns row 2 20 ≡ ask_values a) × (is_asked a ≡ true)
 unfolding ask_in
 ask_kept row a h =
     column_some (words kinds_read) (column row 2) _ a h (λ kind is form h.
     let k = of_kind_kept kind row a h in
     (rw (is, k.1) (ap (λ cells. Text (kind_word (kind_of a)) ∷ cells) k.0), k.2))
 
-ask_back : (row : Row) (a : Ask) → columns row 2 20 ≡ ask_values a → has_ask_form a ≡ true
+ask_back : (row : Row) (a : Ask) → columns row 2 20 ≡ ask_values a → is_asked a ≡ true
     → ask_in row ≡ Some a
 unfolding ask_in
 ask_back row a h form =
@@ -262,5 +282,5 @@ ask_back row a h form =
     value-at (words kinds_read) (column row 2) (kind_of a) (cell 0 h) refl _ _
     (of_kind_back row a asked form)
 
-pub asks : IsPart ask_in 2 20 ask_values has_ask_form
+pub asks : IsPart ask_in 2 20 ask_values is_asked
 asks = record { back = ask_back; kept = ask_kept }

@@ -1,9 +1,9 @@
 -- The requests of a well kept world have the form of those that rows hold.
 use Rattle.std.proofs.Common.{◌≡◌, ℕ, true, List, refl}
 use Rattle.std.specs.FinMap.{FinMap}
-use Rattle.std.proofs.lemmas.Bool.{and_from}
 use Rattle.reg_blocks.specs.Block.{block_cmp}
-use Rattle.reg_core.specs.WellKept.{has_request_form, stands_in}
+use Rattle.reg_core.specs.Request.{request_row}
+use Rattle.reg_core.specs.WellKept.{stands_in}
 use Rattle.reg_core.specs.World.{place_cmp}
 use Rattle.reg_core.specs.declared.ask.Ask.{Ask}
 use Rattle.reg_core.specs.declared.ask.Ask.TheVariants.{Code, Early, Renew, Permanent, Block}
@@ -14,6 +14,7 @@ use Rattle.reg_core.specs.declared.request.State.{State}
 use Rattle.reg_core.specs.declared.request.State.TheVariants.{Pending, Approved, Declined, Withdrawn}
 use Rattle.reg_records.specs.Requests.Forms.{gives_its_kind}
 use Rattle.reg_records.specs.Requests.Laws.{KeptRequestsHaveRows}
+use Rattle.reg_records.proofs.RequestLaws.Rows.{bare_form}
 
 -- what is an entry or a block of the account's is of the kind that was asked for
 pub stands_in-gives_its_kind : (entries : FinMap place_cmp Registration)
@@ -41,7 +42,6 @@ stands_in-gives_its_kind entries blocks account (Block a) (Approved (given.Block
 -- so each request of the world can be written
 pub kept-is_request : KeptRequestsHaveRows
 kept-is_request w kept name case h =
-    and_from (has_request_form name case) (gives_its_kind case.ask case.state)
-    (kept.requests name case h)
+    bare_form (request_row name case) (kept.requests name case h)
     (stands_in-gives_its_kind w.entries w.blocks name.0 case.ask case.state
     (kept.given name case h))

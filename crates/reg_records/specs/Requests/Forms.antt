@@ -9,6 +9,7 @@ use Rattle.reg_core.specs.declared.request.Given.TheVariants as given
 use Rattle.reg_core.specs.declared.request.Request.{Request}
 use Rattle.reg_core.specs.declared.request.State.{State}
 use Rattle.reg_core.specs.declared.request.State.TheVariants.{Pending, Approved, Declined, Withdrawn}
+use Rattle.reg_core.specs.Minutes.{is_bare}
 
 -- a block for an ask for a block, and a value for any other
 abbrev pub is_of_kind : Ask → Given → Bool
@@ -24,8 +25,9 @@ gives_its_kind ask (Approved given) = is_of_kind ask given
 gives_its_kind ask (Declined reason) = true
 gives_its_kind ask Withdrawn = true
 
--- the request has its form, and was given what its ask is for
+-- the request has its form, was given what its ask is for, and names no minute
 abbrev pub is_request : Request → Bool
 is_request request =
     has_request_form (request.account, request.reference) (case_of request)
     && gives_its_kind request.ask request.state
+    && is_bare request.ask

@@ -152,7 +152,8 @@ early_ask_in row = do
   evidence ← early_in row
   Some (record { registry = registry; want = want; label = label; evidence = evidence })
 
--- an ask for another year, which names its value and has no label
+-- an ask for another year, which names its value and has no label; the minute that it may name is a
+-- row of another table
 unfoldable pub renewal_in : Row → Option RenewalAsk
 renewal_in row = do
   are_null row 5 8
@@ -160,7 +161,7 @@ renewal_in row = do
   registry ← name_in (column row 3)
   value ← number_in is_number (column row 4)
   evidence ← early_in row
-  Some (record { registry = registry; value = value; evidence = evidence })
+  Some (record { registry = registry; value = value; evidence = evidence; iesg = None })
 
 -- an ask that a value be assigned for good, which names its value and has no label
 unfoldable pub permanence_in : Row → Option PermanenceAsk

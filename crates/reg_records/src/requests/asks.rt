@@ -114,6 +114,7 @@ fn renewal(alloc: Global, row: &Row) -> Result<Option<RenewalAsk>, AllocError>
         registry,
         value,
         evidence,
+        iesg: None,
     }))
 }
 

@@ -1,7 +1,9 @@
 use Rattle.std.proofs.Common.{refl}
+use Rattle.reg_core.specs.Entry.{registration_in}
+use Rattle.reg_core.proofs.MapLaws.{get-inserted, place_keys}
 use Rattle.reg_core.specs.declared.request.Given.TheVariants as given
 use Rattle.reg_core.specs.declared.request.State.TheVariants.{Approved}
-use Rattle.reg_content.proofs.Fitting.{given_kind}
+use Rattle.reg_content.proofs.Fitting.{given_expires, given_kind, may_turn}
 use Rattle.reg_content.proofs.Joining.{steps_as}
 use Rattle.reg_content.proofs.change.make.Goals as goal
 
@@ -15,8 +17,14 @@ pub returns-in-GiveValue-clause-steps : goal.returns-in-GiveValue-clause-steps
 returns-in-GiveValue-clause-steps g c =
     let it = c.in-GiveValue in
     rw it.is (steps_as c.give_value.ensures.steps (λ w fits. (
-      given_kind w _ (it.account, it.reference) (Approved (given.Value it.entry.value))
-          fits.can.0 fits.can.1 refl,
+      (
+        given_kind w _ (it.account, it.reference) (Approved (given.Value it.entry.value))
+            fits.can.0 fits.can.1 refl,
+        given_expires (registration_in it.entry)
+            (fits.can.1.held (it.entry.registry, it.entry.value) (registration_in it.entry)
+            (get-inserted place_keys w.entries (it.entry.registry, it.entry.value)
+            (registration_in it.entry))),
+      ),
       refl,
     )))
 
@@ -37,3 +45,9 @@ returns-in-SetPrivate-clause-steps g c =
     let it = c.in-SetPrivate in
     rw it.is (steps_as c.set_mark.ensures.steps (λ w fits.
     ((fits.can.0, λ other some clash. fits.kept.apart other it.block some fits.can.0 clash), refl)))
+
+pub returns-in-SetHold-clause-steps : goal.returns-in-SetHold-clause-steps
+returns-in-SetHold-clause-steps g c =
+    let it = c.in-SetHold in
+    rw it.is (steps_as c.set_hold.ensures.steps (λ w fits.
+    (may_turn w (it.name, it.value) it.held fits.kept fits.can.1 fits.can.0, refl)))

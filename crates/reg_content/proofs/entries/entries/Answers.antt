@@ -1,6 +1,8 @@
-use Rattle.std.proofs.Common.{◌∙◌}
+use Rattle.std.proofs.Common.{ap, map, ◌∙◌}
 use Rattle.reg_tables.proofs.Statements.Entries.{entries_of_registry}
-use Rattle.reg_content.proofs.Looking.{looks_made}
+use Rattle.reg_content.specs.Marks.{entry_marked}
+use Rattle.reg_content.proofs.Looking.{looks_then, looks_tied}
+use Rattle.reg_content.proofs.MarkedRows.{entries_listed}
 use Rattle.reg_content.proofs.Statements.{lists_entries}
 use Rattle.reg_content.proofs.entries.entries.Goals as goal
 
@@ -9,6 +11,9 @@ list-requires-clause-plain g c = entries_of_registry.plain
 
 pub returns-then-values_ascend-clause-rows : goal.returns-then-values_ascend-clause-rows
 returns-then-values_ascend-clause-rows g c =
-    looks_made c.in_ok-rows.ensures.rows (λ p is.
-    c.from_vec.ensures
-    ∙ is _ (rw c.name_value.ensures (lists_entries c.args.registry.now)))
+    let registry = c.args.registry.now in
+    looks_tied c.requires (looks_then c.in_ok-rows.ensures.rows c.in_ok-rows-2.ensures
+    (λ p is marked.
+    c.from_vec.ensures ∙ marked
+    ∙ ap (map (entry_marked p registry)) (is _ (rw c.name_value.ensures (lists_entries registry)))))
+    (λ p rows ties is. is ∙ entries_listed p ties registry)

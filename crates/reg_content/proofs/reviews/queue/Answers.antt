@@ -1,9 +1,15 @@
-use Rattle.std.proofs.Common.{rules, ◌≡◌, map, ◌∙◌}
+use Rattle.std.proofs.Common.{◌≡◌, map, ◌∙◌, Ok}
 use Rattle.sqlite.specs.Held.{state}
 use Rattle.reg_tables.proofs.RestLemmas.{stays_held}
 use Rattle.reg_tables.proofs.Statements.Queued.{queued_of_expert}
+use Rattle.reg_keeper.specs.declared.keeper.Fault.{Fault}
+use Rattle.reg_core.specs.Queue.{queue_rows}
+use Rattle.reg_core.specs.View.{queue_of}
+use Rattle.reg_statements.specs.Content.{assembled}
+use Rattle.reg_content.specs.Calls.{LooksIn}
 use Rattle.reg_content.specs.Seats.{seen_row}
-use Rattle.reg_content.proofs.Looking.{looks}
+use Rattle.reg_content.proofs.Looking.{looks, looks_made, looks_then}
+use Rattle.reg_content.proofs.MinutedRows.{bare_world, queue_minuted}
 use Rattle.reg_content.proofs.QueuedRowsFound.{queue_found}
 use Rattle.reg_content.proofs.reviews.queue.Goals as goal
 
@@ -13,11 +19,18 @@ all-requires-clause-plain g c = queued_of_expert.plain
 pub returns : goal.returns
 returns g c =
     let old = state g.S.Store c.args.conn.now in
-    let new = state g.S.Store c.all.new.conn in
+    let read = state g.S.Store c.all.new.conn in
+    let expert = c.args.expert.now in
+    let first : LooksIn {E = Fault} old read (Ok c.in_ok-requests.requests)
+    (λ p rows. map seen_row rows.items ≡ queue_rows (queue_of expert (bare_world p))) =
     looks c.requires c.all.ensures.idle c.all.ensures.endures c.all.ensures.stays (λ h.
     let was = c.requires.stored (stays_held c.all.ensures.stays h) in
     let rows = c.in_ok-requests.ensures.rows h.works in
     let shown = rw c.name_value.ensures at rows.1 in
-    let made : c.from_vec.result ≡ map seen_row c.in_ok-requests.requests.items = search rules in
-    made ∙ queue_found old new rows.0 was c.args.expert.now c.in_ok-requests.requests.items
-    c.in_ok-requests.ensures.ascending shown rows.2)
+    queue_found old read rows.0 was expert c.in_ok-requests.requests.items
+    c.in_ok-requests.ensures.ascending shown rows.2) in
+    let both : LooksIn {E = Fault} _ _ (Ok c.in_ok-seen_all.field-0)
+    (λ p rows. rows.items ≡ queue_rows (queue_of expert (assembled p))) =
+    looks_then first c.in_ok-seen_all.ensures
+    (λ p is seen. seen ∙ queue_minuted p expert c.in_ok-requests.requests.items is) in
+    looks_made both (λ p is. c.from_vec.ensures ∙ is)

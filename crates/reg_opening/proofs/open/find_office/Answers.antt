@@ -12,7 +12,29 @@ returns-then-not-branch g c =
       endures = endures_still old;
       stays = record { worked = λ h. h; unchanged = λ h. refl };
       found = λ works.
-          lacks_tables old (λ has.
+          lacks_tables c.args.version old (λ has.
           let told : IsTrue c.in_ok-has_office.field-0 = c.in_ok-has_office.ensures.exact has in
           search rules);
+    }
+
+pub returns-in-Some : goal.returns-in-Some
+returns-in-Some g c =
+    let read = c.in_ok-free.ensures in
+    let told : IsTrue c.in_ok-has_office.field-0 = search rules in
+    let has = c.in_ok-has_office.ensures.sure told in
+    record {
+      rest = read.idle;
+      endures = read.endures;
+      stays = read.stays;
+      found = λ works. (refl, has, λ is. rw c.in-Some.is at (read.rows works is));
+    }
+
+pub returns-in-None : goal.returns-in-None
+returns-in-None g c =
+    let read = c.in_ok-free.ensures in
+    record {
+      rest = read.idle;
+      endures = read.endures;
+      stays = read.stays;
+      found = λ works is. rw c.in-None.is at (read.rows works is);
     }

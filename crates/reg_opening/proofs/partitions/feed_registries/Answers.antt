@@ -1,4 +1,4 @@
-use Rattle.std.proofs.Common.{map, subst}
+use Rattle.std.proofs.Common.{map, ap, subst, ◌∙◌}
 use Rattle.std.proofs.lemmas.Result.{IfOk-weaker}
 use Rattle.std.specs.List.Sorted.{IsPermutation}
 use Rattle.sqlite.specs.Effect.{Database}
@@ -7,14 +7,13 @@ use Rattle.reg_records.specs.Ranges.{range_in}
 use Rattle.reg_records.specs.Registries.{registry_in}
 use Rattle.reg_tables.specs.Selecting.{stored}
 use Rattle.reg_tables.proofs.Enduring.{endures_then}
-use Rattle.reg_tables.proofs.RestLemmas.{stays_held, stays_same, stays_then}
-use Rattle.reg_tables.proofs.SelectLemmas.{office_begins}
+use Rattle.reg_tables.proofs.RestLemmas.{stays_then}
 use Rattle.reg_tables.proofs.Statements.Ranges.{all_ranges}
 use Rattle.reg_tables.proofs.Statements.Registries.{all_registries}
 use Rattle.reg_statements.specs.Content.{max_at, range_at}
-use Rattle.reg_statements.specs.Tables.{tables_in}
+use Rattle.reg_opening.specs.Feeding.{tables_at}
 use Rattle.reg_opening.proofs.FedRegistries.{registries_told}
-use Rattle.reg_opening.proofs.FedTables.{all_shown, unread_table}
+use Rattle.reg_opening.proofs.FedTables.{ranges_shown, registries_shown, unread_table}
 use Rattle.reg_opening.proofs.partitions.feed_registries.Goals as goal
 
 pub load-requires-clause-plain : goal.load-requires-clause-plain
@@ -22,7 +21,7 @@ load-requires-clause-plain g c = all_registries.plain
 
 pub returns-in_default : goal.returns-in_default
 unfolding max_at
-returns-in_default g c =
+returns-in_default g c = λ v.
     let old = state g.S.Store c.args.conn.now in
     let new = state g.S.Store c.load.new.conn in
     let loaded = c.in_ok-registries.ensures in
@@ -30,12 +29,11 @@ returns-in_default g c =
       idle = loaded.idle;
       endures = loaded.endures;
       stays = loaded.stays;
-      tells = λ h held kept.
-          let found = rw c.in_default.is at (loaded.rows h.works) in
-          unread_table (λ r. (r.name, r.max)) (stored 2) registry_in (tables_in old.now.trees).registries found.0
-          (all_shown 3 2 _ 3 _ old new found.0 all_registries
-          (office_begins 3 (stays_held loaded.stays h).tables) found.1)
-          found.2 held.registries;
+      tells = λ works schema held kept.
+          let found = rw c.in_default.is at (loaded.rows works) in
+          unread_table (λ r. (r.name, r.max)) (stored 2) registry_in
+          (tables_at v old.now).registries found.0
+          (registries_shown v old new found.0 schema found.1) found.2 held.registries;
     }
 
 pub load-requires-2-clause-plain : goal.load-requires-2-clause-plain
@@ -43,7 +41,7 @@ load-requires-2-clause-plain g c = all_ranges.plain
 
 pub returns-in_default-2 : goal.returns-in_default-2
 unfolding range_at
-returns-in_default-2 g c =
+returns-in_default-2 g c = λ v.
     let old = state g.S.Store c.args.conn.now in
     let mid = state g.S.Store c.load.new.conn in
     let new = state g.S.Store c.load-2.new.conn in
@@ -53,18 +51,19 @@ returns-in_default-2 g c =
       idle = second.idle;
       endures = endures_then old mid new first.endures second.endures;
       stays = stays_then old mid new first.stays second.stays;
-      tells = λ h held kept.
-          let found = rw c.in_default-2.is at (second.rows h.works) in
-          let still = stays_same first.stays (stays_held second.stays h) in
-          let shown = all_shown 4 5 _ 5 _ mid new found.0 all_ranges
-          (office_begins 4 (stays_held second.stays h).tables) found.1 in
-          unread_table (λ r. ((r.registry, r.range.lo), r.range)) (stored 5) range_in (tables_in old.now.trees).ranges found.0
-          (subst (λ (db : Database). IsPermutation (map (stored 5) (db.trees 5)) found.0) still shown)
-          found.2 held.ranges;
+      tells = λ works schema held kept.
+          let found = rw c.in_default-2.is at (second.rows works) in
+          let still = first.stays.unchanged (second.stays.worked works) in
+          let shown = ranges_shown v mid new found.0 (ap (λ (db : Database). db.schema) still ∙ schema)
+          found.1 in
+          unread_table (λ r. ((r.registry, r.range.lo), r.range)) (stored 5) range_in
+          (tables_at v old.now).ranges found.0
+          (subst (λ (db : Database). IsPermutation (map (stored 5) (tables_at v db).ranges) found.0)
+          still shown) found.2 held.ranges;
     }
 
 pub returns : goal.returns
-returns g c =
+returns g c = λ v.
     let old = state g.S.Store c.args.conn.now in
     let mid = state g.S.Store c.load.new.conn in
     let new = state g.S.Store c.load-2.new.conn in
@@ -74,19 +73,18 @@ returns g c =
       idle = second.idle;
       endures = endures_then old mid new first.endures second.endures;
       stays = stays_then old mid new first.stays second.stays;
-      tells = λ h.
-          let before = stays_held second.stays h in
-          let found = rw c.in-Some.is at (first.rows before.works) in
-          let places = rw c.in-Some-2.is at (second.rows h.works) in
-          let still = stays_same first.stays before in
-          let moved = all_shown 3 2 _ 3 _ old mid found.0 all_registries
-          (office_begins 3 (stays_held first.stays before).tables) found.1 in
-          let along = all_shown 4 5 _ 5 _ mid new places.0 all_ranges
-          (office_begins 4 before.tables) places.1 in
+      tells = λ works schema.
+          let before = second.stays.worked works in
+          let found = rw c.in-Some.is at (first.rows before) in
+          let places = rw c.in-Some-2.is at (second.rows works) in
+          let still = first.stays.unchanged before in
+          let moved = registries_shown v old mid found.0 schema found.1 in
+          let along = ranges_shown v mid new places.0
+          (ap (λ (db : Database). db.schema) still ∙ schema) places.1 in
           let fed = rw (c.as_slice.ensures.value, c.as_slice-2.ensures.value) at c.feed_partitions.ensures in
           IfOk-weaker c.feed_partitions.result _ _ (λ k is.
-          registries_told (tables_in old.now.trees) c.args.audit.now c.feed_partitions.new.audit
+          registries_told (tables_at v old.now) c.args.audit.now c.feed_partitions.new.audit
           c.in-Some.registries.items c.in-Some-2.rows.items found.0 places.0 k moved found.2
-          (subst (λ (db : Database). IsPermutation (map (stored 5) (db.trees 5)) places.0) still along)
-          places.2 is) fed;
+          (subst (λ (db : Database). IsPermutation (map (stored 5) (tables_at v db).ranges) places.0)
+          still along) places.2 is) fed;
     }

@@ -5,9 +5,9 @@ use Rattle.sqlite.specs.Held.{state}
 use Rattle.sqlite.specs.Tree.{Trees}
 use Rattle.reg_tables.specs.Editing.{AreKeyed}
 use Rattle.reg_tables.specs.Kinds.{IsQuery}
-use Rattle.reg_tables.specs.Selecting.{ordered_by}
+use Rattle.reg_tables.specs.Selecting.{BeginsWith, ordered_by}
 use Rattle.reg_tables.proofs.Enduring.{endures_still, endures_then}
-use Rattle.reg_tables.proofs.RestLemmas.{stays_held, stays_same, stays_then}
+use Rattle.reg_tables.proofs.RestLemmas.{stays_then}
 use Rattle.reg_tables.proofs.TextSlices.{blank, first_and_rest, none_left, rest, said}
 use Rattle.reg_opening.specs.Rowids.{KeysEach, SelectsRowids}
 use Rattle.reg_opening.proofs.rowids.check_each.Goals as goal
@@ -34,7 +34,7 @@ texts-init g c = record {
   endures = endures_still _;
   stays = record { worked = λ h. h; unchanged = λ h. refl };
   plain = c.requires.plain;
-  keyed = λ h keys. keys;
+  keyed = λ h begins keys. keys;
 }
 
 pub texts-preserved : goal.texts-preserved
@@ -51,17 +51,18 @@ texts-preserved g c =
       endures = endures_then old mid new was.endures here.endures;
       stays = stays_then old mid new was.stays here.stays;
       plain = (subst (AllByRecursion IsQuery) split was.plain).1;
-      keyed = λ h keys.
-          let held = stays_held here.stays h in
-          let same = stays_same was.stays held in
-          was.keyed held (subst (λ left. KeysEach left old.now.trees) (sym split)
+      keyed = λ h begins keys.
+          let worked = here.stays.worked h in
+          let same = was.stays.unchanged worked in
+          let still = subst (λ (db : Database). BeginsWith 4 db.schema) (sym same) begins in
+          was.keyed worked begins (subst (λ left. KeysEach left old.now.trees) (sym split)
           (keys_more (get_or texts 0 blank).now (said (rest texts)) old.now.trees
           (λ t selects. subst (λ (db : Database). AreKeyed (db.trees t)) same
-          (here.keyed h t (ordered_by (0 ∷ [])) selects)) keys));
+          (here.keyed h still t (ordered_by (0 ∷ [])) selects)) keys));
     }
 
 pub returns-clause-keyed : goal.returns-clause-keyed
-returns-clause-keyed g c h =
+returns-clause-keyed g c h begins =
     let old = state g.S.Store c.args.conn.now in
-    c.texts.invariant.keyed h (subst (λ left. KeysEach left old.now.trees)
+    c.texts.invariant.keyed h begins (subst (λ left. KeysEach left old.now.trees)
     (sym (none_left c.texts.texts.now c.in_default.len_below)) (keys_none old.now.trees))

@@ -7,6 +7,6 @@ pub check_each-requires-clause-plain : goal.check_each-requires-clause-plain
 check_each-requires-clause-plain g c = plain_rowids rowid_texts ordered_tables all_rowids
 
 pub returns-clause-keyed : goal.returns-clause-keyed
-returns-clause-keyed g c h =
+returns-clause-keyed g c h begins =
     IfOk-weaker c.check_each.result _ _ (λ done keys. keys ordered_tables all_rowids)
-    (c.check_each.ensures.keyed h)
+    (c.check_each.ensures.keyed h begins)

@@ -1,13 +1,12 @@
 use Rattle.sqlite.specs.Held.{state}
-use Rattle.reg_tables.proofs.RestLemmas.{stays_held}
 use Rattle.reg_opening.proofs.RowidLemmas.{keyed_shown}
 use Rattle.reg_opening.proofs.rowids.check_table.Goals as goal
 
 pub returns-clause-keyed : goal.returns-clause-keyed
-returns-clause-keyed g c h t order selects =
+returns-clause-keyed g c h begins t order selects =
     let old = state g.S.Store c.args.conn.now in
     let new = state g.S.Store c.all.new.conn in
-    let found = c.in_ok-all.ensures.rows h.works in
+    let found = c.in_ok-all.ensures.rows h in
     keyed_shown c.args.sql.now t order old new found.0 c.in_ok-all.field-0.items selects
-    (stays_held c.all.ensures.stays h).tables found.1 found.2
+    begins found.1 found.2
     c.in_ok-all.ensures.ascending

@@ -1,7 +1,10 @@
 use Rattle.reg_records.proofs.AdviceLaws.{advice_kept}
-use Rattle.reg_records.proofs.EntryLaws.{entries_kept}
+use Rattle.reg_records.proofs.EntryLaws.{entries_kept, entry_unheld}
 use Rattle.reg_records.proofs.GrantLaws.{grants_kept}
+use Rattle.reg_records.proofs.HoldLaws.{holds_kept}
 use Rattle.reg_records.proofs.HoldingLaws.{holdings_kept}
+use Rattle.reg_records.proofs.LinkLaws.{links_kept}
+use Rattle.reg_records.proofs.MinuteLaws.{minutes_kept}
 use Rattle.reg_records.proofs.PrefixLaws.{prefixes_kept}
 use Rattle.reg_records.proofs.RangeLaws.{ranges_kept}
 use Rattle.reg_records.proofs.RegistryLaws.{registries_kept}
@@ -16,8 +19,12 @@ returns c = record {
   registries = registries_kept;
   ranges = ranges_kept;
   entries = entries_kept;
+  unheld = entry_unheld;
   queue = seats_kept;
   advice = advice_kept;
   pool = prefixes_kept;
   blocks = holdings_kept;
+  holds = holds_kept;
+  minutes = minutes_kept;
+  agents = links_kept;
 }

@@ -1,7 +1,8 @@
-use Rattle.std.proofs.Common.{IsTrue, subst, sym, rules}
+use Rattle.std.proofs.Common.{IsTrue, ap, subst, sym, rules, ◌∙◌}
 use Rattle.sqlite.specs.Held.{state}
+use Rattle.reg_opening.specs.declared.open.Found.TheVariants as finding
 use Rattle.reg_sql.specs.Opening.{TakesOver}
-use Rattle.reg_sql.proofs.Taking.{founded_over, not_ours_over, ours_over, version_over}
+use Rattle.reg_sql.proofs.Taking.{founded_over, not_ours_over, older_over, ours_over, version_over}
 use Rattle.reg_sql.proofs.open.take_over.Goals as goal
 
 pub returns-then-branch : goal.returns-then-branch
@@ -19,14 +20,25 @@ pub returns-in-Ours : goal.returns-in-Ours
 returns-in-Ours g c =
     let old = state g.S.Store c.args.conn.now in
     let new = state g.S.Store c.find.new.conn in
-    ours_over c.args.fresh old new c.in_ok-vacancies.field-0 c.in_ok-vacancies.ensures c.in-Ours.vacancies
-    c.in-Ours.is
+    let version = c.is_newest.ensures.0 c.if-is_newest.true in
+    ours_over c.args.fresh old new c.in_ok-version.field-0 c.in_ok-version.ensures c.in-Ours.vacancies
+    (c.in-Ours.is ∙ ap (λ v. finding.Ours v c.in-Ours.vacancies) version)
+
+pub returns-in-Ours-2 : goal.returns-in-Ours-2
+returns-in-Ours-2 g c =
+    let old = state g.S.Store c.args.conn.now in
+    let new = state g.S.Store c.find.new.conn in
+    let last = state g.S.Store c.bring.new.conn in
+    let other = c.if-is_newest.false in
+    older_over c.args.fresh old new c.in_ok-version.field-0 c.in_ok-version.ensures c.in-Ours.version
+    c.in-Ours.vacancies c.in-Ours.is
+    (λ is. let told = c.is_newest.ensures.1 is in absurd (cc)) last c.bring.result c.bring.ensures
 
 pub returns-in-OtherVersion : goal.returns-in-OtherVersion
 returns-in-OtherVersion g c =
     let old = state g.S.Store c.args.conn.now in
     let new = state g.S.Store c.find.new.conn in
-    let over = version_over c.args.fresh old new c.in_ok-vacancies.field-0 c.in_ok-vacancies.ensures
+    let over = version_over c.args.fresh old new c.in_ok-version.field-0 c.in_ok-version.ensures
     c.in-OtherVersion.version c.in-OtherVersion.is in
     search rules
 
@@ -34,7 +46,7 @@ pub returns-in-NotOurs : goal.returns-in-NotOurs
 returns-in-NotOurs g c =
     let old = state g.S.Store c.args.conn.now in
     let new = state g.S.Store c.find.new.conn in
-    not_ours_over c.args.fresh old new c.in_ok-vacancies.field-0 c.in_ok-vacancies.ensures c.in-NotOurs.is
+    not_ours_over c.args.fresh old new c.in_ok-version.field-0 c.in_ok-version.ensures c.in-NotOurs.is
     (λ fresh free.
     let told : IsTrue c.in_ok-is_to_found.field-0 =
     c.in_ok-is_to_found.ensures.exact (fresh, free) in

@@ -1,4 +1,4 @@
-use Rattle.std.proofs.Common.{pos, refl, ◌∙◌}
+use Rattle.std.proofs.Common.{refl, ◌∙◌}
 use Rattle.sqlite.specs.Held.{state}
 use Rattle.reg_tables.proofs.EditLemmas.Inserting.{tables_after_insert}
 use Rattle.reg_tables.proofs.EditLemmas.Tables.{tables_if_empty}
@@ -7,6 +7,7 @@ use Rattle.reg_tables.proofs.InsertLemmas.{adds}
 use Rattle.reg_tables.proofs.InsertStatements.{adds_version}
 use Rattle.reg_tables.proofs.Library.Casts.{cast_int}
 use Rattle.reg_tables.specs.Making.{version_row}
+use Rattle.reg_tables.specs.Version.{newest, number_of}
 use Rattle.reg_tables.specs.Schema.{office_table}
 use Rattle.reg_tables.specs.Texts.{insert_version}
 use Rattle.reg_tables.proofs.Library.Writes.{written_schema}
@@ -19,7 +20,7 @@ returns-clause-added g c clean blank =
     let new = state g.S.Store c.run.new.tx.conn.now in
     let ran = rw c.number.ensures at (c.in_ok-run.ensures.ran clean) in
     let a = given_adds insert_version 0 office_table adds_version version_row refl
-    (rw (cast_int (pos 1)) refl) in
+    (rw (cast_int (number_of newest)) refl) in
     let row = adds _ _ _ _ _ a old new _ blank.has ran in (
       row,
       record {

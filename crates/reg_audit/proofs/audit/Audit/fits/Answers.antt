@@ -1,15 +1,6 @@
-use Rattle.std.proofs.Common.{sym, ap, ◌∙◌}
-use Rattle.reg_core.specs.WellKept.{is_open_at}
-use Rattle.reg_audit.proofs.KeptFits.{advice_fits, block_fits, fits_as, same_truth, stands_by-stands_in}
+use Rattle.std.proofs.Common.{sym, ◌∙◌}
+use Rattle.reg_audit.proofs.KeptFits.{advice_fits, block_fits, fits_as, request_there, same_truth, stands_by-stands_in}
 use Rattle.reg_audit.proofs.audit.Audit.fits.Goals as goal
-
-pub returns-in-Entry : goal.returns-in-Entry
-returns-in-Entry c = λ w keeps kept.
-    let entry = c.in-Entry.entry in
-    fits_as w c.args.row.now _ c.in-Entry.is
-    (same_truth _ _
-    (c.is_open.ensures
-    ∙ ap (λ table. is_open_at table entry.value) (keeps.registries entry.registry)))
 
 pub returns-then-contains : goal.returns-then-contains
 returns-then-contains c = λ w keeps kept.
@@ -28,9 +19,10 @@ returns-in-Request c = λ w keeps kept.
 
 pub returns-then-ne : goal.returns-then-ne
 returns-then-ne c = λ w keeps kept.
-    let tells = same_truth c.contains-then-ne.result _
-    (c.contains-then-ne.ensures
-    ∙ keeps.requests (c.in-Assignment.account, c.in-Assignment.reference)) in
+    let tells = same_truth c.contains_key.result _
+    (c.contains_key.ensures
+    ∙ request_there c.args.self.now w keeps
+    (c.in-Assignment.account, c.in-Assignment.reference)) in
     fits_as w c.args.row.now _ c.in-Assignment.is (
       (λ h. (sym c.ne.ensures ∙ c.if-ne.true, tells.0 h)),
       (λ fits. tells.1 fits.1),

@@ -1,4 +1,6 @@
-use Rattle.reg_audit.proofs.KeptFits.{new_advice, new_as, new_assignment, new_block, new_cap, new_entry, new_prefix, new_registry, new_request}
+use Rattle.std.proofs.Common.{ap, ◌∙◌}
+use Rattle.reg_audit.specs.Requests.{is_holdable}
+use Rattle.reg_audit.proofs.KeptFits.{new_advice, new_as, new_assignment, new_block, new_cap, new_entry, new_hold, new_link, new_minute, new_prefix, new_registry, new_request}
 use Rattle.reg_audit.proofs.audit.Audit.is_new.Goals as goal
 
 pub returns-in-Cap : goal.returns-in-Cap
@@ -19,6 +21,12 @@ returns-in-Entry c = λ w keeps kept.
     (new_entry c.args.self.now w keeps c.in-Entry.entry c.contains_key-in-Entry.result
     c.contains_key-in-Entry.ensures)
 
+pub returns-in-Hold : goal.returns-in-Hold
+returns-in-Hold c = λ w keeps kept.
+    new_as w c.args.row.now _ c.in-Hold.is
+    (new_hold c.args.self.now w keeps c.in-Hold.registry c.in-Hold.value c.is_holdable.result
+    (c.is_holdable.ensures ∙ ap is_holdable c.get.ensures.value))
+
 pub returns-in-Prefix : goal.returns-in-Prefix
 returns-in-Prefix c = λ w keeps kept.
     new_as w c.args.row.now _ c.in-Prefix.is
@@ -34,8 +42,14 @@ returns-in-Block c = λ w keeps kept.
 pub returns-in-Request : goal.returns-in-Request
 returns-in-Request c = λ w keeps kept.
     new_as w c.args.row.now _ c.in-Request.is
-    (new_request c.args.self.now w keeps c.in-Request.request c.contains-in-Request.result
-    c.contains-in-Request.ensures)
+    (new_request c.args.self.now w keeps c.in-Request.request c.contains_key-in-Request.result
+    c.contains_key-in-Request.ensures)
+
+pub returns-in-Minute : goal.returns-in-Minute
+returns-in-Minute c = λ w keeps kept.
+    new_as w c.args.row.now _ c.in-Minute.is
+    (new_minute c.args.self.now w keeps c.in-Minute.account c.in-Minute.reference
+    c.in-Minute.field-2 c.awaits_minute.result c.awaits_minute.ensures)
 
 pub returns-in-Assignment : goal.returns-in-Assignment
 returns-in-Assignment c = λ w keeps kept.
@@ -49,3 +63,9 @@ returns-in-Advice c = λ w keeps kept.
     (new_advice c.args.self.now w keeps c.in-Advice.account c.in-Advice.reference
     c.in-Advice.expert c.advised-in-Advice.result c.advised-in-Advice.ensures kept
     c.in-Advice.field-3 c.unwrap_or.result c.unwrap_or.ensures)
+
+pub returns-in-Link : goal.returns-in-Link
+returns-in-Link c = λ w keeps kept.
+    new_as w c.args.row.now _ c.in-Link.is
+    (new_link c.args.self.now w keeps c.in-Link.principal c.in-Link.agent c.contains-in-Link.result
+    c.contains-in-Link.ensures)

@@ -1,18 +1,18 @@
 use Rattle.std.proofs.lemmas.Result.{on_err_weaker, on_ok_weaker}
-use Rattle.reg_audit.proofs.KeptRows.{keeps_advice, keeps_assignment, keeps_cap, keeps_registry, keeps_request, keeps_still, of_row}
+use Rattle.reg_audit.proofs.KeptRows.{keeps_advice, keeps_assignment, keeps_cap, keeps_link, keeps_minute, keeps_registry, keeps_requests_still, keeps_still, of_row}
 use Rattle.reg_audit.proofs.audit.Audit.keep.Goals as goal
 
 pub returns-in-Cap-clause-ok : goal.returns-in-Cap-clause-ok
 returns-in-Cap-clause-ok c =
     on_ok_weaker c.add_key.result
-    (λ put w keeps. of_row w c.args.row _ c.in-Cap.is (λ turn fits.
+    (λ put w keeps. of_row w c.args.row _ c.in-Cap.is (λ turn new fits.
     keeps_cap c.args.self.now w keeps c.add_key.new.keys c.in-Cap.digest c.in-Cap.field-1 put))
     c.add_key.ensures.ok
 
 pub returns-in-Registry-clause-ok : goal.returns-in-Registry-clause-ok
 returns-in-Registry-clause-ok c =
     on_ok_weaker c.set_row.result
-    (λ put w keeps. of_row w c.args.row _ c.in-Registry.is (λ turn fits.
+    (λ put w keeps. of_row w c.args.row _ c.in-Registry.is (λ turn new fits.
     keeps_registry c.args.self.now w keeps c.set_row.new.map c.in-Registry.name
     c.in-Registry.table put))
     c.set_row.ensures.ok
@@ -20,43 +20,70 @@ returns-in-Registry-clause-ok c =
 pub returns-in-Entry-clause-ok : goal.returns-in-Entry-clause-ok
 returns-in-Entry-clause-ok c =
     on_ok_weaker c.keep_entry.result
-    (λ kept w keeps. of_row w c.args.row _ c.in-Entry.is (λ turn fits. kept w keeps))
+    (λ kept w keeps. of_row w c.args.row _ c.in-Entry.is (λ turn new fits. kept w keeps))
     c.keep_entry.ensures.ok
+
+pub returns-in-Hold-clause-ok : goal.returns-in-Hold-clause-ok
+returns-in-Hold-clause-ok c =
+    on_ok_weaker c.keep_hold.result
+    (λ kept w keeps. of_row w c.args.row _ c.in-Hold.is (λ turn new fits. kept w keeps))
+    c.keep_hold.ensures.ok
 
 pub returns-in-Prefix-clause-ok : goal.returns-in-Prefix-clause-ok
 returns-in-Prefix-clause-ok c =
     on_ok_weaker c.keep_prefix.result
-    (λ kept w keeps. of_row w c.args.row _ c.in-Prefix.is (λ turn fits. kept w keeps))
+    (λ kept w keeps. of_row w c.args.row _ c.in-Prefix.is (λ turn new fits. kept w keeps))
     c.keep_prefix.ensures.ok
 
 pub returns-in-Block-clause-ok : goal.returns-in-Block-clause-ok
 returns-in-Block-clause-ok c =
     on_ok_weaker c.keep_block.result
-    (λ kept w keeps. of_row w c.args.row _ c.in-Block.is (λ turn fits. kept w keeps fits.0))
+    (λ kept w keeps. of_row w c.args.row _ c.in-Block.is (λ turn new fits. kept w keeps fits.0))
     c.keep_block.ensures.ok
 
 pub returns-in-Request-clause-ok : goal.returns-in-Request-clause-ok
 returns-in-Request-clause-ok c =
-    on_ok_weaker c.add_key-in-Request.result
-    (λ put w keeps. of_row w c.args.row _ c.in-Request.is (λ turn fits.
-    keeps_request c.args.self.now w keeps c.add_key-in-Request.new.keys c.in-Request.request put))
-    c.add_key-in-Request.ensures.ok
+    on_ok_weaker c.keep_request.result
+    (λ kept w keeps. of_row w c.args.row _ c.in-Request.is (λ turn new fits. kept w keeps))
+    c.keep_request.ensures.ok
+
+pub returns-in-Minute-clause-ok : goal.returns-in-Minute-clause-ok
+returns-in-Minute-clause-ok c =
+    on_ok_weaker c.set_row-in-Minute.result
+    (λ put w keeps. of_row w c.args.row _ c.in-Minute.is (λ turn new fits.
+    keeps_minute c.args.self.now w keeps c.set_row-in-Minute.new.map c.in-Minute.account
+    c.in-Minute.reference c.in-Minute.field-2 put new))
+    c.set_row-in-Minute.ensures.ok
 
 pub returns-in-Assignment-clause-ok : goal.returns-in-Assignment-clause-ok
 returns-in-Assignment-clause-ok c =
     on_ok_weaker c.set_row-in-Assignment.result
-    (λ put w keeps. of_row w c.args.row _ c.in-Assignment.is (λ turn fits.
+    (λ put w keeps. of_row w c.args.row _ c.in-Assignment.is (λ turn new fits.
     keeps_assignment c.args.self.now w keeps c.set_row-in-Assignment.new.map c.in-Assignment.account
     c.in-Assignment.reference c.in-Assignment.expert turn put))
     c.set_row-in-Assignment.ensures.ok
 
-pub returns-clause-ok : goal.returns-clause-ok
-returns-clause-ok c =
+pub returns-in-Advice-clause-ok : goal.returns-in-Advice-clause-ok
+returns-in-Advice-clause-ok c =
     on_ok_weaker c.set_row-in-Advice.result
-    (λ put w keeps. of_row w c.args.row _ c.in-Advice.is (λ turn fits.
+    (λ put w keeps. of_row w c.args.row _ c.in-Advice.is (λ turn new fits.
     keeps_advice c.args.self.now w keeps c.set_row-in-Advice.new.map c.in-Advice.account
     c.in-Advice.reference c.in-Advice.expert c.in-Advice.field-3 fits put))
     c.set_row-in-Advice.ensures.ok
+
+pub returns-clause-ok : goal.returns-clause-ok
+returns-clause-ok c =
+    on_ok_weaker c.add_key-in-Link.result
+    (λ put w keeps. of_row w c.args.row _ c.in-Link.is (λ turn new fits.
+    keeps_link c.args.self.now w keeps c.add_key-in-Link.new.keys c.in-Link.principal c.in-Link.agent
+    put))
+    c.add_key-in-Link.ensures.ok
+
+pub returns-in-Minute-clause-err : goal.returns-in-Minute-clause-err
+returns-in-Minute-clause-err c =
+    on_err_weaker c.set_row-in-Minute.result
+    (λ same w keeps. keeps_requests_still c.args.self.now w keeps c.set_row-in-Minute.new.map same)
+    c.set_row-in-Minute.ensures.err
 
 pub returns-in-Assignment-clause-err : goal.returns-in-Assignment-clause-err
 returns-in-Assignment-clause-err c =
@@ -65,8 +92,8 @@ returns-in-Assignment-clause-err c =
     keeps_still c.args.self.now w keeps c.set_row-in-Assignment.new.map same)
     c.set_row-in-Assignment.ensures.err
 
-pub returns-clause-err : goal.returns-clause-err
-returns-clause-err c =
+pub returns-in-Advice-clause-err : goal.returns-in-Advice-clause-err
+returns-in-Advice-clause-err c =
     on_err_weaker c.set_row-in-Advice.result
     (λ same w keeps. keeps_still c.args.self.now w keeps c.set_row-in-Advice.new.map same)
     c.set_row-in-Advice.ensures.err

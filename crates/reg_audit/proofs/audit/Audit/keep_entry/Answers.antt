@@ -6,5 +6,5 @@ use Rattle.reg_audit.proofs.audit.Audit.keep_entry.Goals as goal
 pub returns-clause-ok : goal.returns-clause-ok
 returns-clause-ok c = λ w keeps.
     keeps_entry c.args.self.now w keeps c.set_row.new.map c.args.entry.now
-    c.in_ok-set_row.ensures.ok c.with_value.result
+    (rw c.can_be_held.ensures at c.in_ok-set_row.ensures.ok) c.with_value.result
     (c.with_value.ensures w (subst (MayBeOf w) (sym c.take.ensures.value) keeps.free))

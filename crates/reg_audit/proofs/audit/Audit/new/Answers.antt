@@ -9,17 +9,18 @@ returns c =
     let audit : Audit = record {
       caps = c.new.result;
       registries = c.new-2.result;
-      assignees = c.new-3.result;
+      standings = c.new-3.result;
       prefixes = c.new-4.result;
       holders = c.new-5.result;
       requests = c.new-6.result;
       assignments = c.new-7.result;
-      free = Some c.new-8.result;
+      links = c.new-8.result;
+      free = Some c.new-9.result;
       well_kept = true;
     } in record {
       says = ((λ h. first_worlds_kept.0), (λ h. refl));
       keeps = λ h.
           keeps_none audit c.new.ensures.empty c.new-2.ensures.empty c.new-3.ensures.empty
           c.new-4.ensures.empty c.new-5.ensures.empty c.new-6.ensures.empty
-          c.new-7.ensures.empty c.new-8.ensures;
+          c.new-7.ensures.empty c.new-8.ensures.empty c.new-9.ensures;
     }

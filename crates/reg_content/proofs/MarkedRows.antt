@@ -1,0 +1,233 @@
+-- Entries with their marks, as rows.
+use Rattle.std.proofs.Common.{◌≡◌, ℕ, Bool, true, false, ◌&&◌, ◌||◌, List, [], ◌∷◌, map}
+use Rattle.std.proofs.Common.{Option, Some, None, is_some, option_and_then, option_map, refl, sym, ap, ◌∙◌}
+use Rattle.std.proofs.Math.Bool.{and-true}
+use Rattle.std.proofs.lemmas.List.Elements.{All-contains, All-map}
+use Rattle.std.proofs.lemmas.Map.Views.{Contains-from_any, list_any-from_Contains}
+use Rattle.std.proofs.lemmas.Simd.{map-map}
+use Rattle.std.specs.Cmp.{eq_by_cmp_equiv}
+use Rattle.std.specs.BTreeSet.{BTreeSet, contains}
+use Rattle.std.specs.FinMap.{FinMap, contains_key, entries, get}
+use Rattle.std.specs.List.{All, Contains, list_any}
+use Rattle.std.specs.Ordering.{eq_by_cmp, nat_cmp}
+use Rattle.reg_core.specs.Entry.{entry_row, with_hold}
+use Rattle.reg_core.specs.Maps.{only_if, same_text, select}
+use Rattle.reg_core.specs.Page.{entry_rows}
+use Rattle.reg_core.specs.View.{entries_of}
+use Rattle.reg_core.specs.World.{Place, place_cmp}
+use Rattle.reg_core.specs.declared.entry.Entry.{Entry}
+use Rattle.reg_core.specs.declared.entry.Registration.{Registration}
+use Rattle.reg_core.proofs.MapLaws.{All-entries, Contains-entries, Contains-map, get-select, number_keys}
+use Rattle.reg_core.proofs.MapLaws.{place_keys, same_at, text_keys, tied}
+use Rattle.reg_records.specs.declared.holds.Hold.{Hold}
+use Rattle.reg_statements.specs.Content.{AreTied, assembled, marked}
+use Rattle.reg_statements.specs.Defined.{rows_where}
+use Rattle.reg_statements.specs.Office as office
+use Rattle.reg_statements.specs.Parts.{Parts}
+use Rattle.reg_statements.proofs.Mapped.{get-mapped, mapped}
+use Rattle.reg_statements.proofs.RowMaps.KeyTests.{text_test}
+use Rattle.reg_content.specs.Marks.{entry_held, entry_marked, held_among, is_among, marked_by}
+use Rattle.reg_content.proofs.MappedRows.{rows_mapped}
+
+-- ---- Only what expires has a mark
+
+and-false : (b : Bool) → (b && false) ≡ false
+and-false true = refl
+and-false false = refl
+
+expiring : (p : Parts) → AreTied p → (place : Place) (a : Registration)
+    → get p.entries place ≡ Some a
+    → (is_some a.term.expires && contains_key p.holds place) ≡ contains_key p.holds place
+expiring p ties place a there = go (contains_key p.holds place) refl
+  where
+    go : (b : Bool) → contains_key p.holds place ≡ b → (is_some a.term.expires && b) ≡ b
+    go false is = and-false (is_some a.term.expires)
+    go true is =
+        let found = ties.holds place is in
+        let is_there = found.1 in
+        let same : found.0 ≡ a = cc in
+        and-true (is_some a.term.expires)
+        ∙ ap (λ (a : Registration). is_some a.term.expires) (sym same) ∙ found.2
+
+-- an entry with its mark, if it expires
+abbrev hold_if : Parts → Place → Registration → Registration
+hold_if p place a = with_hold (is_some a.term.expires && contains_key p.holds place) a
+
+marked_if : (p : Parts) → AreTied p → marked p.holds p.entries ≡ mapped (hold_if p) p.entries
+marked_if p ties = same_at place_keys _ _ (λ q.
+    get-mapped place_keys (λ place a. with_hold (contains_key p.holds place) a) p.entries q
+    ∙ go q (get p.entries q) refl ∙ sym (get-mapped place_keys (hold_if p) p.entries q))
+  where
+    go : (q : Place) (r : Option Registration) → get p.entries q ≡ r
+        → option_map (with_hold (contains_key p.holds q)) r ≡ option_map (hold_if p q) r
+    go q None is = refl
+    go q (Some a) is = ap (λ held. Some (with_hold held a)) (sym (expiring p ties q a is))
+
+-- ---- The entry at a place
+
+module _ (p : Parts) (ties : AreTied p) (place : Place) where
+  abbrev row : Registration → Entry
+  row a = entry_row place.0 place.1 a
+
+  there : option_map row (option_map (hold_if p place) (get p.entries place))
+      ≡ option_map row (get (assembled p).entries place)
+  there =
+      ap (option_map row) (sym (ap (λ m. get m place) (marked_if p ties)
+      ∙ get-mapped place_keys (hold_if p) p.entries place))
+
+  pub entry_found : (entry : Entry) → Some entry ≡ option_map row (get p.entries place)
+      → Some (entry_marked p entry.registry entry)
+      ≡ option_map row (get (assembled p).entries place)
+  entry_found entry found = go (get p.entries place) found ∙ there
+    where
+      go : (r : Option Registration) → Some entry ≡ option_map row r
+          → Some (entry_marked p entry.registry entry)
+          ≡ option_map row (option_map (hold_if p place) r)
+      go None found = absurd (cc)
+      go (Some a) found =
+          let same : entry ≡ row a = cc in
+          ap (λ (entry : Entry). Some (entry_marked p entry.registry entry)) same
+
+  pub none_found : None ≡ option_map row (get p.entries place)
+      → None ≡ option_map row (get (assembled p).entries place)
+  none_found none = go (get p.entries place) none ∙ there
+    where
+      go : (r : Option Registration) → None ≡ option_map row r
+          → None ≡ option_map row (option_map (hold_if p place) r)
+      go None none = refl
+      go (Some a) none = absurd (cc)
+
+-- ---- The entries of a registry
+
+pub entries_listed : (p : Parts) → AreTied p → (registry : List ℕ)
+    → map (entry_marked p registry) (entry_rows (entries_of registry p.entries))
+    ≡ entry_rows (entries_of registry (assembled p).entries)
+entries_listed p ties registry =
+    rows_mapped (λ place a. only_if (same_text place.0 registry) a) (hold_if p)
+    (λ place a. entry_row place.0 place.1 a) (entry_marked p registry) each place_keys p.entries
+    ∙ ap (λ m. entry_rows (entries_of registry m)) (sym (marked_if p ties))
+  where
+    each : (place : Place) (a : Registration)
+        → option_map (entry_row place.0 place.1)
+        (only_if (same_text place.0 registry) (hold_if p place a))
+        ≡ option_map (λ a. entry_marked p registry (entry_row place.0 place.1 a))
+        (only_if (same_text place.0 registry) a)
+    each place a =
+        elim (same_text place.0 registry) as (λ b. same_text place.0 registry ≡ b
+        → option_map (entry_row place.0 place.1) (only_if b (hold_if p place a))
+        ≡ option_map (λ a. entry_marked p registry (entry_row place.0 place.1 a)) (only_if b a)) [
+          | true ↦ λ t.
+              let own : place.0 ≡ registry = tied text_keys place.0 registry
+              (sym (text_test place.0 registry) ∙ t) in
+              ap (λ name. Some (entry_row place.0 place.1 (with_hold
+              (is_some a.term.expires && contains_key p.holds (name, place.1)) a))) own
+          | false ↦ λ t. refl
+        ] refl
+
+-- ---- Told by the values of the marks of the registry
+
+pub told_alike : (marks : List Hold) (values : BTreeSet ℕ)
+    → ((value : ℕ) → contains nat_cmp values value ≡ is_among marks value) → (es : List Entry)
+    → map (marked_by values) es ≡ map (held_among marks) es
+told_alike marks values told [] = refl
+told_alike marks values told (e ∷ es) =
+    λ i. entry_held (is_some e.term.expires && told e.value i) e ∷ told_alike marks values told es i
+
+same_truth : (a b : Bool) → (a ≡ true → b ≡ true) → (b ≡ true → a ≡ true) → a ≡ b
+same_truth true b to from = sym (to refl)
+same_truth false true to from = from refl
+same_truth false false to from = refl
+
+module _ (p : Parts) (registry : List ℕ) where
+  abbrev own : FinMap place_cmp (Unit {0})
+  own = select (λ place u. only_if (same_text place.0 registry) u) p.holds
+
+  abbrev is_held : ℕ → Type 0
+  is_held value = contains_key p.holds (registry, value) ≡ true
+
+  each_held : All (λ e. is_held e.0.1) (entries own)
+  each_held = All-entries place_keys.total (λ e. is_held e.0.1) own (λ place u is.
+      go place (get p.holds place) refl
+      (sym (get-select place_keys (λ place u. only_if (same_text place.0 registry) u) p.holds place)
+      ∙ is))
+    where
+      go : (place : Place) (r : Option (Unit {0})) → get p.holds place ≡ r
+          → option_and_then (λ u. only_if (same_text place.0 registry) u) r ≡ Some tt
+          → is_held place.1
+      go place None was is = absurd (cc)
+      go place (Some u) was is =
+          elim (same_text place.0 registry) as (λ b. same_text place.0 registry ≡ b
+          → only_if b u ≡ Some tt → is_held place.1) [
+            | true ↦ λ t is.
+                let same : place.0 ≡ registry = tied text_keys place.0 registry
+                (sym (text_test place.0 registry) ∙ t) in
+                ap (λ name. is_some (get p.holds (name, place.1))) (sym same) ∙ ap is_some was
+            | false ↦ λ t is. absurd (cc)
+          ] refl is
+
+  listed : (value : ℕ) → is_held value
+      → Contains (map (λ e. e.0.1) (entries own)) value
+  listed value held =
+      Contains-map (λ e. e.0.1) (entries own) ((registry, value), tt)
+      (Contains-entries place_keys own (registry, value) tt
+      (get-select place_keys (λ place u. only_if (same_text place.0 registry) u) p.holds
+      (registry, value)
+      ∙ ap (λ r. option_and_then (λ u. only_if (same_text registry registry) u) r)
+      (is_there (get p.holds (registry, value)) held)
+      ∙ ap (λ b. only_if b tt) (itself registry)))
+    where
+      is_there : (r : Option (Unit {0})) → is_some r ≡ true → r ≡ Some tt
+      is_there None some = absurd (cc)
+      is_there (Some u) some = refl
+
+      itself : (name : List ℕ) → same_text name name ≡ true
+      itself name = text_test name name ∙ (eq_by_cmp_equiv text_keys.total).refl name
+
+  -- the marks have the value where the entry at it is held
+  pub among : (marks : List Hold)
+      → marks ≡ rows_where office.holds (λ place u. same_text place.0 registry) p → (value : ℕ)
+      → is_among marks value ≡ contains_key p.holds (registry, value)
+  among marks is value =
+      ap (λ marks. is_among marks value) is
+      ∙ ap (list_any (eq_by_cmp nat_cmp value)) (map-map _ _ (entries own))
+      ∙ same_truth (list_any (eq_by_cmp nat_cmp value) (map (λ e. e.0.1) (entries own)))
+      (contains_key p.holds (registry, value))
+      (λ t. All-contains is_held (map (λ e. e.0.1) (entries own)) value
+      (All-map is_held (λ e. e.0.1) (entries own) each_held)
+      (Contains-from_any (tied number_keys) value (map (λ e. e.0.1) (entries own)) t))
+      (λ t. list_any-from_Contains (eq_by_cmp_equiv number_keys.total) value
+      (map (λ e. e.0.1) (entries own)) (listed value t))
+
+  -- where no entry expires the marks do not count
+  none_expire : (marks : List Hold) (es : List Entry)
+      → list_any (λ e. is_some e.term.expires) es ≡ false
+      → map (held_among marks) es ≡ map (entry_marked p registry) es
+  none_expire marks [] none = refl
+  none_expire marks (e ∷ es) none =
+      elim (is_some e.term.expires) as (λ b. (b || list_any (λ e. is_some e.term.expires) es) ≡ false
+      → entry_held (b && is_among marks e.value) e ∷ map (held_among marks) es
+      ≡ entry_held (b && contains_key p.holds (registry, e.value)) e
+      ∷ map (entry_marked p registry) es) [
+        | true ↦ λ none. absurd (cc)
+        | false ↦ λ none. ap (λ rest. entry_held false e ∷ rest) (none_expire marks es none)
+      ] none
+
+  all_told : (marks : List Hold)
+      → ((value : ℕ) → is_among marks value ≡ contains_key p.holds (registry, value))
+      → (es : List Entry) → map (held_among marks) es ≡ map (entry_marked p registry) es
+  all_told marks told [] = refl
+  all_told marks told (e ∷ es) =
+      λ i. entry_held (is_some e.term.expires && told e.value i) e ∷ all_told marks told es i
+
+  -- the marks are told by those that were read, if an entry expires
+  pub marks_told : (marks : List Hold) (es : List Entry)
+      → (list_any (λ e. is_some e.term.expires) es ≡ true
+      → marks ≡ rows_where office.holds (λ place u. same_text place.0 registry) p)
+      → map (held_among marks) es ≡ map (entry_marked p registry) es
+  marks_told marks es read =
+      elim (list_any (λ e. is_some e.term.expires) es) as
+      (λ b. list_any (λ e. is_some e.term.expires) es ≡ b
+      → map (held_among marks) es ≡ map (entry_marked p registry) es) [
+        | true ↦ λ t. all_told marks (among marks (read t)) es
+        | false ↦ λ t. none_expire marks es t
+      ] refl

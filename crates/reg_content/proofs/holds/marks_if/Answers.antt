@@ -1,0 +1,19 @@
+use Rattle.std.proofs.Common.{sym, ◌∙◌}
+use Rattle.reg_tables.proofs.Statements.Holds.{holds_of_registry}
+use Rattle.reg_content.proofs.Looking.{looks_so, looks_still}
+use Rattle.reg_content.proofs.Statements.{lists_holds}
+use Rattle.reg_content.proofs.holds.marks_if.Goals as goal
+
+pub list-requires-clause-plain : goal.list-requires-clause-plain
+list-requires-clause-plain g c = holds_of_registry.plain
+
+pub returns-then-not-any_expires : goal.returns-then-not-any_expires
+returns-then-not-any_expires g c =
+    looks_still c.requires (λ p some.
+    let none = sym c.any_expires.ensures ∙ c.if-not-any_expires.true in
+    absurd (cc))
+
+pub returns : goal.returns
+returns g c =
+    looks_so c.list.ensures.rows (λ p rows is some.
+    is _ (rw c.name_value.ensures (lists_holds c.args.registry.now)))
