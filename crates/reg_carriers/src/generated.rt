@@ -7,6 +7,9 @@ use std::alloc::{AllocError, Global};
 /// The token of the applicant.
 pub const ALICE: &str = "alice-token-00001";
 
+/// The token of another applicant, b-2, whom alice may name as an agent.
+pub const AGENT: &str = "agent-token-00001";
+
 /// The token of the expert.
 pub const EXPERT: &str = "xpert-token-00001";
 
@@ -41,18 +44,20 @@ pub enum Body {
     Empty,
     Ask,
     Private,
+    Reads,
+    Held,
     Advice,
     Reason,
     Ranges,
     Grant,
 }
 
-/// A route: its method, its path with `N` for a name, `P` for a prefix and `B` for a block, the
-/// token of a caller, and its body.
+/// A route: its method, its path with `N` for a name, `P` for a prefix, `B` for a block and `V` for
+/// a value, the token of a caller, and its body.
 pub type Route = (&'static str, &'static str, Option<&'static str>, Body);
 
 // The routes, in turn.
-const ROUTES: [Route; 21] = [
+const ROUTES: [Route; 27] = [
     ("GET", "/registries", None, Body::Empty),
     ("GET", "/registries/N", None, Body::Empty),
     ("GET", "/listings/registries/N", None, Body::Empty),
@@ -64,6 +69,16 @@ const ROUTES: [Route; 21] = [
     ("DELETE", "/requests/N", Some(ALICE), Body::Empty),
     ("GET", "/holdings", Some(ALICE), Body::Empty),
     ("PUT", "/holdings/B", Some(ALICE), Body::Private),
+    ("PUT", "/agents/N", Some(ALICE), Body::Reads),
+    ("GET", "/agents", Some(ALICE), Body::Empty),
+    ("GET", "/principals", Some(AGENT), Body::Empty),
+    (
+        "GET",
+        "/principals/alice/requests",
+        Some(AGENT),
+        Body::Empty,
+    ),
+    ("GET", "/principals/N/requests", Some(AGENT), Body::Empty),
     ("GET", "/queue", Some(EXPERT), Body::Empty),
     ("PUT", "/queue/alice/N", Some(EXPERT), Body::Advice),
     ("GET", "/desk/requests", Some(CLERK), Body::Empty),
@@ -71,6 +86,7 @@ const ROUTES: [Route; 21] = [
     ("PUT", "/desk/experts/alice/N/xan", Some(CLERK), Body::Empty),
     ("PUT", "/desk/approve/alice/N", Some(CLERK), Body::Empty),
     ("PUT", "/desk/decline/alice/N", Some(CLERK), Body::Reason),
+    ("PUT", "/desk/holds/flags/V", Some(CLERK), Body::Held),
     ("PUT", "/desk/registries/N/1", Some(CLERK), Body::Ranges),
     ("PUT", "/desk/pool/P", Some(CLERK), Body::Empty),
     ("PUT", "/desk/tokens", Some(CLERK), Body::Grant),
@@ -101,17 +117,30 @@ fn path_of(alloc: Global, numbers: &mut Sequence, pattern: &str) -> Result<Strin
             'N' => path.push_str(numbers.word(&NAMES))?,
             'P' => path.push_str(numbers.word(&PREFIXES))?,
             'B' => path.push_str(numbers.word(&BLOCKS))?,
+            'V' => path.push_str(early_value(alloc, numbers)?.as_str())?,
             _ => path.push(c)?,
         }
     }
     Ok(path)
 }
 
+// A value of the first eight, or of both ends of 32 bits.
+fn early_value(alloc: Global, numbers: &mut Sequence) -> Result<String, AllocError> {
+    let value = match numbers.below(10) {
+        0 => 0,
+        1 => 4_294_967_295,
+        _ => numbers.below(8),
+    };
+    value.to_string(alloc)
+}
+
 fn body_of(alloc: Global, numbers: &mut Sequence, body: Body) -> Result<String, AllocError> {
     match body {
         Body::Empty => Ok(String::new(alloc)),
         Body::Ask => ask(alloc, numbers),
-        Body::Private => private(alloc, numbers),
+        Body::Private => mark(alloc, numbers, "private"),
+        Body::Reads => mark(alloc, numbers, "reads"),
+        Body::Held => mark(alloc, numbers, "held"),
         Body::Advice => with_text(alloc, numbers, "{\"verdict\":\"for\",\"text\":\""),
         Body::Reason => with_text(alloc, numbers, "{\"reason\":\""),
         Body::Ranges => String::from_str(alloc, RANGES),
@@ -128,19 +157,21 @@ fn with_text(alloc: Global, numbers: &mut Sequence, begin: &str) -> Result<Strin
     Ok(body)
 }
 
-fn private(alloc: Global, numbers: &mut Sequence) -> Result<String, AllocError> {
+fn mark(alloc: Global, numbers: &mut Sequence, name: &str) -> Result<String, AllocError> {
     let value = numbers.word(&["true", "false"]);
-    format!(in alloc; "{{\"private\":{value}}}")
+    format!(in alloc; "{{\"{name}\":{value}}}")
 }
 
 fn ask(alloc: Global, numbers: &mut Sequence) -> Result<String, AllocError> {
-    match numbers.below(4) {
+    match numbers.below(6) {
         0 => with_text(
             alloc,
             numbers,
             "{\"kind\":\"code\",\"registry\":\"flags\",\"contact\":\"c\",\"least\":\"first-come-first-served\",\"label\":\"",
         ),
         1 => ask_for_a_block(alloc, numbers),
+        2 => ask_early(alloc, numbers, "\"kind\":\"early\",\"label\":\""),
+        3 => ask_early(alloc, numbers, "\"kind\":\"renew\",\"iesg\":\""),
         _ => ask_for_a_value(alloc, numbers),
     }
 }
@@ -149,6 +180,15 @@ fn ask_for_a_value(alloc: Global, numbers: &mut Sequence) -> Result<String, Allo
     let value = numbers.value();
     let begin = format!(in alloc;
         "{{\"kind\":\"code\",\"registry\":\"flags\",\"contact\":\"c\",\"value\":{value},\"label\":\""
+    )?;
+    with_text(alloc, numbers, begin.as_str())
+}
+
+// An ask with the evidence of an early allocation, that ends in a text.
+fn ask_early(alloc: Global, numbers: &mut Sequence, end: &str) -> Result<String, AllocError> {
+    let value = early_value(alloc, numbers)?;
+    let begin = format!(in alloc;
+        "{{\"registry\":\"flags\",\"value\":{value},\"draft\":\"d\",\"stable\":true,\"interest\":true,\"chair\":\"c\",\"director\":\"a\",{end}"
     )?;
     with_text(alloc, numbers, begin.as_str())
 }

@@ -71,8 +71,11 @@ fn files_of_others(rt: HostRuntime) -> Result<(), Fail> {
 
 // Statements in an office's file, and what each job says then: of other versions, of other tables,
 // and of rows that are not well kept.
-const TAMPERED: [(&str, &str); 6] = [
+const TAMPERED: [(&str, &str); 9] = [
+    ("UPDATE office SET version = 4", "fault: version 4\n"),
     ("UPDATE office SET version = 9", "fault: version 9\n"),
+    ("UPDATE office SET version = 2", NOT_OURS),
+    ("INSERT INTO agents VALUES ('a', 'a')", NOT_OURS),
     ("UPDATE office SET version = -1", "fault: version -1\n"),
     ("DELETE FROM office", NOT_OURS),
     ("CREATE INDEX by_account ON caps (account)", NOT_OURS),
@@ -87,6 +90,58 @@ fn offices_that_are_tampered_with(rt: HostRuntime) -> Result<(), Fail> {
         assert_steps(&rt, "tampered", &steps)?;
     }
     Ok(())
+}
+
+// What leaves an office of the first version of one of the newest.
+const FIRST: [Step; 4] = [
+    Step::Executes("DROP TABLE agents"),
+    Step::Executes("DROP TABLE minutes"),
+    Step::Executes("DROP TABLE holds"),
+    Step::Executes("UPDATE office SET version = 1"),
+];
+
+// Jobs that each open such an office.
+const JOBS: [Step; 3] = [INIT, DEFINED, LISTED];
+
+// Each job brings it to the newest version: then its tables are there, and the others find the same.
+#[test]
+fn offices_of_an_older_version(rt: HostRuntime) -> Result<(), Fail> {
+    for job in JOBS {
+        let [agents, minutes, holds, version] = FIRST;
+        let steps = [
+            INIT,
+            Step::Ranges(CODES),
+            DEFINED,
+            agents,
+            minutes,
+            holds,
+            version,
+            job,
+            Step::Executes("INSERT INTO agents VALUES ('a', 'b')"),
+            Step::Executes("DELETE FROM holds"),
+            Step::Executes("DELETE FROM minutes"),
+            LISTED,
+            DEFINED,
+        ];
+        assert_steps(&rt, "older", &steps)?;
+    }
+    Ok(())
+}
+
+// A table of another program's has the name of one that an older office lacks.
+#[test]
+fn an_older_office_beside_other_agents(rt: HostRuntime) -> Result<(), Fail> {
+    let [agents, minutes, holds, version] = FIRST;
+    let steps = [
+        INIT,
+        agents,
+        minutes,
+        holds,
+        version,
+        Step::Executes("CREATE TABLE agents (name TEXT)"),
+        Step::Unopened(NOT_OURS),
+    ];
+    assert_steps(&rt, "beside", &steps)
 }
 
 const REFUSED: [Step; 7] = [

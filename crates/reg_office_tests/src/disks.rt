@@ -8,6 +8,8 @@ mod image;
 mod left;
 mod lines;
 mod making;
+mod many;
+mod migrating;
 mod openings;
 mod rows;
 mod sessions;

@@ -129,6 +129,26 @@ impl<K: Keeper> Keeper for FailingKeeper<K> {
         Err(Fault::Store)
     }
 
+    fn agents(&mut self, _account: &Account) -> Result<Rows<Account>, Fault> {
+        Err(Fault::Store)
+    }
+
+    fn principals(&mut self, _account: &Account) -> Result<Rows<Account>, Fault> {
+        Err(Fault::Store)
+    }
+
+    fn principal_rows(
+        &mut self,
+        _principal: &Account,
+        _agent: &Account,
+    ) -> Result<Option<Rows<Request>>, Fault> {
+        Err(Fault::Store)
+    }
+
+    fn is_agent(&mut self, _principal: &Account, _agent: &Account) -> Result<bool, Fault> {
+        Err(Fault::Store)
+    }
+
     fn apply(&mut self, change: Change) -> Result<(), Fault> {
         match self.keeper.apply(change) {
             Ok(()) => Ok(()),

@@ -7,7 +7,7 @@ use reg_testing::facts::ensure;
 use reg_transcripts::transcript::{answered, sent};
 use std::test::Fail;
 
-/// The pool and requests cannot be read; capabilities and registries can.
+/// The pool, requests, single entries and agents cannot be read; capabilities and registries can.
 const LINES: &str = r#"
 > 1700000000 - GET /registries
 < 200 []
@@ -18,6 +18,18 @@ const LINES: &str = r#"
 > 1700000000 clerk-token-00001 GET /desk/requests
 < 503 {"error":"storage"}
 > 1700000000 clerk-token-00001 PUT /desk/approve/alice/a-1
+< 503 {"error":"storage"}
+> 1700000000 clerk-token-00001 PUT /desk/holds/f/7 {"held":true}
+< 503 {"error":"storage"}
+> 1700000000 clerk-token-00001 PUT /desk/tokens {"account":"alice","kind":"applicant","token":"alice-token-00001","until":1800000000}
+< 200 {"account":"alice","kind":"applicant","until":1800000000}
+> 1700000000 alice-token-00001 PUT /agents/bob {"reads":true}
+< 503 {"error":"storage"}
+> 1700000000 alice-token-00001 GET /agents
+< 503 {"error":"storage"}
+> 1700000000 alice-token-00001 GET /principals
+< 503 {"error":"storage"}
+> 1700000000 alice-token-00001 GET /principals/bob/requests
 < 503 {"error":"storage"}
 > 1700000000 - GET /listings/registries/f
 < 200 Value,Description,Status,Policy,First,Expires,Assignee|0-9,y  z,Reserved,,,,|

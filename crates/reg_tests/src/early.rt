@@ -137,6 +137,7 @@ fn term(expires: Option<u32>, renewed: bool) -> Result<Term, Fail> {
         first: day(19782)?,
         expires,
         renewed,
+        held: false,
     })
 }
 
@@ -155,21 +156,86 @@ fn statuses_change_on_the_expiry_day(rt: HostRuntime) -> Result<(), Fail> {
     Ok(())
 }
 
+// By its mark an entry is Temporary on its expiry day, on the day after and on the last day of all;
+// what does not expire is Assigned, with a mark or without.
 #[test]
-fn terms_are_renewed_once(rt: HostRuntime) -> Result<(), Fail> {
-    for (expires, renewed, approval, expiry) in [
-        (Some(20147), false, 20146, Ok(20512)),
-        (Some(20147), false, 20240, Ok(20605)),
-        (Some(20512), true, 20240, Err(RenewFault::Renewed)),
-        (None, false, 20240, Err(RenewFault::Permanent)),
-        (None, true, 20240, Err(RenewFault::Permanent)),
+fn held_terms_do_not_expire(rt: HostRuntime) -> Result<(), Fail> {
+    for (number, word) in [
+        (20146, "Temporary"),
+        (20147, "Expired"),
+        (2932896, "Expired"),
     ] {
-        let outcome = term(expires, renewed)?.renew(day(approval)?);
-        let wanted = match expiry {
-            Ok(number) => Ok(term(Some(number), true)?),
-            Err(fault) => Err(fault),
+        let on = day(number)?;
+        let held = Term::early(day(19782)?).with_hold(true);
+        expect_text(&rt, held.status(on).word(), "Temporary", word);
+        let unheld = held.with_hold(false);
+        expect_text(&rt, unheld.status(on).word(), word, "a mark taken away");
+        let permanent = term(None, false)?.with_hold(true);
+        expect_text(&rt, permanent.status(on).word(), "Assigned", word);
+    }
+    Ok(())
+}
+
+// A term that ends on this day, or never, and was renewed before, or held, is renewed to this expiry or
+// fault.
+fn expect_renewal(
+    rt: &impl Abort,
+    (expires, renewed, held): (Option<u32>, bool, bool),
+    approval: u32,
+    iesg: bool,
+    wanted: Result<u32, RenewFault>,
+) -> Result<(), Fail> {
+    let before = term(expires, renewed)?.with_hold(held);
+    let outcome = before.renew(day(approval)?, iesg);
+    let wanted = match wanted {
+        Ok(number) => Ok(term(Some(number), true)?.with_hold(held)),
+        Err(fault) => Err(fault),
+    };
+    expect_at(rt, outcome, wanted, u64::from(approval));
+    Ok(())
+}
+
+// By a minute, and without one unless it was renewed before; and what is held stays so.
+fn expect_renewals(
+    rt: &impl Abort,
+    expires: u32,
+    renewed: bool,
+    approval: u32,
+    expiry: u32,
+) -> Result<(), Fail> {
+    for held in [false, true] {
+        let before = (Some(expires), renewed, held);
+        let alone = if renewed {
+            Err(RenewFault::Renewed)
+        } else {
+            Ok(expiry)
         };
-        expect_at(&rt, outcome, wanted, u64::from(approval));
+        expect_renewal(rt, before, approval, false, alone)?;
+        expect_renewal(rt, before, approval, true, Ok(expiry))?;
+    }
+    Ok(())
+}
+
+#[test]
+fn terms_are_renewed_once_or_by_a_minute(rt: HostRuntime) -> Result<(), Fail> {
+    for (expires, renewed, approval, expiry) in [
+        (20147, false, 20146, 20512),
+        (20147, false, 20240, 20605),
+        (20512, true, 20240, 20877),
+        (20512, true, 20600, 20965),
+    ] {
+        expect_renewals(&rt, expires, renewed, approval, expiry)?;
+    }
+    Ok(())
+}
+
+#[test]
+fn permanent_terms_are_not_renewed(rt: HostRuntime) -> Result<(), Fail> {
+    for renewed in [false, true] {
+        for iesg in [false, true] {
+            let permanent = Err(RenewFault::Permanent);
+            expect_renewal(&rt, (None, renewed, false), 20240, iesg, permanent)?;
+        }
     }
     Ok(())
 }
@@ -177,8 +243,10 @@ fn terms_are_renewed_once(rt: HostRuntime) -> Result<(), Fail> {
 #[test]
 fn settled_terms_lose_their_expiry(rt: HostRuntime) -> Result<(), Fail> {
     for renewed in [false, true] {
-        let settled = term(Some(20147), renewed)?.settle();
-        expect(&rt, settled, Ok(term(None, renewed)?), "a term that ends");
+        for held in [false, true] {
+            let settled = term(Some(20147), renewed)?.with_hold(held).settle();
+            expect(&rt, settled, Ok(term(None, renewed)?), "a term that ends");
+        }
         let again = term(None, renewed)?.settle();
         expect(
             &rt,

@@ -1,4 +1,5 @@
 //! Whole offices, each from its beginning: the transcripts that are sent to it, in order.
+use crate::agents::{NAMED, READ};
 use crate::approvals::APPROVALS;
 use crate::blocks::{AGAIN, FORMS as BLOCK_FORMS, GIVEN, LISTED};
 use crate::bodies::{ASKS, CAPABILITIES, DEPTHS, SPELLINGS};
@@ -6,6 +7,8 @@ use crate::decisions::DECISIONS;
 use crate::early::{DAYS, DEFINED, LIFE};
 use crate::early_asks::{FORMS as EARLY_FORMS, POLICIES, REVIEWED};
 use crate::experts::EXPERTS;
+use crate::forms::FORMS;
+use crate::holds::{ASKS as MINUTE_ASKS, MARKED, MINUTES, RENEWED};
 use crate::policies::{EVIDENCE, FILES, LEAST, OPEN};
 use crate::refusals::{REFUSALS, REVOCATIONS};
 use crate::registers::{GRANTS, LIMITS, REGISTRIES};
@@ -51,7 +54,25 @@ pub const OF_YEARS: &[(&str, &[&str])] = &[
         "the forms of asks for early allocations",
         &[GRANTS, DEFINED, EARLY_FORMS],
     ),
+    (
+        "entries that are held, and renewals by a minute",
+        &[
+            GRANTS,
+            REGISTRIES,
+            APPROVALS,
+            MARKED,
+            RENEWED,
+            MINUTES,
+            MINUTE_ASKS,
+        ],
+    ),
 ];
+
+/// Offices in which applicants name agents.
+pub const OF_AGENTS: &[(&str, &[&str])] = &[(
+    "agents, and what they are shown",
+    &[GRANTS, REGISTRIES, APPROVALS, EXPERTS, NAMED, READ],
+)];
 
 /// Offices that refuse what they are asked.
 pub const OF_REFUSALS: &[(&str, &[&str])] = &[
@@ -62,6 +83,7 @@ pub const OF_REFUSALS: &[(&str, &[&str])] = &[
         "paths, methods and names that no command has",
         &[GRANTS, PATHS, NAMES],
     ),
+    ("marks and agents without their forms", &[GRANTS, FORMS]),
 ];
 
 /// Offices that are given bodies of all forms.

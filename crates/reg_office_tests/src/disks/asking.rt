@@ -36,8 +36,31 @@ pub fn rows(alloc: Global) -> Result<Vec<Row>, AllocError> {
 
 /// The lines of the transcript, in one text.
 pub fn all_lines(alloc: Global) -> Result<Vec<u8>, AllocError> {
+    first_lines(alloc, ROWS.len())
+}
+
+/// The first so many lines of the transcript, in one text.
+pub fn first_lines(alloc: Global, count: usize) -> Result<Vec<u8>, AllocError> {
     let mut lines = Vec::new(alloc);
-    for row in &ROWS {
+    for row in ROWS.iter().take(count) {
+        lines.extend_from_slice(as_line(alloc, row.0)?.as_slice())?;
+    }
+    Ok(lines)
+}
+
+/// The answers to the lines after these, in one text.
+pub fn last_answers(alloc: Global, count: usize) -> Result<Vec<u8>, AllocError> {
+    let mut answers = Vec::new(alloc);
+    for row in ROWS.iter().skip(count) {
+        answers.extend_from_slice(as_line(alloc, row.1)?.as_slice())?;
+    }
+    Ok(answers)
+}
+
+/// The lines after these, in one text.
+pub fn last_lines(alloc: Global, count: usize) -> Result<Vec<u8>, AllocError> {
+    let mut lines = Vec::new(alloc);
+    for row in ROWS.iter().skip(count) {
         lines.extend_from_slice(as_line(alloc, row.0)?.as_slice())?;
     }
     Ok(lines)
@@ -61,7 +84,10 @@ pub const LOOKS: &str = "\
 1700000000 - GET /listings/blocks
 1700000000 alice-token-00001 GET /requests
 1700000000 alice-token-00001 GET /holdings
+1700000000 alice-token-00001 GET /agents
 1700000000 bobby-token-00001 GET /requests
+1700000000 bobby-token-00001 GET /principals
+1700000000 bobby-token-00001 GET /principals/alice/requests
 1700000000 xpert-token-00001 GET /queue
 1700000000 clerk-token-00001 GET /desk/requests
 1700000000 clerk-token-00001 GET /desk/requests/alice/a-1

@@ -4,6 +4,7 @@ use crate::disks::left::{Left, NEVER, Stop};
 use crate::disks::making::blank;
 use crate::disks::sessions::{Outcome, Statement, carry_out};
 use reg_opening::open::Verdict;
+use reg_tables::version::NEWEST;
 use reg_testing::facts::ensure;
 use std::alloc::Global;
 use std::test::Fail;
@@ -24,8 +25,8 @@ fn found_in(alloc: Global, image: &Image) -> Result<Found, Fail> {
     drop(left);
     Ok(match outcome.ok_or("a store")?.verdict? {
         None => Found::Nothing,
-        Some(Verdict::Ours) => Found::Office,
-        Some(Verdict::OtherVersion(_) | Verdict::NotOurs) => Found::Other,
+        Some(Verdict::Ours(version)) if version == NEWEST => Found::Office,
+        Some(_) => Found::Other,
     })
 }
 

@@ -124,7 +124,7 @@ fn assert_case(alloc: Global, case: &Case<'_>) -> Result<(), Fail> {
 // The rows from one place up to another are sent on disks that stop, after those before them.
 fn assert_rows(alloc: Global, from: usize, to: usize) -> Result<(), Fail> {
     let rows = rows(alloc)?;
-    ensure(rows.len() == 25, "the rows of the transcript")?;
+    ensure(rows.len() == 39, "the rows of the transcript")?;
     let mut before = founded(alloc)?;
     for (place, row) in rows.iter().enumerate() {
         let after = after(alloc, &before.image, row)?;
@@ -167,8 +167,23 @@ fn of_an_early_allocation(rt: HostRuntime) -> Result<(), Fail> {
 }
 
 #[test]
-fn of_a_revocation_and_looks(rt: HostRuntime) -> Result<(), Fail> {
+fn of_a_mark_and_a_minute(rt: HostRuntime) -> Result<(), Fail> {
     assert_rows(rt.alloc(), 21, 25)
+}
+
+#[test]
+fn of_marks_and_a_permanence(rt: HostRuntime) -> Result<(), Fail> {
+    assert_rows(rt.alloc(), 25, 31)
+}
+
+#[test]
+fn of_agents(rt: HostRuntime) -> Result<(), Fail> {
+    assert_rows(rt.alloc(), 31, 35)
+}
+
+#[test]
+fn of_a_revocation_and_looks(rt: HostRuntime) -> Result<(), Fail> {
+    assert_rows(rt.alloc(), 35, 39)
 }
 
 // An opening that lacks a call does not open, and leaves the office as it was: so the calls of a line

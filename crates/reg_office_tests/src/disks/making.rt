@@ -1,5 +1,5 @@
 //! Offices that are made and asked on disks.
-use crate::disks::asking::{CLERK, LOOKS, all_lines};
+use crate::disks::asking::{CLERK, LOOKS, all_lines, first_lines};
 use crate::disks::image::Image;
 use crate::disks::left::{Left, NEVER, Stop};
 use crate::disks::sessions::{Asked, Asking, ask};
@@ -46,13 +46,23 @@ pub fn prepared(alloc: Global) -> Result<Image, Fail> {
     filled(alloc, &blank(alloc)?)
 }
 
+/// The files of an office after the first so many rows of the transcript.
+pub fn prepared_by(alloc: Global, count: usize) -> Result<Image, Fail> {
+    let lines = first_lines(alloc, count)?;
+    filled_by(alloc, &blank(alloc)?, lines.as_slice())
+}
+
 /// These files of an office without rows, after the rows of the transcript.
 pub fn filled(alloc: Global, image: &Image) -> Result<Image, Fail> {
-    let lines = all_lines(alloc)?;
+    filled_by(alloc, image, all_lines(alloc)?.as_slice())
+}
+
+/// These files of an office, once the first clerk has a token, and after these lines.
+pub fn filled_by(alloc: Global, image: &Image, lines: &[u8]) -> Result<Image, Fail> {
     let filling = Asking {
         fresh: false,
         token: Some(CLERK.as_bytes()),
-        lines: lines.as_slice(),
+        lines,
         closes: true,
     };
     let (_, left) = answered(alloc, image, filling)?;

@@ -5,16 +5,21 @@ use crate::disks::making::{blank, filled, prepared, refused, seen};
 use crate::disks::sessions::{Outcome, Statement, carry_out};
 use reg_opening::open::Verdict;
 use reg_sql::open::OpenFault;
+use reg_tables::version::NEWEST;
 use reg_testing::facts::ensure;
 use std::alloc::Global;
 use std::test::Fail;
 
-// What leaves no row of a version, or several; or another version.
-const VERSIONS: [(&str, Verdict); 5] = [
-    ("UPDATE office SET version = 1", Verdict::Ours),
+// What leaves no row of a version, or several; another version, or one that has other tables.
+const VERSIONS: [(&str, Verdict); 9] = [
+    ("UPDATE office SET version = 3", Verdict::Ours(NEWEST)),
     ("DELETE FROM office", Verdict::NotOurs),
-    ("INSERT INTO office (version) VALUES (1)", Verdict::NotOurs),
-    ("UPDATE office SET version = 2", Verdict::OtherVersion(2)),
+    ("INSERT INTO office (version) VALUES (3)", Verdict::NotOurs),
+    ("UPDATE office SET version = 1", Verdict::NotOurs),
+    ("UPDATE office SET version = 2", Verdict::NotOurs),
+    ("UPDATE office SET version = 0", Verdict::OtherVersion(0)),
+    ("UPDATE office SET version = 4", Verdict::OtherVersion(4)),
+    ("UPDATE office SET version = 9", Verdict::OtherVersion(9)),
     ("UPDATE office SET version = -1", Verdict::OtherVersion(-1)),
 ];
 
@@ -26,14 +31,21 @@ const BESIDE: [&str; 3] = [
 ];
 
 // What leaves other tables in the place of the office's.
-const TABLES: [&str; 3] = [
+const TABLES: [&str; 7] = [
     "CREATE INDEX by_account ON caps (account)",
     "CREATE UNIQUE INDEX by_kind ON blocks (organization, first)",
+    "CREATE INDEX by_agent ON agents (agent)",
     "DROP TABLE advice",
+    "DROP TABLE holds",
+    "DROP TABLE minutes",
+    "DROP TABLE agents",
 ];
 
 // What leaves of the office's tables the version alone, which is another one.
-const GONE: [&str; 10] = [
+const GONE: [&str; 13] = [
+    "DROP TABLE agents",
+    "DROP TABLE minutes",
+    "DROP TABLE holds",
     "DROP TABLE advice",
     "DROP TABLE queue",
     "DROP TABLE requests",
@@ -47,7 +59,10 @@ const GONE: [&str; 10] = [
 ];
 
 // What takes names of the office's tables.
-const TAKEN: [&str; 4] = [
+const TAKEN: [&str; 7] = [
+    "CREATE TABLE agents (name TEXT)",
+    "CREATE TABLE Minutes (day INTEGER)",
+    "CREATE VIEW holds AS SELECT 1 AS value",
     "CREATE TABLE caps (digest TEXT)",
     "CREATE TABLE Pool (prefix INT NOT NULL PRIMARY KEY) STRICT",
     "CREATE VIEW office AS SELECT 1 AS version",
@@ -64,7 +79,7 @@ const CAR: &str = "INSERT INTO cars (plate) VALUES ('a')";
 const TOUCH: &str = "UPDATE cars SET plate = plate WHERE plate = 'a'";
 
 // What leaves rows that are no office's.
-const ROWS: [&str; 20] = [
+const ROWS: [&str; 28] = [
     "UPDATE caps SET account = 'Clerk'",
     "UPDATE caps SET digest = 'abc' WHERE account = 'alice'",
     "UPDATE caps SET kind = 'king'",
@@ -77,11 +92,19 @@ const ROWS: [&str; 20] = [
     "UPDATE entries SET value = 230 WHERE value = 200",
     "UPDATE entries SET first = 1",
     "UPDATE entries SET renewed = 2",
-    "DELETE FROM entries",
+    "DELETE FROM entries WHERE value = 200",
+    "UPDATE entries SET expires = NULL WHERE value = 5",
+    "INSERT INTO holds (registry, value) VALUES ('flags', 200)",
     "UPDATE requests SET label = NULL WHERE reference = 'a-1'",
     "UPDATE requests SET size = 'MA-M' WHERE reference = 'a-1'",
     "UPDATE requests SET given = '8' WHERE reference = 'a-1'",
     "INSERT INTO queue (account, reference, expert) VALUES ('bob', 'b-1', 'bob')",
+    "INSERT INTO minutes (account, reference, minute) VALUES ('alice', 'a-1', 'M-1')",
+    "INSERT INTO minutes (account, reference, minute) VALUES ('alice', 'e-1', 'M-1')",
+    "UPDATE minutes SET minute = ''",
+    "INSERT INTO agents (principal, agent) VALUES ('alice', 'alice')",
+    "INSERT INTO agents (principal, agent) VALUES ('alice', 'Bob')",
+    "UPDATE agents SET principal = ''",
     "UPDATE pool SET prefix = 65536",
     "UPDATE blocks SET first = 0",
     "INSERT INTO blocks (first, size, holder, organization, address, private) \
@@ -89,7 +112,13 @@ const ROWS: [&str; 20] = [
 ];
 
 // What the tables do not take.
-const REFUSED: [&str; 7] = [
+const REFUSED: [&str; 13] = [
+    "DELETE FROM entries WHERE value = 5",
+    "INSERT INTO holds (registry, value) VALUES ('flags', 5)",
+    "INSERT INTO holds (registry, value) VALUES ('flags', 7)",
+    "INSERT INTO minutes (account, reference, minute) VALUES ('alice', 'n-9', 'M-1')",
+    "UPDATE minutes SET minute = NULL",
+    "INSERT INTO agents (principal, agent) VALUES ('alice', 'bob')",
     "UPDATE caps SET account = NULL",
     "UPDATE caps SET account = x'00'",
     "UPDATE caps SET until = 1.5",
@@ -269,6 +298,6 @@ fn a_text_that_is_too_long(rt: HostRuntime) -> Result<(), Fail> {
     }
     let longest = format!(in alloc; "{sql}'")?;
     let longer = format!(in alloc; "{sql}t'")?;
-    assert_after(alloc, &image, longest.as_str(), Some(Verdict::Ours))?;
+    assert_after(alloc, &image, longest.as_str(), Some(Verdict::Ours(NEWEST)))?;
     assert_after(alloc, &image, longer.as_str(), Some(Verdict::NotOurs))
 }

@@ -1,7 +1,13 @@
 //! Lines and their answers, worked from the specification.
 
+/// How many of the first lines leave nothing that a store of the first version cannot hold.
+pub const OF_THE_FIRST: usize = 21;
+
+/// How many leave nothing that one of the second cannot hold: marks and minutes, but no agents.
+pub const OF_THE_SECOND: usize = 31;
+
 /// The lines of one office from its founding on, each with its answer. A TAB is written as `|`.
-pub const ROWS: [(&str, &str); 25] = [
+pub const ROWS: [(&str, &str); 39] = [
     (
         r#"1700000000 clerk-token-00001 PUT /desk/tokens {"account":"alice","kind":"applicant","token":"alice-token-00001","until":1800000000}"#,
         r#"200 {"account":"alice","kind":"applicant","until":1800000000}"#,
@@ -87,12 +93,68 @@ pub const ROWS: [(&str, &str); 25] = [
         r#"200 {"account":"alice","ask":{"chair":"wg","director":"ad","draft":"draft-x-00","interest":true,"kind":"renew","registry":"flags","stable":true,"value":5},"given":"5","reference":"n-1","state":"approved"}"#,
     ),
     (
+        r#"1700000000 clerk-token-00001 PUT /desk/holds/flags/5 {"held":true}"#,
+        r#"200 {"assignee":"alice","expires":"2025-11-14","first":"2023-11-14","held":true,"label":"Early","renewed":true,"status":"Temporary","value":5}"#,
+    ),
+    (
+        r#"1700000000 alice-token-00001 PUT /requests/n-2 {"chair":"wg","director":"ad","draft":"draft-x-00","iesg":"M-7","interest":true,"kind":"renew","registry":"flags","stable":true,"value":5}"#,
+        r#"201 {"ask":{"chair":"wg","director":"ad","draft":"draft-x-00","iesg":"M-7","interest":true,"kind":"renew","registry":"flags","stable":true,"value":5},"reference":"n-2","state":"pending"}"#,
+    ),
+    (
+        r#"1700000000 clerk-token-00001 PUT /desk/approve/alice/n-2"#,
+        r#"200 {"account":"alice","ask":{"chair":"wg","director":"ad","draft":"draft-x-00","iesg":"M-7","interest":true,"kind":"renew","registry":"flags","stable":true,"value":5},"given":"5","reference":"n-2","state":"approved"}"#,
+    ),
+    (
+        r#"1700000000 alice-token-00001 PUT /requests/e-2 {"chair":"wg","director":"ad","draft":"draft-x-00","interest":true,"kind":"early","label":"Soon","registry":"flags","stable":true,"value":6}"#,
+        r#"201 {"ask":{"chair":"wg","director":"ad","draft":"draft-x-00","interest":true,"kind":"early","label":"Soon","registry":"flags","stable":true,"value":6},"reference":"e-2","state":"pending"}"#,
+    ),
+    (
+        r#"1700000000 clerk-token-00001 PUT /desk/approve/alice/e-2"#,
+        r#"200 {"account":"alice","ask":{"chair":"wg","director":"ad","draft":"draft-x-00","interest":true,"kind":"early","label":"Soon","registry":"flags","stable":true,"value":6},"given":"6","reference":"e-2","state":"approved"}"#,
+    ),
+    (
+        r#"1700000000 clerk-token-00001 PUT /desk/holds/flags/6 {"held":true}"#,
+        r#"200 {"assignee":"alice","expires":"2024-11-14","first":"2023-11-14","held":true,"label":"Soon","renewed":false,"status":"Temporary","value":6}"#,
+    ),
+    (
+        r#"1700000000 clerk-token-00001 PUT /desk/holds/flags/6 {"held":false}"#,
+        r#"200 {"assignee":"alice","expires":"2024-11-14","first":"2023-11-14","label":"Soon","renewed":false,"status":"Temporary","value":6}"#,
+    ),
+    (
+        r#"1700000000 clerk-token-00001 PUT /desk/holds/flags/6 {"held":true}"#,
+        r#"200 {"assignee":"alice","expires":"2024-11-14","first":"2023-11-14","held":true,"label":"Soon","renewed":false,"status":"Temporary","value":6}"#,
+    ),
+    (
+        r#"1700000000 alice-token-00001 PUT /requests/p-2 {"contact":"c","kind":"permanent","registry":"flags","rfc":{"number":9999,"stream":"ietf","track":"standards"},"value":6}"#,
+        r#"201 {"ask":{"contact":"c","kind":"permanent","registry":"flags","rfc":{"number":9999,"stream":"ietf","track":"standards"},"value":6},"reference":"p-2","state":"pending"}"#,
+    ),
+    (
+        r#"1700000000 clerk-token-00001 PUT /desk/approve/alice/p-2"#,
+        r#"200 {"account":"alice","ask":{"contact":"c","kind":"permanent","registry":"flags","rfc":{"number":9999,"stream":"ietf","track":"standards"},"value":6},"given":"6","reference":"p-2","state":"approved"}"#,
+    ),
+    (
+        r#"1700000000 alice-token-00001 PUT /agents/bob {"reads":true}"#,
+        r#"200 {"agent":"bob","reads":true}"#,
+    ),
+    (
+        r#"1700000000 alice-token-00001 PUT /agents/nobody {"reads":true}"#,
+        r#"200 {"agent":"nobody","reads":true}"#,
+    ),
+    (
+        r#"1700000000 alice-token-00001 PUT /agents/nobody {"reads":false}"#,
+        r#"200 {"agent":"nobody","reads":false}"#,
+    ),
+    (
+        r#"1700000000 bobby-token-00001 GET /principals"#,
+        r#"200 ["alice"]"#,
+    ),
+    (
         r#"1700000000 clerk-token-00001 PUT /desk/revoke {"token":"bobby-token-00001"}"#,
         r#"200 {"revoked":true}"#,
     ),
     (
         r#"1700000000 - GET /listings/registries/flags"#,
-        r#"200 Value,Description,Status,Policy,First,Expires,Assignee|0-4,,Unassigned,standards-action,,,|5,Early,Temporary,standards-action,2023-11-14,2025-11-14,alice|6-63,,Unassigned,standards-action,,,|64-191,,Unassigned,first-come-first-served,,,|192-199,,Unassigned,expert-review,,,|200,Green,Assigned,expert-review,2023-11-14,,alice|201-223,,Unassigned,expert-review,,,|224-255,kept for later,Reserved,,,,|"#,
+        r#"200 Value,Description,Status,Policy,First,Expires,Assignee|0-4,,Unassigned,standards-action,,,|5,Early,Temporary,standards-action,2023-11-14,2026-11-14,alice|6,Soon,Assigned,standards-action,2023-11-14,,alice|7-63,,Unassigned,standards-action,,,|64-191,,Unassigned,first-come-first-served,,,|192-199,,Unassigned,expert-review,,,|200,Green,Assigned,expert-review,2023-11-14,,alice|201-223,,Unassigned,expert-review,,,|224-255,kept for later,Reserved,,,,|"#,
     ),
     (
         r#"1700000000 - GET /listings/blocks"#,

@@ -122,7 +122,7 @@ fn put(rows: &mut Vec<Row>, row: Row) -> Result<(), AllocError> {
 }
 
 // What shows an office's content.
-const LOOKS: [(&str, &str); 12] = [
+const LOOKS: [(&str, &str); 15] = [
     ("-", "/registries"),
     ("-", "/registries/flags"),
     ("-", "/listings/registries/tiny"),
@@ -131,6 +131,9 @@ const LOOKS: [(&str, &str); 12] = [
     ("alice-token-00001", "/requests"),
     ("bobby-token-00001", "/requests"),
     ("carol-token-00001", "/requests"),
+    ("bobby-token-00001", "/agents"),
+    ("alice-token-00001", "/principals"),
+    ("alice-token-00001", "/principals/bob/requests"),
     ("xpert-token-00001", "/queue"),
     ("yolan-token-00001", "/queue"),
     (CLERK, "/desk/requests"),
@@ -231,7 +234,7 @@ impl Exercise for Transcript {
     // How many requests were not answered by their own answers.
     fn done<K: Keeper + Drop>(self, rt: &HostRuntime, keeper: K) -> Result<u32, Fail> {
         let rows = rows(rt.alloc())?;
-        ensure(rows.len() == 109, "the rows of the transcript")?;
+        ensure(rows.len() == 144, "the rows of the transcript")?;
         let mut served = Served::founded(rt.alloc(), keeper)?;
         assert_rows(rt, &mut served, rows.as_slice())
     }

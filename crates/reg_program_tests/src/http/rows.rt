@@ -212,4 +212,74 @@ pub const ROWS: &str = r#"
 < 201 {"ask":{"contact":"c","kind":"code","label":"W","registry":"flags","value":80},"reference":"w-1","state":"pending"}
 > alice-token-00001 PUT /requests/w-1 {"contact":"c","kind":"code","label":"W","registry":"flags","value":80}
 < 200 {"ask":{"contact":"c","kind":"code","label":"W","registry":"flags","value":80},"reference":"w-1","state":"pending"}
+> alice-token-00001 PUT /requests/e-9 {"chair":"wg","director":"ad","draft":"draft-x-00","interest":true,"kind":"early","label":"Held","registry":"flags","stable":true,"value":9}
+< 201 {"ask":{"chair":"wg","director":"ad","draft":"draft-x-00","interest":true,"kind":"early","label":"Held","registry":"flags","stable":true,"value":9},"reference":"e-9","state":"pending"}
+> clerk-token-00001 PUT /desk/approve/alice/e-9
+< 200 {"account":"alice","ask":{"chair":"wg","director":"ad","draft":"draft-x-00","interest":true,"kind":"early","label":"Held","registry":"flags","stable":true,"value":9},"given":"9","reference":"e-9","state":"approved"}
+> clerk-token-00001 PUT /desk/holds/flags/9 {"held":true}
+< 200 {"assignee":"alice","expires":"2024-11-14","first":"2023-11-14","held":true,"label":"Held","renewed":false,"status":"Temporary","value":9}
+> clerk-token-00001 PUT /desk/holds/flags/9 {"held":true}
+< 200 {"assignee":"alice","expires":"2024-11-14","first":"2023-11-14","held":true,"label":"Held","renewed":false,"status":"Temporary","value":9}
+> - GET /registries/flags
+< 200 {"entries":[{"assignee":"alice","expires":"2024-11-14","first":"2023-11-14","held":true,"label":"Held","renewed":false,"status":"Temporary","value":9},{"assignee":"bob","first":"2023-11-14","label":"Red","status":"Assigned","value":64},{"assignee":"alice","first":"2023-11-14","label":"Green","status":"Assigned","value":200}],"max":255,"name":"flags","ranges":[{"hi":63,"lo":0,"note":"","treatment":"standards-action"},{"hi":191,"lo":64,"note":"","treatment":"first-come-first-served"},{"hi":223,"lo":192,"note":"","treatment":"expert-review"},{"hi":239,"lo":224,"note":"","treatment":"experimental-use"},{"hi":254,"lo":240,"note":"","treatment":"private-use"},{"hi":255,"lo":255,"note":"","treatment":"reserved"}]}
+> alice-token-00001 PUT /requests/n-1 {"chair":"wg","director":"ad","draft":"draft-x-00","interest":true,"kind":"renew","registry":"flags","stable":true,"value":9}
+< 201 {"ask":{"chair":"wg","director":"ad","draft":"draft-x-00","interest":true,"kind":"renew","registry":"flags","stable":true,"value":9},"reference":"n-1","state":"pending"}
+> clerk-token-00001 PUT /desk/approve/alice/n-1
+< 200 {"account":"alice","ask":{"chair":"wg","director":"ad","draft":"draft-x-00","interest":true,"kind":"renew","registry":"flags","stable":true,"value":9},"given":"9","reference":"n-1","state":"approved"}
+> - GET /registries/flags
+< 200 {"entries":[{"assignee":"alice","expires":"2025-11-14","first":"2023-11-14","held":true,"label":"Held","renewed":true,"status":"Temporary","value":9},{"assignee":"bob","first":"2023-11-14","label":"Red","status":"Assigned","value":64},{"assignee":"alice","first":"2023-11-14","label":"Green","status":"Assigned","value":200}],"max":255,"name":"flags","ranges":[{"hi":63,"lo":0,"note":"","treatment":"standards-action"},{"hi":191,"lo":64,"note":"","treatment":"first-come-first-served"},{"hi":223,"lo":192,"note":"","treatment":"expert-review"},{"hi":239,"lo":224,"note":"","treatment":"experimental-use"},{"hi":254,"lo":240,"note":"","treatment":"private-use"},{"hi":255,"lo":255,"note":"","treatment":"reserved"}]}
+> clerk-token-00001 PUT /desk/holds/flags/9 {"held":false}
+< 200 {"assignee":"alice","expires":"2025-11-14","first":"2023-11-14","label":"Held","renewed":true,"status":"Temporary","value":9}
+> clerk-token-00001 PUT /desk/holds/flags/9 {"held":false}
+< 200 {"assignee":"alice","expires":"2025-11-14","first":"2023-11-14","label":"Held","renewed":true,"status":"Temporary","value":9}
+> alice-token-00001 PUT /requests/n-2 {"chair":"wg","director":"ad","draft":"draft-x-00","interest":true,"kind":"renew","registry":"flags","stable":true,"value":9}
+< 409 {"error":"renewed"}
+> alice-token-00001 PUT /requests/n-2 {"chair":"wg","director":"ad","draft":"draft-x-00","iesg":"M-7","interest":true,"kind":"renew","registry":"flags","stable":true,"value":9}
+< 201 {"ask":{"chair":"wg","director":"ad","draft":"draft-x-00","iesg":"M-7","interest":true,"kind":"renew","registry":"flags","stable":true,"value":9},"reference":"n-2","state":"pending"}
+> alice-token-00001 PUT /requests/n-2 {"chair":"wg","director":"ad","draft":"draft-x-00","iesg":"M-7","interest":true,"kind":"renew","registry":"flags","stable":true,"value":9}
+< 200 {"ask":{"chair":"wg","director":"ad","draft":"draft-x-00","iesg":"M-7","interest":true,"kind":"renew","registry":"flags","stable":true,"value":9},"reference":"n-2","state":"pending"}
+> clerk-token-00001 PUT /desk/approve/alice/n-2
+< 200 {"account":"alice","ask":{"chair":"wg","director":"ad","draft":"draft-x-00","iesg":"M-7","interest":true,"kind":"renew","registry":"flags","stable":true,"value":9},"given":"9","reference":"n-2","state":"approved"}
+> alice-token-00001 GET /requests/n-2
+< 200 {"ask":{"chair":"wg","director":"ad","draft":"draft-x-00","iesg":"M-7","interest":true,"kind":"renew","registry":"flags","stable":true,"value":9},"given":"9","reference":"n-2","state":"approved"}
+> - GET /registries/flags
+< 200 {"entries":[{"assignee":"alice","expires":"2026-11-14","first":"2023-11-14","label":"Held","renewed":true,"status":"Temporary","value":9},{"assignee":"bob","first":"2023-11-14","label":"Red","status":"Assigned","value":64},{"assignee":"alice","first":"2023-11-14","label":"Green","status":"Assigned","value":200}],"max":255,"name":"flags","ranges":[{"hi":63,"lo":0,"note":"","treatment":"standards-action"},{"hi":191,"lo":64,"note":"","treatment":"first-come-first-served"},{"hi":223,"lo":192,"note":"","treatment":"expert-review"},{"hi":239,"lo":224,"note":"","treatment":"experimental-use"},{"hi":254,"lo":240,"note":"","treatment":"private-use"},{"hi":255,"lo":255,"note":"","treatment":"reserved"}]}
+> clerk-token-00001 PUT /desk/holds/flags/64 {"held":true}
+< 409 {"error":"permanent"}
+> clerk-token-00001 PUT /desk/holds/flags/65 {"held":true}
+< 404 {"error":"entry"}
+> clerk-token-00001 PUT /desk/holds/none/9 {"held":true}
+< 404 {"error":"registry"}
+> bobby-token-00001 PUT /agents/alice {"reads":true}
+< 200 {"agent":"alice","reads":true}
+> bobby-token-00001 PUT /agents/alice {"reads":true}
+< 200 {"agent":"alice","reads":true}
+> bobby-token-00001 PUT /agents/nobody {"reads":true}
+< 200 {"agent":"nobody","reads":true}
+> bobby-token-00001 PUT /agents/bob {"reads":true}
+< 409 {"error":"own"}
+> bobby-token-00001 GET /agents
+< 200 ["alice","nobody"]
+> alice-token-00001 GET /principals
+< 200 ["bob"]
+> bobby-token-00001 GET /requests
+< 200 [{"ask":{"contact":"c","kind":"code","label":"Red","registry":"flags","value":64},"given":"64","reference":"b-1","state":"approved"},{"ask":{"contact":"c","kind":"code","label":"Q","registry":"flags","value":71},"reference":"r-1","state":"pending"}]
+> alice-token-00001 GET /principals/bob/requests
+< 200 [{"ask":{"contact":"c","kind":"code","label":"Red","registry":"flags","value":64},"given":"64","reference":"b-1","state":"approved"},{"ask":{"contact":"c","kind":"code","label":"Q","registry":"flags","value":71},"reference":"r-1","state":"pending"}]
+> alice-token-00001 GET /principals/carol/requests
+< 404 {"error":"principal"}
+> alice-token-00001 GET /principals/dora/requests
+< 404 {"error":"principal"}
+> xpert-token-00001 GET /principals
+< 403 {"error":"kind"}
+> alice-token-00001 GET /requests/b-1
+< 404 {"error":"request"}
+> bobby-token-00001 PUT /agents/alice {"reads":false}
+< 200 {"agent":"alice","reads":false}
+> alice-token-00001 GET /principals/bob/requests
+< 404 {"error":"principal"}
+> alice-token-00001 PUT /agents/bob {}
+< 422 {"error":"field","item":"reads"}
+> clerk-token-00001 PUT /desk/holds/flags/x {"held":true}
+< 422 {"error":"field","item":"value"}
 "#;
