@@ -2,7 +2,9 @@
 use reg_office::Office;
 use reg_sql::open::in_memory;
 use reg_testing::facts::ensure;
-use reg_transcripts::offices::{OF_AGENTS, OF_BLOCKS, OF_BODIES, OF_REFUSALS, OF_VALUES, OF_YEARS};
+use reg_transcripts::offices::{
+    OF_AGENTS, OF_BLOCKS, OF_BODIES, OF_MARKS, OF_REFUSALS, OF_VALUES, OF_YEARS,
+};
 use reg_transcripts::transcript::{answered, sent};
 use reg_wire::script::run;
 use std::alloc::Global;
@@ -55,6 +57,11 @@ fn offices_that_give_blocks(rt: HostRuntime) -> Result<(), Fail> {
 #[test]
 fn offices_that_give_for_a_year(rt: HostRuntime) -> Result<(), Fail> {
     assert_all_answered(rt.alloc(), OF_YEARS)
+}
+
+#[test]
+fn offices_that_hold_entries(rt: HostRuntime) -> Result<(), Fail> {
+    assert_all_answered(rt.alloc(), OF_MARKS)
 }
 
 #[test]

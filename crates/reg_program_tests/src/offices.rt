@@ -1,7 +1,9 @@
 //! Transcripts of whole offices.
 use crate::running::{CLERK, script};
 use reg_testing::facts::ensure;
-use reg_transcripts::offices::{OF_AGENTS, OF_BLOCKS, OF_BODIES, OF_REFUSALS, OF_VALUES, OF_YEARS};
+use reg_transcripts::offices::{
+    OF_AGENTS, OF_BLOCKS, OF_BODIES, OF_MARKS, OF_REFUSALS, OF_VALUES, OF_YEARS,
+};
 use reg_transcripts::transcript::{answered, sent};
 use std::test::Fail;
 
@@ -35,6 +37,11 @@ fn offices_that_give_blocks(rt: HostRuntime) -> Result<(), Fail> {
 #[test]
 fn offices_that_give_for_a_year(rt: HostRuntime) -> Result<(), Fail> {
     assert_all_answered(&rt, OF_YEARS)
+}
+
+#[test]
+fn offices_that_hold_entries(rt: HostRuntime) -> Result<(), Fail> {
+    assert_all_answered(&rt, OF_MARKS)
 }
 
 #[test]

@@ -54,19 +54,21 @@ pub const OF_YEARS: &[(&str, &[&str])] = &[
         "the forms of asks for early allocations",
         &[GRANTS, DEFINED, EARLY_FORMS],
     ),
-    (
-        "entries that are held, and renewals by a minute",
-        &[
-            GRANTS,
-            REGISTRIES,
-            APPROVALS,
-            MARKED,
-            RENEWED,
-            MINUTES,
-            MINUTE_ASKS,
-        ],
-    ),
 ];
+
+/// Offices that hold entries, and renew them by a minute of the IESG.
+pub const OF_MARKS: &[(&str, &[&str])] = &[(
+    "entries that are held, and renewals by a minute",
+    &[
+        GRANTS,
+        REGISTRIES,
+        APPROVALS,
+        MARKED,
+        RENEWED,
+        MINUTES,
+        MINUTE_ASKS,
+    ],
+)];
 
 /// Offices in which applicants name agents.
 pub const OF_AGENTS: &[(&str, &[&str])] = &[(
