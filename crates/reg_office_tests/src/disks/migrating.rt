@@ -2,7 +2,7 @@
 //! that stop at each call of that leave the older version or the newest, with the same office.
 use crate::disks::asking::{CLERK, last_answers, last_lines};
 use crate::disks::image::Image;
-use crate::disks::left::{AT_ONCE, NEVER, Stop, stops};
+use crate::disks::left::{NEVER, Stop, stops};
 use crate::disks::making::{answered, asking, calls_of_opening, prepared_by, refused, seen};
 use crate::disks::rows::{OF_THE_FIRST, OF_THE_SECOND};
 use crate::disks::sessions::{Asking, Statement, ask, carry_out};
@@ -253,8 +253,9 @@ fn assert_stop(alloc: Global, case: &Case<'_>, stop: Stop) -> Result<bool, Fail>
     Ok(is_opened)
 }
 
-// The log's disk stops at each call of the opening, and then the database's, and at last none.
-fn assert_stops(alloc: Global, older: Older) -> Result<(), Fail> {
+// The log's disk stops at each call of the opening from the first on, and then the database's, and at
+// last none.
+fn assert_stops(alloc: Global, older: Older, first: Stop) -> Result<(), Fail> {
     let (newest, image) = both(alloc, older)?;
     let seen = seen(alloc, &newest)?;
     let (version, _, _) = older;
@@ -266,19 +267,40 @@ fn assert_stops(alloc: Global, older: Older) -> Result<(), Fail> {
     let last = calls_of_opening(alloc, &image)?;
     let whole = calls_of_opening(alloc, &migrated(alloc, &image)?)?;
     ensure(whole.log < last.log, "calls of a migration")?;
-    for stop in stops(alloc, AT_ONCE, last)? {
+    for stop in stops(alloc, first, last)? {
         assert_stop(alloc, &case, stop)?;
     }
     let is_opened = assert_stop(alloc, &case, last)?;
     ensure(is_opened, "an office that is opened")
 }
 
+// The log's disk alone stops, or the database's alone.
+const OF_THE_LOG: Stop = Stop {
+    log: 0,
+    db: u64::MAX,
+};
+
+const OF_THE_DATABASE: Stop = Stop {
+    log: u64::MAX,
+    db: 0,
+};
+
 #[test]
-fn stops_of_the_first_version(rt: HostRuntime) -> Result<(), Fail> {
-    assert_stops(rt.alloc(), FIRST)
+fn stops_of_the_log_at_the_first_version(rt: HostRuntime) -> Result<(), Fail> {
+    assert_stops(rt.alloc(), FIRST, OF_THE_LOG)
 }
 
 #[test]
-fn stops_of_the_second_version(rt: HostRuntime) -> Result<(), Fail> {
-    assert_stops(rt.alloc(), SECOND)
+fn stops_of_the_database_at_the_first_version(rt: HostRuntime) -> Result<(), Fail> {
+    assert_stops(rt.alloc(), FIRST, OF_THE_DATABASE)
+}
+
+#[test]
+fn stops_of_the_log_at_the_second_version(rt: HostRuntime) -> Result<(), Fail> {
+    assert_stops(rt.alloc(), SECOND, OF_THE_LOG)
+}
+
+#[test]
+fn stops_of_the_database_at_the_second_version(rt: HostRuntime) -> Result<(), Fail> {
+    assert_stops(rt.alloc(), SECOND, OF_THE_DATABASE)
 }
