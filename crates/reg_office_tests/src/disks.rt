@@ -1,6 +1,7 @@
 //! Offices in tables over disks in memory: disks that stop at each call of a line, and stores by other
 //! hands.
 mod asking;
+mod beside;
 mod calls;
 mod counted;
 mod founding;

@@ -1,5 +1,5 @@
 -- Parts of an office that are fed to an audit one after the other.
-use Rattle.std.proofs.Common.{◌≡◌, Bool, true, false, ap, subst, ◌∙◌}
+use Rattle.std.proofs.Common.{◌≡◌, Bool, true, false, subst, sym}
 use Rattle.std.specs.Prelude.{Result, Ok, IfOk}
 use Rattle.std.proofs.lemmas.Result.{IfOk-weaker}
 use Rattle.sqlite.specs.Effect.{Database}
@@ -9,6 +9,8 @@ use Rattle.reg_core.specs.World.{World}
 use Rattle.reg_audit.specs.declared.audit.Audit.{Audit}
 use Rattle.reg_tables.proofs.Enduring.{endures_then}
 use Rattle.reg_tables.proofs.RestLemmas.{stays_then}
+use Rattle.reg_tables.specs.Selecting.{BeginsWith}
+use Rattle.reg_tables.specs.Version.{table_count}
 use Rattle.reg_tables.specs.declared.version.Version.{Version}
 use Rattle.reg_statements.specs.Content.{content_at}
 use Rattle.reg_opening.specs.Feeding.{FeedsPart, FeedsTable, TellsTable, tables_at}
@@ -46,7 +48,7 @@ module _ (F G : Tables → World → Type 0) (H I : Tables → Type 0) (f g : Ta
         let same = first.stays.unchanged before in
         let later = subst (λ (db : Database). IfOk result
         (TellsTable (G (tables_at v db)) (I (tables_at v db)) (g (tables_at v db)) (content_at v db) b c))
-        same (second.tells works (ap (λ (db : Database). db.schema) same ∙ has)) in
+        same (second.tells works (subst (λ (db : Database). BeginsWith (table_count v) db.schema) (sym same) has)) in
         IfOk-weaker result _ _ (λ said told. then_told (tables_at v old.now) (content_at v old.now)
         a b c said (made k is (first.tells before has)) told) later;
   }
@@ -73,6 +75,6 @@ feeds_stop v F G Before H I All f g with_all old mid new a b c k part first seco
   tells = λ works has.
       let same = first.stays.unchanged (second.stays.worked works) in
       let later = subst (λ (db : Database). I (tables_at v db) → ¬ WellKept (content_at v db)) same
-      (second.tells works (ap (λ (db : Database). db.schema) same ∙ has)) in
+      (second.tells works (subst (λ (db : Database). BeginsWith (table_count v) db.schema) (sym same) has)) in
       λ held kept. later (part (tables_at v old.now) held) kept;
 }

@@ -13,7 +13,7 @@ use Rattle.sqlite_value.specs.declared.keys.Key.{Key}
 use Rattle.sqlite.specs.Tree.{Trees, rowid}
 use Rattle.reg_records.specs.Columns.{int_in}
 use Rattle.reg_tables.specs.Connection.{Endures, IsIdle, Stays, Works}
-use Rattle.reg_tables.specs.Version.{rows_of, schema_of, table_count}
+use Rattle.reg_tables.specs.Version.{rows_of, table_count}
 use Rattle.reg_tables.specs.declared.version.Version.{Version}
 use Rattle.reg_tables.proofs.Enduring.{endures_still}
 use Rattle.reg_tables.proofs.SelectLemmas.{selected, shows_columns}
@@ -68,14 +68,14 @@ all_shown m n sql t order old new shown selects begins answer =
 
 -- so of the registries and the ranges of a store of a version
 pub registries_shown : (v : Version) (old new : State) (shown : List SqlRow)
-    → old.now.schema ≡ schema_of v → Shown select_registries [] old new shown
+    → BeginsWith (table_count v) old.now.schema → Shown select_registries [] old new shown
     → IsPermutation (map (stored 2) (tables_at v old.now).registries) shown
 registries_shown v old new shown is answer =
     subst (λ rows. IsPermutation (map (stored 2) rows) shown) (sym (registries_rows v old.now.trees))
     (all_shown 3 2 _ 3 _ old new shown all_registries (first_begins v 3 (omega arith) is) answer)
 
 pub ranges_shown : (v : Version) (old new : State) (shown : List SqlRow)
-    → old.now.schema ≡ schema_of v → Shown select_ranges [] old new shown
+    → BeginsWith (table_count v) old.now.schema → Shown select_ranges [] old new shown
     → IsPermutation (map (stored 5) (tables_at v old.now).ranges) shown
 ranges_shown v old new shown is answer =
     subst (λ rows. IsPermutation (map (stored 5) rows) shown) (sym (ranges_rows v old.now.trees))
@@ -279,7 +279,7 @@ module _ {T K X : Type 0} (d : TableDef T K X) (l : IsDefined d) (of : SqlRow �
       where
         each_told : {E : Type 0} (result : Result Bool E) → IfOk result (λ k. (shown : List SqlRow)
             × Shown sql [] old new shown × IsFed numbered row_of shown before after k)
-            → old.now.schema ≡ schema_of v
+            → BeginsWith (table_count v) old.now.schema
             → IfOk result (Told (tables_at v old.now) (content_at v old.now) before after d.at
             (d.rows (tables_at v old.now)))
         each_told (Ok k) was is =

@@ -20,7 +20,7 @@ use Rattle.reg_tables.specs.Editing.{AreKeyed}
 use Rattle.reg_tables.specs.Having.{FindsTablesOf, HasTable}
 use Rattle.reg_tables.specs.Schema.{office_schema, office_table}
 use Rattle.reg_tables.specs.Selecting.{BeginsWith, stored}
-use Rattle.reg_tables.specs.Version.{IsOther, number_of, rows_of, schema_of}
+use Rattle.reg_tables.specs.Version.{IsOther, number_of, rows_of, schema_of, table_count}
 use Rattle.reg_tables.specs.declared.version.Version.{Version}
 use Rattle.reg_tables.specs.declared.version.Version.TheVariants.{First, Second, Third}
 use Rattle.reg_tables.proofs.HavingLemmas.{version_found}
@@ -31,7 +31,7 @@ use Rattle.reg_statements.specs.Loading.{ReadAs}
 use Rattle.reg_statements.specs.Tables.{Tables, tables_in}
 use Rattle.reg_statements.proofs.RowMaps.Lists.{all_permuted, shown_rows}
 use Rattle.reg_opening.specs.Feeding.{FeedsTable, tables_at}
-use Rattle.reg_opening.specs.Opening.{AreRowsOf, Finds, HasVersionTables, IsFoundAs, IsFree, IsFreeBy}
+use Rattle.reg_opening.specs.Opening.{AreRowsOf, Finds, HasVersionTables, IsFirst, IsFoundAs, IsFree, IsFreeBy}
 use Rattle.reg_opening.specs.Opening.{IsOurs, IsReadAs, IsVersionOf, LeaveFree, Reads, only, verdict_of}
 use Rattle.reg_opening.specs.Partitions.{AreRegistries}
 use Rattle.reg_opening.specs.Parts.{AreParts, IsBlank, with_parts}
@@ -39,7 +39,7 @@ use Rattle.reg_opening.specs.Rowids.{AreOrderedKeyed}
 use Rattle.reg_opening.specs.declared.open.Found.{Found}
 use Rattle.reg_opening.specs.declared.open.Found.TheVariants as found
 use Rattle.reg_opening.specs.declared.open.Verdict.TheVariants as verdict
-use Rattle.reg_opening.proofs.Versions.{first_begins, keyed_version, number_exact, office_rows, ranges_rows, registries_rows, version_keyed}
+use Rattle.reg_opening.proofs.Versions.{first_begins, keyed_version, number_exact, office_rows, ranges_rows, registries_rows, schema_first, version_keyed}
 use Rattle.reg_vacancies.specs.Vacancies.{AreVacanciesOf}
 use Rattle.reg_vacancies.specs.declared.vacancies.Vacancies.{Vacancies}
 
@@ -128,9 +128,9 @@ rows_told v db None keyed leave = leave
 rows_told v db (Some free) keyed leave = (keyed, leave)
 
 -- a store of a version has the tables of registries and their ranges first
-pub version_first : (v : Version) (db : Database) → db.schema ≡ schema_of v
+pub version_first : (v : Version) (db : Database) → BeginsWith (table_count v) db.schema
     → BeginsWith 4 db.schema
-version_first v db is = first_begins v 4 (omega arith) is
+version_first v db begins = first_begins v 4 (omega arith) begins
 
 -- ---- The store
 
@@ -172,42 +172,38 @@ rows_keyed v db keyed parts =
       ),
     )
 
-pub is_ours : (v : Version) (s : State) → IsLive s → Works s → s.now.schema ≡ schema_of v
-    → HasVersion (number_of v) (tables_in s.now.trees).office → AreOrderedKeyed s.now.trees
-    → AreParts (tables_at v s.now) → WellKept (content_at v s.now) → IsOurs v s.now
-is_ours v s live works schema version keyed parts kept =
+pub is_first : (v : Version) (db : Database) → BeginsWith (table_count v) db.schema
+    → HasVersion (number_of v) (tables_in db.trees).office → AreOrderedKeyed db.trees
+    → AreParts (tables_at v db) → WellKept (content_at v db) → IsFirst v db
+is_first v db begins version keyed parts kept =
     let assigned = parts.0 in
     let given = parts.1.0 in
-    let reviewed = parts.1.1 in (
-      record {
-        office = record {
-          schema = schema;
-          sound = (live works.is_open).0;
-          tables = version_keyed v s.now.trees (rows_keyed v s.now keyed parts);
-        };
-        kept = record {
-          whole = (
-            subst (HasVersion (number_of v)) (sym (office_rows v s.now.trees)) version,
+    let reviewed = parts.1.1 in
+    record {
+      begins = begins;
+      keyed = version_keyed v db.trees (rows_keyed v db keyed parts);
+      kept = record {
+        whole = (
+          subst (HasVersion (number_of v)) (sym (office_rows v db.trees)) version,
+          (
+            assigned.0.0.0,
             (
-              assigned.0.0.0,
+              assigned.1.0.registries,
               (
-                assigned.1.0.registries,
+                assigned.1.0.ranges,
                 (
-                  assigned.1.0.ranges,
+                  assigned.1.1.0.0.0,
                   (
-                    assigned.1.1.0.0.0,
+                    given.1.1.0.0.0,
                     (
-                      given.1.1.0.0.0,
+                      reviewed.0.0.0,
                       (
-                        reviewed.0.0.0,
+                        reviewed.1.0.0.0,
                         (
-                          reviewed.1.0.0.0,
+                          given.0.0.0,
                           (
-                            given.0.0.0,
-                            (
-                              given.1.0.0.0,
-                              (assigned.1.1.1.0.0, (given.1.1.1.0.0, reviewed.1.1.0.0)),
-                            ),
+                            given.1.0.0.0,
+                            (assigned.1.1.1.0.0, (given.1.1.1.0.0, reviewed.1.1.0.0)),
                           ),
                         ),
                       ),
@@ -216,23 +212,47 @@ is_ours v s live works schema version keyed parts kept =
                 ),
               ),
             ),
-          );
-          tied = record {
-            ranges = assigned.1.0.owned;
-            holds = assigned.1.1.1.1;
-            minutes = given.1.1.1.1;
-          };
+          ),
+        );
+        tied = record {
+          ranges = assigned.1.0.owned;
+          holds = assigned.1.1.1.1;
+          minutes = given.1.1.1.1;
         };
-      },
-      kept,
-    )
+      };
+      well = kept;
+    }
 
-pub ours_parts : (v : Version) (db : Database) → IsOurs v db
+-- where there are no others it is an office's
+is_ours : (v : Version) (s : State) → IsLive s → Works s → s.now.schema ≡ schema_of v
+    → IsFirst v s.now → IsOurs v s.now
+is_ours v s live works schema first = (
+  record {
+    office = record {
+      schema = schema;
+      sound = (live works.is_open).0;
+      tables = first.keyed;
+    };
+    kept = first.kept;
+  },
+  first.well,
+)
+
+-- and an office's alone comes first
+ours_first : (v : Version) (db : Database) → IsOurs v db → IsFirst v db
+ours_first v db ours = record {
+  begins = schema_first v ours.0.office.schema;
+  keyed = ours.0.office.tables;
+  kept = ours.0.kept;
+  well = ours.1;
+}
+
+pub first_parts : (v : Version) (db : Database) → IsFirst v db
     → AreParts (tables_at v db) × WellKept (content_at v db)
-ours_parts v db ours =
-    let t = ours.0.kept.whole in
-    let tied = ours.0.kept.tied in
-    let keyed = keyed_version v db.trees ours.0.office.tables in
+first_parts v db first =
+    let t = first.kept.whole in
+    let tied = first.kept.tied in
+    let keyed = keyed_version v db.trees first.keyed in
     let registries : AreRegistries (tables_at v db) =
     record { registries = t.1.1.0; ranges = t.1.1.1.0; owned = tied.ranges } in (
       (
@@ -275,57 +295,78 @@ ours_parts v db ours =
           ),
         ),
       ),
-      ours.1,
+      first.well,
     )
 
 -- a store that has not the tables of a version
 pub lacks_tables : (v : Version) (s : State) → (¬ HasVersionTables v s.now)
     → IsReadAs v s.now found.NotOurs
-lacks_tables v s lacks is = absurd (lacks (version_found v s.now.schema is))
+lacks_tables v s lacks has = absurd (lacks has)
 
 -- where a store says a version, it is none of another
-other_ours : (v w : Version) (db : Database)
-    → HasVersion (number_of v) (tables_in db.trees).office → IsOurs w db → w ≡ v
-other_ours v w db says ours =
+other_first : (v w : Version) (db : Database)
+    → HasVersion (number_of v) (tables_in db.trees).office → IsFirst w db → w ≡ v
+other_first v w db says first =
     number_exact w v
     (one_version (number_of w) (number_of v) (tables_in db.trees).office
-    (subst (HasVersion (number_of w)) (office_rows w db.trees) ours.0.kept.whole.0) says)
+    (subst (HasVersion (number_of w)) (office_rows w db.trees) first.kept.whole.0) says)
 
--- the schema of a version begins with the table of the version
-pub schema_begins : (v : Version) (db : Database) → db.schema ≡ schema_of v
+-- the tables of a version begin with the table of the version
+pub schema_begins : (v : Version) (db : Database) → BeginsWith (table_count v) db.schema
     → BeginsWith 1 db.schema
-schema_begins v db is = first_begins v 1 (omega arith) is
+schema_begins v db begins = first_begins v 1 (omega arith) begins
 
 module _ (v : Version) (old new : State) (stays : Stays old new) (live : IsLive old)
     (version : Works new → BeginsWith 1 old.now.schema
     → HasVersion (number_of v) (tables_in old.now.trees).office) where
-  as_ours : (free : Vacancies) → Works new → old.now.schema ≡ schema_of v
-      → AreRowsOf v old.now (Some free) → IsOurs v old.now
-  as_ours free works is rows =
-      is_ours v old live (stays.worked works) is (version works (schema_begins v old.now is)) rows.0
+  as_first : (free : Vacancies) → Works new → BeginsWith (table_count v) old.now.schema
+      → AreRowsOf v old.now (Some free) → IsFirst v old.now
+  as_first free works begins rows =
+      is_first v old.now begins (version works (schema_begins v old.now begins)) rows.0
       rows.1.0.0 rows.1.0.1
+
+  as_ours : (free : Vacancies) → Works new → old.now.schema ≡ schema_of v
+      → (BeginsWith (table_count v) old.now.schema → AreRowsOf v old.now (Some free))
+      → IsOurs v old.now
+  as_ours free works is rows =
+      let begins = schema_first v is in
+      is_ours v old live (stays.worked works) is (as_first free works begins (rows begins))
+
+  -- an office whose tables come first was not read as none
+  no_first : IsReadAs v old.now found.NotOurs → Works new → (w : Version)
+      → HasVersionTables w old.now → IsFirst w old.now → ⊥
+  no_first read works w tables first =
+      let same = other_first v w old.now (version works (schema_begins w old.now first.begins)) first
+      in
+      let mine = subst (λ (w : Version). IsFirst w old.now) same first in
+      read (subst (λ (w : Version). HasVersionTables w old.now) same tables) mine.begins
+      (first_parts v old.now mine)
 
   -- what the rows of a store that says this version tell
   pub read_as : (f : Found) → Works new → IsReadAs v old.now f → IsFoundAs old.now (verdict_of f)
   read_as (found.Ours w free) works read =
       subst (λ (w : Version). HasVersionTables w old.now
-      × (old.now.schema ≡ schema_of w → IsOurs w old.now)) (sym read.0)
-      (read.1, λ is. as_ours free works is (read.2 is))
+      × (old.now.schema ≡ schema_of w → IsOurs w old.now)
+      × (BeginsWith (table_count w) old.now.schema → IsFirst w old.now)) (sym read.0) (
+        read.1,
+        (λ is. as_ours free works is read.2),
+        λ begins. as_first free works begins (read.2 begins),
+      )
   read_as (found.OtherVersion n) works read = absurd read
   read_as found.NotOurs works read = (
-    (λ w ours.
-        let begins = schema_begins w old.now ours.0.office.schema in
-        let same = other_ours v w old.now (version works begins) ours in
-        let mine = subst (λ (w : Version). IsOurs w old.now) same ours in
-        read mine.0.office.schema (ours_parts v old.now mine)),
-    (λ n is other. other v (one_version n (number_of v) (tables_in old.now.trees).office is.1
-        (version works is.0))),
+    (
+      (λ w ours. no_first read works w (version_found w old.now.schema ours.0.office.schema)
+          (ours_first w old.now ours)),
+      (λ n is other. other v (one_version n (number_of v) (tables_in old.now.trees).office is.1
+          (version works is.0))),
+    ),
+    λ w has. no_first read works w has.0 has.1,
   )
 
   pub read_free : (f : Found) → IsReadAs v old.now f → IsFree old.now f
   read_free (found.Ours w free) read =
-      subst (λ (w : Version). old.now.schema ≡ schema_of w
-      → AreVacanciesOf (content_at w old.now) free) (sym read.0) (λ is. (read.2 is).1.1)
+      subst (λ (w : Version). BeginsWith (table_count w) old.now.schema
+      → AreVacanciesOf (content_at w old.now) free) (sym read.0) (λ begins. (read.2 begins).1.1)
   read_free (found.OtherVersion n) read = absurd read
   read_free found.NotOurs read = tt
 
@@ -367,12 +408,19 @@ none_finds old new rest endures stays none = record {
   endures = endures;
   stays = stays;
   verdict = λ works. (
-    (λ v ours. none (schema_begins v old.now ours.0.office.schema) works (number_of v)
-        (subst (HasVersion (number_of v)) (office_rows v old.now.trees) ours.0.kept.whole.0)),
-    (λ n is. absurd (none is.0 works n is.1)),
+    (
+      (λ v ours. no_version works v (ours_first v old.now ours)),
+      (λ n is. absurd (none is.0 works n is.1)),
+    ),
+    λ v has. no_version works v has.1,
   );
   free = λ works. tt;
 }
+  where
+    no_version : Works new → (v : Version) → IsFirst v old.now → ⊥
+    no_version works v first =
+        none (schema_begins v old.now first.begins) works (number_of v)
+        (subst (HasVersion (number_of v)) (office_rows v old.now.trees) first.kept.whole.0)
 
 -- it says a version that is not known, if it begins with the table of the version; that is there
 pub other_finds : {E : Type 0} (n : ℤ) (old new : State) → IsIdle new → Endures old new

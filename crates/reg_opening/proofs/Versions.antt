@@ -1,5 +1,5 @@
 -- What is so of each version.
-use Rattle.std.proofs.Common.{◌≡◌, ℕ, zero, suc, ◌≤◌, List, [], ◌∷◌, ◌++◌, take, refl, ap, ◌∙◌, arith}
+use Rattle.std.proofs.Common.{◌≡◌, ℕ, zero, suc, ◌≤◌, List, [], ◌∷◌, ◌++◌, take, refl, sym, ap, ◌∙◌, arith}
 use Rattle.std.specs.Fmt.{digits}
 use Rattle.std.specs.List.{AllByRecursion}
 use Rattle.std.proofs.lemmas.List.{take-take}
@@ -15,13 +15,22 @@ use Rattle.reg_tables.specs.declared.version.Version.TheVariants.{First, Second,
 use Rattle.reg_statements.specs.Tables.{tables_in}
 use Rattle.reg_opening.proofs.RowidLemmas.{keyed_none}
 
--- a store of a version begins with as many of its tables
-pub version_begins : {schema : Schema} (v : Version) (n : ℕ) → n ≤ table_count v
-    → schema ≡ schema_of v → BeginsWith n schema
-version_begins v n few is = record {
-  tables = ap (λ (s : Schema). take n s.tables) is
-      ∙ take-take n (table_count v) office_schema.tables few;
+-- a store of a version begins with its tables
+pub schema_first : {schema : Schema} (v : Version) → schema ≡ schema_of v
+    → BeginsWith (table_count v) schema
+schema_first v is = record {
+  tables = ap (λ (s : Schema). take (table_count v) s.tables) is
+      ∙ take-take (table_count v) (table_count v) office_schema.tables (omega arith);
   views = ap (λ (s : Schema). s.views) is;
+}
+
+-- and with as many of them
+pub version_begins : {schema : Schema} (v : Version) (n : ℕ) → n ≤ table_count v
+    → BeginsWith (table_count v) schema → BeginsWith n schema
+version_begins {schema} v n few begins = record {
+  tables = sym (take-take n (table_count v) schema.tables few) ∙ ap (take n) begins.tables
+      ∙ take-take n (table_count v) office_schema.tables few;
+  views = begins.views;
 }
 
 -- each has ten at least
@@ -30,10 +39,10 @@ ten First = omega arith
 ten Second = omega arith
 ten Third = omega arith
 
-pub first_begins : {schema : Schema} (v : Version) (n : ℕ) → n ≤ 10 → schema ≡ schema_of v
-    → BeginsWith n schema
-first_begins v n few is =
-    let many = ten v in version_begins v n (omega arith) is
+pub first_begins : {schema : Schema} (v : Version) (n : ℕ) → n ≤ 10
+    → BeginsWith (table_count v) schema → BeginsWith n schema
+first_begins v n few begins =
+    let many = ten v in version_begins v n (omega arith) begins
 
 -- ---- Numbers
 

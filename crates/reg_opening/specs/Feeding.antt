@@ -14,7 +14,8 @@ use Rattle.reg_audit.specs.declared.audit.Audit.{Audit}
 use Rattle.reg_audit.specs.declared.row.Row.{Row}
 use Rattle.reg_tables.specs.Connection.{Endures, IsIdle, Stays, Works}
 use Rattle.reg_tables.specs.Editing.{AreKeyed}
-use Rattle.reg_tables.specs.Version.{rows_of, schema_of}
+use Rattle.reg_tables.specs.Selecting.{BeginsWith}
+use Rattle.reg_tables.specs.Version.{rows_of, table_count}
 use Rattle.reg_tables.specs.declared.version.Version.{Version}
 use Rattle.reg_opening.specs.Numbered.{IsRising}
 use Rattle.reg_opening.specs.declared.numbered.Numbered.{Numbered}
@@ -83,7 +84,7 @@ pub record FeedsPart {E : Type 0} (v : Version) (Before : Tables → World → T
   pub idle : IsIdle new
   pub endures : Endures old new
   pub stays : Stays old new
-  pub tells : Works new → old.now.schema ≡ schema_of v
+  pub tells : Works new → BeginsWith (table_count v) old.now.schema
       → let t = tables_at v old.now in
       IfOk result (TellsTable (Before t) (IsHeld t) (with t) (content_at v old.now) before after)
 

@@ -1,21 +1,24 @@
 -- What a store is to an office that opens it.
 use Rattle.std.specs.Prelude.{◌≡◌, ◌⊎◌, ℤ, List, [], ◌∷◌, Option, Some, None, MatchOption, Result, IfOk, IsTrue}
+use Rattle.std.specs.List.{AllByRecursion}
 use Rattle.sqlite.specs.Effect.{Database}
 use Rattle.sqlite.specs.Order.{Row}
 use Rattle.sqlite.specs.State.{State}
+use Rattle.sqlite.specs.Table.{Table}
 use Rattle.reg_core.specs.WellKept.{WellKept}
 use Rattle.reg_core.specs.World.{World}
 use Rattle.reg_audit.specs.Audits.{Audits, is_well_kept}
 use Rattle.reg_audit.specs.declared.audit.Audit.{Audit}
 use Rattle.reg_vacancies.specs.Vacancies.{AreVacanciesOf}
 use Rattle.reg_vacancies.specs.declared.vacancies.Vacancies.{Vacancies}
+use Rattle.reg_tables.specs.Editing.{AreKeyed}
 use Rattle.reg_tables.specs.Connection.{Endures, IsIdle, Stays, Works}
 use Rattle.reg_tables.specs.Having.{AreFreeLater, FindsTablesOf, HasTable}
 use Rattle.reg_tables.specs.Schema.{office_table}
 use Rattle.reg_tables.specs.Selecting.{BeginsWith}
-use Rattle.reg_tables.specs.Version.{IsOther, number_of, schema_of}
+use Rattle.reg_tables.specs.Version.{IsOther, number_of, rows_of, schema_of, table_count, tables_of}
 use Rattle.reg_tables.specs.declared.version.Version.{Version}
-use Rattle.reg_statements.specs.Content.{HasVersion, IsStoredAs, content, content_at}
+use Rattle.reg_statements.specs.Content.{AreKept, HasVersion, IsStoredAs, content, content_at}
 use Rattle.reg_statements.specs.Tables.{Tables, tables_in}
 use Rattle.reg_opening.specs.Feeding.{tables_at}
 use Rattle.reg_opening.specs.Parts.{AreParts}
@@ -44,6 +47,17 @@ IsNumberOf n version = MatchOption version (IsOther n) (λ v. n ≡ number_of v)
 abbrev pub IsOurs : Version → Database → Type 0
 IsOurs v db = IsStoredAs v db × WellKept (content_at v db)
 
+-- the tables of a version are there, and nothing has the name of one that the version lacks
+abbrev pub HasVersionTables : Version → Database → Type 0
+HasVersionTables v db = FindsTablesOf v db.schema × AreFreeLater v db.schema
+
+-- the tables of a version come first, and hold an office that is well kept, whatever tables follow
+pub record IsFirst (v : Version) (db : Database) : Type 0 where
+  pub begins : BeginsWith (table_count v) db.schema
+  pub keyed : AllByRecursion (λ (t : Table). AreKeyed (db.trees t.tree)) (tables_of v)
+  pub kept : AreKept v (tables_in (rows_of v db.trees))
+  pub well : WellKept (content_at v db)
+
 -- the first table is the office's, and says this version; there are no views
 abbrev pub IsOfVersion : ℤ → Database → Type 0
 IsOfVersion n db = BeginsWith 1 db.schema × HasVersion n (tables_in db.trees).office
@@ -56,10 +70,6 @@ IsVerdict db (Ours v) = IsOurs v db
 IsVerdict db (OtherVersion n) = IsOfVersion n db × IsOther n
 IsVerdict db NotOurs =
     ((v : Version) → ¬ IsOurs v db) × ((n : ℤ) → IsOfVersion n db → ¬ IsOther n)
-
--- the tables of a version are there, and nothing has the name of one that the version lacks
-abbrev pub HasVersionTables : Version → Database → Type 0
-HasVersionTables v db = FindsTablesOf v db.schema × AreFreeLater v db.schema
 
 -- the rows are those of an office that is well kept, and leave this free; or they are not
 abbrev pub LeaveFree : Tables → Option Vacancies → Type 0
@@ -78,34 +88,41 @@ verdict_of (found.Ours v free) = Ours v
 verdict_of (found.OtherVersion n) = OtherVersion n
 verdict_of found.NotOurs = NotOurs
 
--- and what is free in it, if it is an office's, and has no other tables
+-- and what is free in it, if it is an office's whose tables come first
 abbrev pub IsFree : Database → Found → Type 0
-IsFree db (found.Ours v free) = db.schema ≡ schema_of v → AreVacanciesOf (content_at v db) free
+IsFree db (found.Ours v free) =
+    BeginsWith (table_count v) db.schema → AreVacanciesOf (content_at v db) free
 IsFree db (found.OtherVersion n) = Unit {0}
 IsFree db found.NotOurs = Unit {0}
 
 -- What a store is told to be. Where it is an office's of a version, its tables are there, and where
--- there are no others, its rows are what is told. Where it is one of a version that is not known,
--- the first table says so; or there are other tables or views before it, and it is there.
+-- they come first, or there are no others, its rows are what is told. Where it is one of a version
+-- that is not known, the first table says so; or there are other tables or views before it, and it is
+-- there. Else there is no office whose tables come first, or have no others beside them.
 abbrev pub IsFoundAs : Database → Verdict → Type 0
-IsFoundAs db (Ours v) = HasVersionTables v db × (db.schema ≡ schema_of v → IsVerdict db (Ours v))
+IsFoundAs db (Ours v) =
+    HasVersionTables v db × (db.schema ≡ schema_of v → IsVerdict db (Ours v))
+    × (BeginsWith (table_count v) db.schema → IsFirst v db)
 IsFoundAs db (OtherVersion n) =
     IsVerdict db (OtherVersion n)
     ⊎ (IsOther n × (¬ BeginsWith 1 db.schema) × HasTable db.schema office_table)
-IsFoundAs db NotOurs = IsVerdict db NotOurs
+IsFoundAs db NotOurs =
+    IsVerdict db NotOurs × ((v : Version) → ¬ (HasVersionTables v db × IsFirst v db))
 
 -- the rows are an office's that is well kept, and leave this free; or they are not
 abbrev pub AreRowsOf : Version → Database → Option Vacancies → Type 0
 AreRowsOf v db None = LeaveFree (tables_at v db) None
 AreRowsOf v db (Some free) = AreOrderedKeyed db.trees × LeaveFree (tables_at v db) (Some free)
 
--- it has the tables of this version, if it is told to be an office's, and where there are no others,
--- its rows are what is told
+-- it has the tables of this version, if it is told to be an office's, and where they come first, its
+-- rows are what is told
 abbrev pub IsReadAs : Version → Database → Found → Type 0
 IsReadAs v db (found.Ours w free) =
-    (w ≡ v) × HasVersionTables v db × (db.schema ≡ schema_of v → AreRowsOf v db (Some free))
+    (w ≡ v) × HasVersionTables v db
+    × (BeginsWith (table_count v) db.schema → AreRowsOf v db (Some free))
 IsReadAs v db (found.OtherVersion n) = ⊥
-IsReadAs v db found.NotOurs = db.schema ≡ schema_of v → AreRowsOf v db None
+IsReadAs v db found.NotOurs =
+    HasVersionTables v db → BeginsWith (table_count v) db.schema → AreRowsOf v db None
 
 -- A call that reads the rows of a store of a version. The store stays as it was.
 pub record Reads {E : Type 0} (v : Version) (old new : State) (result : Result Found E) : Type 0 where
@@ -115,7 +132,7 @@ pub record Reads {E : Type 0} (v : Version) (old new : State) (result : Result F
   pub found : Works new → IfOk result (IsReadAs v old.now)
 
 -- A call that finds what a store is, whatever tables it has, and what is free in it, if it is an
--- office's and its tables are those of its version and no others. The store stays as it was.
+-- office's whose tables come first. The store stays as it was.
 pub record Finds {E : Type 0} (old new : State) (result : Result Found E) : Type 0 where
   pub rest : IsIdle new
   pub endures : Endures old new

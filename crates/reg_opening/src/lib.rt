@@ -1,4 +1,4 @@
-//! What a store is to an office that opens it: each row is read once, and fed to an audit.
+//! What a store is to an office that opens it: the columns of each row are read once, and fed to an audit.
 #![tactic(auto)]
 
 mod fed;

@@ -5,7 +5,7 @@ ghost use Rattle.sqlite.specs.State.{IsLive};
 ghost use Rattle.reg_tables.specs.Connection.{Endures, IsIdle, Stays, Tells, Works};
 ghost use Rattle.reg_tables.specs.Having.{AreFreeLater, FindsTablesOf};
 ghost use Rattle.reg_tables.specs.Selecting.{BeginsWith};
-ghost use Rattle.reg_tables.specs.Version.{schema_of};
+ghost use Rattle.reg_tables.specs.Version.{table_count};
 ghost use Rattle.reg_tables.specs.declared.version.Version.{Version as OfVersion};
 ghost use Rattle.reg_statements.specs.Tables.{tables_in};
 ghost use Rattle.reg_opening.specs.Opening.{AreRowsOf, Decides, Finds, IsFreeBy, IsNumberOf, IsVersionOf};
@@ -70,8 +70,9 @@ pub fn check<S: Alter>(alloc: Global, conn: &mut Connection<S>) -> Result<Verdic
     Ok(find(alloc, conn)?.verdict())
 }
 
-/// Tells what a store is, and finds what is free in an office's. Each row is read once. The version
-/// is read before any other table is looked at, where its table is the first.
+/// Tells what a store is, and finds what is free in an office's. The columns of each row are read
+/// once; of the version, and of registries and their ranges, the rowids are read by themselves. The
+/// version is read before any other table is looked at, where its table is the first.
 pub fn find<S: Alter>(alloc: Global, conn: &mut Connection<S>) -> Result<Found, Fault>
     requires { IsIdle (state S.Store conn.old) }
     ensures { Finds (state S.Store conn.old) (state S.Store conn.new) result }
@@ -215,7 +216,7 @@ fn read_rows<S: Alter>(
     ensures endures { Endures (state S.Store conn.old) (state S.Store conn.new) }
     ensures stays { Stays (state S.Store conn.old) (state S.Store conn.new) }
     ensures rows { Works (state S.Store conn.new)
-        → (state S.Store conn.old).now.schema ≡ schema_of version
+        → BeginsWith (table_count version) (state S.Store conn.old).now.schema
         → IfOk result (AreRowsOf version (state S.Store conn.old).now) }
 {
     check_rowids(alloc, conn)?;

@@ -11,11 +11,12 @@ use Rattle.reg_core.specs.WellKept.{WellKept}
 use Rattle.reg_core.specs.World.{empty_world}
 use Rattle.reg_keeper.specs.declared.keeper.Fault.{Fault as KeeperFault}
 use Rattle.reg_vacancies.specs.declared.vacancies.Vacancies.{Vacancies}
-use Rattle.reg_tables.specs.Connection.{Holds, Works}
+use Rattle.reg_tables.specs.Connection.{Holds, IsIdle, Works}
 use Rattle.reg_tables.specs.Having.{AreFree, AreFreeLater, Extends, FindsTablesOf, GainsTables, HasTable, HasTables}
-use Rattle.reg_tables.specs.Making.{IsMigrated, no_schema}
+use Rattle.reg_tables.specs.Making.{HasCounter, IsBegunBeside, IsMigrated, no_schema}
 use Rattle.reg_tables.specs.Schema.{office_schema}
-use Rattle.reg_tables.specs.Version.{later_than, newest, schema_of, tables_of}
+use Rattle.reg_tables.specs.Selecting.{BeginsWith}
+use Rattle.reg_tables.specs.Version.{later_than, newest, schema_of, table_count, tables_of}
 use Rattle.reg_tables.specs.declared.version.Version.{Version}
 use Rattle.reg_tables.specs.declared.version.Version.TheVariants.{First, Second, Third}
 use Rattle.reg_tables.proofs.HavingLemmas.{all_has}
@@ -24,18 +25,28 @@ use Rattle.reg_tables.proofs.PartLemmas.{part_before}
 use Rattle.reg_tables.proofs.RestLemmas.{stays_held, stays_same}
 use Rattle.reg_statements.specs.Content.{IsStoredAs, content_at, content_of, world_in}
 use Rattle.reg_statements.proofs.Migrated.{migrated_same}
-use Rattle.reg_opening.specs.Opening.{Finds, HasVersionTables, IsFoundAs, IsFree, IsOurs, verdict_of}
+use Rattle.reg_opening.specs.Opening.{Finds, HasVersionTables, IsFirst, IsFoundAs, IsFree, IsOurs, verdict_of}
+use Rattle.reg_opening.proofs.Versions.{schema_first}
 use Rattle.reg_opening.specs.declared.open.Found.{Found}
 use Rattle.reg_opening.specs.declared.open.Found.TheVariants as finding
 use Rattle.reg_vacancies.specs.Vacancies.{AreVacanciesOf}
 use Rattle.reg_sql.specs.Keeping.{KeepsOffice}
-use Rattle.reg_sql.specs.Opening.{Brings, HasNoTables, IsRefused, IsTakenOver, TakesOver}
+use Rattle.reg_sql.specs.Opening.{Brings, HasNoTables, IsAsItWas, IsRefused, IsTakenOver, TakesOver}
 use Rattle.reg_sql.specs.declared.open.OpenFault.{OpenFault}
 use Rattle.reg_sql.specs.declared.open.OpenFault.TheVariants as refusals
 
 -- ---- A store that is refused
 
-module _ (fresh : Bool) (old new : State) where
+as_it_was : (old new : State) → IsIdle old → IsIdle new → (Works new → Works old)
+    → (Works new → new.now ≡ old.now) → IsAsItWas old new
+as_it_was old new idle rest worked same = record {
+  worked = worked;
+  mode = rest.autocommit ∙ sym idle.autocommit;
+  now = same;
+  committed = λ w. sym (rest.settled w) ∙ same w ∙ idle.settled (worked w);
+}
+
+module _ (fresh : Bool) (old new : State) (idle : IsIdle old) (rest : IsIdle new) where
   pub refused_over : (refusal : OpenFault) → (Works new → Works old)
       → (Works new → new.now ≡ old.now) → (Works new → IsRefused fresh old.now refusal)
       → TakesOver fresh old new (Err refusal)
@@ -46,7 +57,7 @@ module _ (fresh : Bool) (old new : State) where
     opened = λ h. tt;
     live = λ honest. tt;
     refused = λ auto w. refused w;
-    unchanged = same;
+    unchanged = as_it_was old new idle rest worked same;
   }
 
 -- ---- An office that is founded
@@ -58,14 +69,25 @@ not_free First schema is free = let taken = (subst AreFree is free).0 in absurd 
 not_free Second schema is free = let taken = (subst AreFree is free).0 in absurd (cc)
 not_free Third schema is free = let taken = (subst AreFree is free).0 in absurd (cc)
 
-module _ (old new : State) (free : AreFree old.now.schema) where
+-- so are they where they are found
+finds_used : (v : Version) (schema : Schema) → FindsTablesOf v schema → ¬ AreFree schema
+finds_used First schema finds is =
+    let named = finds.0.has.named in let free = rw named at is.0 in absurd (cc)
+finds_used Second schema finds is =
+    let named = finds.0.has.named in let free = rw named at is.0 in absurd (cc)
+finds_used Third schema finds is =
+    let named = finds.0.has.named in let free = rw named at is.0 in absurd (cc)
+
+module _ (old new : State) (idle : IsIdle old) (free : AreFree old.now.schema) where
   founded_taken : HasTables new.now.schema
       → (HasNoTables old.now → new.now.schema ≡ office_schema)
       → (new.now.schema ≡ office_schema → HasNoTables old.now)
+      → (HasCounter old.now.schema → IsBegunBeside old.now new.now)
       → IsTakenOver true old.now new.now
-  founded_taken has alone was = record {
+  founded_taken has alone was beside = record {
     has = has;
-    from = inr (inl (refl, free));
+    first = λ v tables begins. absurd (finds_used v old.now.schema tables.0 free);
+    from = inr (inl (record { wanted = refl; free = free; beside = beside }));
     alone = λ stands. elim stands [
       | inl version ↦ absurd (not_free version.0 old.now.schema version.1 free)
       | inr none ↦ alone none
@@ -73,28 +95,30 @@ module _ (old new : State) (free : AreFree old.now.schema) where
     was_alone = λ is. inr (was is);
   }
 
-  pub founded_over : (result : Result Vacancies OpenFault) → (Works new → Works old)
+  pub founded_over : (result : Result Vacancies OpenFault) → IsIdle new → (Works new → Works old)
       → IfOk result (λ v. KeepsOffice (Some v) new)
       → (Works new → IfOk result (λ v. HasTables new.now.schema))
       → (Works new → IfOk result (λ v. HasNoTables old.now → new.now.schema ≡ office_schema))
       → (Holds new → IfOk result (λ v. HasNoTables old.now × (world_in new ≡ empty_world)))
+      → (Works new → IfOk result (λ v. AreFree old.now.schema
+      → HasCounter old.now.schema → IsBegunBeside old.now new.now))
       → (HasCleanDisk new → IfOk result (λ v. IsTrue new.is_open))
       → IfErr result (λ refusal. (given : KeeperFault) × (refusal ≡ refusals.Fault given))
       → (Works new → IfErr result (λ refusal. new.now ≡ old.now)) → TakesOver true old new result
-  founded_over (Ok v) worked keeps has alone empty live fault same = record {
+  founded_over (Ok v) rest worked keeps has alone empty beside live fault same = record {
     worked = worked;
     keeps = keeps;
     taken = λ w. founded_taken (has w) (alone w)
-        (λ is. (empty (record { works = w; tables = is })).0);
+        (λ is. (empty (record { works = w; tables = is })).0) (beside w free);
     opened = λ h. inr (refl, (empty h).0, (empty h).1);
     live = λ honest.
         let is_open = live honest.clean in
         ((worked (record { clean = honest.clean; is_open = is_open })).clean, λ was_open. is_open);
     refused = λ auto w. tt;
-    unchanged = λ w. tt;
+    unchanged = tt;
   }
-  founded_over (Err e) worked keeps has alone empty live fault same =
-      refused_over true old new e worked same
+  founded_over (Err e) rest worked keeps has alone empty beside live fault same =
+      refused_over true old new idle rest e worked same
       (λ w. subst (IsRefused true old.now) (sym fault.1) tt)
 
 -- ---- An office that is there
@@ -121,6 +145,27 @@ only_version Third Second schema is tables =
     let named = (subst (FindsTablesOf Third) is tables.0).1.1.1.1.1.1.1.1.1.1.1.1.0.has.named in
     absurd (cc)
 only_version Third Third schema is tables = refl
+
+-- nor is it said to have the tables of two versions
+one_version : (v u : Version) (schema : Schema) → FindsTablesOf v schema × AreFreeLater v schema
+    → FindsTablesOf u schema × AreFreeLater u schema → u ≡ v
+one_version First First schema a b = refl
+one_version First Second schema a b =
+    let named = b.0.1.1.1.1.1.1.1.1.1.1.0.has.named in let free = rw named at a.1.0 in absurd (cc)
+one_version First Third schema a b =
+    let named = b.0.1.1.1.1.1.1.1.1.1.1.0.has.named in let free = rw named at a.1.0 in absurd (cc)
+one_version Second First schema a b =
+    let named = a.0.1.1.1.1.1.1.1.1.1.1.0.has.named in let free = rw named at b.1.0 in absurd (cc)
+one_version Second Second schema a b = refl
+one_version Second Third schema a b =
+    let named = b.0.1.1.1.1.1.1.1.1.1.1.1.1.0.has.named in
+    let free = rw named at a.1.0 in absurd (cc)
+one_version Third First schema a b =
+    let named = a.0.1.1.1.1.1.1.1.1.1.1.0.has.named in let free = rw named at b.1.0 in absurd (cc)
+one_version Third Second schema a b =
+    let named = a.0.1.1.1.1.1.1.1.1.1.1.1.1.0.has.named in
+    let free = rw named at b.1.0 in absurd (cc)
+one_version Third Third schema a b = refl
 
 -- tables that were there are there where others came
 all_still : {n m : ℕ} {old new : Schema} (all : List Table) → Extends n m old new
@@ -196,7 +241,7 @@ none_there Second schema is finds =
 none_there Third schema is finds =
     let named = (subst (FindsTablesOf Third) is finds).0.has.named in absurd (cc)
 
-module _ (fresh : Bool) (old new : State) {E : Type 0} (f : Found)
+module _ (fresh : Bool) (old new : State) (idle : IsIdle old) {E : Type 0} (f : Found)
     (finds : Finds {E = E} old new (Ok f)) where
   -- what was found is told of the store as it was
   told : (g : Found) → f ≡ g → Works new → IsFoundAs old.now (verdict_of g)
@@ -205,7 +250,7 @@ module _ (fresh : Bool) (old new : State) {E : Type 0} (f : Found)
   pub version_over : (n : ℤ) → f ≡ finding.OtherVersion n
       → TakesOver fresh old new (Err (refusals.Version n))
   version_over n is =
-      refused_over fresh old new (refusals.Version n) finds.stays.worked finds.stays.unchanged
+      refused_over fresh old new idle finds.rest (refusals.Version n) finds.stays.worked finds.stays.unchanged
       (λ w. elim (told (finding.OtherVersion n) is w) [
         | inl first ↦ (first.1, inl first.0)
         | inr beside ↦ (beside.0, inr (beside.1, beside.2))
@@ -214,10 +259,10 @@ module _ (fresh : Bool) (old new : State) {E : Type 0} (f : Found)
   pub not_ours_over : f ≡ finding.NotOurs → (fresh ≡ true → ¬ AreFree old.now.schema)
       → TakesOver fresh old new (Err refusals.NotOurs)
   not_ours_over is taken =
-      refused_over fresh old new refusals.NotOurs finds.stays.worked finds.stays.unchanged
+      refused_over fresh old new idle finds.rest refusals.NotOurs finds.stays.worked finds.stays.unchanged
       (λ w.
       let none = told finding.NotOurs is w in
-      (none.0, none.1, taken))
+      (none.0.0, none.0.1, taken, none.1))
 
   module _ (v : Version) (free : Vacancies) (is : f ≡ finding.Ours v free) where
     -- its tables were there
@@ -228,7 +273,15 @@ module _ (fresh : Bool) (old new : State) {E : Type 0} (f : Found)
     ours_was w alone = (told (finding.Ours v free) is w).1 alone
 
     free_was : Works new → old.now.schema ≡ schema_of v → AreVacanciesOf (content_at v old.now) free
-    free_was w = subst (IsFree old.now) is (finds.free w)
+    free_was w alone = (subst (IsFree old.now) is (finds.free w)) (schema_first v alone)
+
+    -- its rows are an office's where its tables come first
+    first_was : Works new → (u : Version) → HasVersionTables u old.now
+        → BeginsWith (table_count u) old.now.schema → IsFirst u old.now
+    first_was w u tables =
+        subst (λ (u : Version). BeginsWith (table_count u) old.now.schema → IsFirst u old.now)
+        (sym (one_version v u old.now.schema (had w) tables))
+        (told (finding.Ours v free) is w).2
 
   -- ---- Of the newest version
 
@@ -244,6 +297,7 @@ module _ (fresh : Bool) (old new : State) {E : Type 0} (f : Found)
         let has = all_has old.now.schema office_schema.tables tables.0 in
         record {
           has = subst (λ (db : Database). HasTables db.schema) (sym same) has;
+          first = first_was newest free is w;
           from = inl same;
           alone = λ stands. elim stands [
             | inl version ↦
@@ -278,7 +332,7 @@ module _ (fresh : Bool) (old new : State) {E : Type 0} (f : Found)
         finds.endures.stays_open honest.clean honest.unfailed,
       );
       refused = λ auto w. tt;
-      unchanged = λ w. tt;
+      unchanged = tt;
     }
 
   -- ---- Of an older version
@@ -288,7 +342,7 @@ module _ (fresh : Bool) (old new : State) {E : Type 0} (f : Found)
     pub older_over : (result : Result Vacancies OpenFault) → Brings v free new last result
         → TakesOver fresh old last result
     older_over (Err e) brings =
-        refused_over fresh old last e (λ w. finds.stays.worked (brings.worked w))
+        refused_over fresh old last idle brings.rest e (λ w. finds.stays.worked (brings.worked w))
         (λ w. brings.unchanged w ∙ finds.stays.unchanged (brings.worked w))
         (λ w. subst (IsRefused fresh old.now) (sym brings.fault.1) tt)
     older_over (Ok kept) brings =
@@ -321,6 +375,7 @@ module _ (fresh : Bool) (old new : State) {E : Type 0} (f : Found)
               GainsTables (later_than v) db.schema last.now.schema) (same w) (brings.gained w) in
               record {
                 has = brought v old.now.schema last.now.schema tables.0 gained;
+                first = first_was v free is (brings.worked w);
                 from = inr (inr (v, older, tables.0, tables.1));
                 alone = λ stands. elim stands [
                   | inl version ↦
@@ -341,5 +396,5 @@ module _ (fresh : Bool) (old new : State) {E : Type 0} (f : Found)
               let worked = brings.worked (record { clean = honest.clean; is_open = is_open }) in
               (finds.endures.clean worked.clean, λ was_open. is_open);
           refused = λ auto w. tt;
-          unchanged = λ w. tt;
+          unchanged = tt;
         }

@@ -1,10 +1,16 @@
 -- What an opening finds in a store, and what it leaves of it.
-use Rattle.std.specs.Prelude.{◌≡◌, ◌≢◌, ◌⊎◌, ℤ, Bool, true, false, Result, IfOk, IfErr, IsTrue, Some}
+use Rattle.std.specs.Prelude.{◌≡◌, ◌≢◌, ◌⊎◌, ℤ, Bool, true, false, Result, Ok, Err, IfOk, IfErr, IsTrue, Option, None, Some}
 use Rattle.sqlite.specs.Effect.{Database, IsDatabase}
-use Rattle.sqlite.specs.Files.{AreFoundIn, HoldsDatabase}
+use Rattle.sqlite.specs.Files.{AreFoundIn, FailsToOpenFiles, HoldsDatabase, IsCleanLeft, file_state, image_of}
+use Rattle.sqlite.specs.Opening.{is_open_error}
 use Rattle.sqlite.specs.Tree.{Trees}
 use Rattle.sqlite_wal.specs.Recovery.{Image}
 use Rattle.sqlite.specs.State.{State, HasCleanDisk}
+use Rattle.sqlite.specs.declared.file.Leftover.{Leftover}
+use Rattle.sqlite_disk.specs.declared.Disk as disk
+use Rattle.sqlite_disk.specs.declared.Files.{Files}
+use Rattle.sqlite_store.specs.declared.store.FileStore.{FileStore}
+use Rattle.sqlite.specs.Held.{Held}
 use Rattle.sqlite.specs.declared.error.Error.{Error}
 use Rattle.sqlite.specs.declared.error.Error.TheVariants.{SqliteFailure}
 use Rattle.sqlite.specs.declared.error.ErrorCode.TheVariants.{NotADatabase, DatabaseCorrupt, OutOfMemory, CannotOpen, DatabaseBusy}
@@ -14,13 +20,13 @@ use Rattle.reg_keeper.specs.declared.keeper.Fault.TheVariants.{Memory, Store}
 use Rattle.reg_vacancies.specs.declared.vacancies.Vacancies.{Vacancies}
 use Rattle.reg_tables.specs.Connection.{Holds, IsIdle, Works}
 use Rattle.reg_tables.specs.Having.{AreFree, AreFreeLater, FindsTablesOf, GainsTables, HasTable, HasTables}
-use Rattle.reg_tables.specs.Making.{IsMigrated, no_schema}
+use Rattle.reg_tables.specs.Making.{HasCounter, IsBegunBeside, IsMigrated, no_schema}
 use Rattle.reg_tables.specs.Schema.{office_schema, office_table}
 use Rattle.reg_tables.specs.Selecting.{BeginsWith}
-use Rattle.reg_tables.specs.Version.{IsOther, later_than, newest, schema_of}
+use Rattle.reg_tables.specs.Version.{IsOther, later_than, newest, schema_of, table_count}
 use Rattle.reg_tables.specs.declared.version.Version.{Version}
 use Rattle.reg_statements.specs.Content.{IsStoredAs, content_at, world_in}
-use Rattle.reg_opening.specs.Opening.{IsOfVersion, IsOurs}
+use Rattle.reg_opening.specs.Opening.{HasVersionTables, IsFirst, IsOfVersion, IsOurs}
 use Rattle.reg_sql.specs.Keeping.{IsHonest, KeepsOffice}
 use Rattle.reg_sql.specs.declared.open.OpenFault.{OpenFault}
 use Rattle.reg_sql.specs.declared.open.OpenFault.TheVariants as refusals
@@ -51,12 +57,22 @@ abbrev pub WasOlder : Database → Type 0
 WasOlder db =
     (v : Version) × (v ≢ newest) × FindsTablesOf v db.schema × AreFreeLater v db.schema
 
+-- A new office was wanted, and no name of its tables was taken. It is begun beside what is there,
+-- which stays as it was.
+pub record IsBegun (fresh : Bool) (old new : Database) : Type 0 where
+  pub wanted : fresh ≡ true
+  pub free : AreFree old.schema
+  pub beside : HasCounter old.schema → IsBegunBeside old new
+
 -- The tables of an office are there, whatever stands beside them. They were there before, and
--- nothing was changed; or a new office was wanted and none of their names was taken; or those of an
--- older version were there, and no name of the others was taken.
+-- nothing was changed; or a new office was begun; or those of an older version were there, and no
+-- name of the others was taken. Where those of a version came first, whatever followed them, their
+-- rows were an office's that is well kept.
 pub record IsTakenOver (fresh : Bool) (old new : Database) : Type 0 where
   pub has : HasTables new.schema
-  pub from : (new ≡ old) ⊎ (((fresh ≡ true) × AreFree old.schema) ⊎ WasOlder old)
+  pub first : (v : Version) → HasVersionTables v old → BeginsWith (table_count v) old.schema
+      → IsFirst v old
+  pub from : (new ≡ old) ⊎ (IsBegun fresh old new ⊎ WasOlder old)
   pub alone : StandsAlone old → new.schema ≡ office_schema
   pub was_alone : new.schema ≡ office_schema → StandsAlone old
 
@@ -68,11 +84,20 @@ IsRefused fresh db (refusals.Version n) =
 IsRefused fresh db refusals.NotOurs =
     ((v : Version) → ¬ IsOurs v db) × ((n : ℤ) → IsOfVersion n db → ¬ IsOther n)
     × (fresh ≡ true → ¬ AreFree db.schema)
+    × ((v : Version) → ¬ (HasVersionTables v db × IsFirst v db))
 IsRefused fresh db (refusals.Fault fault) = Unit {0}
 
 -- the disk was honest before, and nothing has shut the store
 abbrev pub StaysLive : State → State → Type 0
 StaysLive old new = HasCleanDisk old × (IsTrue old.is_open → IsTrue new.is_open)
+
+-- What comes back is as it was, unless the store has failed for good: what is seen and what is
+-- committed are the same, and no transaction was begun or ended.
+pub record IsAsItWas (old new : State) : Type 0 where
+  pub worked : Works new → Works old
+  pub mode : new.in_transaction ≡ old.in_transaction
+  pub now : Works new → new.now ≡ old.now
+  pub committed : Works new → new.committed ≡ old.committed
 
 -- A call that takes a store over, or leaves it as it was.
 pub record TakesOver (fresh : Bool) (old new : State) (result : Result Vacancies OpenFault)
@@ -83,7 +108,7 @@ pub record TakesOver (fresh : Bool) (old new : State) (result : Result Vacancies
   pub opened : Holds new → IfOk result (λ vacancies. IsOpened fresh old.now (world_in new))
   pub live : IsHonest new → IfOk result (λ vacancies. StaysLive old new)
   pub refused : old.in_transaction ≡ false → Works new → IfErr result (IsRefused fresh old.now)
-  pub unchanged : Works new → IfErr result (λ fault. new.now ≡ old.now)
+  pub unchanged : IfErr result (λ fault. IsAsItWas old new)
 
 -- A call that brings an office of an older version to the newest, or leaves it as it was. What was
 -- free in it is handed back.
@@ -109,3 +134,46 @@ refusal_of (SqliteFailure DatabaseCorrupt) = refusals.NotOurs
 refusal_of (SqliteFailure CannotOpen) = refusals.NotOurs
 refusal_of (SqliteFailure DatabaseBusy) = refusals.NotOurs
 refusal_of _ = refusals.Fault Store
+
+-- ---- Files in which no office is
+
+module _ {D : Type 0} {g : disk.Ghosts D} where
+  -- files that held this were opened and read, and the library says why they are no store
+  pub record IsUnread (image : Image) (left : Leftover D g) (error : Error) : Type 0 where
+    pub files : Files D
+    pub held : image_of g files ≡ image
+    pub cause : FailsToOpenFiles files left error
+
+  -- why no store was opened, by the library's error and what it left of the files
+  abbrev pub IsUnopened : Image → Option (Leftover D g) → Error → Type 0
+  IsUnopened image None error =
+      (error ≡ SqliteFailure CannotOpen)
+      ⊎ ((error ≡ SqliteFailure OutOfMemory) ⊎ (error ≡ SqliteFailure DatabaseBusy))
+  IsUnopened image (Some left) error =
+      IsTrue (is_open_error error) × (IsCleanLeft left → IsUnread image left error)
+
+-- the store that was found in files is refused, and no transaction is open on it
+pub record IsRefusedStore (fresh : Bool) (image : Image) (refusal : OpenFault) (s : State)
+    : Type 0 where
+  pub autocommit : s.in_transaction ≡ false
+  pub settled : s.now ≡ s.committed
+  pub found : IsFoundIn image s.now
+  pub refused : IsRefused fresh s.now refusal
+
+-- why there is no office in files that held this: the store that was opened is refused as it was
+-- found; or none was opened, and the fault is what the library's error is to an office
+module _ {D : Type 0} {g : disk.Ghosts D} where
+  abbrev pub IsRefusedAt : Bool → Image → OpenFault
+      → Result (Held (FileStore D g)) (Option (Leftover D g)) → Type 0
+  IsRefusedAt fresh image refusal (Ok conn) =
+      Works (file_state conn) → IsRefusedStore fresh image refusal (file_state conn)
+  IsRefusedAt fresh image refusal (Err left) =
+      (error : Error) × IsUnopened image left error × (refusal ≡ refusal_of error)
+
+  -- so it is of a call that gives a keeper over such files, or the error alone: what was opened is
+  -- dropped
+  abbrev pub IsRefusedOf : {K : Type 0} → Result K OpenFault → (K → Held (FileStore D g)) → Bool
+      → Image → Type 0
+  IsRefusedOf result tables fresh image = IfErr result (λ refusal.
+      (left : Result (Held (FileStore D g)) (Option (Leftover D g)))
+      × IsRefusedAt fresh image refusal left)

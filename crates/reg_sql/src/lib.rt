@@ -1,7 +1,11 @@
 //! An office kept in SQLite tables.
 #![tactic(auto)]
 
+mod copying;
 mod following;
 pub mod keeper;
+pub mod look;
 pub mod open;
+mod reason;
+pub mod trouble;
 mod vacancies;

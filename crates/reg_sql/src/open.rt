@@ -5,18 +5,20 @@ ghost use Rattle.sqlite.specs.Effect.{Database};
 ghost use Rattle.sqlite.specs.Files.{file_state};
 ghost use Rattle.sqlite.specs.Held.{state};
 ghost use Rattle.sqlite.specs.State.{HasCleanDisk};
-ghost use Rattle.sqlite.specs.Steps.{over_memory};
+ghost use Rattle.sqlite.specs.Steps.{IsEmpty, over_memory};
 ghost use Rattle.sqlite_wal.specs.Files.{image_at};
 ghost use Rattle.reg_core.specs.World.{empty_world};
 ghost use Rattle.reg_keeper.specs.declared.keeper.Fault.{Fault as KeeperFault};
 ghost use Rattle.reg_tables.specs.Connection.{Holds, IsIdle, Tells, Works};
 ghost use Rattle.reg_tables.specs.Having.{AreFree, HasTables};
+ghost use Rattle.reg_tables.specs.Making.{HasCounter, IsBegunBeside};
 ghost use Rattle.reg_tables.specs.Schema.{office_schema};
 ghost use Rattle.reg_tables.specs.Version.{newest};
 ghost use Rattle.reg_statements.specs.Content.{world_in};
 ghost use Rattle.reg_sql.specs.Keeping.{IsHonest, KeepsOffice};
-ghost use Rattle.reg_sql.specs.Opening.{Brings, HasNoTables, IsFoundIn, IsOpened, IsRefused, IsTakenOver};
-ghost use Rattle.reg_sql.specs.Opening.{StandsAlone, TakesOver, refusal_of};
+ghost use Rattle.reg_sql.specs.Opening.{Brings, HasNoTables, IsAsItWas, IsFoundIn, IsOpened, IsRefused};
+ghost use Rattle.reg_sql.specs.Opening.{IsRefusedAt, IsRefusedOf, IsTakenOver, StandsAlone, TakesOver};
+ghost use Rattle.reg_sql.specs.Opening.{refusal_of};
 ghost use Rattle.reg_sql.specs.declared.open.OpenFault.TheVariants as refusals;
 
 use crate::keeper::SqlKeeper;
@@ -28,7 +30,7 @@ use reg_tables::migrate::migrate;
 use reg_tables::schema::has_room;
 use reg_tables::version::Version;
 use reg_vacancies::vacancies::Vacancies;
-use sqlite::{Alter, Connection, Error, ErrorCode, FileFrom, FileStore, MemStore, Start};
+use sqlite::{Alter, Connection, Error, ErrorCode, FileFrom, FileStore, Leftover, MemStore, Start};
 use std::alloc::{AllocError, Global};
 
 /// Why no office is opened. The store is as it was.
@@ -56,11 +58,11 @@ impl From<Fault> for OpenFault {
 impl<S: Alter> SqlKeeper<S> {
     /// Takes over the store of a connection. A `fresh` office is founded where no name of its tables
     /// is taken; else the store must have the tables of an office whose content is well kept, and
-    /// each row is read once. An office of an older version is brought to the newest in one
+    /// the columns of each row are read once. An office of an older version is brought to the newest in one
     /// transaction: the tables that it lacks come, their names not being taken, and its content is
     /// the same. Other tables may stand beside them, and are not looked at. A connection inside a
-    /// transaction is not ours. Where it is refused the connection comes back, and nothing was
-    /// changed.
+    /// transaction is not ours. Where it is refused the connection comes back as it was: nothing was
+    /// changed or committed, and no transaction was begun or ended.
     pub fn adopt(
         alloc: Global,
         mut conn: Connection<S>,
@@ -79,9 +81,8 @@ impl<S: Alter> SqlKeeper<S> {
         ensures refused { IfErr result (λ refusal. (state S.Store conn).in_transaction ≡ false
             → Works (state S.Store refusal.1)
             → IsRefused fresh (state S.Store conn).now refusal.0) }
-        ensures unchanged { IfErr result (λ refusal. Works (state S.Store refusal.1)
-            → Works (state S.Store conn)
-            × ((state S.Store refusal.1).now ≡ (state S.Store conn).now)) }
+        ensures unchanged { IfErr result (λ refusal.
+            IsAsItWas (state S.Store conn) (state S.Store refusal.1)) }
     {
         match take_over(alloc, &mut conn, fresh) {
             Ok(vacancies) => Ok(SqlKeeper::new(alloc, conn, vacancies)),
@@ -156,6 +157,7 @@ fn is_to_found<S: Alter>(alloc: Global, conn: &Connection<S>, fresh: bool) -> Re
 /// Founds an office beside what stands in a store.
 fn found<S: Alter>(alloc: Global, conn: &mut Connection<S>) -> Result<Vacancies, OpenFault>
     requires { IsIdle (state S.Store conn.old) }
+    ensures rest { IsIdle (state S.Store conn.new) }
     ensures worked { Works (state S.Store conn.new) → Works (state S.Store conn.old) }
     ensures keeps { IfOk result (λ vacancies.
         KeepsOffice (Some vacancies) (state S.Store conn.new)) }
@@ -167,6 +169,10 @@ fn found<S: Alter>(alloc: Global, conn: &mut Connection<S>) -> Result<Vacancies,
     ensures empty { Holds (state S.Store conn.new)
         → IfOk result (λ vacancies. HasNoTables (state S.Store conn.old).now
         × (world_in (state S.Store conn.new) ≡ empty_world)) }
+    ensures beside { Works (state S.Store conn.new)
+        → IfOk result (λ vacancies. AreFree (state S.Store conn.old).now.schema
+        → HasCounter (state S.Store conn.old).now.schema
+        → IsBegunBeside (state S.Store conn.old).now (state S.Store conn.new).now) }
     ensures live { HasCleanDisk (state S.Store conn.new)
         → IfOk result (λ vacancies. IsTrue (state S.Store conn.new).is_open) }
     ensures fault { IfErr result (λ refusal. (given : KeeperFault) × (refusal ≡ refusals.Fault given)) }
@@ -179,21 +185,35 @@ fn found<S: Alter>(alloc: Global, conn: &mut Connection<S>) -> Result<Vacancies,
     }
 }
 
+/// A store in memory, without tables.
+fn empty_memory(alloc: Global) -> Result<Connection<MemStore>, Fault>
+    ensures { IfOk result (λ conn. IsEmpty (state over_memory conn)) }
+{
+    let conn = Connection::open_in_memory(alloc)?;
+    Ok(conn)
+}
+
 /// The empty office in a store in memory.
 pub fn in_memory(alloc: Global) -> Result<SqlKeeper<MemStore>, OpenFault>
     ensures empty { IfOk result (λ keeper. Holds (state over_memory keeper.tables)
         × (world_in (state over_memory keeper.tables) ≡ empty_world)) }
     ensures fault { IfErr result (λ refusal. (given : KeeperFault) × (refusal ≡ refusals.Fault given)) }
 {
-    let mut conn = Connection::open_in_memory(alloc).map_err(Fault::from)?;
+    let mut conn = empty_memory(alloc)?;
     let vacancies = found(alloc, &mut conn)?;
     Ok(SqlKeeper::new(alloc, conn, vacancies))
 }
 
+/// What was opened of files in which no office is: the store, as it was found; or none, and what is
+/// left of the files, where they were opened.
+pub type Opened<T> = Result<Connection<FileStore<FileFrom<T>>>, Option<Leftover<FileFrom<T>>>>;
+
 /// The office in the files at a path, where `start` says what they hold. A `fresh` one is founded
 /// where there is no file, or one in which no name of its tables is taken; else an absent file is
 /// not ours, and may be left there empty. Nor is one ours that cannot be opened, or is none of
-/// SQLite's.
+/// SQLite's. What is refused is refused as by `adopt`, where the library opens it; else the library's
+/// error says why: want of memory, a disk that failed or is full, or a file that is too long is a
+/// fault, and any other is `NotOurs`.
 pub fn from_path<T: Start>(
     rt: &HostRuntime,
     path: &str,
@@ -206,20 +226,41 @@ pub fn from_path<T: Start>(
     ensures live { IfOk result (λ keeper. IsHonest (file_state keeper.tables)
         → (found : Database) × IsFoundIn (image_at T.Start) found
         × (StandsAlone found → Holds (file_state keeper.tables))) }
+    ensures refused { IsRefusedOf result (λ keeper. keeper.tables) fresh (image_at T.Start) }
+{
+    match open_path(rt, path, fresh, start) {
+        Ok(keeper) => Ok(keeper),
+        Err((fault, left)) => {
+            drop(left);
+            Err(fault)
+        }
+    }
+}
+
+/// The same, and what was opened comes back where there is no office: what is said of a fault is
+/// said of that.
+pub fn open_path<T: Start>(
+    rt: &HostRuntime,
+    path: &str,
+    fresh: bool,
+    start: T,
+) -> Result<SqlKeeper<FileStore<FileFrom<T>>>, (OpenFault, Opened<T>)>
+    ensures opened { IfOk result (λ keeper. Holds (file_state keeper.tables)
+        → (found : Database) × IsFoundIn (image_at T.Start) found
+        × IsOpened fresh found (world_in (file_state keeper.tables))) }
+    ensures live { IfOk result (λ keeper. IsHonest (file_state keeper.tables)
+        → (found : Database) × IsFoundIn (image_at T.Start) found
+        × (StandsAlone found → Holds (file_state keeper.tables))) }
+    ensures refused { IfErr result (λ refusal.
+        IsRefusedAt fresh (image_at T.Start) refusal.0 refusal.1) }
 {
     let conn = match Connection::open_from(rt, path, false, start) {
         Ok(conn) => conn,
-        Err((error, left)) => {
-            drop(left);
-            return Err(refusal(&error));
-        }
+        Err((error, left)) => return Err((refusal(&error), Err(left))),
     };
     match SqlKeeper::adopt(rt.alloc(), conn, fresh) {
         Ok(keeper) => Ok(keeper),
-        Err((fault, conn)) => {
-            drop(conn);
-            Err(fault)
-        }
+        Err((fault, conn)) => Err((fault, Ok(conn))),
     }
 }
 

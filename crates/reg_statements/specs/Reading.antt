@@ -1,18 +1,33 @@
 -- The rows of a query as values.
-use Rattle.std.specs.Prelude.{◌≡◌, List, map, Some, Option, IsSome, MatchOption, Vec}
+use Rattle.std.specs.Prelude.{◌≡◌, ℕ, List, map, Some, Option, IsSome, MatchOption, Vec}
 use Rattle.std.specs.List.{AllByRecursion}
 use Rattle.std.specs.declared.alloc.Global.{Global}
 use Rattle.sqlite.specs.Order.{Row}
+use Rattle.sqlite.specs.State.{State, Shown}
 use Rattle.sqlite.specs.declared.error.Error.{Error}
 use Rattle.sqlite.specs.declared.error.Error.TheVariants.{SqliteFailure}
 use Rattle.sqlite.specs.declared.error.ErrorCode.TheVariants.{OutOfMemory}
 use Rattle.reg_keeper.specs.declared.keeper.Fault.{Fault}
 use Rattle.reg_keeper.specs.declared.keeper.Fault.TheVariants.{Memory, Store}
+use Rattle.reg_tables.specs.Connection.{Works}
+use Rattle.reg_tables.specs.Faulting.{IsExcused}
 
 -- what an error of the store is to an office
 abbrev pub fault_of : Error → Fault
 fault_of (SqliteFailure OutOfMemory) = Memory
 fault_of _ = Store
+
+-- the library's error that a fault tells: why the store gave it
+pub record IsFault (old new : State) (fault : Fault) : Type 0 where
+  pub error : Error
+  pub told : fault ≡ fault_of error
+  pub cause : IsExcused old new error
+
+-- a fault of the store that a query is: the rows that it shows are not what they have to be
+pub record IsMisread (sql : List ℕ) (params : Row) (old new : State) (Reads : List Row → Type 0)
+    (fault : Fault) : Type 0 where
+  pub told : fault ≡ Store
+  pub rows : Works new → (rows : List Row) × Shown sql params old new rows × ¬ Reads rows
 
 -- the value of each row, or none where a row has no value
 abbrev pub AreRead : {T : Type 0} → (Row → Option T) → List Row → Option (Vec T Global) → Type 0

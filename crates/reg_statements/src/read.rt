@@ -1,12 +1,13 @@
 //! The rows of a query as values.
-ghost use Rattle.std.specs.Prelude.{◌≡◌, ◌⊎◌, ◌++◌, false, [], ◌∷◌, IfOk};
+ghost use Rattle.std.specs.Prelude.{◌≡◌, ◌⊎◌, ◌++◌, false, [], ◌∷◌, IfErr, IfOk};
 ghost use Rattle.sqlite.specs.Held.{state};
 ghost use Rattle.sqlite.specs.State.{HasCleanDisk, IsUnchanged, IsRolledBack, Shown};
 ghost use Rattle.sqlite.specs.Values.{bound};
 ghost use Rattle.reg_tables.specs.Connection.{Endures, IsIdle, Stays, Works};
+ghost use Rattle.reg_tables.specs.Faulting.{IsExcused};
 ghost use Rattle.reg_tables.specs.Kinds.{IsQuery};
 ghost use Rattle.reg_tables.specs.Lasting.{Lasts};
-ghost use Rattle.reg_statements.specs.Reading.{AreRead};
+ghost use Rattle.reg_statements.specs.Reading.{AreRead, IsFault};
 
 use crate::write::fault;
 use reg_keeper::keeper::Fault;
@@ -54,6 +55,7 @@ fn read_rows<S: Alter, T: Record>(
         IsUnchanged (state S.Store conn.old) (state S.Store conn.new) × (rows : _)
         × Shown sql.now (bound params.now) (state S.Store conn.old) (state S.Store conn.new) rows
         × AreRead T.of rows o) }
+    ensures cause { IfErr result (IsExcused (state S.Store conn.old) (state S.Store conn.new)) }
 {
     let mut all = Some(Vec::new(alloc));
     let mut rows = conn.query(sql, params)?;
@@ -66,7 +68,8 @@ fn read_rows<S: Alter, T: Record>(
     Err(Error::SqliteFailure(ErrorCode::OperationInterrupted))
 }
 
-/// The rows of a query, one at a time, where each has its form.
+/// The rows of a query, one at a time, where each has its form. A fault is what the library's error
+/// is: want of memory is `Memory`, and any other `Store`.
 pub fn load<S: Alter, T: Record>(
     alloc: Global,
     conn: &mut Connection<S>,
@@ -81,6 +84,7 @@ pub fn load<S: Alter, T: Record>(
     ensures rows { Works (state S.Store conn.new) → IfOk result (λ o. (rows : _)
         × Shown sql.now (bound params.now) (state S.Store conn.old) (state S.Store conn.new) rows
         × AreRead T.of rows o) }
+    ensures fault { IfErr result (IsFault (state S.Store conn.old) (state S.Store conn.new)) }
 {
     match read_rows(alloc, conn, sql, params) {
         Ok(rows) => Ok(rows),

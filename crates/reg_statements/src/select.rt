@@ -1,11 +1,13 @@
 //! Queries over the tables of an office.
-ghost use Rattle.std.specs.Prelude.{◌≡◌, ◌↔◌, IfOk, IsTrue, option_to_list};
+ghost use Rattle.std.specs.Prelude.{◌≡◌, ◌⊎◌, ◌↔◌, IfErr, IfOk, IsTrue, MatchResult, option_to_list};
 ghost use Rattle.sqlite.specs.Held.{state};
 ghost use Rattle.sqlite.specs.State.{Shown};
 ghost use Rattle.sqlite.specs.Values.{bound};
 ghost use Rattle.reg_tables.specs.Connection.{Endures, IsIdle, Stays, Works};
 ghost use Rattle.reg_tables.specs.Kinds.{IsQuery};
-ghost use Rattle.reg_statements.specs.Loading.{IsAscending, ReadAs};
+ghost use Rattle.reg_keeper.specs.declared.keeper.Fault.TheVariants as faults;
+ghost use Rattle.reg_statements.specs.Loading.{IsAscending, ReadAs, ReadsInOrder, ReadsOne};
+ghost use Rattle.reg_statements.specs.Reading.{IsFault, IsMisread};
 
 use crate::read::load;
 use reg_keeper::keeper::Fault;
@@ -31,6 +33,9 @@ pub fn one<S: Alter, T: Record>(
     ensures row { Works (state S.Store conn.new) → IfOk result (λ o. (rows : _)
         × Shown sql.now (bound params.now) (state S.Store conn.old) (state S.Store conn.new) rows
         × ReadAs T.of rows (option_to_list o)) }
+    ensures fault { IfErr result (λ fault. IsFault (state S.Store conn.old) (state S.Store conn.new)
+        fault ⊎ IsMisread sql.now (bound params.now) (state S.Store conn.old)
+        (state S.Store conn.new) (ReadsOne T.of) fault) }
 {
     let Some(mut rows) = load(alloc, conn, sql, params)? else {
         return Err(Fault::Store);
@@ -60,10 +65,25 @@ pub fn all<S: Alter, T: Keyed>(
     ensures rows { Works (state S.Store conn.new) → IfOk result (λ all. (rows : _)
         × Shown sql.now (bound params.now) (state S.Store conn.old) (state S.Store conn.new) rows
         × ReadAs T.of rows all.items) }
+    ensures fault { IfErr result (λ fault. IsFault (state S.Store conn.old) (state S.Store conn.new)
+        fault ⊎ IsMisread sql.now (bound params.now) (state S.Store conn.old)
+        (state S.Store conn.new) (ReadsInOrder T.of T.order) fault) }
 {
     match load(alloc, conn, sql, params)? {
-        Some(rows) if are_ascending(rows.as_slice()) => Ok(rows),
-        _ => Err(Fault::Store),
+        Some(rows) => in_order(rows),
+        None => Err(Fault::Store),
+    }
+}
+
+/// Rows that come each before the next. Others are a fault of the store.
+fn in_order<T: Keyed>(rows: Vec<T>) -> Result<Vec<T>, Fault>
+    ensures { MatchResult result (λ all. (all ≡ rows) × IsAscending T.order rows.items)
+        (λ fault. (fault ≡ faults.Store) × ¬ IsAscending T.order rows.items) }
+{
+    if are_ascending(rows.as_slice()) {
+        Ok(rows)
+    } else {
+        Err(Fault::Store)
     }
 }
 

@@ -1,11 +1,11 @@
 //! Statements that write.
-ghost use Rattle.std.specs.Prelude.{◌≡◌, IfOk, OnOk};
+ghost use Rattle.std.specs.Prelude.{◌≡◌, IfErr, IfOk, OnOk};
 ghost use Rattle.std.specs.Prelude.{Ok as Done};
 ghost use Rattle.sqlite.specs.Held.{state};
 ghost use Rattle.sqlite.specs.State.{Executes, HasCleanDisk, KeepsCommit};
 ghost use Rattle.sqlite.specs.Values.{bound};
 ghost use Rattle.reg_tables.specs.Connection.{Endures, WentOn};
-ghost use Rattle.reg_statements.specs.Reading.{fault_of};
+ghost use Rattle.reg_statements.specs.Reading.{IsFault, fault_of};
 
 use reg_keeper::keeper::Fault;
 use reg_tables::write::run;
@@ -37,6 +37,8 @@ pub fn write<S: Alter>(
     ensures ran { HasCleanDisk (state S.Store tx.new.conn.now)
         → IfOk result (λ count. Executes sql.now (bound params.now)
         (state S.Store tx.old.conn.now) (state S.Store tx.new.conn.now) (Done count)) }
+    ensures fault { IfErr result (IsFault (state S.Store tx.old.conn.now)
+        (state S.Store tx.new.conn.now)) }
 {
     match run(tx, sql, params) {
         Ok(count) => Ok(count),

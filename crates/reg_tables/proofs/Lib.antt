@@ -4,12 +4,15 @@ pub mod InsertLemmas
 pub mod GivenRows
 pub mod InsertStatements
 pub mod PutStatements
+pub mod InsertBeside
 pub mod MakeLemmas
+pub mod BesideLemmas
 pub mod MigrateLemmas
 pub mod PartLemmas
 pub mod TextSlices
 pub mod SelectLemmas
 pub mod ValueLemmas
+pub mod Faults
 pub mod FlatMaps
 pub mod JoinLemmas
 pub mod SeatJoin

@@ -1,10 +1,10 @@
 -- What CREATE TABLE texts make, one after the other.
 use Rattle.std.proofs.Common.{◌≡◌, ◌⊎◌, inr, ◌≤◌, ℕ, List, [], ◌∷◌, ◌++◌, length, drop, Bool, true, false}
-use Rattle.std.proofs.Common.{not, ◌==◌, ◌&&◌, Ok, Err, Result, OnOk}
+use Rattle.std.proofs.Common.{not, ◌==◌, ◌&&◌, Ok, Err, Result, OnOk, inl, Option, Some, None, codes, is_some, slice_get, option_and_then}
 use Rattle.std.proofs.Common.{refl, sym, subst, ◌∙◌, arith}
-use Rattle.std.specs.List.{AllByRecursion, list_all, list_any}
+use Rattle.std.specs.List.{AllByRecursion, list_all, list_any, position_from}
 use Rattle.std.specs.List.Sorted.{IsPermutation}
-use Rattle.std.proofs.lemmas.Bool.{and_parts, or_parts}
+use Rattle.std.proofs.lemmas.Bool.{and_parts, cases_Bool, not-false, or_parts}
 use Rattle.std.proofs.lemmas.List.Folds.{list_any-append}
 use Rattle.std.specs.Fmt.{digits}
 use Rattle.sqlite.specs.Tree.{Trees}
@@ -12,26 +12,32 @@ use Rattle.sqlite.specs.Table.{Table}
 use Rattle.sqlite.specs.Schema.{Schema}
 use Rattle.sqlite.specs.State.{State, HasCleanDisk, KeepsCommit}
 use Rattle.sqlite_catalog.specs.Change.{created, next_tree, KeepsRows}
-use Rattle.sqlite_schema.specs.Names.{same_name}
+use Rattle.sqlite_schema.specs.Names.{same_name, table_named}
 use Rattle.sqlite_trees.specs.View.{doubt}
-use Rattle.sqlite.specs.Does.{lacks_sequence}
+use Rattle.sqlite.specs.Rows.{sequence}
 use Rattle.sqlite.specs.Effect.{Database}
 use Rattle.sqlite.proofs.Callers.{one_permutation}
 use Rattle.reg_tables.specs.Schema.{office_table, office_schema, office_texts}
 use Rattle.reg_tables.specs.Connection.{WentOn}
 use Rattle.reg_tables.specs.Having.{Defines, Gains, GainsEach, unplaced}
 use Rattle.reg_tables.specs.Inside.{GoesInside}
-use Rattle.reg_tables.specs.Making.{AreCountless, AreToBeEmpty, HasRows, IsBlank, IsFounded}
+use Rattle.reg_tables.specs.Making.{AreToBeEmpty, HasCounter, HasRows, IsBlank, IsFounded}
 use Rattle.reg_tables.specs.Making.{IsMade, MakesEach, MakesOne, no_schema, version_row, with_tables}
 use Rattle.reg_tables.specs.Editing.{IsOffice}
 use Rattle.reg_tables.specs.Inserting.{AddedRow}
 use Rattle.reg_tables.proofs.DefineTexts.{all_countless, all_defined}
+use Rattle.reg_tables.proofs.Library.GrowingLists.{before_more, got_before}
 use Rattle.reg_tables.proofs.Library.GrowingSchemas.{gains_each}
 use Rattle.reg_tables.proofs.InsertLemmas.{apart_if, unindexed}
 
 pub on_ok : {A E : Type 0} {P Q : Type 0} (r : Result A E) → (P → Q) → OnOk r P → OnOk r Q
 on_ok (Ok a) f p = f p
 on_ok (Err e) f p = tt
+
+pub on_all : {A E : Type 0} {P Q R S : Type 0} (r : Result A E) → (P → Q → R → S) → OnOk r P
+    → OnOk r Q → OnOk r R → OnOk r S
+on_all (Ok a) f p q s = f p q s
+on_all (Err e) f p q s = tt
 
 -- ---- The rows
 
@@ -48,15 +54,59 @@ all_and : (P : Table → Type 0) (tables : List Table) (t : Table) → AllByRecu
 all_and P [] t all p = (p, tt)
 all_and P (s ∷ tables) t all p = (all.0, all_and P tables t all.1 p)
 
--- a table that counts no rowids needs no other
-pub countless : (tables : List Table) (t : Table) → AreCountless tables → t.is_counted ≡ false
-    → AreCountless (tables ++ t ∷ [])
-countless tables t none uncounted =
-    list_any-append (λ (t : Table). t.is_counted) tables (t ∷ []) ∙ rw (none, uncounted) refl
+-- ---- The table that counts rowids
 
-pub uncounted_lacks : (schema : Schema) → AreCountless schema.tables
-    → lacks_sequence schema ≡ false
-uncounted_lacks schema none = rw none refl
+module _ (schema : Schema) (name : List ℕ) where
+  abbrev found : Option ℕ → Option Table
+  found = option_and_then (slice_get schema.tables)
+
+  -- the table of a name is there
+  there_named : is_some (found (table_named schema name)) ≡ true
+      → (at : ℕ) × (t : Table) × (table_named schema name ≡ Some at)
+      × (slice_get schema.tables at ≡ Some t)
+  there_named = go (table_named schema name) refl
+    where
+      at_place : (at : ℕ) (o : Option Table) → table_named schema name ≡ Some at
+          → slice_get schema.tables at ≡ o → is_some o ≡ true
+          → (at : ℕ) × (t : Table) × (table_named schema name ≡ Some at)
+          × (slice_get schema.tables at ≡ Some t)
+      at_place at None named there some = absurd (cc)
+      at_place at (Some t) named there some = (at, t, named, there)
+
+      go : (o : Option ℕ) → table_named schema name ≡ o → is_some (found o) ≡ true
+          → (at : ℕ) × (t : Table) × (table_named schema name ≡ Some at)
+          × (slice_get schema.tables at ≡ Some t)
+      go None named some = absurd (cc)
+      go (Some at) named some = at_place at (slice_get schema.tables at) named refl some
+
+  -- and stays where others come
+  still_named : (more : List Table) → is_some (found (table_named schema name)) ≡ true
+      → is_some (option_and_then (slice_get (schema.tables ++ more))
+      (position_from (λ (t : Table). same_name t.name name) 0 (schema.tables ++ more))) ≡ true
+  still_named more some =
+      let it = there_named some in
+      rw (
+        before_more (λ (t : Table). same_name t.name name) schema.tables more 0 it.0 it.2,
+        got_before schema.tables more it.0 it.1 it.3,
+      ) refl
+
+never_both : (b c : Bool) → c ≡ true → (b && not c) ≡ false
+never_both true c is = rw is refl
+never_both false c is = refl
+
+-- a table that counts no rowids needs no other
+pub counter_stays : (schema : Schema) (table : Table) → HasCounter schema
+    → table.is_counted ≡ false → HasCounter (created schema table)
+counter_stays schema table has uncounted =
+    let new : Table = record table { tree = next_tree schema } in
+    let counts = λ (t : Table). t.is_counted in
+    elim (cases_Bool (list_any counts schema.tables)) [
+      | inl some ↦
+          let seen : not (is_some (sequence schema)) ≡ false = rw some at has in
+          never_both _ _ (still_named schema (codes "sqlite_sequence") (new ∷ [])
+          (not-false _ seen))
+      | inr none ↦ rw (list_any-append counts schema.tables (new ∷ []), none, uncounted) refl
+    ]
 
 -- a table comes to those whose rows are known
 has_more : (schema : Schema) (table : Table) (held : Trees) (old new : Database)
@@ -88,7 +138,7 @@ made_each text texts a b c one each schema (t ∷ tables) held defined none unco
     let parts = or_parts t.is_counted (list_any (λ (t : Table). t.is_counted) tables) uncounted in
     let made = one schema t defined.0 none parts.0 has.has in
     let all = each (created schema (unplaced t)) tables held defined.1
-    (countless schema.tables (record t { tree = next_tree schema }) none parts.0) parts.1 empty.1
+    (counter_stays schema (unplaced t) none parts.0) parts.1 empty.1
     (has_more schema (unplaced t) held a b made empty.0 has) in
     (all.0, λ sound. all.1 made.sound)
 

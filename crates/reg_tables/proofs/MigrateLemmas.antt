@@ -15,7 +15,7 @@ use Rattle.sqlite_catalog.specs.Change.{created, next_tree}
 use Rattle.sqlite_schema.specs.Names.{same_name}
 use Rattle.reg_tables.specs.Editing.{AreKeyed, ChangedRows, IsOffice, IsOfficeOf}
 use Rattle.reg_tables.specs.Having.{AreDefined, AreNamed, unplaced}
-use Rattle.reg_tables.specs.Making.{AreCountless, AreToBeEmpty, HasLater, HasRows, HasVersion}
+use Rattle.reg_tables.specs.Making.{AreCountless, AreToBeEmpty, HasCounter, HasLater, HasRows, HasVersion}
 use Rattle.reg_tables.specs.Making.{IsMigrated, IsRaised, MakesEach, with_tables}
 use Rattle.reg_tables.specs.Schema.{office_schema, office_table, office_texts}
 use Rattle.reg_tables.specs.Version.{below, end_of, later_than, newest, number_of, rows_of}
@@ -63,7 +63,7 @@ record IsPart (v : Version) : Type 0 where
   all : office_schema.tables ≡ tables_of v ++ later_than v
   most : drop 1 office_schema.tables ≡ drop 1 (tables_of v) ++ later_than v
   made : with_tables (schema_of v) (later_than v) ≡ office_schema
-  countless : AreCountless (tables_of v)
+  counter : HasCounter (schema_of v)
   later_countless : AreCountless (later_than v)
   low : list_all (is_below (end_of v)) (tables_of v) ≡ true
   high : list_all (λ t. not (is_below (end_of v) t)) (later_than v) ≡ true
@@ -71,9 +71,9 @@ record IsPart (v : Version) : Type 0 where
 
 is_part : (v : Version) → IsPart v
 unfolding digits
-is_part First = record { all = refl; most = refl; made = refl; countless = refl; later_countless = refl; low = refl; high = refl; next = refl }
-is_part Second = record { all = refl; most = refl; made = refl; countless = refl; later_countless = refl; low = refl; high = refl; next = refl }
-is_part Third = record { all = refl; most = refl; made = refl; countless = refl; later_countless = refl; low = refl; high = refl; next = refl }
+is_part First = record { all = refl; most = refl; made = refl; counter = refl; later_countless = refl; low = refl; high = refl; next = refl }
+is_part Second = record { all = refl; most = refl; made = refl; counter = refl; later_countless = refl; low = refl; high = refl; next = refl }
+is_part Third = record { all = refl; most = refl; made = refl; counter = refl; later_countless = refl; low = refl; high = refl; next = refl }
 
 pub later_named : (v : Version) → AreNamed (later_than v)
 unfolding same_name
@@ -148,7 +148,7 @@ later_made v old new makes office =
     let part = is_part v in
     let n = end_of v in
     let made = makes (schema_of v) (later_than v) (below n old.trees) (later_defined v)
-    part.countless part.later_countless
+    part.counter part.later_countless
     (empty_next n old.trees (schema_of v) (later_than v) part.next)
     (record { has = office.schema; rows = held_below n old.trees (tables_of v) part.low }) in
     let has = subst (λ s. HasRows s (below n old.trees) new) part.made made.0 in

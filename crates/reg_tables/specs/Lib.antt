@@ -10,6 +10,7 @@ pub mod Joining
 pub mod Seats
 pub mod Texts
 pub mod Editing
+pub mod Faulting
 pub mod Bare
 pub mod Inside
 pub mod Kinds

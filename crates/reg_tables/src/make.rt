@@ -10,8 +10,8 @@ ghost use Rattle.reg_tables.specs.Connection.{IsIdle, WentOn, Works};
 ghost use Rattle.reg_tables.specs.Editing.{IsOffice};
 ghost use Rattle.reg_tables.specs.Having.{Defines, Gains, GainsEach, GainsTables, unplaced};
 ghost use Rattle.reg_tables.specs.Inside.{GoesInside, StaysInside};
-ghost use Rattle.reg_tables.specs.Making.{IsBlank, IsFounded, MakesEach, MakesOne};
-ghost use Rattle.reg_tables.specs.Making.{no_schema, version_row};
+ghost use Rattle.reg_tables.specs.Making.{AddsVersion, Founds, IsBlank};
+ghost use Rattle.reg_tables.specs.Making.{MakesEach, MakesOne, no_schema, version_row};
 ghost use Rattle.reg_tables.specs.Version.{table_count};
 ghost use Rattle.reg_tables.specs.Inserting.{AddedRow};
 
@@ -98,6 +98,9 @@ fn make_all<S: Alter>(tx: &mut Transaction<'_, S>) -> Result<(), Error>
     ensures gained { HasCleanDisk (state S.Store tx.new.conn.now)
         → OnOk result (GainsTables office_schema.tables (state S.Store tx.old.conn.now).now.schema
         (state S.Store tx.new.conn.now).now.schema) }
+    ensures makes { HasCleanDisk (state S.Store tx.new.conn.now)
+        → OnOk result (MakesEach office_texts (state S.Store tx.old.conn.now).now
+        (state S.Store tx.new.conn.now).now) }
 {
     make_each(tx, &TABLES)
 }
@@ -115,6 +118,9 @@ fn add_version<S: Alter>(tx: &mut Transaction<'_, S>) -> Result<(), Error>
     ensures defined { HasCleanDisk (state S.Store tx.new.conn.now)
         → OnOk result ((state S.Store tx.new.conn.now).now.schema
         ≡ (state S.Store tx.old.conn.now).now.schema) }
+    ensures anywhere { HasCleanDisk (state S.Store tx.new.conn.now)
+        → OnOk result (AddsVersion (state S.Store tx.old.conn.now).now
+        (state S.Store tx.new.conn.now).now) }
 {
     run(tx, texts::INSERT_VERSION, &[ValueRef::Int(NEWEST.number())])?;
     Ok(())
@@ -125,12 +131,9 @@ fn make_and_mark<S: Alter>(tx: &mut Transaction<'_, S>) -> Result<(), Error>
     ensures same_reference { tx.new.conn.ghost_name ≡ tx.old.conn.ghost_name }
     ensures inside { GoesInside (state S.Store tx.old.conn.now)
         (state S.Store tx.new.conn.now) result }
-    ensures made { HasCleanDisk (state S.Store tx.new.conn.now)
-        → OnOk result (IsBlank no_schema (state S.Store tx.old.conn.now).now
-        → IsFounded (state S.Store tx.new.conn.now).now) }
-    ensures gained { HasCleanDisk (state S.Store tx.new.conn.now)
-        → OnOk result (GainsTables office_schema.tables (state S.Store tx.old.conn.now).now.schema
-        (state S.Store tx.new.conn.now).now.schema) }
+    ensures founds { HasCleanDisk (state S.Store tx.new.conn.now)
+        → OnOk result (Founds (state S.Store tx.old.conn.now).now
+        (state S.Store tx.new.conn.now).now) }
 {
     make_all(tx)?;
     add_version(tx)
@@ -161,12 +164,8 @@ pub fn make_office<S: Alter>(conn: &mut Connection<S>) -> Result<(), Error>
     ensures worked { Works (state S.Store conn.new) → Works (state S.Store conn.old) }
     ensures live { HasCleanDisk (state S.Store conn.new)
         → OnOk result (IsTrue (state S.Store conn.new).is_open) }
-    ensures made { Works (state S.Store conn.new)
-        → OnOk result (IsBlank no_schema (state S.Store conn.old).now
-        → IsFounded (state S.Store conn.new).now) }
-    ensures gained { Works (state S.Store conn.new)
-        → OnOk result (GainsTables office_schema.tables (state S.Store conn.old).now.schema
-        (state S.Store conn.new).now.schema) }
+    ensures founds { Works (state S.Store conn.new)
+        → OnOk result (Founds (state S.Store conn.old).now (state S.Store conn.new).now) }
     ensures kept { Works (state S.Store conn.new)
         → OnErr result ((state S.Store conn.new).now ≡ (state S.Store conn.old).now) }
 {

@@ -1,11 +1,12 @@
 //! Statements that write, inside a transaction.
 
-ghost use Rattle.std.specs.Prelude.{◌≡◌, ◌≤◌, IfOk, OnOk};
+ghost use Rattle.std.specs.Prelude.{◌≡◌, ◌≤◌, IfErr, IfOk, OnOk};
 ghost use Rattle.sqlite_trees.specs.View.{doubt};
 ghost use Rattle.sqlite.specs.Held.{state};
 ghost use Rattle.sqlite.specs.State.{HasCleanDisk, KeepsCommit, Executes};
 ghost use Rattle.sqlite.specs.Values.{bound};
 ghost use Rattle.reg_tables.specs.Connection.{Endures, WentOn};
+ghost use Rattle.reg_tables.specs.Faulting.{IsExcused};
 
 use sqlite::types::ValueRef;
 use sqlite::{Alter, Error, Transaction};
@@ -27,6 +28,8 @@ pub fn run<S: Alter>(
     ensures ran { HasCleanDisk (state S.Store tx.new.conn.now)
         → IfOk result (λ count. Executes sql.now (bound params.now)
         (state S.Store tx.old.conn.now) (state S.Store tx.new.conn.now) (Ok count)) }
+    ensures cause { IfErr result (IsExcused (state S.Store tx.old.conn.now)
+        (state S.Store tx.new.conn.now)) }
 {
     tx.execute(sql, params)
 }

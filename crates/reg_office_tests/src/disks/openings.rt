@@ -1,7 +1,7 @@
 //! Stores that were written by other hands, and what they are to an office that opens them.
 use crate::disks::image::Image;
 use crate::disks::left::NEVER;
-use crate::disks::making::{blank, filled, prepared, refused, seen};
+use crate::disks::making::{blank, prepared, refused, seen};
 use crate::disks::sessions::{Outcome, Statement, carry_out};
 use reg_opening::open::Verdict;
 use reg_sql::open::OpenFault;
@@ -21,13 +21,6 @@ const VERSIONS: [(&str, Verdict); 9] = [
     ("UPDATE office SET version = 4", Verdict::OtherVersion(4)),
     ("UPDATE office SET version = 9", Verdict::OtherVersion(9)),
     ("UPDATE office SET version = -1", Verdict::OtherVersion(-1)),
-];
-
-// What leaves other tables beside those of the office.
-const BESIDE: [&str; 3] = [
-    "CREATE TABLE cars (plate TEXT PRIMARY KEY)",
-    "CREATE TABLE trips (plate TEXT, day INTEGER) STRICT",
-    "CREATE VIEW names AS SELECT name FROM registries",
 ];
 
 // What leaves other tables in the place of the office's.
@@ -71,11 +64,13 @@ const TAKEN: [&str; 7] = [
      private INTEGER, UNIQUE (holder, first)) STRICT",
 ];
 
-// A table of another program's, a row of it, and what touches that row.
-const CARS: &str = "CREATE TABLE cars (plate TEXT PRIMARY KEY)";
+/// A table of another program's.
+pub const CARS: &str = "CREATE TABLE cars (plate TEXT PRIMARY KEY)";
 
-const CAR: &str = "INSERT INTO cars (plate) VALUES ('a')";
+/// A row of it.
+pub const CAR: &str = "INSERT INTO cars (plate) VALUES ('a')";
 
+// What touches that row.
 const TOUCH: &str = "UPDATE cars SET plate = plate WHERE plate = 'a'";
 
 // What leaves rows that are no office's.
@@ -143,8 +138,8 @@ fn done(alloc: Global, image: &Image, statements: &[&str]) -> Result<(Outcome, I
     Ok((outcome.ok_or("a store")?, left.written))
 }
 
-// After this statement, if it goes through, the store is this.
-fn assert_after(
+/// After this statement, if it goes through, the store is this.
+pub fn assert_after(
     alloc: Global,
     image: &Image,
     sql: &str,
@@ -161,13 +156,13 @@ fn assert_not_ours(alloc: Global, statements: &[&str]) -> Result<(), Fail> {
     Ok(())
 }
 
-// The same is seen of the offices in these files.
-fn assert_same(alloc: Global, one: &Image, other: &Image) -> Result<(), Fail> {
+/// The same is seen of the offices in these files.
+pub fn assert_same(alloc: Global, one: &Image, other: &Image) -> Result<(), Fail> {
     ensure(seen(alloc, one)? == seen(alloc, other)?, "the same office")
 }
 
-// What opening says of a store: no fault, or this one.
-fn assert_fault(found: Option<OpenFault>, wanted: Option<OpenFault>) -> Result<(), Fail> {
+/// What opening says of a store: no fault, or this one.
+pub fn assert_fault(found: Option<OpenFault>, wanted: Option<OpenFault>) -> Result<(), Fail> {
     ensure(found == wanted, "what opening says")
 }
 
@@ -207,15 +202,15 @@ fn other_tables(rt: HostRuntime) -> Result<(), Fail> {
     assert_not_ours(rt.alloc(), &TABLES)
 }
 
-// These files after some statements.
-fn changed(alloc: Global, image: &Image, statements: &[&str]) -> Result<Image, Fail> {
+/// These files after some statements.
+pub fn changed(alloc: Global, image: &Image, statements: &[&str]) -> Result<Image, Fail> {
     let (outcome, after) = done(alloc, image, statements)?;
     outcome.changed.ok_or("statements that are done")?;
     Ok(after)
 }
 
-// The one row of another program's table is there.
-fn assert_car(alloc: Global, image: &Image) -> Result<(), Fail> {
+/// The one row of another program's table is there.
+pub fn assert_car(alloc: Global, image: &Image) -> Result<(), Fail> {
     let (outcome, _) = done(alloc, image, &[TOUCH])?;
     ensure(outcome.changed == Some(1), "a table with a car")
 }
@@ -231,32 +226,6 @@ fn other_tables_alone(rt: HostRuntime) -> Result<(), Fail> {
     assert_fault(fault, None)?;
     assert_same(alloc, &left, &blank(alloc)?)?;
     assert_car(alloc, &left)
-}
-
-#[test]
-fn an_office_after_other_tables(rt: HostRuntime) -> Result<(), Fail> {
-    let alloc = rt.alloc();
-    let image = changed(alloc, &Image::empty(alloc), &[CARS, CAR])?;
-    let (fault, founded) = refused(alloc, &image, true)?;
-    assert_fault(fault, None)?;
-    let made = filled(alloc, &founded)?;
-    assert_same(alloc, &made, &prepared(alloc)?)?;
-    assert_car(alloc, &made)?;
-    let (fault, again) = refused(alloc, &made, true)?;
-    assert_fault(fault, None)?;
-    assert_same(alloc, &again, &made)
-}
-
-#[test]
-fn other_tables_after_an_office(rt: HostRuntime) -> Result<(), Fail> {
-    let alloc = rt.alloc();
-    let image = prepared(alloc)?;
-    for sql in BESIDE {
-        assert_same(alloc, &changed(alloc, &image, &[sql])?, &image)?;
-    }
-    let beside = changed(alloc, &changed(alloc, &blank(alloc)?, &BESIDE)?, &[CAR])?;
-    assert_same(alloc, &filled(alloc, &beside)?, &image)?;
-    assert_car(alloc, &beside)
 }
 
 #[test]

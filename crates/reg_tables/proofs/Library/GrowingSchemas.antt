@@ -93,7 +93,7 @@ at_least low few grows =
       indexes_come = (grows.indexes_come.0, grows.indexes_come.1, omega (arith, few, indexes));
     }
 
-unnamed : (schema : Schema) (name : List ℕ) → is_used schema name ≡ false
+pub unnamed : (schema : Schema) (name : List ℕ) → is_used schema name ≡ false
     → table_named schema name ≡ None
 unnamed schema name free = go (table_named schema name) free
   where

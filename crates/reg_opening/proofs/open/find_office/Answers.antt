@@ -26,7 +26,7 @@ returns-in-Some g c =
       rest = read.idle;
       endures = read.endures;
       stays = read.stays;
-      found = λ works. (refl, has, λ is. rw c.in-Some.is at (read.rows works is));
+      found = λ works. (refl, has, λ begins. rw c.in-Some.is at (read.rows works begins));
     }
 
 pub returns-in-None : goal.returns-in-None
@@ -36,5 +36,5 @@ returns-in-None g c =
       rest = read.idle;
       endures = read.endures;
       stays = read.stays;
-      found = λ works is. rw c.in-None.is at (read.rows works is);
+      found = λ works has begins. rw c.in-None.is at (read.rows works begins);
     }

@@ -3,6 +3,8 @@ use Rattle.std.proofs.lemmas.Result.{IfOk-weaker}
 use Rattle.sqlite.specs.Effect.{Database}
 use Rattle.sqlite.specs.Held.{state}
 use Rattle.reg_core.specs.WellKept.{WellKept}
+use Rattle.reg_tables.specs.Selecting.{BeginsWith}
+use Rattle.reg_tables.specs.Version.{table_count}
 use Rattle.reg_statements.specs.Content.{content_at}
 use Rattle.reg_opening.specs.Feeding.{tables_at}
 use Rattle.reg_opening.specs.Opening.{LeaveFree}
@@ -16,7 +18,7 @@ returns-then-not-branch-clause-rows g c works schema =
     let no : c.in_ok-feed_parts.field-0 ≡ false = search rules in
     let same = c.in_ok-check_rowids.ensures.stays.unchanged (c.feed_parts.ensures.stays.worked works) in
     let fed = rw no at (c.in_ok-feed_parts.ensures.tells works
-    (ap (λ (db : Database). db.schema) same ∙ schema)) in
+    (subst (λ (db : Database). BeginsWith (table_count v) db.schema) (sym same) schema)) in
     λ both.
     let later = subst (λ (db : Database). AreParts (tables_at v db) × WellKept (content_at v db))
     (sym same) both in
@@ -31,7 +33,7 @@ returns-clause-rows g c works schema =
     let worked = c.feed_parts.ensures.stays.worked works in
     let same = c.in_ok-check_rowids.ensures.stays.unchanged worked in
     let fed = rw yes at (c.in_ok-feed_parts.ensures.tells works
-    (ap (λ (db : Database). db.schema) same ∙ schema)) in
+    (subst (λ (db : Database). BeginsWith (table_count v) db.schema) (sym same) schema)) in
     let keyed = c.in_ok-check_rowids.ensures.keyed worked (version_first v old.now schema) in
     IfOk-weaker c.free_of.result _ _ (λ free are.
     rows_told v old.now free keyed

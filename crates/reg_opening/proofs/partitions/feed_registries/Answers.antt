@@ -1,11 +1,12 @@
-use Rattle.std.proofs.Common.{map, ap, subst, ◌∙◌}
+use Rattle.std.proofs.Common.{map, subst, sym}
 use Rattle.std.proofs.lemmas.Result.{IfOk-weaker}
 use Rattle.std.specs.List.Sorted.{IsPermutation}
 use Rattle.sqlite.specs.Effect.{Database}
 use Rattle.sqlite.specs.Held.{state}
 use Rattle.reg_records.specs.Ranges.{range_in}
 use Rattle.reg_records.specs.Registries.{registry_in}
-use Rattle.reg_tables.specs.Selecting.{stored}
+use Rattle.reg_tables.specs.Selecting.{BeginsWith, stored}
+use Rattle.reg_tables.specs.Version.{table_count}
 use Rattle.reg_tables.proofs.Enduring.{endures_then}
 use Rattle.reg_tables.proofs.RestLemmas.{stays_then}
 use Rattle.reg_tables.proofs.Statements.Ranges.{all_ranges}
@@ -54,7 +55,7 @@ returns-in_default-2 g c = λ v.
       tells = λ works schema held kept.
           let found = rw c.in_default-2.is at (second.rows works) in
           let still = first.stays.unchanged (second.stays.worked works) in
-          let shown = ranges_shown v mid new found.0 (ap (λ (db : Database). db.schema) still ∙ schema)
+          let shown = ranges_shown v mid new found.0 (subst (λ (db : Database). BeginsWith (table_count v) db.schema) (sym still) schema)
           found.1 in
           unread_table (λ r. ((r.registry, r.range.lo), r.range)) (stored 5) range_in
           (tables_at v old.now).ranges found.0
@@ -80,7 +81,7 @@ returns g c = λ v.
           let still = first.stays.unchanged before in
           let moved = registries_shown v old mid found.0 schema found.1 in
           let along = ranges_shown v mid new places.0
-          (ap (λ (db : Database). db.schema) still ∙ schema) places.1 in
+          (subst (λ (db : Database). BeginsWith (table_count v) db.schema) (sym still) schema) places.1 in
           let fed = rw (c.as_slice.ensures.value, c.as_slice-2.ensures.value) at c.feed_partitions.ensures in
           IfOk-weaker c.feed_partitions.result _ _ (λ k is.
           registries_told (tables_at v old.now) c.args.audit.now c.feed_partitions.new.audit

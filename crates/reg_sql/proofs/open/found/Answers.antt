@@ -6,21 +6,24 @@ pub returns-in-Ok-clause-keeps : goal.returns-in-Ok-clause-keeps
 returns-in-Ok-clause-keeps g c =
     let old = state g.S.Store c.args.conn.now in
     let new = state g.S.Store c.make_office.new.conn in
-    let made = c.in-Ok.ensures in
+    let founds = c.in-Ok.ensures.founds in
     keeps_founded new c.make_office.ensures.rest
-    (λ h. (founded_alone old new (made.gained h.works) (made.made h.works) h).1) _ c.new.ensures
+    (λ h. (founded_alone old new (founds h.works).gained (founds h.works).made h).1) _ c.new.ensures
 
 pub returns-in-Ok-clause-has : goal.returns-in-Ok-clause-has
-returns-in-Ok-clause-has g c works = (c.in-Ok.ensures.gained works).has
+returns-in-Ok-clause-has g c works = (c.in-Ok.ensures.founds works).gained.has
 
 pub returns-in-Ok-clause-alone : goal.returns-in-Ok-clause-alone
 returns-in-Ok-clause-alone g c works none =
-    (c.in-Ok.ensures.made works (blank _ none)).office.schema
+    ((c.in-Ok.ensures.founds works).made (blank _ none)).office.schema
 
 pub returns-in-Ok-clause-empty : goal.returns-in-Ok-clause-empty
 returns-in-Ok-clause-empty g c h =
     let old = state g.S.Store c.args.conn.now in
     let new = state g.S.Store c.make_office.new.conn in
-    let made = c.in-Ok.ensures in
-    let both = founded_alone old new (made.gained h.works) (made.made h.works) h in
+    let founds = c.in-Ok.ensures.founds in
+    let both = founded_alone old new (founds h.works).gained (founds h.works).made h in
     (both.0, founded_empty new.now both.1)
+
+pub returns-in-Ok-clause-beside : goal.returns-in-Ok-clause-beside
+returns-in-Ok-clause-beside g c works = (c.in-Ok.ensures.founds works).beside

@@ -1,4 +1,4 @@
-use Rattle.std.proofs.Common.{◌≡◌, refl, subst, sym, rules}
+use Rattle.std.proofs.Common.{◌≡◌, refl, subst, sym}
 use Rattle.sqlite.specs.Held.{Held, state}
 use Rattle.sqlite.specs.Steps.{over_memory}
 use Rattle.sqlite_trees.specs.View.{doubt}
@@ -18,7 +18,7 @@ pub returns-clause-empty : goal.returns-clause-empty
 returns-clause-empty c =
     let founded = c.in_ok-vacancies.ensures in
     let works = always c.found.new.conn in
-    let none : HasNoTables (state over_memory c.in_ok-conn.conn).now = search rules in
+    let none : HasNoTables (state over_memory c.in_ok-conn.conn).now = c.in_ok-conn.ensures.2 in
     let holds : Holds (state over_memory c.found.new.conn) = record {
       works = works;
       tables = founded.alone works none;

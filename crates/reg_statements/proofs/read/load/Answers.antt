@@ -9,3 +9,7 @@ returns-in-Ok-clause-endures g c =
 pub returns-in-Err-clause-endures : goal.returns-in-Err-clause-endures
 returns-in-Err-clause-endures g c =
     endures_lasting (state g.S.Store c.args.conn.now) (state g.S.Store c.read_rows.new.conn) c.read_rows.ensures.lasts
+
+pub returns-in-Err-clause-fault : goal.returns-in-Err-clause-fault
+returns-in-Err-clause-fault g c =
+    record { error = c.in-Err.error; told = c.fault.ensures; cause = c.in-Err.ensures.cause }

@@ -1,11 +1,20 @@
-use Rattle.std.proofs.Common.{[], ◌∷◌, ◌++◌, refl, ◌∙◌, arith, rules}
+use Rattle.std.proofs.Common.{◌⊎◌, inl, inr, [], ◌∷◌, ◌++◌, refl, ◌∙◌, arith, rules}
+use Rattle.std.proofs.lemmas.Result.{err_from_is_err_and}
 use Rattle.sqlite.specs.Held.{state}
-use Rattle.sqlite.specs.State.{HasCleanDisk}
+use Rattle.sqlite.specs.State.{State, Fails, HasCleanDisk, IsUnchanged}
+use Rattle.sqlite.specs.declared.error.Error.{Error}
+use Rattle.reg_tables.specs.Faulting.{HasFailed, IsSame}
 use Rattle.sqlite.specs.Values.{bound}
+use Rattle.reg_tables.proofs.Faults.{failed_later, has_failed, is_same, not_queried}
 use Rattle.reg_tables.proofs.RestLemmas.{refused_rests, begun_idle, whole_answer, survives_lasts, lasts_then}
 use Rattle.sqlite.proofs.Callers.{unchanged_then}
 use Rattle.reg_statements.specs.Reading.{AreRead}
 use Rattle.reg_statements.proofs.read.read_rows.Goals as goal
+
+failed_or_not : (old new : State) (e : Error) → Fails old new ⊥ e ⊎ IsUnchanged old new
+    → HasFailed old new e ⊎ IsSame old new
+failed_or_not old new e (inl failed) = inl (has_failed old new ⊥ e failed)
+failed_or_not old new e (inr u) = inr (is_same old new u)
 
 pub returns-in_err-rows-clause-rests : goal.returns-in_err-rows-clause-rests
 returns-in_err-rows-clause-rests g c clean =
@@ -13,6 +22,31 @@ returns-in_err-rows-clause-rests g c clean =
     let new = state g.S.Store c.query.follows.lender-at-none in
     let refused = rw c.in_err-rows.was at c.query.follows.holds-at-none in
     refused_rests c.args.sql.now (bound c.args.params.now) old new _ (refused.err clean)
+
+pub returns-in_err-rows-clause-cause : goal.returns-in_err-rows-clause-cause
+returns-in_err-rows-clause-cause g c =
+    let out = err_from_is_err_and c.from_residual.result c.from_residual.ensures.1 in
+    rw (out.1, out.2) (λ clean.
+    let old = state g.S.Store c.args.conn.now in
+    let new = state g.S.Store c.query.follows.lender-at-none in
+    let refused = rw c.in_err-rows.was at c.query.follows.holds-at-none in
+    not_queried old new c.args.sql.now (bound c.args.params.now) _ (refused.err clean))
+
+pub returns-in_err-row-clause-cause : goal.returns-in_err-row-clause-cause
+returns-in_err-row-clause-cause g c =
+    let out = err_from_is_err_and c.from_residual-in_err-row.result
+    c.from_residual-in_err-row.ensures.1 in
+    rw (out.1, out.2) (λ clean.
+    let old = state g.S.Store c.args.conn.now in
+    let now = state g.S.Store c.rows.rows.conn.now in
+    let later = state g.S.Store c.next.follows.lender-at-none.conn.now in
+    let moved = c.next.follows.holds-at-none in
+    let late : HasCleanDisk later = search rules in
+    let early : HasCleanDisk now = omega (arith, moved.survives.clean, late) in
+    let ended = failed_or_not now later _ (rw c.in_err-row.was at (moved.kept late)) in
+    let done = failed_later old now later _ (c.rows.invariant.same early)
+    c.rows.invariant.lasts.counts ended in
+    search rules)
 
 pub rows-init : goal.rows-init
 rows-init g c =

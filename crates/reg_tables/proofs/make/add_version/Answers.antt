@@ -12,6 +12,7 @@ use Rattle.reg_tables.specs.Schema.{office_table}
 use Rattle.reg_tables.specs.Texts.{insert_version}
 use Rattle.reg_tables.proofs.Library.Writes.{written_schema}
 use Rattle.reg_tables.proofs.WriteTexts.{insert_version_writes}
+use Rattle.reg_tables.proofs.InsertBeside.{adds_version_there}
 use Rattle.reg_tables.proofs.make.add_version.Goals as goal
 
 pub returns-clause-added : goal.returns-clause-added
@@ -35,3 +36,9 @@ pub returns-clause-defined : goal.returns-clause-defined
 returns-clause-defined g c clean =
     written_schema _ _ (state g.S.Store c.args.tx.now.conn.now)
     (state g.S.Store c.run.new.tx.conn.now) _ insert_version_writes (c.in_ok-run.ensures.ran clean)
+
+pub returns-clause-anywhere : goal.returns-clause-anywhere
+returns-clause-anywhere g c clean =
+    let ran = rw c.number.ensures at (c.in_ok-run.ensures.ran clean) in
+    adds_version_there (state g.S.Store c.args.tx.now.conn.now)
+    (state g.S.Store c.run.new.tx.conn.now) _ ran

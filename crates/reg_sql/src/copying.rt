@@ -1,0 +1,106 @@
+//! The files of an office, copied into memory. They are read, and never written: an absent one is not
+//! made, and a file that cannot be written is copied like any other.
+ghost use Rattle.std.specs.Prelude.{IsTrue, IfOk};
+ghost use Rattle.sqlite_disk.specs.Memory.{memory_is_usable};
+
+use crate::trouble::Trouble;
+use os::RangeLock;
+use sqlite::Files;
+use sqlite_disk::{Disk, Memory};
+use std::alloc::Global;
+use std::fs;
+use std::io::{self, ErrorKind, Read};
+use std::os::fd::AsRawFd;
+use std::os::unix::fs::MetadataExt;
+
+/// Where in a file SQLite locks it, and how many bytes: its pending, reserved and shared locks.
+const LOCK_START: u64 = 1 << 30;
+
+const LOCK_BYTES: u64 = 512;
+
+/// Copies of the database file at a path and of its log, as they stand beside each other: nobody
+/// writes them meanwhile who locks them as SQLite does.
+pub fn copies(rt: &HostRuntime, path: &str) -> Result<Files<Memory>, Trouble>
+    ensures { IfOk result (λ files. IsTrue (memory_is_usable files.log)
+        × IsTrue (memory_is_usable files.db)) }
+{
+    if path == ":memory:" || path.starts_with("file:") {
+        return Err(Trouble::NoFile);
+    }
+    let real = fs::canonicalize(rt, path).map_err(trouble)?;
+    let mut db = open_shared(rt, real.as_str())?;
+    let log_path = format!(in rt.alloc(); "{}-wal", real.as_str())?;
+    let journal_path = format!(in rt.alloc(); "{}-journal", real.as_str())?;
+    drop(real);
+    if has_hot_journal(rt, journal_path.as_str())? {
+        return Err(Trouble::Journal);
+    }
+    let log = copy_of_log(rt, log_path.as_str())?;
+    let db = copy_of(rt.alloc(), &mut db)?;
+    Ok(Files { log, db })
+}
+
+/// A copy of the log at a path, which is empty where there is none.
+fn copy_of_log(rt: &HostRuntime, path: &str) -> Result<Memory, Trouble>
+    ensures { IfOk result (λ copy. IsTrue (memory_is_usable copy)) }
+{
+    match open_shared(rt, path) {
+        Ok(mut log) => copy_of(rt.alloc(), &mut log),
+        Err(Trouble::NoFile) => Ok(Memory::new(rt.alloc())),
+        Err(trouble) => Err(trouble),
+    }
+}
+
+/// Opens a regular file with one name for reading, where no other has it open to write it.
+fn open_shared(rt: &HostRuntime, path: &str) -> Result<fs::File, Trouble> {
+    let file = fs::open(rt, path).map_err(trouble)?;
+    let found = file.metadata().map_err(trouble)?;
+    if !found.is_file() || found.nlink() != 1 {
+        return Err(Trouble::Special);
+    }
+    if os::try_lock_range(file.as_raw_fd(), RangeLock::Shared, LOCK_START, LOCK_BYTES) != 0 {
+        return Err(Trouble::Busy);
+    }
+    Ok(file)
+}
+
+/// Whether SQLite left a rollback journal that it has to play back: one that is there, and does not
+/// begin with a zero.
+fn has_hot_journal(rt: &HostRuntime, path: &str) -> Result<bool, Trouble> {
+    match fs::open(rt, path) {
+        Ok(mut journal) => {
+            let mut first = [0];
+            let count = journal.read(&mut first).map_err(trouble)?;
+            Ok(count == 1 && first[0] != 0)
+        }
+        Err(error) if error.kind() == ErrorKind::NotFound => Ok(false),
+        Err(error) => Err(trouble(error)),
+    }
+}
+
+/// A copy of all the bytes of a reader.
+fn copy_of<R: Read>(alloc: Global, reader: &mut R) -> Result<Memory, Trouble>
+    ensures { IfOk result (λ copy. IsTrue (memory_is_usable copy)) }
+{
+    let mut copy = Memory::new(alloc);
+    let mut buffer = [0; 4096];
+    let mut at: usize = 0;
+    'reads: for _ in 0..u64::MAX {
+        let count = reader.read(&mut buffer).map_err(trouble)?;
+        if count == 0 {
+            return Ok(copy);
+        }
+        copy.write_at(at, &buffer[..count]).map_err(trouble)?;
+        at = at.checked_add(count).ok_or(Trouble::Memory)?;
+    }
+    Err(Trouble::Unreadable)
+}
+
+/// What an error of the system is to who looks at a file.
+fn trouble(error: io::Error) -> Trouble {
+    match error.kind() {
+        ErrorKind::OutOfMemory => Trouble::Memory,
+        ErrorKind::NotFound => Trouble::NoFile,
+        _ => Trouble::Unreadable,
+    }
+}

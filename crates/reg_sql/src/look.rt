@@ -1,0 +1,120 @@
+//! Offices that are looked at and not changed.
+ghost use Rattle.std.specs.Prelude.{◌≡◌, false, IfOk, IsTrue};
+ghost use Rattle.sqlite.specs.Held.{state};
+ghost use Rattle.sqlite_disk.specs.Memory.{memory_is_usable};
+ghost use Rattle.reg_tables.specs.Connection.{Holds, Works};
+ghost use Rattle.reg_tables.specs.Version.{schema_of};
+ghost use Rattle.reg_statements.specs.Content.{world_in};
+ghost use Rattle.reg_opening.specs.Opening.{IsOurs};
+ghost use Rattle.reg_sql.specs.Opening.{IsOpened};
+
+use crate::copying::copies;
+use crate::keeper::SqlKeeper;
+use crate::reason::reason;
+use crate::trouble::Trouble;
+use reg_opening::open::{Found, find};
+use reg_tables::version::Version;
+use sqlite::{Alter, Connection, Error, ErrorCode, FileStore, Files, Options};
+use sqlite_disk::Memory;
+use std::alloc::Global;
+use std::hash::{BuildHasher, RandomState};
+
+/// An office that was looked at: the version of its file, and a keeper over a copy in memory.
+#[derive(Drop)]
+pub struct Look<S: Alter> {
+    /// The version that the file says.
+    pub version: Version,
+    /// The content. A change of it changes the copy alone.
+    pub keeper: SqlKeeper<S>,
+}
+
+/// The office in the files at a path, which are read into memory and stay as they are: an older
+/// version is brought to the newest in the copy alone, and an absent file is not made.
+pub fn look_at(rt: &HostRuntime, path: &str) -> Result<Look<FileStore<Memory>>, Trouble> {
+    let files = copies(rt, path)?;
+    let seed = RandomState::new(rt)
+        .map_err(|_| Trouble::Unreadable)?
+        .hash_one(&0u8);
+    let conn = connect(rt.alloc(), files, seed)?;
+    look_into(rt.alloc(), conn)
+}
+
+/// A connection to copies of a database and its log.
+fn connect(
+    alloc: Global,
+    files: Files<Memory>,
+    seed: u64,
+) -> Result<Connection<FileStore<Memory>>, Trouble>
+    requires { IsTrue (memory_is_usable files.log) × IsTrue (memory_is_usable files.db) }
+{
+    match Connection::open_files(alloc, files, Options::new(seed)) {
+        Ok(conn) => Ok(conn),
+        Err((error, left)) => {
+            drop(left);
+            Err(trouble(&error))
+        }
+    }
+}
+
+/// What an error of copies that do not open is to who looks at them.
+fn trouble(error: &Error) -> Trouble {
+    match error {
+        Error::SqliteFailure(ErrorCode::OutOfMemory) => Trouble::Memory,
+        Error::SqliteFailure(ErrorCode::NotADatabase | ErrorCode::DatabaseCorrupt) => {
+            Trouble::NoDatabase
+        }
+        _ => Trouble::Store,
+    }
+}
+
+/// The office in a store, with the version that the store says. It is brought to the newest there.
+pub fn look_into<S: Alter + Drop>(
+    alloc: Global,
+    mut conn: Connection<S>,
+) -> Result<Look<S>, Trouble>
+    ensures opened { IfOk result (λ look. Holds (state S.Store look.keeper.tables)
+        → Works (state S.Store conn)
+        × IsOpened false (state S.Store conn).now (world_in (state S.Store look.keeper.tables))) }
+    ensures version { IfOk result (λ look. Holds (state S.Store look.keeper.tables)
+        → (state S.Store conn).now.schema ≡ schema_of look.version
+        → IsOurs look.version (state S.Store conn).now) }
+{
+    if !conn.is_autocommit() {
+        return Err(Trouble::NoTables);
+    }
+    match find(alloc, &mut conn)? {
+        Found::Ours(version, free) => {
+            drop(free);
+            adopted(alloc, conn, version)
+        }
+        Found::OtherVersion(version) => {
+            drop(conn);
+            Err(Trouble::Version(version))
+        }
+        Found::NotOurs => {
+            let trouble = reason(alloc, &mut conn);
+            drop(conn);
+            Err(trouble)
+        }
+    }
+}
+
+/// Takes over a store in which an office of a version was found.
+fn adopted<S: Alter + Drop>(
+    alloc: Global,
+    conn: Connection<S>,
+    version: Version,
+) -> Result<Look<S>, Trouble>
+    ensures same { IfOk result (λ look. look.version ≡ version) }
+    ensures opened { IfOk result (λ look. Holds (state S.Store look.keeper.tables)
+        → Works (state S.Store conn)
+        × IsOpened false (state S.Store conn).now (world_in (state S.Store look.keeper.tables))) }
+{
+    match SqlKeeper::adopt(alloc, conn, false) {
+        Ok(keeper) => Ok(Look { version, keeper }),
+        Err((fault, conn)) => {
+            drop(conn);
+            Err(Trouble::from(fault))
+        }
+    }
+}

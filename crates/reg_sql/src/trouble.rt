@@ -1,0 +1,111 @@
+//! What is wrong with a file in which no office is found, for people.
+use crate::open::OpenFault;
+use reg_keeper::keeper::Fault;
+use std::alloc::AllocError;
+use std::fmt;
+use std::fmt::{Display, Formatter, Write};
+
+/// What is wrong with a file in which no office is found.
+#[derive(Clone, Copy)]
+pub enum Trouble {
+    /// There is none.
+    NoFile,
+    /// It cannot be read.
+    Unreadable,
+    /// It is no regular file with one name.
+    Special,
+    /// Another has it open.
+    Busy,
+    /// A rollback journal stands beside it, which only SQLite can play back.
+    Journal,
+    /// It is no database, or a damaged one.
+    NoDatabase,
+    /// It has not the tables of an office, or not the row that says their version.
+    NoTables,
+    /// The office is of this version, which is not known.
+    Version(i64),
+    /// A row of this table does not read.
+    Unread(&'static str),
+    /// A row of this table does not fit the rows before it.
+    Unfit(&'static str),
+    /// Each row reads and fits, and the store is no office's all the same.
+    Unkept,
+    /// There was no memory.
+    Memory,
+    /// The copy in memory failed.
+    Store,
+}
+
+impl Trouble {
+    /// How an opening of the file for another job says it.
+    pub fn fault(self) -> OpenFault {
+        match self {
+            Trouble::Version(version) => OpenFault::Version(version),
+            Trouble::Memory => OpenFault::Fault(Fault::Memory),
+            Trouble::Store => OpenFault::Fault(Fault::Store),
+            _ => OpenFault::NotOurs,
+        }
+    }
+}
+
+impl From<AllocError> for Trouble {
+    ghost use Rattle.std.specs.Prelude.{◌≡◌};
+    ghost use Rattle.reg_sql.specs.declared.trouble.Trouble.TheVariants.{Memory};
+
+    ghost from_gives = { λ _ trouble. trouble ≡ Memory };
+
+    fn from(_error: AllocError) -> Trouble {
+        Trouble::Memory
+    }
+}
+
+impl From<Fault> for Trouble {
+    fn from(fault: Fault) -> Trouble {
+        match fault {
+            Fault::Memory => Trouble::Memory,
+            Fault::Store => Trouble::Store,
+        }
+    }
+}
+
+impl From<OpenFault> for Trouble {
+    fn from(fault: OpenFault) -> Trouble {
+        match fault {
+            OpenFault::Version(version) => Trouble::Version(version),
+            OpenFault::NotOurs => Trouble::Unkept,
+            OpenFault::Fault(fault) => Trouble::from(fault),
+        }
+    }
+}
+
+impl Display for Trouble {
+    fn fmt<W: Write>(&self, f: &mut Formatter<W>) -> fmt::Result {
+        match self {
+            Trouble::NoFile => f.write_str("there is no such file"),
+            Trouble::Unreadable => f.write_str("the file cannot be read"),
+            Trouble::Special => f.write_str("it is no regular file, or it has another name too"),
+            Trouble::Busy => f.write_str("another program has the file open"),
+            Trouble::Journal => {
+                f.write_str("SQLite left a rollback journal beside it: open it with sqlite3 first")
+            }
+            Trouble::NoDatabase => f.write_str("it is no SQLite database, or a damaged one"),
+            Trouble::NoTables => f.write_str("it has not the tables of an office"),
+            Trouble::Version(version) => {
+                write!(
+                    f,
+                    "it is an office of version {version}, which this program does not know"
+                )
+            }
+            Trouble::Unread(table) => write!(f, "a row of the table {table} does not read"),
+            Trouble::Unfit(table) => {
+                write!(
+                    f,
+                    "a row of the table {table} does not fit the rows before it"
+                )
+            }
+            Trouble::Unkept => f.write_str("its tables make no well kept office"),
+            Trouble::Memory => f.write_str("there was no memory"),
+            Trouble::Store => f.write_str("the copy in memory failed"),
+        }
+    }
+}
