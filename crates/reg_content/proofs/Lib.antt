@@ -25,3 +25,4 @@ pub mod SeatRows
 pub mod MarksWritten
 pub mod MinutesWritten
 pub mod LinkRows
+pub mod WholeTables

@@ -3,3 +3,4 @@ pub mod Seats
 pub mod Registries
 pub mod Marks
 pub mod Changing
+pub mod Whole

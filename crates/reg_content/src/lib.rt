@@ -17,3 +17,4 @@ pub mod registries;
 pub mod requests;
 pub mod reviews;
 mod rows;
+pub mod whole;

@@ -1,1 +1,2 @@
 pub mod Keeper
+pub mod Rows

@@ -16,7 +16,9 @@ ghost use Rattle.reg_core.specs.View.{agents_of, entries_of, holdings_of, princi
 ghost use Rattle.reg_core.specs.WellKept.{WellKept, CanApply};
 ghost use Rattle.reg_core.specs.World.{World, applied};
 ghost use Rattle.reg_keeper.specs.Keeper.{Selects, Makes};
+ghost use Rattle.reg_keeper.specs.Rows.{cap_rows, link_rows};
 
+use crate::rows::{CapRow, LinkRow};
 use reg_blocks::block::Block;
 use reg_blocks::pool::Pool;
 use reg_blocks::size::Size;
@@ -77,6 +79,11 @@ pub trait Keeper {
     fn cap(&mut self, digest: &Digest) -> Result<Option<Cap>, Fault>
         ensures { Selects world Holds Sound FAILS self.old self.new result
             (λ w cap. cap ≡ get w.caps digest.now) };
+
+    /// All capabilities, by the digests of the tokens that have them.
+    fn caps(&mut self) -> Result<Rows<CapRow>, Fault>
+        ensures { Selects world Holds Sound FAILS self.old self.new result
+            (λ w rows. rows ≡ cap_rows w.caps) };
 
     /// The names of all registries, in order.
     fn names(&mut self) -> Result<Rows<Name>, Fault>
@@ -204,6 +211,11 @@ pub trait Keeper {
     fn is_agent(&mut self, principal: &Account, agent: &Account) -> Result<bool, Fault>
         ensures { Selects world Holds Sound FAILS self.old self.new result
             (λ w is. is ≡ contains_key w.agents (principal.now, agent.now)) };
+
+    /// All principals with their agents, by principal and then by agent.
+    fn links(&mut self) -> Result<Rows<LinkRow>, Fault>
+        ensures { Selects world Holds Sound FAILS self.old self.new result
+            (λ w rows. rows ≡ link_rows w.agents) };
 
     /// Makes a change whole, or not at all.
     fn apply(&mut self, change: Change) -> Result<(), Fault>

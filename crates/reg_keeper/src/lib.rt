@@ -2,3 +2,4 @@
 #![tactic(auto)]
 
 pub mod keeper;
+pub mod rows;

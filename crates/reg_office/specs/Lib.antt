@@ -1,8 +1,10 @@
 pub mod Answers
 pub mod Caller
+pub mod Counting
 pub mod Decisions
 pub mod Found
 pub mod Pages
 pub mod Performs
+pub mod Revocation
 pub mod Rows
 pub mod Stops

@@ -6,6 +6,7 @@ mod agents;
 mod applicant;
 mod carrying;
 mod clerk;
+mod counting;
 mod desk;
 mod digest;
 mod expert;
@@ -16,7 +17,10 @@ pub mod laws;
 mod office;
 mod public;
 mod registers;
+mod revocation;
 mod stop;
 
+pub use counting::{CapCounts, Counts, EntryCounts, RequestCounts};
 pub use found::FoundFault;
 pub use office::Office;
+pub use revocation::{Choice, RevokeFault};

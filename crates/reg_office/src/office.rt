@@ -5,13 +5,18 @@ ghost use Rattle.reg_early.specs.Moment.{is_in_clock};
 ghost use Rattle.reg_core.specs.Command.{kind_of};
 ghost use Rattle.reg_core.specs.Names.{is_token};
 ghost use Rattle.reg_core.specs.Step.{answer_to};
-ghost use Rattle.reg_keeper.specs.Keeper.{MayFault, IsUnfailed, GoesOn};
+ghost use Rattle.reg_keeper.specs.Keeper.{MayFault, IsUnfailed, GoesOn, Selects};
+ghost use Rattle.reg_keeper.specs.Rows.{cap_rows};
 ghost use Rattle.reg_office.specs.Caller.{caller_of as caller, step_by, token_digest};
+ghost use Rattle.reg_office.specs.Counting.{counts};
 ghost use Rattle.reg_office.specs.Found.{WasFounded, IsCause, MayFound};
 ghost use Rattle.reg_office.specs.Performs.{Performs};
+ghost use Rattle.reg_office.specs.Revocation.{HasClerkAt, IsCause as IsRevokeCause, MayRevoke, revoked, taken};
 
 use crate::admission::admit;
+use crate::counting::{Counts, count};
 use crate::found::{FoundFault, found};
+use crate::revocation::{Choice, RevokeFault, revoke_chosen};
 use crate::stop::Stop;
 use crate::{applicant, clerk, expert, public};
 use reg_core::capability::Kind;
@@ -19,8 +24,10 @@ use reg_core::command::Command;
 use reg_core::content::Content;
 use reg_core::refusal::Refusal;
 use reg_core::reply::Reply;
-use reg_early::day::day_of;
+use reg_core::rows::Rows;
+use reg_early::day::{Day, day_of};
 use reg_keeper::keeper::{Fault, Keeper};
+use reg_keeper::rows::CapRow;
 use std::alloc::Global;
 use std::marker::Model;
 
@@ -66,6 +73,43 @@ impl<K: Keeper> Office<K> {
         ensures fault { IfErr result (MayFound K.FAILS) }
     {
         found(&mut self.keeper, token)
+    }
+
+    /// All capabilities, by the digests of the tokens that have them.
+    pub fn tokens(&mut self) -> Result<Rows<CapRow>, Fault>
+        ensures { Selects K.world K.Holds K.Sound K.FAILS self.old self.new result
+            (λ w rows. rows ≡ cap_rows w.caps) }
+    {
+        self.keeper.caps()
+    }
+
+    /// How many rows of each kind there are on a day, at a moment in seconds since
+    /// 1970-01-01T00:00:00Z. `Memory` where there is none, or where the entries are more than a number
+    /// can say.
+    pub fn count(&mut self, moment: u64, today: Day) -> Result<Counts, Fault>
+        ensures { Selects K.world K.Holds K.Sound K.FAILS self.old self.new result
+            (λ w given. given ≡ counts moment today w) }
+    {
+        count(&mut self.keeper, moment, today)
+    }
+
+    /// Takes away the capabilities that are chosen, one after the other, at a moment in seconds since
+    /// 1970-01-01T00:00:00Z, and gives their rows, by digest. Afterwards a clerk has a capability
+    /// that is valid then. `Token` where none may be taken, then `Own` where no such would be left,
+    /// and nothing has changed then. After a fault the first of them may be gone, and no others: the
+    /// same again takes the rest.
+    pub fn revoke(&mut self, moment: u64, choice: Choice<'_>) -> Result<Rows<CapRow>, RevokeFault>
+        ensures rows { K.Holds self.new →
+            IfOk result (λ rows. taken moment choice.entry (K.world self.old) ≡ Ok rows) }
+        ensures world { K.Holds self.new →
+            IfOk result (λ rows. K.world self.new ≡ revoked rows (K.world self.old)) }
+        ensures clerk { K.Holds self.new → OnOk result (HasClerkAt moment (K.world self.new)) }
+        ensures cause { K.Holds self.new → IfErr result
+            (IsRevokeCause moment choice.entry (K.world self.old) (K.world self.new)) }
+        ensures premise { GoesOn K.Holds K.Sound self.old self.new (IfErr result (MayRevoke false)) }
+        ensures fault { IfErr result (MayRevoke K.FAILS) }
+    {
+        revoke_chosen(self.alloc, &mut self.keeper, moment, choice)
     }
 
     /// Answers one command at a moment, in seconds since 1970-01-01T00:00:00Z, of the caller with

@@ -25,6 +25,7 @@ use reg_content::pool::{is_pooled, pool};
 use reg_content::registries::{names, ranges};
 use reg_content::requests::{all, own, own_one};
 use reg_content::reviews::{file, queue, queue_one};
+use reg_content::whole::{caps, links};
 use reg_core::capability::Cap;
 use reg_core::change::Change;
 use reg_core::entry::Entry;
@@ -35,6 +36,7 @@ use reg_core::request::Request;
 use reg_core::rows::Rows;
 use reg_core::text::{Account, Digest, Name, Ref};
 use reg_keeper::keeper::{Fault, Keeper};
+use reg_keeper::rows::{CapRow, LinkRow};
 use reg_ranges::policy::Policy;
 use reg_ranges::table::RangeTable;
 use reg_vacancies::vacancies::Vacancies;
@@ -165,6 +167,10 @@ impl<S: Alter> Keeper for SqlKeeper<S> {
         cap(self.tables.alloc, &mut self.tables.conn, digest)
     }
 
+    fn caps(&mut self) -> Result<Rows<CapRow>, Fault> {
+        caps(self.tables.alloc, &mut self.tables.conn)
+    }
+
     fn names(&mut self) -> Result<Rows<Name>, Fault> {
         names(self.tables.alloc, &mut self.tables.conn)
     }
@@ -269,6 +275,10 @@ impl<S: Alter> Keeper for SqlKeeper<S> {
 
     fn is_agent(&mut self, principal: &Account, agent: &Account) -> Result<bool, Fault> {
         is_agent(self.tables.alloc, &mut self.tables.conn, principal, agent)
+    }
+
+    fn links(&mut self) -> Result<Rows<LinkRow>, Fault> {
+        links(self.tables.alloc, &mut self.tables.conn)
     }
 
     fn apply(&mut self, change: Change) -> Result<(), Fault> {

@@ -24,7 +24,7 @@ mod reviews;
 
 use crate::maps::{row_at, set_row, unset_row};
 use blocks::Blocks;
-use caps::{Caps, cap_in};
+use caps::{Caps, cap_in, caps_in};
 use entries::{entries_in, entry_in};
 use links::Links;
 use reg_blocks::block::Block;
@@ -40,6 +40,7 @@ use reg_core::request::Request;
 use reg_core::rows::Rows;
 use reg_core::text::{Account, Digest, Name, Ref};
 use reg_keeper::keeper::{Fault, Keeper};
+use reg_keeper::rows::{CapRow, LinkRow};
 use reg_ranges::policy::Policy;
 use reg_ranges::table::RangeTable;
 use registrations::Registrations;
@@ -61,7 +62,7 @@ use std::collections::BTreeMap;
 /// an entry O(log n) for each range of its policy; the block due and whether a prefix is in the pool
 /// O(log n); a registry's ranges, its entries, an account's own requests, blocks, agents and
 /// principals, a request's file and an expert's queue O(log n + rows); the names of all registries,
-/// all blocks and all requests O(rows), and the pool O(rows log rows).
+/// all blocks, all requests, all capabilities and all agents O(rows), and the pool O(rows log rows).
 #[derive(Drop)]
 pub struct ListKeeper {
     alloc: Global,
@@ -112,6 +113,10 @@ impl Keeper for ListKeeper {
 
     fn cap(&mut self, digest: &Digest) -> Result<Option<Cap>, Fault> {
         Ok(cap_in(&self.caps, digest))
+    }
+
+    fn caps(&mut self) -> Result<Rows<CapRow>, Fault> {
+        Ok(caps_in(self.alloc, &self.caps)?)
     }
 
     fn names(&mut self) -> Result<Rows<Name>, Fault> {
@@ -212,6 +217,10 @@ impl Keeper for ListKeeper {
 
     fn is_agent(&mut self, principal: &Account, agent: &Account) -> Result<bool, Fault> {
         Ok(self.links.has(principal, agent))
+    }
+
+    fn links(&mut self) -> Result<Rows<LinkRow>, Fault> {
+        Ok(self.links.all(self.alloc)?)
     }
 
     fn apply(&mut self, change: Change) -> Result<(), Fault> {

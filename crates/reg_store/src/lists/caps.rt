@@ -1,12 +1,16 @@
 //! Capabilities by the digests of their tokens.
-ghost use Rattle.std.specs.Prelude.{◌≡◌};
+ghost use Rattle.std.specs.Prelude.{◌≡◌, IfOk};
 ghost use Rattle.std.specs.FinMap as fin;
 ghost use Rattle.reg_core.specs.Maps.{text_cmp};
+ghost use Rattle.reg_keeper.specs.Rows.{cap_rows};
 ghost use Rattle.reg_store.specs.Maps.{finite_map};
 
-use crate::maps::row_at;
+use crate::maps::{push_rows, row_at};
 use reg_core::capability::Cap;
+use reg_core::rows::Rows;
 use reg_core::text::Digest;
+use reg_keeper::rows::CapRow;
+use std::alloc::{AllocError, Global};
 use std::collections::BTreeMap;
 
 /// Capabilities by digest.
@@ -17,4 +21,18 @@ pub fn cap_in(caps: &Caps, digest: &Digest) -> Option<Cap>
     ensures { result ≡ fin.get (finite_map text_cmp caps.now) digest.now }
 {
     row_at(caps, digest).copied()
+}
+
+/// All capabilities, by digest.
+pub fn caps_in(alloc: Global, caps: &Caps) -> Result<Rows<CapRow>, AllocError>
+    ensures { IfOk result (λ rows. rows ≡ cap_rows (finite_map text_cmp caps.now)) }
+{
+    let mut rows = Vec::with_capacity(alloc, caps.len())?;
+    push_rows(&mut rows, caps, |digest, cap| {
+        Ok(CapRow {
+            digest: *digest,
+            cap: *cap,
+        })
+    })?;
+    Ok(Rows::from_vec(rows))
 }

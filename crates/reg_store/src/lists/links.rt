@@ -4,11 +4,14 @@ ghost use Rattle.std.specs.FinMap as fin;
 ghost use Rattle.reg_core.specs.Link.{agent_rows, principal_names};
 ghost use Rattle.reg_core.specs.View.{agents_of, principals_of};
 ghost use Rattle.reg_core.specs.World.{with_link};
+ghost use Rattle.reg_keeper.specs.Rows.{link_rows};
 ghost use Rattle.reg_store.specs.Lists.Pairs.{AreMirrored, all_pairs, link_world};
 
 use crate::groups::{list_group, put_row, row_in, take_row};
+use crate::maps::push_rows;
 use reg_core::rows::Rows;
 use reg_core::text::Account;
+use reg_keeper::rows::LinkRow;
 use std::alloc::{AllocError, Global};
 use std::collections::BTreeMap;
 
@@ -53,6 +56,13 @@ impl Links {
         seconds_in(alloc, &self.principals, account)
     }
 
+    /// All principals with their agents, by principal and then by agent.
+    pub fn all(&self, alloc: Global) -> Result<Rows<LinkRow>, AllocError>
+        ensures { IfOk result (λ rows. rows ≡ link_rows (links_held self.now)) }
+    {
+        pairs_in(alloc, &self.agents)
+    }
+
     /// Whether an account is an agent of a principal.
     pub fn has(&self, principal: &Account, agent: &Account) -> bool
         ensures { result ≡ fin.contains_key (links_held self.now) (principal.now, agent.now) }
@@ -95,6 +105,23 @@ fn seconds_in(alloc: Global, pairs: &Pairs, first: &Account) -> Result<Rows<Acco
         ≡ agent_rows (agents_of first.now (link_world (all_pairs pairs.now)))) }
 {
     Ok(Rows::from_vec(list_group(alloc, pairs, first, |second, _| Ok(*second))?))
+}
+
+// All pairs, by their first account and then by their second.
+fn pairs_in(alloc: Global, pairs: &Pairs) -> Result<Rows<LinkRow>, AllocError>
+    ensures { IfOk result (λ rows. rows ≡ link_rows (all_pairs pairs.now)) }
+{
+    let mut rows = Vec::new(alloc);
+    for (principal, group) in pairs {
+        let _group = group.len();
+        push_rows(&mut rows, group, |agent, _| {
+            Ok(LinkRow {
+                principal: *principal,
+                agent: *agent,
+            })
+        })?;
+    }
+    Ok(Rows::from_vec(rows))
 }
 
 // Into both orders, or, where there is no memory for the second, into none.
