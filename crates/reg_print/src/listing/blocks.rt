@@ -76,8 +76,8 @@ fn write_fields<'a, W: Write + Drop>(
     )
 }
 
-// The organization; of a private holder the word that says so.
-fn organization_text(row: &Listed) -> &str
+/// The organization; of a private holder the word that says so.
+pub fn organization_text(row: &Listed) -> &str
     ensures { result.now ≡ unwrap_or row.now.organization (codes "Private") }
 {
     match &row.organization {
@@ -86,8 +86,8 @@ fn organization_text(row: &Listed) -> &str
     }
 }
 
-// Where the organization is; nothing of a private holder.
-fn address_text(row: &Listed) -> &str
+/// Where the organization is; nothing of a private holder.
+pub fn address_text(row: &Listed) -> &str
     ensures { result.now ≡ unwrap_or row.now.address [] }
 {
     match &row.address {

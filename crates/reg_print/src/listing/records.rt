@@ -95,8 +95,8 @@ fn write_fields<'a, W: Write + Drop>(
     )
 }
 
-// The day on which the entry was approved; nothing where there is none.
-fn first_text(alloc: Global, row: &ListingRow<'_>) -> Result<String, AllocError>
+/// The day on which the entry was approved; nothing where there is none.
+pub fn first_text(alloc: Global, row: &ListingRow<'_>) -> Result<String, AllocError>
     ensures { IfOk result (λ text. string_bytes text ≡ first_text (row_view row.now).entry) }
 {
     match row.entry {
@@ -105,8 +105,8 @@ fn first_text(alloc: Global, row: &ListingRow<'_>) -> Result<String, AllocError>
     }
 }
 
-// The day from which the entry no longer stands; nothing where there is none.
-fn expiry_text(alloc: Global, row: &ListingRow<'_>) -> Result<String, AllocError>
+/// The day from which the entry no longer stands; nothing where there is none.
+pub fn expiry_text(alloc: Global, row: &ListingRow<'_>) -> Result<String, AllocError>
     ensures { IfOk result (λ text. string_bytes text ≡ expiry_text (row_view row.now).entry) }
 {
     let Some(entry) = row.entry else {
@@ -118,8 +118,8 @@ fn expiry_text(alloc: Global, row: &ListingRow<'_>) -> Result<String, AllocError
     }
 }
 
-// Whose the entry is; nothing where there is none.
-fn assignee_text<'a>(row: &ListingRow<'a>) -> &'a str
+/// Whose the entry is; nothing where there is none.
+pub fn assignee_text<'a>(row: &ListingRow<'a>) -> &'a str
     ensures { result.now ≡ assignee_text (row_view row.now).entry }
 {
     let Some(entry) = row.entry else {
@@ -128,8 +128,8 @@ fn assignee_text<'a>(row: &ListingRow<'a>) -> &'a str
     entry.assignee.as_str()
 }
 
-// The word of a policy; nothing where there is none.
-fn policy_word(policy: Option<Policy>) -> &'static str
+/// The word of a policy; nothing where there is none.
+pub fn policy_word(policy: Option<Policy>) -> &'static str
     ensures { result.now ≡ policy_text policy }
 {
     match policy {

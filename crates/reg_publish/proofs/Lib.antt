@@ -1,0 +1,5 @@
+pub mod Asked
+pub mod EntriesAscend
+pub mod Placing
+pub mod Sites
+pub mod Told

@@ -1,0 +1,122 @@
+//! Offices that are served over HTTP on loopback, as sources.
+ghost use Rattle.reg_core.specs.View.{published as shown};
+ghost use Rattle.reg_core.specs.World.{empty_world};
+
+use crate::answers::{body_of, read_answer};
+use crate::reading::content_of;
+use crate::source::Source;
+use crate::timed::{Timed, left};
+use crate::unpublished::{Unpublished, unread};
+use reg_core::command::PublicCommand;
+use reg_core::content::Content;
+use reg_print::answer::Format;
+use std::alloc::{AllocError, Global};
+use std::io;
+use std::io::Write;
+use std::net::{Ipv4Addr, Net, SocketAddr, TcpListener, TcpStream};
+use std::time::{Clock, Duration};
+
+/// How many seconds an office that is served has for each answer.
+pub const PATIENCE_SECONDS: u64 = 10;
+
+/// An office that is served over HTTP on a port of loopback.
+#[derive(Drop)]
+pub struct Peer<'a, H> {
+    rt: &'a H,
+    port: u16,
+}
+
+impl<'a, H> Peer<'a, H> {
+    /// The office that is served on this port.
+    pub fn new(rt: &'a H, port: u16) -> Self {
+        Peer { rt, port }
+    }
+}
+
+impl<H: AllocGlobal + Clock + Net<Listener = TcpListener, Stream = TcpStream>> Source
+    for Peer<'_, H> {
+    ghost published = { λ _. shown empty_world };
+
+    ghost Holds = { λ _. ⊥ };
+
+    fn ask(&mut self, _moment: u64, command: &PublicCommand) -> Result<Content, Unpublished> {
+        ask_served(self.rt, self.port, command)
+    }
+}
+
+// What is told by the office that is served on this port.
+fn ask_served<H: AllocGlobal + Clock + Net<Listener = TcpListener, Stream = TcpStream>>(
+    rt: &H,
+    port: u16,
+    command: &PublicCommand,
+) -> Result<Content, Unpublished> {
+    let alloc = rt.alloc();
+    let request = request(alloc, command)?;
+    let answer = exchange(rt, port, request.as_bytes())?;
+    match body_of(format_of(command), answer.as_slice()) {
+        Some(body) => content_of(alloc, command, body),
+        None => Err(Unpublished::Read),
+    }
+}
+
+// One request, and the bytes of its answer to their end.
+fn exchange<H: AllocGlobal + Clock + Net<Listener = TcpListener, Stream = TcpStream>>(
+    rt: &H,
+    port: u16,
+    request: &[u8],
+) -> Result<Vec<u8>, Unpublished> {
+    let end = end_of_patience(rt).map_err(unread)?;
+    let stream = connect(rt, port, end).map_err(unread)?;
+    let mut timed = Timed {
+        stream: &stream,
+        clock: rt,
+        end,
+    };
+    timed.write_all(request).map_err(unread)?;
+    read_answer(rt.alloc(), &mut timed)
+}
+
+fn end_of_patience<C: Clock>(clock: &C) -> io::Result<Duration> {
+    let patience = Duration::from_secs(PATIENCE_SECONDS);
+    match clock.monotonic()?.checked_add(patience) {
+        Some(end) => Ok(end),
+        None => Err(io::ErrorKind::TimedOut.into()),
+    }
+}
+
+fn connect<H: Clock + Net<Listener = TcpListener, Stream = TcpStream>>(
+    rt: &H,
+    port: u16,
+    end: Duration,
+) -> io::Result<TcpStream> {
+    let address = SocketAddr::from((Ipv4Addr::LOCALHOST, port));
+    TcpStream::connect_timeout(rt, &address, left(rt, end)?)
+}
+
+// The bytes of a request without a token.
+fn request(alloc: Global, command: &PublicCommand) -> Result<String, AllocError> {
+    let path = path_of(alloc, command)?;
+    format!(in alloc; "GET {path} HTTP/1.1\r\nHost: 127.0.0.1\r\nConnection: close\r\n\r\n")
+}
+
+/// The path of a command.
+pub fn path_of(alloc: Global, command: &PublicCommand) -> Result<String, AllocError> {
+    match command {
+        PublicCommand::Registries => String::from_str(alloc, "/registries"),
+        PublicCommand::Registry(name) => format!(in alloc; "/registries/{}", name.as_str()),
+        PublicCommand::RegistryListing(name) => {
+            format!(in alloc; "/listings/registries/{}", name.as_str())
+        }
+        PublicCommand::PoolList => String::from_str(alloc, "/pool"),
+        PublicCommand::BlockListing => String::from_str(alloc, "/listings/blocks"),
+    }
+}
+
+fn format_of(command: &PublicCommand) -> Format {
+    match command {
+        PublicCommand::Registries | PublicCommand::Registry(_) | PublicCommand::PoolList => {
+            Format::Json
+        }
+        PublicCommand::RegistryListing(_) | PublicCommand::BlockListing => Format::Csv,
+    }
+}

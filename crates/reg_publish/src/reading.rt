@@ -1,0 +1,50 @@
+//! Reads what anybody is told back from the bytes of answers.
+use crate::unpublished::Unpublished;
+use reg_core::command::PublicCommand;
+use reg_core::content::Content;
+use reg_core::reply::Reply;
+use reg_print::answer::{Answer, body_of};
+use std::alloc::{AllocError, Global};
+
+mod blocks;
+mod members;
+mod names;
+mod page;
+mod pool;
+
+/// What anybody is told by a command, where these bytes are the body of its answer: what is read is
+/// printed again, and has to be these bytes. `Read` where they are no such body. A listing of a
+/// registry is not read, since its page says more.
+pub fn content_of(
+    alloc: Global,
+    command: &PublicCommand,
+    body: &[u8],
+) -> Result<Content, Unpublished> {
+    let answer = Answer::Reply(Reply::Accepted(read_content(alloc, command, body)?));
+    if !is_printed(alloc, &answer, body)? {
+        return Err(Unpublished::Read);
+    }
+    match answer {
+        Answer::Reply(Reply::Accepted(content)) => Ok(content),
+        _ => Err(Unpublished::Read),
+    }
+}
+
+fn is_printed(alloc: Global, answer: &Answer, body: &[u8]) -> Result<bool, AllocError> {
+    let (_, printed) = body_of(alloc, answer)?;
+    Ok(printed.as_slice() == body)
+}
+
+fn read_content(
+    alloc: Global,
+    command: &PublicCommand,
+    body: &[u8],
+) -> Result<Content, Unpublished> {
+    match command {
+        PublicCommand::Registries => Ok(Content::Names(names::read(alloc, body)?)),
+        PublicCommand::Registry(name) => Ok(Content::Page(page::read(alloc, name, body)?)),
+        PublicCommand::RegistryListing(_) => Err(Unpublished::Read),
+        PublicCommand::PoolList => Ok(Content::Pool(pool::read(alloc, body)?)),
+        PublicCommand::BlockListing => Ok(Content::Blocks(blocks::read(alloc, body)?)),
+    }
+}

@@ -1,0 +1,4 @@
+pub mod Pieces
+pub mod Escaping
+pub mod NestedTags
+pub mod SiteLaws

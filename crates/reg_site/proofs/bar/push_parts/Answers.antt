@@ -1,0 +1,21 @@
+use Rattle.std.proofs.Common.{map, refl}
+use Rattle.reg_site.specs.Markup.{all_of, markup_then}
+use Rattle.reg_site.specs.Bar.{share_parts}
+use Rattle.reg_site.proofs.Pieces.{begins, ends, goes_on_at}
+use Rattle.reg_site.proofs.bar.push_parts.Goals as goal
+
+pub loop-share-init : goal.loop-share-init
+loop-share-init c =
+    begins c.args.out.now.items
+    (markup_then (all_of (map (share_parts c.args.most) c.args.shares.now)))
+
+pub loop-share-preserved : goal.loop-share-preserved
+loop-share-preserved c =
+    goes_on_at (λ ss. all_of (map (share_parts c.args.most) ss)) (share_parts c.args.most) (λ x xs. refl) c.args.shares.now
+    c.loop-share.share-index _ c.loop-share-test.true c.loop-share.invariant
+    c.in_ok-push_share.ensures
+
+pub returns : goal.returns
+returns c =
+    ends (λ ss. all_of (map (share_parts c.args.most) ss)) refl c.args.shares.now c.loop-share.share-index c.loop-share-test.false
+    c.loop-share.invariant

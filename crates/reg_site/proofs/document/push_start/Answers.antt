@@ -1,0 +1,10 @@
+use Rattle.reg_site.proofs.Pieces.{joined}
+use Rattle.reg_site.proofs.document.push_start.Goals as goal
+
+pub returns : goal.returns
+returns c =
+    joined c.in_ok-push.ensures
+    (joined c.in_ok-push_head.ensures.bytes
+    (joined c.in_ok-push-2.ensures
+    (joined c.in_ok-push_text.ensures
+    (c.in_ok-push-3.ensures))))

@@ -1,0 +1,11 @@
+use Rattle.std.proofs.Common.{map}
+use Rattle.reg_site.specs.Markup.{all_of, markup_then}
+use Rattle.reg_site.specs.Index.{registry_row}
+use Rattle.reg_site.proofs.Pieces.{Leads, from_place}
+use Rattle.reg_site.proofs.index.push_registry_rows.Given as goal
+
+abbrev pub invariant-loop-registry : goal.invariant-loop-registry
+invariant-loop-registry l =
+    Leads l.fn.out.items l.out.items
+    (from_place (λ rs. all_of (map registry_row rs)) l.registries l.registry-index)
+    (markup_then (all_of (map registry_row l.registries)))

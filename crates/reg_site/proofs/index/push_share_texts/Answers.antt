@@ -1,0 +1,11 @@
+use Rattle.reg_site.proofs.Pieces.{joined, shown}
+use Rattle.reg_site.proofs.index.push_share_texts.Goals as goal
+
+pub returns : goal.returns
+returns c =
+    shown
+    (joined c.in_ok-push.ensures
+    (joined c.in_ok-push_text.ensures
+    (joined c.in_ok-push-2.ensures
+    (joined c.in_ok-push_text-2.ensures
+    (c.in_ok-push-3.ensures)))))

@@ -1,0 +1,56 @@
+-- The page of the blocks that were given, and IEEE's files of them.
+use Rattle.std.specs.Prelude.{ℕ, Bool, true, false, List, [], ◌∷◌, ◌++◌, map, filter, unwrap_or, Some, codes}
+use Rattle.reg_blocks.specs.Digits.{block_text}
+use Rattle.reg_blocks.specs.Size.{word_of}
+use Rattle.reg_blocks.specs.declared.size.Size.{Size}
+use Rattle.reg_blocks.specs.declared.size.Size.TheVariants.{MaL, MaM, MaS}
+use Rattle.reg_core.specs.declared.holding.Listed.{Listed}
+use Rattle.reg_print.specs.BlockListing.{block_header, block_listing_text}
+use Rattle.reg_site.specs.Document.{document, link, page, plain}
+use Rattle.reg_site.specs.Markup.{Markup, text, all_of}
+use Rattle.reg_site.specs.Table.{row, table}
+
+-- ---- IEEE's files
+
+abbrev pub same_size : Size → Size → Bool
+same_size MaL MaL = true
+same_size MaM MaM = true
+same_size MaS MaS = true
+same_size _ _ = false
+
+-- the rows of one size
+abbrev pub rows_of : Size → List Listed → List Listed
+rows_of size rows = filter (λ r. same_size r.block.size size) rows
+
+-- the form in which IEEE publishes MA-L, MA-M and MA-S
+abbrev pub assignments_text : Size → List Listed → List ℕ
+assignments_text size rows = block_listing_text (rows_of size rows)
+
+-- ---- The page
+
+-- The fields of a row of the listing. A block is found by b and its digits.
+abbrev pub block_row : Listed → Markup
+block_row r =
+    row (Some (codes "b" ++ block_text r.block)) (word_of r.block.size)
+    (block_text r.block ∷ unwrap_or r.organization (codes "Private") ∷ unwrap_or r.address []
+    ∷ [])
+
+abbrev pub blocks_table : List Listed → Markup
+blocks_table rows = table (codes "Blocks of MAC addresses") block_header (all_of (map block_row rows))
+
+abbrev pub block_links : Markup
+block_links =
+    plain (codes "p")
+    (all_of
+    (link (codes "index.html") (codes "All registries") ∷ text (codes " ")
+    ∷ link (codes "blocks.csv") (codes "CSV") ∷ text (codes " ")
+    ∷ link (codes "oui.csv") (codes "MA-L") ∷ text (codes " ")
+    ∷ link (codes "mam.csv") (codes "MA-M") ∷ text (codes " ")
+    ∷ link (codes "oui36.csv") (codes "MA-S") ∷ []))
+
+abbrev pub blocks_markup : List Listed → Markup
+blocks_markup rows =
+    page (codes "style.css") (codes "Blocks") (all_of (block_links ∷ blocks_table rows ∷ []))
+
+unfoldable pub blocks_page : List Listed → List ℕ
+blocks_page rows = document (blocks_markup rows)

@@ -1,0 +1,111 @@
+-- The first page of the site.
+use Rattle.std.specs.Prelude.{ℕ, List, [], ◌∷◌, ◌++◌, map, length, codes}
+use Rattle.std.specs.Fmt.{decimal}
+use Rattle.reg_ranges.specs.Words.{treatment_word}
+use Rattle.reg_blocks.specs.Digits.{prefix_text}
+use Rattle.reg_blocks.specs.Size.{word_of}
+use Rattle.reg_blocks.specs.declared.size.Size.{Size}
+use Rattle.reg_blocks.specs.declared.size.Size.TheVariants.{MaL, MaM, MaS}
+use Rattle.reg_core.specs.declared.holding.Listed.{Listed}
+use Rattle.reg_print.specs.Listing.{run_text}
+use Rattle.reg_site.specs.Blocks.{rows_of}
+use Rattle.reg_site.specs.Document.{document, link, page, plain}
+use Rattle.reg_site.specs.Markup.{Markup, text, beside, all_of}
+use Rattle.reg_site.specs.Moment.{moment_text}
+use Rattle.reg_site.specs.Table.{table}
+use Rattle.reg_site.specs.declared.summary.Share.{Share}
+use Rattle.reg_site.specs.declared.summary.Summary.{Summary}
+
+-- ---- The registries
+
+abbrev pub share_texts : List ℕ → List ℕ → Markup
+share_texts values policy =
+    plain (codes "li") (all_of (text values ∷ text (codes " ") ∷ text policy ∷ []))
+
+-- a range with its policy
+abbrev pub share_item : Share → Markup
+share_item s = share_texts (run_text s.values) (treatment_word s.treatment)
+
+-- where the page of a registry is
+abbrev pub page_place : List ℕ → List ℕ
+page_place name = codes "registries/" ++ (name ++ codes ".html")
+
+abbrev pub linked_cell : List ℕ → List ℕ → Markup
+linked_cell target name = plain (codes "th") (link target name)
+
+-- the name of a registry, by which its page is found
+abbrev pub name_cell : List ℕ → Markup
+name_cell name = linked_cell (page_place name) name
+
+abbrev pub number_cell : ℕ → Markup
+number_cell n = plain (codes "td") (text (decimal n))
+
+abbrev pub registry_row : Summary → Markup
+registry_row s =
+    beside
+    (plain (codes "tr")
+    (all_of
+    (name_cell s.name
+    ∷ plain (codes "td") (plain (codes "ul") (all_of (map share_item s.shares)))
+    ∷ number_cell s.assigned ∷ number_cell s.temporary ∷ number_cell s.expired
+    ∷ number_cell s.free ∷ [])))
+    (text (codes "\n"))
+
+abbrev pub registry_columns : List (List ℕ)
+registry_columns =
+    codes "Registry" ∷ codes "Policies" ∷ codes "Assigned" ∷ codes "Temporary" ∷ codes "Expired"
+    ∷ codes "Free" ∷ []
+
+abbrev pub registries_table : List Summary → Markup
+registries_table registries =
+    table (codes "Registries") registry_columns (all_of (map registry_row registries))
+
+-- ---- The pool and the blocks
+
+abbrev pub item : List ℕ → Markup
+item words = plain (codes "li") (text words)
+
+abbrev pub prefix_item : ℕ → Markup
+prefix_item prefix = item (prefix_text prefix)
+
+abbrev pub pool_list : List ℕ → Markup
+pool_list prefixes =
+    beside (plain (codes "h2") (text (codes "Pool")))
+    (plain (codes "ul") (all_of (map prefix_item prefixes)))
+
+-- a file of IEEE's form, and how many blocks it has
+abbrev pub counted_file : List ℕ → List ℕ → ℕ → Markup
+counted_file file word count =
+    plain (codes "li")
+    (all_of (link file word ∷ text (codes ": ") ∷ text (decimal count) ∷ []))
+
+abbrev pub size_item : List ℕ → Size → List Listed → Markup
+size_item file size rows = counted_file file (word_of size) (length (rows_of size rows))
+
+abbrev pub block_counts : List Listed → Markup
+block_counts rows =
+    beside (plain (codes "h2") (link (codes "blocks.html") (codes "Blocks")))
+    (plain (codes "ul")
+    (all_of
+    (size_item (codes "oui.csv") MaL rows
+    ∷ size_item (codes "mam.csv") MaM rows
+    ∷ size_item (codes "oui36.csv") MaS rows ∷ [])))
+
+-- ---- The page
+
+abbrev pub as_of_text : List ℕ → Markup
+as_of_text words =
+    plain (codes "p") (beside (text (codes "As of ")) (plain (codes "time") (text words)))
+
+abbrev pub as_of : ℕ → Markup
+as_of moment = as_of_text (moment_text moment)
+
+abbrev pub index_markup : List Summary → List ℕ → List Listed → ℕ → Markup
+index_markup registries prefixes rows moment =
+    page (codes "style.css") (codes "Registries")
+    (all_of
+    (as_of moment ∷ registries_table registries ∷ pool_list prefixes ∷ block_counts rows ∷ []))
+
+unfoldable pub index_page : List Summary → List ℕ → List Listed → ℕ → List ℕ
+index_page registries prefixes rows moment =
+    document (index_markup registries prefixes rows moment)

@@ -1,0 +1,15 @@
+pub mod Appended
+pub mod Escape
+pub mod Markup
+pub mod Document
+pub mod Table
+pub mod Summary
+pub mod Bar
+pub mod Registry
+pub mod Blocks
+pub mod Moment
+pub mod Index
+pub mod Files
+pub mod Nesting
+pub mod Site
+pub mod Laws

@@ -1,0 +1,72 @@
+-- The page of a registry.
+use Rattle.std.specs.Prelude.{ℕ, List, [], ◌∷◌, ◌++◌, map, unwrap_or, codes, Option, None, option_map}
+use Rattle.reg_ranges.specs.Words.{treatment_word}
+use Rattle.reg_ranges.specs.declared.range.Range.{Range}
+use Rattle.reg_core.specs.declared.page.Page.{Page}
+use Rattle.reg_print.specs.Listing.{ListedRow, assignee_text, expiry_text, first_text, page_rows, policy_text, run_text, status_word, whole}
+use Rattle.reg_site.specs.Bar.{bar}
+use Rattle.reg_site.specs.Document.{document, link, page, plain}
+use Rattle.reg_site.specs.Markup.{Markup, text, all_of}
+use Rattle.reg_site.specs.Summary.{summary}
+use Rattle.reg_site.specs.declared.summary.Summary.{Summary}
+use Rattle.reg_site.specs.Table.{row, table}
+
+-- ---- The ranges
+
+abbrev pub range_row : Range → Markup
+range_row range =
+    row None (run_text (whole range)) (treatment_word range.treatment ∷ unwrap_or range.note [] ∷ [])
+
+abbrev pub range_columns : List (List ℕ)
+range_columns = codes "Values" ∷ codes "Policy" ∷ codes "Note" ∷ []
+
+abbrev pub ranges_table : List Range → Markup
+ranges_table ranges =
+    table (codes "Ranges and their policies") range_columns (all_of (map range_row ranges))
+
+-- ---- The entries
+
+-- a value with an entry is found by v and its number
+abbrev pub name_of : ListedRow → Option (List ℕ)
+name_of listed = option_map (λ entry. codes "v" ++ run_text listed.values) listed.entry
+
+-- the fields of a row of the listing
+abbrev pub entry_row : ListedRow → Markup
+entry_row listed =
+    row (name_of listed) (run_text listed.values)
+    (listed.description ∷ status_word listed.status ∷ policy_text listed.policy
+    ∷ first_text listed.entry ∷ expiry_text listed.entry ∷ assignee_text listed.entry ∷ [])
+
+abbrev pub entry_columns : List (List ℕ)
+entry_columns =
+    codes "Value" ∷ codes "Description" ∷ codes "Status" ∷ codes "Policy" ∷ codes "First"
+    ∷ codes "Expires" ∷ codes "Assignee" ∷ []
+
+abbrev pub entries_table : List ListedRow → Markup
+entries_table rows = table (codes "Values") entry_columns (all_of (map entry_row rows))
+
+-- ---- The page
+
+-- links to the first page, and to the same registry in these files
+abbrev pub forms : List ℕ → List ℕ → Markup
+forms listing tree =
+    plain (codes "p")
+    (all_of
+    (link (codes "../index.html") (codes "All registries") ∷ text (codes " ")
+    ∷ link listing (codes "CSV") ∷ text (codes " ") ∷ link tree (codes "JSON") ∷ []))
+
+abbrev pub links : List ℕ → Markup
+links name = forms (name ++ codes ".csv") (name ++ codes ".json")
+
+-- the page of a registry by its name, its counts, its ranges and the rows of its listing
+abbrev pub registry_markup : List ℕ → Summary → List Range → List ListedRow → Markup
+registry_markup name counts ranges rows =
+    page (codes "../style.css") name
+    (all_of
+    (links name ∷ bar counts ∷ ranges_table ranges ∷ entries_table rows ∷ []))
+
+unfoldable pub page_by : List ℕ → Summary → List Range → List ListedRow → List ℕ
+page_by name counts ranges rows = document (registry_markup name counts ranges rows)
+
+abbrev pub registry_page : Page → List ℕ
+registry_page p = page_by p.name (summary p) p.table.ranges (page_rows p)

@@ -1,0 +1,44 @@
+//! What all pages of the site have in common.
+ghost use Rattle.std.specs.Prelude.{◌≡◌, ◌++◌, ◌∷◌, [], IfOk, OnOk};
+ghost use Rattle.reg_site.specs.Appended.{Appended, Shown};
+ghost use Rattle.reg_site.specs.Document.{document, head, page, page_start, page_end};
+
+use crate::escape::push_text;
+use crate::markup::push;
+use std::alloc::AllocError;
+
+/// Begins a page: its head, by the place of the style sheet and the title, and its heading.
+pub(crate) fn push_start(out: &mut Vec<u8>, style: &str, title: &str) -> Result<(), AllocError>
+    ensures { OnOk result (Appended out.old.items out.new.items (page_start style.now title.now)) }
+{
+    push(out, "<!DOCTYPE html>\n<html lang=\"en\">")?;
+    push_head(out, style, title)?;
+    push(out, "<body><main><h1>")?;
+    push_text(out, title)?;
+    push(out, "</h1>")?;
+    Ok(())
+}
+
+/// Ends a page.
+pub(crate) fn push_end(out: &mut Vec<u8>) -> Result<(), AllocError>
+    ensures { OnOk result (Appended out.old.items out.new.items (λ rest. page_end ++ rest)) }
+{
+    push(out, "</main></body></html>\n")?;
+    Ok(())
+}
+
+fn push_head(out: &mut Vec<u8>, style: &str, title: &str) -> Result<(), AllocError>
+    ensures { OnOk result
+        (Shown out.old.items out.new.items (head style.now title.now)) }
+{
+    push(out, "<head><meta charset=\"utf-8\"><meta name=\"viewport\"")?;
+    push(
+        out,
+        " content=\"width=device-width, initial-scale=1\"><title>",
+    )?;
+    push_text(out, title)?;
+    push(out, "</title><link rel=\"stylesheet\" href=\"")?;
+    push_text(out, style)?;
+    push(out, "\"></head>")?;
+    Ok(())
+}

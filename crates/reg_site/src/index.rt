@@ -1,0 +1,270 @@
+//! The first page of the site.
+ghost use Rattle.std.specs.Prelude.{◌≡◌, map, string_bytes, IfOk, OnOk};
+ghost use Rattle.reg_site.specs.Appended.{Shown};
+ghost use Rattle.reg_site.specs.Index.{as_of, as_of_text, block_counts, counted_file, index_page, item, linked_cell, name_cell, number_cell, page_place, pool_list, prefix_item, registries_table, registry_row, share_item, share_texts, size_item};
+ghost use Rattle.reg_site.specs.Markup.{all_of};
+
+use crate::blocks::count_of;
+use crate::document::{push_end, push_start};
+use crate::escape::push_text;
+use crate::markup::{push, push_link, push_number};
+use crate::moment::moment_text;
+use crate::summary::{Share, Summary};
+use crate::table;
+use reg_blocks::pool::Pool;
+use reg_blocks::prefix;
+use reg_blocks::size::Size;
+use reg_core::holding::Listed;
+use reg_core::text::Name;
+use std::alloc::{AllocError, Global};
+
+/// The first page: the moment, in seconds since 1970-01-01T00:00:00Z; the registries with the policies
+/// of their ranges and their counts; the prefixes of the pool; and how many blocks were given. Only
+/// want of memory is an error.
+pub fn index_page(
+    alloc: Global,
+    registries: &[Summary],
+    pool: &Pool,
+    blocks: &[Listed],
+    moment: u64,
+) -> Result<Vec<u8>, AllocError>
+    ensures { IfOk result (λ v. v.items ≡ index_page registries.now pool.now blocks.now moment) }
+{
+    page_of(alloc, registries, pool.prefixes(), blocks, moment)
+}
+
+fn page_of(
+    alloc: Global,
+    registries: &[Summary],
+    prefixes: &[u32],
+    blocks: &[Listed],
+    moment: u64,
+) -> Result<Vec<u8>, AllocError>
+    ensures { IfOk result
+        (λ v. v.items ≡ index_page registries.now prefixes.now blocks.now moment) }
+{
+    let mut out = Vec::new(alloc);
+    push_start(&mut out, "style.css", "Registries")?;
+    push_as_of(&mut out, alloc, moment)?;
+    push_registries(&mut out, alloc, registries)?;
+    push_pool(&mut out, alloc, prefixes)?;
+    push_blocks(&mut out, alloc, blocks)?;
+    push_end(&mut out)?;
+    Ok(out)
+}
+
+fn push_as_of(out: &mut Vec<u8>, alloc: Global, moment: u64) -> Result<(), AllocError>
+    ensures { OnOk result (Shown out.old.items out.new.items (as_of moment)) }
+{
+    let text = moment_text(alloc, moment)?;
+    push_time(out, text.as_str())
+}
+
+fn push_time(out: &mut Vec<u8>, text: &str) -> Result<(), AllocError>
+    ensures { OnOk result (Shown out.old.items out.new.items (as_of_text text.now)) }
+{
+    push(out, "<p>As of <time>")?;
+    push_text(out, text)?;
+    push(out, "</time></p>")?;
+    Ok(())
+}
+
+fn push_registries(
+    out: &mut Vec<u8>,
+    alloc: Global,
+    registries: &[Summary],
+) -> Result<(), AllocError>
+    ensures { OnOk result
+        (Shown out.old.items out.new.items (registries_table registries.now)) }
+{
+    let columns = [
+        "Registry",
+        "Policies",
+        "Assigned",
+        "Temporary",
+        "Expired",
+        "Free",
+    ];
+    table::push_start(out, "Registries", &columns)?;
+    push_registry_rows(out, alloc, registries)?;
+    table::push_end(out)?;
+    Ok(())
+}
+
+fn push_registry_rows(
+    out: &mut Vec<u8>,
+    alloc: Global,
+    registries: &[Summary],
+) -> Result<(), AllocError>
+    ensures { OnOk result
+        (Shown out.old.items out.new.items (all_of (map registry_row registries.now))) }
+{
+    for registry in registries {
+        push_registry(out, alloc, registry)?;
+    }
+    Ok(())
+}
+
+fn push_registry(out: &mut Vec<u8>, alloc: Global, registry: &Summary) -> Result<(), AllocError>
+    ensures { OnOk result (Shown out.old.items out.new.items (registry_row registry.now)) }
+{
+    push(out, "<tr>")?;
+    push_name(out, alloc, &registry.name)?;
+    push(out, "<td><ul>")?;
+    push_shares(out, alloc, registry.shares.as_slice())?;
+    push(out, "</ul></td>")?;
+    push_number_cell(out, alloc, registry.assigned)?;
+    push_number_cell(out, alloc, registry.temporary)?;
+    push_number_cell(out, alloc, registry.expired)?;
+    push_number_cell(out, alloc, registry.free)?;
+    push(out, "</tr>\n")?;
+    Ok(())
+}
+
+// The name of a registry, by which its page is found.
+fn push_name(out: &mut Vec<u8>, alloc: Global, name: &Name) -> Result<(), AllocError>
+    ensures { OnOk result (Shown out.old.items out.new.items (name_cell name.now)) }
+{
+    let target = target_of(alloc, name.as_str())?;
+    push_name_texts(out, target.as_str(), name.as_str())
+}
+
+// Where the page of a registry is.
+fn target_of(alloc: Global, name: &str) -> Result<String, AllocError>
+    ensures { IfOk result (λ target. string_bytes target ≡ page_place name.now) }
+{
+    format!(in alloc; "registries/{name}.html")
+}
+
+fn push_name_texts(out: &mut Vec<u8>, target: &str, name: &str) -> Result<(), AllocError>
+    ensures { OnOk result
+        (Shown out.old.items out.new.items (linked_cell target.now name.now)) }
+{
+    push(out, "<th>")?;
+    push_link(out, target, name)?;
+    push(out, "</th>")?;
+    Ok(())
+}
+
+fn push_shares(out: &mut Vec<u8>, alloc: Global, shares: &[Share]) -> Result<(), AllocError>
+    ensures { OnOk result
+        (Shown out.old.items out.new.items (all_of (map share_item shares.now))) }
+{
+    for share in shares {
+        push_share(out, alloc, share)?;
+    }
+    Ok(())
+}
+
+// A range with its policy.
+fn push_share(out: &mut Vec<u8>, alloc: Global, share: &Share) -> Result<(), AllocError>
+    ensures { OnOk result (Shown out.old.items out.new.items (share_item share.now)) }
+{
+    let values = format!(in alloc; "{}", share.values)?;
+    push_share_texts(out, values.as_str(), share.treatment.word())
+}
+
+fn push_share_texts(out: &mut Vec<u8>, values: &str, policy: &str) -> Result<(), AllocError>
+    ensures { OnOk result
+        (Shown out.old.items out.new.items (share_texts values.now policy.now)) }
+{
+    push(out, "<li>")?;
+    push_text(out, values)?;
+    push(out, " ")?;
+    push_text(out, policy)?;
+    push(out, "</li>")?;
+    Ok(())
+}
+
+fn push_number_cell(out: &mut Vec<u8>, alloc: Global, n: u64) -> Result<(), AllocError>
+    ensures { OnOk result (Shown out.old.items out.new.items (number_cell n)) }
+{
+    push(out, "<td>")?;
+    push_number(out, alloc, n)?;
+    push(out, "</td>")?;
+    Ok(())
+}
+
+fn push_pool(out: &mut Vec<u8>, alloc: Global, prefixes: &[u32]) -> Result<(), AllocError>
+    ensures { OnOk result
+        (Shown out.old.items out.new.items (pool_list prefixes.now)) }
+{
+    push(out, "<h2>Pool</h2><ul>")?;
+    push_prefixes(out, alloc, prefixes)?;
+    push(out, "</ul>")?;
+    Ok(())
+}
+
+fn push_prefixes(out: &mut Vec<u8>, alloc: Global, prefixes: &[u32]) -> Result<(), AllocError>
+    ensures { OnOk result
+        (Shown out.old.items out.new.items (all_of (map prefix_item prefixes.now))) }
+{
+    for prefix in prefixes {
+        push_prefix(out, alloc, *prefix)?;
+    }
+    Ok(())
+}
+
+fn push_prefix(out: &mut Vec<u8>, alloc: Global, prefix: u32) -> Result<(), AllocError>
+    ensures { OnOk result (Shown out.old.items out.new.items (prefix_item prefix)) }
+{
+    let digits = prefix::text(alloc, prefix)?;
+    push_item(out, digits.as_str())
+}
+
+fn push_item(out: &mut Vec<u8>, words: &str) -> Result<(), AllocError>
+    ensures { OnOk result (Shown out.old.items out.new.items (item words.now)) }
+{
+    push(out, "<li>")?;
+    push_text(out, words)?;
+    push(out, "</li>")?;
+    Ok(())
+}
+
+// How many blocks were given of each size.
+fn push_blocks(out: &mut Vec<u8>, alloc: Global, blocks: &[Listed]) -> Result<(), AllocError>
+    ensures { OnOk result
+        (Shown out.old.items out.new.items (block_counts blocks.now)) }
+{
+    push(out, "<h2>")?;
+    push_link(out, "blocks.html", "Blocks")?;
+    push(out, "</h2><ul>")?;
+    push_size(out, alloc, "oui.csv", Size::MaL, blocks)?;
+    push_size(out, alloc, "mam.csv", Size::MaM, blocks)?;
+    push_size(out, alloc, "oui36.csv", Size::MaS, blocks)?;
+    push(out, "</ul>")?;
+    Ok(())
+}
+
+// A file of IEEE's form, and how many blocks it has.
+fn push_size(
+    out: &mut Vec<u8>,
+    alloc: Global,
+    file: &str,
+    size: Size,
+    blocks: &[Listed],
+) -> Result<(), AllocError>
+    ensures { OnOk result
+        (Shown out.old.items out.new.items (size_item file.now size blocks.now)) }
+{
+    let count = count_of(size, blocks) as u64;
+    push_counted(out, alloc, file, size.word(), count)
+}
+
+fn push_counted(
+    out: &mut Vec<u8>,
+    alloc: Global,
+    file: &str,
+    word: &str,
+    count: u64,
+) -> Result<(), AllocError>
+    ensures { OnOk result
+        (Shown out.old.items out.new.items (counted_file file.now word.now count)) }
+{
+    push(out, "<li>")?;
+    push_link(out, file, word)?;
+    push(out, ": ")?;
+    push_number(out, alloc, count)?;
+    push(out, "</li>")?;
+    Ok(())
+}

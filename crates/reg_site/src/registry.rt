@@ -1,0 +1,221 @@
+//! The page of a registry.
+ghost use Rattle.std.specs.Prelude.{◌≡◌, ◌∷◌, [], map, option_map, string_bytes, None, IfOk, OnOk};
+ghost use Rattle.reg_print.specs.Listing.{row_view};
+ghost use Rattle.reg_site.specs.Appended.{Shown};
+ghost use Rattle.reg_site.specs.Markup.{all_of};
+ghost use Rattle.reg_site.specs.Registry.{entries_table, entry_row, forms, links, name_of, page_by, range_row, ranges_table, registry_page};
+ghost use Rattle.reg_site.specs.Table.{row};
+
+use crate::bar::push_bar;
+use crate::document::{push_end, push_start};
+use crate::markup::{push, push_link};
+use crate::summary::Summary;
+use crate::table;
+use crate::table::push_row;
+use reg_core::page::Page;
+use reg_print::listing::records::{assignee_text, expiry_text, first_text, policy_word};
+use reg_print::listing::rows::{ListingRow, Run, rows};
+use reg_print::note::note_text;
+use reg_ranges::range::Range;
+use std::alloc::{AllocError, Global};
+
+/// The page of a registry: its ranges with their policies and notes, a picture of its values, and the
+/// rows of its listing, of which each entry is found by `v` and its value. Only want of memory is an
+/// error.
+pub fn registry_page(alloc: Global, page: &Page) -> Result<Vec<u8>, AllocError>
+    ensures { IfOk result (λ v. v.items ≡ registry_page page.now) }
+{
+    let summary = Summary::of(alloc, page)?;
+    let rows = rows(alloc, page)?;
+    page_of(
+        alloc,
+        page.name.as_str(),
+        &summary,
+        page.table.ranges(),
+        rows.as_slice(),
+    )
+}
+
+fn page_of(
+    alloc: Global,
+    name: &str,
+    summary: &Summary,
+    ranges: &[Range],
+    rows: &[ListingRow<'_>],
+) -> Result<Vec<u8>, AllocError>
+    ensures { IfOk result
+        (λ v. v.items ≡ page_by name.now summary.now ranges.now (map row_view rows.now)) }
+{
+    let mut out = Vec::new(alloc);
+    push_start(&mut out, "../style.css", name)?;
+    push_links(&mut out, alloc, name)?;
+    push_bar(&mut out, alloc, summary)?;
+    push_ranges(&mut out, alloc, ranges)?;
+    push_entries(&mut out, alloc, rows)?;
+    push_end(&mut out)?;
+    Ok(out)
+}
+
+// Links to the first page, and to the same registry in other forms.
+fn push_links(out: &mut Vec<u8>, alloc: Global, name: &str) -> Result<(), AllocError>
+    ensures { OnOk result (Shown out.old.items out.new.items (links name.now)) }
+{
+    let listing = format!(in alloc; "{name}.csv")?;
+    let tree = format!(in alloc; "{name}.json")?;
+    push_forms(out, listing.as_str(), tree.as_str())
+}
+
+fn push_forms(out: &mut Vec<u8>, listing: &str, tree: &str) -> Result<(), AllocError>
+    ensures { OnOk result (Shown out.old.items out.new.items (forms listing.now tree.now)) }
+{
+    push(out, "<p>")?;
+    push_link(out, "../index.html", "All registries")?;
+    push(out, " ")?;
+    push_link(out, listing, "CSV")?;
+    push(out, " ")?;
+    push_link(out, tree, "JSON")?;
+    push(out, "</p>")?;
+    Ok(())
+}
+
+fn push_ranges(out: &mut Vec<u8>, alloc: Global, ranges: &[Range]) -> Result<(), AllocError>
+    ensures { OnOk result
+        (Shown out.old.items out.new.items (ranges_table ranges.now)) }
+{
+    table::push_start(
+        out,
+        "Ranges and their policies",
+        &["Values", "Policy", "Note"],
+    )?;
+    push_range_rows(out, alloc, ranges)?;
+    table::push_end(out)?;
+    Ok(())
+}
+
+fn push_range_rows(out: &mut Vec<u8>, alloc: Global, ranges: &[Range]) -> Result<(), AllocError>
+    ensures { OnOk result
+        (Shown out.old.items out.new.items (all_of (map range_row ranges.now))) }
+{
+    for range in ranges {
+        push_range(out, alloc, range)?;
+    }
+    Ok(())
+}
+
+fn push_range(out: &mut Vec<u8>, alloc: Global, range: &Range) -> Result<(), AllocError>
+    ensures { OnOk result
+        (Shown out.old.items out.new.items (range_row range.now)) }
+{
+    let run = Run {
+        lo: range.lo,
+        hi: range.hi,
+    };
+    let values = format!(in alloc; "{run}")?;
+    push_range_texts(
+        out,
+        values.as_str(),
+        range.treatment.word(),
+        note_text(&range.note),
+    )
+}
+
+fn push_range_texts<'a>(
+    out: &mut Vec<u8>,
+    values: &'a str,
+    policy: &'a str,
+    note: &'a str,
+) -> Result<(), AllocError>
+    ensures { OnOk result
+        (Shown out.old.items out.new.items (row None values.now (policy.now ∷ note.now ∷ []))) }
+{
+    push_row(out, None, values, &[policy, note])
+}
+
+fn push_entries(out: &mut Vec<u8>, alloc: Global, rows: &[ListingRow<'_>]) -> Result<(), AllocError>
+    ensures { OnOk result
+        (Shown out.old.items out.new.items (entries_table (map row_view rows.now))) }
+{
+    let columns = [
+        "Value",
+        "Description",
+        "Status",
+        "Policy",
+        "First",
+        "Expires",
+        "Assignee",
+    ];
+    table::push_start(out, "Values", &columns)?;
+    push_entry_rows(out, alloc, rows)?;
+    table::push_end(out)?;
+    Ok(())
+}
+
+fn push_entry_rows(
+    out: &mut Vec<u8>,
+    alloc: Global,
+    rows: &[ListingRow<'_>],
+) -> Result<(), AllocError>
+    ensures { OnOk result
+        (Shown out.old.items out.new.items (all_of (map entry_row (map row_view rows.now)))) }
+{
+    for row in rows {
+        push_entry(out, alloc, row)?;
+    }
+    Ok(())
+}
+
+// A row of the listing.
+fn push_entry(out: &mut Vec<u8>, alloc: Global, row: &ListingRow<'_>) -> Result<(), AllocError>
+    ensures { OnOk result (Shown out.old.items out.new.items (entry_row (row_view row.now))) }
+{
+    let values = format!(in alloc; "{}", row.values)?;
+    let name = name_of(alloc, row)?;
+    let first = first_text(alloc, row)?;
+    let expiry = expiry_text(alloc, row)?;
+    push_entry_texts(
+        out,
+        name.as_ref().map(|name| name.as_str()),
+        values.as_str(),
+        row.description,
+        row.status.word(),
+        policy_word(row.policy),
+        first.as_str(),
+        expiry.as_str(),
+        assignee_text(row),
+    )
+}
+
+// By what a value with an entry is found.
+fn name_of(alloc: Global, row: &ListingRow<'_>) -> Result<Option<String>, AllocError>
+    ensures { IfOk result (λ name. option_map string_bytes name ≡ name_of (row_view row.now)) }
+{
+    match row.entry {
+        Some(_) => Ok(Some(format!(in alloc; "v{}", row.values)?)),
+        None => Ok(None),
+    }
+}
+
+fn push_entry_texts<'a>(
+    out: &mut Vec<u8>,
+    name: Option<&'a str>,
+    values: &'a str,
+    description: &'a str,
+    status: &'a str,
+    policy: &'a str,
+    first: &'a str,
+    expiry: &'a str,
+    assignee: &'a str,
+) -> Result<(), AllocError>
+    ensures { OnOk result
+        (Shown out.old.items out.new.items
+        (row (option_map (λ n. n.now) name.entry) values.now
+        (description.now ∷ status.now ∷ policy.now ∷ first.now ∷ expiry.now ∷ assignee.now
+        ∷ []))) }
+{
+    push_row(
+        out,
+        name,
+        values,
+        &[description, status, policy, first, expiry, assignee],
+    )
+}

@@ -1,0 +1,53 @@
+//! How the pages look.
+ghost use Rattle.std.specs.Prelude.{◌≡◌};
+
+/// The style sheet of all pages (CSS): light and dark as the reader prefers, and for print. On a narrow
+/// screen a row of a table becomes a few lines, where each day and count says what it is.
+pub const STYLE: &str = "\
+:root{color-scheme:light dark;--ink:#1b1f24;--paper:#fff;--line:#c9d1d9;--soft:#fff4c2;--link:#0550ae;\
+--used:#0b6b3a;--free:#a6d8ba;--aside:#e6c565;--reserved:#98a2ad}
+@media(prefers-color-scheme:dark){:root{--ink:#e6e8eb;--paper:#14171a;--line:#3a4148;--soft:#3d3620;\
+--link:#7cb7ff;--used:#5fd39a;--free:#235a3d;--aside:#86691c;--reserved:#56606a}}
+body{margin:0;background:var(--paper);color:var(--ink);font:1rem/1.5 system-ui,sans-serif}
+main{max-width:64rem;margin:0 auto;padding:1rem}
+a{color:var(--link)}
+table{width:100%;border-collapse:collapse;margin:1.5rem 0}
+caption{text-align:left;font-weight:600;padding:.4rem 0}
+th,td{text-align:left;vertical-align:top;padding:.3rem .8rem .3rem 0;border-bottom:1px solid var(--line)}
+th{white-space:nowrap}
+td{overflow-wrap:anywhere}
+td:nth-child(3):nth-last-child(5),td:nth-child(5):nth-last-child(3),td:nth-child(6):nth-last-child(2){\
+white-space:nowrap}
+td:nth-child(4):nth-last-child(4){min-width:8rem}
+tr:target{background:var(--soft)}
+td ul{list-style:none;margin:0;padding:0}
+figure{margin:1.5rem 0}
+svg{display:block;width:100%;height:1.5rem;print-color-adjust:exact}
+rect.used{fill:var(--used)}
+rect.free{fill:var(--free)}
+rect.aside{fill:var(--aside)}
+rect.reserved{fill:var(--reserved)}
+figcaption ul{display:flex;flex-wrap:wrap;gap:.2rem 1.2rem;list-style:none;margin:.5rem 0;padding:0}
+figcaption li{padding-left:.6rem;border-left:.8rem solid}
+li.used{border-color:var(--used)}
+li.free{border-color:var(--free)}
+li.aside{border-color:var(--aside)}
+li.reserved{border-color:var(--reserved)}
+@media(max-width:40rem){main{padding:.6rem}thead{position:absolute;clip-path:inset(50%)}
+tr{display:flex;flex-wrap:wrap;gap:0 .8rem;padding:.3rem 0;border-bottom:1px solid var(--line)}
+th,td{padding:0;border:0}td:empty{display:none}td:nth-child(2):nth-last-child(6){flex-basis:100%}
+td:nth-child(5):nth-last-child(3)::before{content:'First '}
+td:nth-child(6):nth-last-child(2)::before{content:'Expires '}
+td:nth-child(3):nth-last-child(4)::before{content:'Assigned '}
+td:nth-child(4):nth-last-child(3)::before{content:'Temporary '}
+td:nth-child(5):nth-last-child(2)::before{content:'Expired '}
+td:nth-child(6):nth-last-child(1)::before{content:'Free '}}
+@media print{body{font-size:10pt}a{color:inherit;text-decoration:none}tr{break-inside:avoid}}
+";
+
+/// The style sheet.
+pub fn style() -> &'static str
+    ensures { result.now ≡ STYLE.now }
+{
+    STYLE
+}
