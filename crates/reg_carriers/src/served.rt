@@ -1,6 +1,7 @@
 //! An office that is asked over HTTP.
 use crate::messages::request;
 use reg_http::listener::{Connections, serve_listener};
+use reg_http::log::Unlogged;
 use reg_http::serving::serve_one;
 use reg_http::watch::Watch;
 use reg_http::wire_fault::WireFault;
@@ -98,6 +99,7 @@ impl<K: Keeper + Drop> Served<K> {
             reader,
             writer,
             &mut watch,
+            &mut Unlogged,
         )
     }
 
@@ -118,6 +120,7 @@ impl<K: Keeper + Drop> Served<K> {
             listener,
             count,
             patience,
+            &mut Unlogged,
         )
     }
 }

@@ -4,7 +4,9 @@
 use reg_files::Files;
 use reg_jobs::command_line::job;
 use reg_jobs::jobs::{Job, JobFault};
+use reg_program::console::Console;
 use reg_program::performing::{perform, refuse};
+use std::io::IsTerminal;
 use std::process::ExitCode;
 use std::{env, io};
 
@@ -12,7 +14,16 @@ fn main(rt: HostRuntime) -> ExitCode {
     let mut output = io::writer(&rt);
     let mut errors = rt.stderr();
     let status = match asked(&rt) {
-        Ok(job) => perform(&rt, &Files, job, &mut rt.reader(), &mut output, &mut errors),
+        Ok(job) => {
+            let is_watched = errors.is_terminal();
+            let mut console = Console {
+                input: &mut rt.reader(),
+                output: &mut output,
+                errors: &mut errors,
+                is_watched,
+            };
+            perform(&rt, &Files, job, &mut console)
+        }
         Err(fault) => refuse(fault, &mut errors),
     };
     ExitCode::from(status)

@@ -1,34 +1,67 @@
 //! Offices in files of SQLite.
 #![tactic(auto)]
 
-use reg_office::Office;
-use reg_program::faults::{JobFailure, Undone};
-use reg_program::tasks::{Offices, Task};
-use reg_sql::open::{OpenFault, from_path};
-use sqlite::Unknown;
-use std::io::Write;
+mod access;
 
-/// The offices in files of which nothing is known before they are opened.
+use crate::access::{make_private, warn_of_readers};
+use reg_office::Office;
+use reg_program::checking::check_in;
+use reg_program::console::Console;
+use reg_program::faults::{JobFailure, Undone};
+use reg_program::tasks::{Offices, Task, moment};
+use reg_sql::look::{Look, look_at};
+use reg_sql::open::{OpenFault, from_path};
+use reg_sql::trouble::Trouble;
+use sqlite::Unknown;
+use std::alloc::{AllocError, Global};
+use std::io::{Read, Write};
+
+/// The offices in files of which nothing is known before they are opened. A file that is made is its
+/// owner's alone.
 pub struct Files;
 
 impl Offices for Files {
-    fn carry_out<W: Write>(
+    fn carry_out<R: Read, W: Write, E: Write>(
         &self,
         rt: &HostRuntime,
         path: &str,
         task: &Task<'_>,
-        output: &mut W,
+        console: &mut Console<'_, R, W, E>,
     ) -> Result<(), Undone> {
+        // Where it cannot be made, opening it says why.
+        let _ = make_private(rt, path);
         match from_path(rt, path, task.begins(), Unknown) {
             Ok(keeper) => {
+                if task.serves() {
+                    warn_of_readers(rt, path, console.errors);
+                }
                 let mut office = Office::new(rt.alloc(), keeper);
-                let done = task.carry_out(rt, &mut office, output);
+                let done = task.carry_out(rt, &mut office, console);
                 drop(office);
                 done
             }
             Err(fault) => Err(Undone::Fault(failure(fault))),
         }
     }
+
+    fn check<W: Write>(&self, rt: &HostRuntime, path: &str, output: &mut W) -> Result<(), Undone> {
+        match look_at(rt, path) {
+            Ok(look) => {
+                let Look { version, keeper } = look;
+                let alloc = rt.alloc();
+                let mut office = Office::new(alloc, keeper);
+                let done = check_in(alloc, &mut office, version.number(), moment(rt), output);
+                drop(office);
+                done
+            }
+            Err(trouble) => Err(explained(rt.alloc(), trouble)?),
+        }
+    }
+}
+
+fn explained(alloc: Global, trouble: Trouble) -> Result<Undone, AllocError> {
+    let why = format!(in alloc; "{trouble}")?;
+    Ok(Undone::Explained(failure(trouble.fault()), why))
 }
 
 fn failure(fault: OpenFault) -> JobFailure {

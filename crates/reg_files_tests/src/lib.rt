@@ -5,4 +5,8 @@
 #[cfg(test)]
 mod outcomes;
 #[cfg(test)]
+mod requests;
+#[cfg(test)]
+mod scripts;
+#[cfg(test)]
 mod steps;

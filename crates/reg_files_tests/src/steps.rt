@@ -2,20 +2,28 @@
 use reg_files::Files;
 use reg_jobs::command_line::job;
 use reg_jobs::jobs::Job;
+use reg_program::console::Console;
 use reg_program::performing::perform;
 use reg_testing::facts::ensure;
 use sqlite::Connection;
 use std::alloc::Global;
+use std::os::unix::fs::PermissionsExt;
 use std::path::PathBuf;
 use std::test::Fail;
 use std::{env, fs};
 
-/// A step of a test. In a command line `@` stands for the path of the office's file, and `#` for that
-/// of the range file.
+/// A step of a test. In a command line `@` stands for the path of the office's file, `#` for that of
+/// the range file, and `%` for a token in it: `@` with its path.
 #[derive(Clone, Copy)]
 pub enum Step {
     /// A command line prints this, and nothing else.
     Prints(&'static str, &'static str),
+    /// A command line with this on standard input prints this, and nothing else.
+    Answers(&'static str, &'static str, &'static str),
+    /// A command line with so many bytes on standard input is not done, with this on standard error.
+    TooMuch(&'static str, usize, &'static str),
+    /// Nobody but their owner may read or write the office's file, and its log.
+    Private,
     /// A command line is not done, with this on standard error.
     Undone(&'static str, &'static str),
     /// No job opens the file, and each says this on standard error.
@@ -38,7 +46,9 @@ pub enum Step {
 #[derive(Drop)]
 struct Paths {
     office: String,
+    log: String,
     ranges: String,
+    token: String,
 }
 
 impl Paths {
@@ -46,17 +56,22 @@ impl Paths {
     fn new(rt: &HostRuntime, name: &str) -> Result<Paths, Fail> {
         let office = path_of(rt, name, "db")?;
         let ranges = path_of(rt, name, "csv")?;
-        let paths = Paths { office, ranges };
+        let log = format!(in rt.alloc(); "{office}-wal")?;
+        let token = format!(in rt.alloc(); "@{ranges}")?;
+        let paths = Paths {
+            office,
+            log,
+            ranges,
+            token,
+        };
         paths.remove(rt)?;
         Ok(paths)
     }
 
     // Removes the files, and the log beside the office's, as far as they are there.
     fn remove(&self, rt: &HostRuntime) -> Result<(), Fail> {
-        let office = self.office.as_str();
-        let log = format!(in rt.alloc(); "{office}-wal")?;
-        let _ = fs::remove_file(rt, office);
-        let _ = fs::remove_file(rt, log.as_str());
+        let _ = fs::remove_file(rt, self.office.as_str());
+        let _ = fs::remove_file(rt, self.log.as_str());
         let _ = fs::remove_file(rt, self.ranges.as_str());
         Ok(())
     }
@@ -66,6 +81,7 @@ impl Paths {
         match word {
             "@" => self.office.as_str(),
             "#" => self.ranges.as_str(),
+            "%" => self.token.as_str(),
             _ => word,
         }
     }
@@ -100,14 +116,21 @@ fn job_of(alloc: Global, paths: &Paths, line: &str) -> Result<Job, Fail> {
     }
 }
 
-// What a command line gives.
-fn done(rt: &HostRuntime, paths: &Paths, line: &str) -> Result<Outcome, Fail> {
+// What a command line gives for this on standard input.
+fn done(rt: &HostRuntime, paths: &Paths, line: &str, input: &[u8]) -> Result<Outcome, Fail> {
     let alloc = rt.alloc();
     let job = job_of(alloc, paths, line)?;
     let mut output = Vec::new(alloc);
     let mut errors = Vec::new(alloc);
-    let mut input: &[u8] = b"";
-    let status = perform(rt, &Files, job, &mut input, &mut output, &mut errors);
+    let mut reader = input;
+    let mut console = Console {
+        input: &mut reader,
+        output: &mut output,
+        errors: &mut errors,
+        is_watched: false,
+    };
+    let status = perform(rt, &Files, job, &mut console);
+    drop(console);
     Ok(Outcome {
         status,
         output,
@@ -115,23 +138,37 @@ fn done(rt: &HostRuntime, paths: &Paths, line: &str) -> Result<Outcome, Fail> {
     })
 }
 
-fn assert_prints(rt: &HostRuntime, paths: &Paths, line: &str, wanted: &str) -> Result<(), Fail> {
-    let given = done(rt, paths, line)?;
+fn assert_prints(
+    rt: &HostRuntime,
+    paths: &Paths,
+    line: &str,
+    input: &[u8],
+    wanted: &str,
+) -> Result<(), Fail> {
+    let given = done(rt, paths, line, input)?;
     ensure(given.errors.is_empty(), line)?;
     ensure(given.output.as_slice() == wanted.as_bytes(), line)?;
     ensure(given.status == 0, line)
 }
 
-fn assert_undone(rt: &HostRuntime, paths: &Paths, line: &str, wanted: &str) -> Result<(), Fail> {
-    let given = done(rt, paths, line)?;
+fn assert_undone(
+    rt: &HostRuntime,
+    paths: &Paths,
+    line: &str,
+    input: &[u8],
+    wanted: &str,
+) -> Result<(), Fail> {
+    let given = done(rt, paths, line, input)?;
     ensure(given.errors.as_slice() == wanted.as_bytes(), line)?;
     ensure(given.output.is_empty(), line)?;
     ensure(given.status == 1, line)
 }
 
 // What opens an office.
-const OPENINGS: [&str; 4] = [
+const OPENINGS: [&str; 6] = [
     "init @ --clerk short",
+    "script --file @ --clerk short",
+    "request @ GET /registries",
     "serve @ --port 1",
     "listing @",
     "listing @ --registry codes",
@@ -139,18 +176,28 @@ const OPENINGS: [&str; 4] = [
 
 fn assert_unopened(rt: &HostRuntime, paths: &Paths, wanted: &str) -> Result<(), Fail> {
     for line in OPENINGS {
-        assert_undone(rt, paths, line, wanted)?;
+        assert_undone(rt, paths, line, b"", wanted)?;
     }
     Ok(())
 }
 
-fn write_many(rt: &HostRuntime, path: &str, count: usize) -> Result<(), Fail> {
-    let mut bytes = Vec::new(rt.alloc());
+fn many(alloc: Global, count: usize) -> Result<Vec<u8>, Fail> {
+    let mut bytes = Vec::new(alloc);
     for _ in 0..count {
         bytes.push(b'x')?;
     }
+    Ok(bytes)
+}
+
+fn write_many(rt: &HostRuntime, path: &str, count: usize) -> Result<(), Fail> {
+    let bytes = many(rt.alloc(), count)?;
     fs::write(rt, path, bytes.as_slice())?;
     Ok(())
+}
+
+fn assert_private(rt: &HostRuntime, path: &str) -> Result<(), Fail> {
+    let mode = fs::metadata(rt, path)?.permissions().mode();
+    ensure(mode & 0o777 == 0o600, path)
 }
 
 fn execute(rt: &HostRuntime, path: &str, sql: &str) -> Result<(), Fail> {
@@ -170,8 +217,19 @@ fn assert_has(rt: &HostRuntime, path: &str, text: &str) -> Result<(), Fail> {
 fn take_step(rt: &HostRuntime, paths: &Paths, step: &Step) -> Result<(), Fail> {
     let (office, ranges) = (paths.office.as_str(), paths.ranges.as_str());
     match step {
-        Step::Prints(line, wanted) => assert_prints(rt, paths, line, wanted),
-        Step::Undone(line, wanted) => assert_undone(rt, paths, line, wanted),
+        Step::Prints(line, wanted) => assert_prints(rt, paths, line, b"", wanted),
+        Step::Answers(line, input, wanted) => {
+            assert_prints(rt, paths, line, input.as_bytes(), wanted)
+        }
+        Step::TooMuch(line, count, wanted) => {
+            let input = many(rt.alloc(), *count)?;
+            assert_undone(rt, paths, line, input.as_slice(), wanted)
+        }
+        Step::Private => {
+            assert_private(rt, office)?;
+            assert_private(rt, paths.log.as_str())
+        }
+        Step::Undone(line, wanted) => assert_undone(rt, paths, line, b"", wanted),
         Step::Unopened(wanted) => assert_unopened(rt, paths, wanted),
         Step::Office(text) => Ok(fs::write(rt, office, text.as_bytes())?),
         Step::Ranges(text) => Ok(fs::write(rt, ranges, text.as_bytes())?),

@@ -2,13 +2,12 @@
 use Rattle.std.proofs.Common.{◌≡◌, ℕ, ◌+◌, ◌≤◌, List, [], ◌∷◌, ◌++◌, Option, Result, Ok, Err, refl, arith, append-nil, length-append, subst, inl, inr, ◌⊎◌}
 use Rattle.std.specs.Prelude.{IfOk, IfErr}
 use Rattle.std.specs.Io.KnownBytes.{IsAtEnd}
-use Rattle.std.specs.Result.{result_ok}
 use Rattle.reg_wire.specs.Exchange.{Call}
 use Rattle.reg_wire.specs.declared.wire_fault.WireFault.{WireFault}
 use Rattle.reg_wire.specs.declared.wire_fault.WireFault.TheVariants as fault
 use Rattle.reg_head.specs.Request.{Request, Asks, IsSettled}
 use Rattle.reg_head.specs.declared.malformed.Malformed.{Malformed}
-use Rattle.reg_http.specs.Listening.{ChangesByTurns, count_of}
+use Rattle.reg_http.specs.Listening.{ChangesByTurns, count_of, sent_of}
 use Rattle.reg_http.specs.Serving.{Exchange, IsAnswered, IsServed, FailsBy, Lead}
 use Rattle.reg_http.specs.declared.response.Response.{Response}
 
@@ -69,12 +68,12 @@ module _ {S : Type 0} (Serves : S → Call → Response → S → Type 0) where
   failed_turn moment fault.Memory before after unread left had has (inr same, nothing) =
       no_turn 1 before after same
 
-  pub turn : (moment : ℕ) (r : Result ℕ WireFault) (before after : S)
+  pub turn : (moment body : ℕ) (r : Result ℕ WireFault) (before after : S)
       (unread left had has : Option (List ℕ))
       → IfOk r (λ n. IsServed Serves moment before after unread left had has n)
       → IfErr r (λ why. FailsBy Serves moment why before after unread left had has)
-      → ChangesByTurns Serves 1 (count_of (result_ok r)) before after
-  turn moment (Ok n) before after unread left had has h k =
+      → ChangesByTurns Serves 1 (count_of (sent_of r body)) before after
+  turn moment body (Ok n) before after unread left had has h k =
       one_turn 1 moment before after unread left h.told (omega arith) h.answered
-  turn moment (Err why) before after unread left had has h k =
+  turn moment body (Err why) before after unread left had has h k =
       failed_turn moment why before after unread left had has k

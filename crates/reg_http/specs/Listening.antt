@@ -1,9 +1,11 @@
 -- What a listener's connections do to an office.
-use Rattle.std.specs.Prelude.{◌≤◌, ◌/◌, ℕ, List, length, Option, Some, None}
+use Rattle.std.specs.Prelude.{◌≤◌, ◌/◌, ℕ, List, length, Option, Some, None, Result, Ok, Err}
 use Rattle.std.specs.Duration.{as_nanos}
 use Rattle.std.specs.declared.time.Duration.{Duration}
 use Rattle.reg_wire.specs.Exchange.{Call}
 use Rattle.reg_http.specs.Serving.{Exchange, Lead}
+use Rattle.reg_wire.specs.declared.wire_fault.WireFault.{WireFault}
+use Rattle.reg_http.specs.declared.log.Sent.{Sent}
 use Rattle.reg_http.specs.declared.response.Response.{Response}
 
 -- the moment by what the clock said: whole seconds; 0 where it failed
@@ -11,10 +13,15 @@ abbrev pub moment_by : Option Duration → ℕ
 moment_by None = 0
 moment_by (Some time) = as_nanos time / 1000000000
 
--- one where a status is given
-abbrev pub count_of : Option ℕ → ℕ
+-- the answer that was written whole, with the size of its body
+abbrev pub sent_of : Result ℕ WireFault → ℕ → Option Sent
+sent_of (Ok status) body = Some (record { status = status; body = body })
+sent_of (Err fault) body = None
+
+-- one where an answer was written whole
+abbrev pub count_of : Option Sent → ℕ
 count_of None = 0
-count_of (Some status) = 1
+count_of (Some sent) = 1
 
 -- requests in turn, and nothing else, have changed the office: at most so many, and at least as
 -- many as are said to be answered

@@ -1,8 +1,10 @@
 //! Requests and answers over HTTP/1.1 (RFC 9112): one request is read, one answer is written.
 #![tactic(auto)]
 
+mod body_size;
 pub mod laws;
 pub mod listener;
+pub mod log;
 pub mod response;
 mod sending;
 pub mod serving;

@@ -1,9 +1,10 @@
 //! Serves the connections of a listener, one after the other.
 ghost use Rattle.std.specs.Prelude.{◌≡◌, ◌+◌, ◌≤◌};
-ghost use Rattle.std.specs.Result.{result_ok};
-ghost use Rattle.reg_http.specs.Listening.{ChangesByTurns, count_of, moment_by};
+ghost use Rattle.reg_http.specs.Listening.{ChangesByTurns, count_of, moment_by, sent_of};
 ghost use Rattle.reg_http.specs.Serving.{AnswersOver};
 
+use crate::body_size::BodySize;
+use crate::log::{Log, Sent};
 use crate::serving::serve_one;
 use reg_head::watch::Watch;
 use reg_keeper::keeper::Keeper;
@@ -39,8 +40,9 @@ pub struct Connections {
 /// as much again a failed write. After a refusal what the peer still sends is read for a second, at
 /// most 128 KiB of it. A connection that cannot be accepted, or fails, is dropped, and the next is
 /// served. The office is changed by at most one request of each connection, and by nothing else; no
-/// more connections are said to be answered than there were such requests.
-pub fn serve_listener<C: Clock, K: Keeper>(
+/// more connections are said to be answered than there were such requests. The log is told of each
+/// connection that was accepted.
+pub fn serve_listener<C: Clock, K: Keeper, L: Log>(
     alloc: Global,
     clock: &C,
     office: &mut Office<K>,
@@ -48,6 +50,7 @@ pub fn serve_listener<C: Clock, K: Keeper>(
     listener: &TcpListener,
     count: u32,
     patience: Duration,
+    log: &mut L,
 ) -> Connections
     ensures counted { result.answered + result.dropped ≡ count }
     ensures turns { ChangesByTurns (AnswersOver K.world K.Holds K.Sound K.FAILS) count
@@ -55,7 +58,8 @@ pub fn serve_listener<C: Clock, K: Keeper>(
 {
     let mut answered = 0;
     for _ in 0..count {
-        answered += count_of(serve_next(alloc, clock, office, routes, listener, patience));
+        let sent = serve_next(alloc, clock, office, routes, listener, patience, log);
+        answered += count_of(sent);
     }
     Connections {
         answered,
@@ -63,46 +67,51 @@ pub fn serve_listener<C: Clock, K: Keeper>(
     }
 }
 
-// One where a status is given.
-fn count_of(status: Option<u16>) -> u32
+// One where an answer was written whole.
+fn count_of(sent: Option<Sent>) -> u32
     ensures one { result ≤ 1 }
-    ensures count { result ≡ count_of status }
+    ensures count { result ≡ count_of sent }
 {
-    match status {
+    match sent {
         Some(_) => 1,
         None => 0,
     }
 }
 
-// Serves the next connection; gives the status of the answer that was written whole.
-fn serve_next<C: Clock, K: Keeper>(
+// Serves the next connection, and tells the log of it; gives the answer that was written whole.
+fn serve_next<C: Clock, K: Keeper, L: Log>(
     alloc: Global,
     clock: &C,
     office: &mut Office<K>,
     routes: &Routes,
     listener: &TcpListener,
     patience: Duration,
-) -> Option<u16>
+    log: &mut L,
+) -> Option<Sent>
     ensures { ChangesByTurns (AnswersOver K.world K.Holds K.Sound K.FAILS) 1 (count_of result)
         office.old office.new }
 {
     let (stream, _) = listener.accept().ok()?;
-    let status = exchange(alloc, clock, office, routes, &stream, patience);
-    if status.is_some_and(|status| status >= 400) {
+    let moment = moment(clock);
+    let sent = exchange(alloc, clock, office, routes, moment, &stream, patience, log);
+    log.ended(moment, sent);
+    if sent.is_some_and(|sent| sent.status >= 400) {
         linger(&stream, clock);
     }
-    status
+    sent
 }
 
-// One exchange over a connection; gives the status of the answer that was written whole.
-fn exchange<C: Clock, K: Keeper>(
+// One exchange over a connection; gives the answer that was written whole.
+fn exchange<C: Clock, K: Keeper, L: Log>(
     alloc: Global,
     clock: &C,
     office: &mut Office<K>,
     routes: &Routes,
+    moment: u64,
     stream: &TcpStream,
     patience: Duration,
-) -> Option<u16>
+    log: &mut L,
+) -> Option<Sent>
     ensures { ChangesByTurns (AnswersOver K.world K.Holds K.Sound K.FAILS) 1 (count_of result)
         office.old office.new }
 {
@@ -113,28 +122,38 @@ fn exchange<C: Clock, K: Keeper>(
         clock,
         end: read_by,
     };
-    let mut writer = Timed {
+    let timed = Timed {
         stream,
         clock,
         end: write_by,
     };
+    let mut writer = Measured {
+        timed,
+        measures: L::IS_KEPT,
+        size: BodySize::new(),
+    };
     let mut watch = Watch::new();
-    status_of(serve_one(
+    let served = serve_one(
         alloc,
         office,
         routes,
-        moment(clock),
+        moment,
         &mut reader,
         &mut writer,
         &mut watch,
-    ))
+        log,
+    );
+    sent_of(served, writer.size.body())
 }
 
-// The status of an answer that was written whole.
-fn status_of(served: Result<u16, WireFault>) -> Option<u16>
-    ensures { result ≡ result_ok served }
+// The answer that was written whole, with the size of its body.
+fn sent_of(served: Result<u16, WireFault>, body: usize) -> Option<Sent>
+    ensures { result ≡ sent_of served body }
 {
-    served.ok()
+    match served {
+        Ok(status) => Some(Sent { status, body }),
+        Err(_) => None,
+    }
 }
 
 // Reads for a while what a refused peer still sends, and drops it. Where a connection is closed
@@ -207,6 +226,28 @@ impl<C: Clock> Write for Timed<'_, C> {
     fn write(&mut self, buf: &[u8]) -> io::Result<usize> {
         self.stream.set_write_timeout(Some(self.left()?))?;
         self.stream.write(buf)
+    }
+
+    fn flush(&mut self) -> io::Result<()> {
+        Ok(())
+    }
+}
+
+/// A connection that measures the body of the answer that is written, where that is wanted.
+#[derive(Drop)]
+struct Measured<'a, C: Clock> {
+    timed: Timed<'a, C>,
+    measures: bool,
+    size: BodySize,
+}
+
+impl<C: Clock> Write for Measured<'_, C> {
+    fn write(&mut self, buf: &[u8]) -> io::Result<usize> {
+        let count = self.timed.write(buf)?;
+        if self.measures {
+            self.size.count(&buf[..count]);
+        }
+        Ok(count)
     }
 
     fn flush(&mut self) -> io::Result<()> {

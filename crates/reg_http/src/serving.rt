@@ -6,6 +6,7 @@ ghost use Rattle.reg_http.specs.Watched.{IsWatched};
 ghost use Rattle.reg_head.specs.Reading.{IsMessage, IsPlaced};
 ghost use Rattle.reg_head.specs.Request.{Request};
 
+use crate::log::Log;
 use crate::response::Response;
 use crate::sending::send_response;
 use reg_head::message::Message;
@@ -22,7 +23,7 @@ use std::alloc::Global;
 use std::io::{Read, Write};
 
 /// Reads one request (RFC 9112), answers it, and gives the status of the answer. The moment is in
-/// seconds since 1970-01-01T00:00:00Z.
+/// seconds since 1970-01-01T00:00:00Z. The log is told what is asked, where that could be read.
 ///
 /// A request is answered as its call is; one at which the store or memory failed by
 /// `503 {"error":"storage"}`, with the content of the office unchanged. Bytes that are no request
@@ -35,7 +36,7 @@ use std::io::{Read, Write};
 /// failed or took nothing, which is tested: exactly the first n bytes of the answer went out, and
 /// the request was carried out. `Memory` where there was none to hold the request, or its answer:
 /// nothing was written, and the request was carried out or nothing has changed.
-pub fn serve_one<K: Keeper, R: Read, W: Write>(
+pub fn serve_one<K: Keeper, R: Read, W: Write, L: Log>(
     alloc: Global,
     office: &mut Office<K>,
     routes: &Routes,
@@ -43,6 +44,7 @@ pub fn serve_one<K: Keeper, R: Read, W: Write>(
     reader: &mut R,
     writer: &mut W,
     watch: &mut Watch,
+    log: &mut L,
 ) -> Result<u16, WireFault>
     ensures ok { IfOk result (λ status. IsServed (AnswersOver K.world K.Holds K.Sound K.FAILS)
         moment office.old office.new (R.remaining reader.old) (R.remaining reader.new)
@@ -52,18 +54,19 @@ pub fn serve_one<K: Keeper, R: Read, W: Write>(
         (W.contents writer.old) (W.contents writer.new)) }
     ensures watched { IsWatched watch.old watch.new result }
 {
-    let response = respond(alloc, office, routes, moment, reader, watch)?;
+    let response = respond(alloc, office, routes, moment, reader, watch, log)?;
     send_response(alloc, writer, response)
 }
 
 // Reads a request and answers it, without writing.
-fn respond<K: Keeper, R: Read>(
+fn respond<K: Keeper, R: Read, L: Log>(
     alloc: Global,
     office: &mut Office<K>,
     routes: &Routes,
     moment: u64,
     reader: &mut R,
     watch: &mut Watch,
+    log: &mut L,
 ) -> Result<Response, WireFault>
     ensures ok { IfOk result (λ told. IsAnswered (AnswersOver K.world K.Holds K.Sound K.FAILS)
         moment office.old office.new (R.remaining reader.old) (R.remaining reader.new) told) }
@@ -73,6 +76,7 @@ fn respond<K: Keeper, R: Read>(
 {
     match read_request(alloc, reader, watch) {
         Ok(message) => {
+            tell(&message, log);
             let response = respond_to(alloc, office, routes, moment, &message);
             drop(message);
             Ok(response)
@@ -81,6 +85,14 @@ fn respond<K: Keeper, R: Read>(
         Err(Unread::Read) => Err(WireFault::Read),
         Err(Unread::Memory) => Err(WireFault::Memory),
     }
+}
+
+// Tells the log what a request asks.
+fn tell<L: Log>(message: &Message, log: &mut L)
+    requires { IsPlaced message.now }
+{
+    let parts = message.parts();
+    log.asked(parts.method, parts.path);
 }
 
 // What is answered to a request.

@@ -19,9 +19,9 @@ use Rattle.clap.specs.declared.builder.action.ArgAction.TheVariants.{Set}
 use Rattle.clap.specs.declared.builder.value_parser.Reading.TheVariants.{WithoutMinus}
 use Rattle.clap.specs.declared.builder.value_parser.ValueParser.TheVariants.{Signed}
 use Rattle.reg_jobs.specs.Asking.{HasJob, HasNumber, HasText, MayHaveNumber}
-use Rattle.reg_jobs.specs.CommandLine.{clerk_rule, connections_rule, define_app, init_app, listing_app, office_app, place_rule, port_rule, registry_rule, script_app, serve_app}
-use Rattle.reg_jobs.proofs.Walks.{Each, Keeps, found_holds, leaf_holds, no_faults}
-use Rattle.reg_jobs.proofs.Uses.{help_keeps, row_with, set_keeps}
+use Rattle.reg_jobs.specs.CommandLine.{check_app, clerk_rule, connections_rule, define_app, flag_rule, init_app, last_place_rule, listing_app, office_app, option_rule, place_rule, port_rule, publish_app, request_app, revoke_app, script_app, serve_app, tokens_app}
+use Rattle.reg_jobs.proofs.Walks.{Each, Keeps, KeepsDefault, found_holds, leaf_holds, no_faults, none_keeps}
+use Rattle.reg_jobs.proofs.Uses.{default_row_with, flag_keeps, help_keeps, row_with, set_keeps, value_keeps}
 use Rattle.reg_jobs.proofs.Stops.{StopsElsewhere, walk_stops}
 
 -- ---- rows
@@ -38,6 +38,20 @@ HoldsValue r = (v : Text) × (slice_get r.values 0 ≡ Some v) × IsNumberRow r 
 pub different : (id name : Text) → bytes_eq id name ≡ false → id ≡ name → ⊥
 different id name differs same = true≢false (sym ((bytes_eq-Decides id name).1 same) ∙ differs)
 
+-- a use of the argument keeps that each row has a value, and so does its default
+abbrev Fills : Bool → Rule → Type 0
+Fills again a = Keeps HoldsValue again a × KeepsDefault HoldsValue a
+
+-- a row of another argument than the numbers has any value
+any_value : (id : Text) (r : Row) (v : Text) → r.id ≡ id → slice_get r.values 0 ≡ Some v → bytes_eq id (codes "port") ≡ false
+    → bytes_eq id (codes "connections") ≡ false → HoldsValue r
+any_value id r v named has port connections = (
+  v,
+  has,
+  (λ same. absurd (different _ _ port (sym named ∙ same))),
+  (λ same. absurd (different _ _ connections (sym named ∙ same))),
+)
+
 accepted : (a : Rule) (v : Text) → values_fault a (v ∷ []) ≡ [] → accepts a.ignore_case (parser_of_value a.parser) v ≡ true
 accepted a v none = go (accepts a.ignore_case (parser_of_value a.parser) v) (no_faults (value_kinds a.ignore_case (parser_of_value a.parser) v) [] none).0
   where
@@ -45,14 +59,12 @@ accepted a v none = go (accepts a.ignore_case (parser_of_value a.parser) v) (no_
     go true e = refl
     go false e = absurd (cc)
 
-text_keeps : (a : Rule) → action_of a ≡ Set → (unwrap_or_range a.range).start_inclusive ≡ 1 → most_values a ≡ 1 → bytes_eq a.id (codes "port") ≡ false
-    → bytes_eq a.id (codes "connections") ≡ false → Keeps HoldsValue false a
-text_keeps a set least most port connections = set_keeps HoldsValue a set least most (λ v none. (
-  v,
-  refl,
-  (λ same. absurd (different _ _ port same)),
-  (λ same. absurd (different _ _ connections same)),
-))
+text_keeps : (a : Rule) → action_of a ≡ Set → (unwrap_or_range a.range).start_inclusive ≡ 1 → most_values a ≡ 1 → a.defaults ≡ []
+    → bytes_eq a.id (codes "port") ≡ false → bytes_eq a.id (codes "connections") ≡ false → Fills false a
+text_keeps a set least most bare port connections = (
+  set_keeps HoldsValue a set least most (λ v none. any_value a.id (row_with a v) v refl refl port connections),
+  none_keeps HoldsValue a bare,
+)
 
 number_taken : (a : Rule) (v : Text) (most : ℕ) → a.parser ≡ Some (Signed (pos 1) (pos most)) → values_fault a (v ∷ []) ≡ []
     → ((row_with a v).reading ≡ WithoutMinus) × IsSignedIn (pos 1) (pos most) v
@@ -61,33 +73,52 @@ number_taken a v most parser none = (
   subst (λ p. Accepts a.ignore_case (parser_of_value p) v) parser (accepts-Accepts a.ignore_case (parser_of_value a.parser) v (accepted a v none)),
 )
 
-port_keeps : Keeps HoldsValue false (filled port_rule)
-port_keeps = set_keeps HoldsValue (filled port_rule) refl refl refl (λ v none. (
-  v,
-  refl,
-  (λ same. number_taken (filled port_rule) v 65535 refl none),
-  (λ same. absurd (different (codes "port") (codes "connections") refl same)),
-))
+port_keeps : Fills false (filled port_rule)
+port_keeps = (
+  set_keeps HoldsValue (filled port_rule) refl refl refl (λ v none. (
+    v,
+    refl,
+    (λ same. number_taken (filled port_rule) v 65535 refl none),
+    (λ same. absurd (different (codes "port") (codes "connections") refl same)),
+  )),
+  none_keeps HoldsValue (filled port_rule) refl,
+)
 
-connections_keeps : Keeps HoldsValue false (filled connections_rule)
-connections_keeps = set_keeps HoldsValue (filled connections_rule) refl refl refl (λ v none. (
-  v,
-  refl,
-  (λ same. absurd (different (codes "connections") (codes "port") refl same)),
-  (λ same. number_taken (filled connections_rule) v 1000000 refl none),
-))
+connections_keeps : Fills false (filled connections_rule)
+connections_keeps = (
+  set_keeps HoldsValue (filled connections_rule) refl refl refl (λ v none. (
+    v,
+    refl,
+    (λ same. absurd (different (codes "connections") (codes "port") refl same)),
+    (λ same. number_taken (filled connections_rule) v 1000000 refl none),
+  )),
+  none_keeps HoldsValue (filled connections_rule) refl,
+)
 
-clerk_keeps : Keeps HoldsValue false (filled clerk_rule)
-clerk_keeps = text_keeps (filled clerk_rule) refl refl refl refl refl
+clerk_keeps : Fills false (filled clerk_rule)
+clerk_keeps = text_keeps (filled clerk_rule) refl refl refl refl refl refl
 
-registry_keeps : Keeps HoldsValue false (filled registry_rule)
-registry_keeps = text_keeps (filled registry_rule) refl refl refl refl refl
+option_keeps : (id : Text) → bytes_eq id (codes "port") ≡ false → bytes_eq id (codes "connections") ≡ false → Fills false (filled (option_rule id))
+option_keeps id port connections = text_keeps (filled (option_rule id)) refl refl refl refl port connections
 
-place_keeps : (i : ℕ) (id : Text) → bytes_eq id (codes "port") ≡ false → bytes_eq id (codes "connections") ≡ false → Keeps HoldsValue false (with_index i (filled (place_rule id)))
-place_keeps i id port connections = text_keeps (with_index i (filled (place_rule id))) refl refl refl port connections
+log_keeps : Fills false (filled (flag_rule (codes "log")))
+log_keeps = (
+  flag_keeps HoldsValue (filled (flag_rule (codes "log"))) (codes "true") refl refl refl refl (any_value (codes "log") (row_with (filled (flag_rule (codes "log"))) (codes "true")) (codes "true") refl refl refl refl),
+  value_keeps HoldsValue (filled (flag_rule (codes "log"))) (codes "false") refl (any_value (codes "log") (default_row_with (filled (flag_rule (codes "log"))) (codes "false")) (codes "false") refl refl refl refl),
+)
 
-help_flag_keeps : Keeps HoldsValue false (filled help_rule)
-help_flag_keeps = help_keeps HoldsValue false (filled help_rule) refl
+place_keeps : (i : ℕ) (id : Text) → bytes_eq id (codes "port") ≡ false → bytes_eq id (codes "connections") ≡ false → Fills false (with_index i (filled (place_rule id)))
+place_keeps i id port connections = text_keeps (with_index i (filled (place_rule id))) refl refl refl refl port connections
+
+last_place_keeps : (i : ℕ) (id : Text) → bytes_eq id (codes "port") ≡ false → bytes_eq id (codes "connections") ≡ false
+    → Fills false (with_index i (filled (last_place_rule id)))
+last_place_keeps i id port connections = text_keeps (with_index i (filled (last_place_rule id))) refl refl refl refl port connections
+
+file_keeps : Fills false (with_index 1 (filled (place_rule (codes "FILE"))))
+file_keeps = place_keeps 1 (codes "FILE") refl refl
+
+help_flag_keeps : Fills false (filled help_rule)
+help_flag_keeps = (help_keeps HoldsValue false (filled help_rule) refl, none_keeps HoldsValue (filled help_rule) refl)
 
 -- ---- what the rows say of an argument
 
@@ -147,13 +178,22 @@ required_given rows (a ∷ c) none =
     go true false none is = absurd (true≢false none)
     go false false none is = is
 
+firsts : {X : Type 0} (P Q : X → Type 0) (xs : List X) → Each (λ x. P x × Q x) xs → Each P xs
+firsts P Q [] each = tt
+firsts P Q (x ∷ xs) each = (each.0.0, firsts P Q xs each.1)
+
+seconds : {X : Type 0} (P Q : X → Type 0) (xs : List X) → Each (λ x. P x × Q x) xs → Each Q xs
+seconds P Q [] each = tt
+seconds P Q (x ∷ xs) each = (each.0.1, seconds P Q xs each.1)
+
 -- what the rows of a subcommand hold after words that it takes
-leaf_rows : (s : Shape) → Each (Keeps HoldsValue s.args_override_self) s.rules → Each (λ a. a.defaults ≡ []) s.rules → s.subcommand_negates_reqs ≡ false
+leaf_rows : (s : Shape) → Each (Fills s.args_override_self) s.rules → s.subcommand_negates_reqs ≡ false
     → (words : List Text) → level_fault s [] nothing_held words false [] ≡ []
     → Each HoldsValue (rows_after s.rules [] words) × HasRequired (rows_after s.rules [] words) s.rules
-leaf_rows s keeps bare strict words none =
+leaf_rows s fills strict words none =
     let rows = rows_after s.rules [] words in
-    let held = leaf_holds HoldsValue s keeps bare words none in
+    let keeps = firsts (Keeps HoldsValue s.args_override_self) (KeepsDefault HoldsValue) s.rules fills in
+    let held = leaf_holds HoldsValue s keeps (seconds (Keeps HoldsValue s.args_override_self) (KeepsDefault HoldsValue) s.rules fills) words none in
     let helps = not false && (s.arg_required_else_help && not (list_any (λ r. explicit_source r.source) rows)) in
     let missing = list_any (λ a. a.required && not (is_given a.id rows)) s.rules in
     let passes = checks_pass helps (not false && s.subcommand_required) (not (s.subcommand_negates_reqs && false) && missing) held.1 in
@@ -170,45 +210,79 @@ GivesJob s = (words : List Text) → level_fault s [] nothing_held words false [
 
 script_gives : GivesJob (sub_of script_app)
 script_gives words none =
-    let held = leaf_rows (sub_of script_app) (clerk_keeps, (help_flag_keeps, tt)) (refl, (refl, tt)) refl words none in
-    inl (refl, text_given _ _ held.0 (held.1.0 refl))
+    let held = leaf_rows (sub_of script_app) (clerk_keeps, (option_keeps (codes "file") refl refl, (help_flag_keeps, tt))) refl words none in
+    text_given _ _ held.0 (held.1.0 refl)
 
 init_gives : GivesJob (sub_of init_app)
 init_gives words none =
-    let held = leaf_rows (sub_of init_app) (place_keeps 1 (codes "FILE") refl refl, (clerk_keeps, (help_flag_keeps, tt)))
-    (refl, (refl, (refl, tt))) refl words none in
-    inr (inl (refl, text_given _ _ held.0 (held.1.0 refl), text_given _ _ held.0 (held.1.1.0 refl)))
+    let held = leaf_rows (sub_of init_app) (file_keeps, (clerk_keeps, (help_flag_keeps, tt))) refl words none in
+    (text_given _ _ held.0 (held.1.0 refl), text_given _ _ held.0 (held.1.1.0 refl))
 
 serve_gives : GivesJob (sub_of serve_app)
 serve_gives words none =
-    let held = leaf_rows (sub_of serve_app) (place_keeps 1 (codes "FILE") refl refl, (port_keeps, (connections_keeps, (help_flag_keeps, tt))))
-    (refl, (refl, (refl, (refl, tt)))) refl words none in
-    inr (inr (inl (refl, text_given _ _ held.0 (held.1.0 refl), port_given _ held.0 (held.1.1.0 refl), connections_given _ held.0)))
+    let held = leaf_rows (sub_of serve_app) (file_keeps, (port_keeps, (connections_keeps, (log_keeps, (help_flag_keeps, tt))))) refl words none in
+    (text_given _ _ held.0 (held.1.0 refl), port_given _ held.0 (held.1.1.0 refl), connections_given _ held.0)
+
+request_gives : GivesJob (sub_of request_app)
+request_gives words none =
+    let held = leaf_rows (sub_of request_app) (
+      file_keeps,
+      (
+        place_keeps 2 (codes "METHOD") refl refl,
+        (
+          place_keeps 3 (codes "PATH") refl refl,
+          (last_place_keeps 4 (codes "BODY") refl refl, (option_keeps (codes "token") refl refl, (help_flag_keeps, tt))),
+        ),
+      ),
+    ) refl words none in
+    (text_given _ _ held.0 (held.1.0 refl), text_given _ _ held.0 (held.1.1.0 refl), text_given _ _ held.0 (held.1.1.1.0 refl))
 
 define_gives : GivesJob (sub_of define_app)
 define_gives words none =
     let held = leaf_rows (sub_of define_app) (
-      place_keeps 1 (codes "FILE") refl refl,
+      file_keeps,
       (
         place_keeps 2 (codes "NAME") refl refl,
         (place_keeps 3 (codes "MAX") refl refl, (place_keeps 4 (codes "CSV") refl refl, (clerk_keeps, (help_flag_keeps, tt)))),
       ),
-    )
-    (refl, (refl, (refl, (refl, (refl, (refl, tt)))))) refl words none in
-    inr (inr (inr (inl (
-      refl,
+    ) refl words none in (
       text_given _ _ held.0 (held.1.0 refl),
       text_given _ _ held.0 (held.1.1.0 refl),
       text_given _ _ held.0 (held.1.1.1.0 refl),
       text_given _ _ held.0 (held.1.1.1.1.0 refl),
       text_given _ _ held.0 (held.1.1.1.1.1.0 refl),
-    ))))
+    )
 
 listing_gives : GivesJob (sub_of listing_app)
 listing_gives words none =
-    let held = leaf_rows (sub_of listing_app) (place_keeps 1 (codes "FILE") refl refl, (registry_keeps, (help_flag_keeps, tt)))
-    (refl, (refl, (refl, tt))) refl words none in
-    inr (inr (inr (inr (refl, text_given _ _ held.0 (held.1.0 refl)))))
+    let held = leaf_rows (sub_of listing_app) (file_keeps, (option_keeps (codes "registry") refl refl, (help_flag_keeps, tt))) refl words none in
+    text_given _ _ held.0 (held.1.0 refl)
+
+publish_gives : GivesJob (sub_of publish_app)
+publish_gives words none =
+    let held = leaf_rows (sub_of publish_app) (
+      place_keeps 1 (codes "SOURCE") refl refl,
+      (place_keeps 2 (codes "FOLDER") refl refl, (help_flag_keeps, tt)),
+    ) refl words none in
+    (text_given _ _ held.0 (held.1.0 refl), text_given _ _ held.0 (held.1.1.0 refl))
+
+check_gives : GivesJob (sub_of check_app)
+check_gives words none =
+    let held = leaf_rows (sub_of check_app) (file_keeps, (help_flag_keeps, tt)) refl words none in
+    text_given _ _ held.0 (held.1.0 refl)
+
+tokens_gives : GivesJob (sub_of tokens_app)
+tokens_gives words none =
+    let held = leaf_rows (sub_of tokens_app) (file_keeps, (help_flag_keeps, tt)) refl words none in
+    text_given _ _ held.0 (held.1.0 refl)
+
+revoke_gives : GivesJob (sub_of revoke_app)
+revoke_gives words none =
+    let held = leaf_rows (sub_of revoke_app) (
+      file_keeps,
+      (option_keeps (codes "digest") refl refl, (option_keeps (codes "account") refl refl, (help_flag_keeps, tt))),
+    ) refl words none in
+    text_given _ _ held.0 (held.1.0 refl)
 
 -- ---- the program
 
@@ -232,10 +306,25 @@ each_gives = (
     (
       (λ p answers elsewhere none. serve_gives p.1 none),
       (
-        (λ p answers elsewhere none. define_gives p.1 none),
+        (λ p answers elsewhere none. request_gives p.1 none),
         (
-          (λ p answers elsewhere none. listing_gives p.1 none),
-          (help_not_entered, tt),
+          (λ p answers elsewhere none. define_gives p.1 none),
+          (
+            (λ p answers elsewhere none. listing_gives p.1 none),
+            (
+              (λ p answers elsewhere none. publish_gives p.1 none),
+              (
+                (λ p answers elsewhere none. check_gives p.1 none),
+                (
+                  (λ p answers elsewhere none. tokens_gives p.1 none),
+                  (
+                    (λ p answers elsewhere none. revoke_gives p.1 none),
+                    (help_not_entered, tt),
+                  ),
+                ),
+              ),
+            ),
+          ),
         ),
       ),
     ),

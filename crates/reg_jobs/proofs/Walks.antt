@@ -1,5 +1,5 @@
 -- What the rows of a command hold after words that it takes, where each use of a rule keeps it.
-use Rattle.std.proofs.Common.{◌≡◌, ◌∙◌, ◌&&◌, ℕ, Bool, cond, true, false, zero, suc, refl, sym, ap, subst, List, [], ◌∷◌, length, Option, Some, None, is_some, drop}
+use Rattle.std.proofs.Common.{◌≡◌, ◌&&◌, ℕ, Bool, cond, true, false, zero, suc, refl, sym, ap, subst, List, [], ◌∷◌, length, Option, Some, None, is_some, drop}
 use Rattle.std.specs.Prelude.{⊤, encode_utf8, slice_get, find}
 use Rattle.std.specs.List.{fold}
 use Rattle.std.specs.Option.{option_map_or, unwrap_or}
@@ -198,19 +198,26 @@ default_keeps rows a none = by_row (has_row a.id rows)
     by_row true = refl
     by_row false = ap (λ values. default_rows a.id (reading_by a) values rows) none
 
-pub no_defaults : (c : List Rule) (rows : List Row) → Each (λ a. a.defaults ≡ []) c → fold with_default rows c ≡ rows
-no_defaults [] rows each = refl
-no_defaults (a ∷ c) rows each = ap (λ rs. fold with_default rs c) (default_keeps rows a each.0) ∙ no_defaults c rows each.1
+-- where the rule has a default, this keeps what each row holds
+abbrev pub KeepsDefault : (Row → Type 0) → Rule → Type 0
+KeepsDefault P a = (rows : List Row) → Each P rows → Each P (with_default rows a)
+
+pub none_keeps : (P : Row → Type 0) (a : Rule) → a.defaults ≡ [] → KeepsDefault P a
+none_keeps P a none rows each = subst (Each P) (sym (default_keeps rows a none)) each
+
+defaults_keep : (P : Row → Type 0) (c : List Rule) (rows : List Row) → Each (KeepsDefault P) c → Each P rows → Each P (fold with_default rows c)
+defaults_keep P [] rows fills each = each
+defaults_keep P (a ∷ c) rows fills each = defaults_keep P c (with_default rows a) fills.1 (fills.0 rows each)
 
 -- what the rows of a command with no subcommand hold, and that its last checks pass
-pub leaf_holds : (P : Row → Type 0) (s : Shape) → Each (Keeps P s.args_override_self) s.rules → Each (λ a. a.defaults ≡ []) s.rules → (words : List Text)
+pub leaf_holds : (P : Row → Type 0) (s : Shape) → Each (Keeps P s.args_override_self) s.rules → Each (KeepsDefault P) s.rules → (words : List Text)
     → level_fault s [] nothing_held words false [] ≡ []
     → Each P (rows_after s.rules [] words) × (check_fault s (rows_after s.rules [] words) false ≡ [])
-leaf_holds P s keeps bare words none =
+leaf_holds P s keeps fills words none =
     let end = (walk s.rules [] nothing_held words).held in
     let parts = no_faults _ _ none in
     let settling = no_faults _ _ (no_faults [] _ parts.1).1 in
     let checks = no_faults (defaults_fault (settled s.rules end).rows s.rules) _ settling.1 in
     let walked_rows = walk_keeps P s [] keeps words (walk_from nothing_held) parts.0 tt in
     let rows = settle_keeps P s.rules s.args_override_self keeps end settling.0 walked_rows in
-    (subst (Each P) (sym (no_defaults s.rules (settled s.rules end).rows bare)) rows, checks.1)
+    (defaults_keep P s.rules (settled s.rules end).rows fills rows, checks.1)

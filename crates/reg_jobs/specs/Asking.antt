@@ -1,5 +1,8 @@
 -- What the words of a command line ask for, as the library `clap` reads them.
-use Rattle.std.specs.Prelude.{◌≡◌, ◌⊎◌, ◌≤◌, ⊤, ℕ, [], List, Some, None, codes, option_map, pos}
+use Rattle.std.specs.Prelude.{◌≡◌, ◌⊎◌, ◌≤◌, ⊤, ℕ, Bool, true, false, [], List, Some, None}
+use Rattle.std.specs.Prelude.{codes, is_some, option_map, pos}
+use Rattle.std.specs.Option.{option_map_or}
+use Rattle.std.specs.Str.{bytes_eq}
 use Rattle.std.specs.String.{string_bytes}
 use Rattle.std.specs.Str.Parse.{IsNumeral, digits_value, without_leading_plus}
 use Rattle.clap.specs.Words.{IsAmong, IsSignedIn, Row, Text, fault_of, first_of, one_of, subcommand_of, without_minus}
@@ -7,11 +10,19 @@ use Rattle.clap.specs.declared.error.kind.ErrorKind.{ErrorKind}
 use Rattle.clap.specs.declared.error.kind.ErrorKind.TheVariants.{DisplayHelp}
 use Rattle.reg_jobs.specs.CommandLine.{office_app}
 use Rattle.reg_jobs.specs.declared.jobs.Job.{Job}
-use Rattle.reg_jobs.specs.declared.jobs.Job.TheVariants.{Script, Init, Serve, Define, Listing, Help}
+use Rattle.reg_jobs.specs.declared.jobs.Job.TheVariants.{Script, Init, Serve, Request, Define}
+use Rattle.reg_jobs.specs.declared.jobs.Job.TheVariants.{Listing, Publish, Check, Tokens, Revoke}
+use Rattle.reg_jobs.specs.declared.jobs.Job.TheVariants.{Help}
+use Rattle.reg_jobs.specs.declared.jobs.Which.{Which}
+use Rattle.reg_jobs.specs.declared.jobs.Which.TheVariants.{Digest, Account}
 
 -- the value of an argument is this text
 abbrev pub IsTextOf : Text → List Row → Text → Type 0
 IsTextOf id rows text = first_of id rows ≡ Some text
+
+-- whether an option with no value was used
+abbrev pub is_used : Text → List Row → Bool
+is_used id rows = option_map_or (λ text. bytes_eq text (codes "true")) (first_of id rows) false
 
 -- the value of an argument is this number, in decimal
 abbrev pub IsNumberOf : Text → List Row → ℕ → Type 0
@@ -24,17 +35,39 @@ abbrev pub IsCountOf : List Row → ℕ → Type 0
 IsCountOf rows count = ((first_of (codes "connections") rows ≡ None) × (count ≡ 1000000))
     ⊎ IsNumberOf (codes "connections") rows count
 
+-- one of both says which capabilities are taken away
+abbrev pub IsWhichOf : List Row → Which → Type 0
+IsWhichOf rows (Digest digits) =
+    IsTextOf (codes "digest") rows (string_bytes digits)
+    × (first_of (codes "account") rows ≡ None)
+IsWhichOf rows (Account account) =
+    IsTextOf (codes "account") rows (string_bytes account)
+    × (first_of (codes "digest") rows ≡ None)
+
+-- none of both says it, or both do
+abbrev pub IsUnclear : List Row → Type 0
+IsUnclear rows =
+    is_some (first_of (codes "digest") rows) ≡ is_some (first_of (codes "account") rows)
+
 -- the job of this name, with the values of its arguments
 abbrev pub IsJobOf : Text → List Row → Job → Type 0
-IsJobOf name rows (Script clerk) =
+IsJobOf name rows (Script clerk file) =
     (name ≡ codes "script") × IsTextOf (codes "clerk") rows (string_bytes clerk)
+    × (first_of (codes "file") rows ≡ option_map string_bytes file)
 IsJobOf name rows (Init file clerk) =
     (name ≡ codes "init") × IsTextOf (codes "FILE") rows (string_bytes file)
     × IsTextOf (codes "clerk") rows (string_bytes clerk)
-IsJobOf name rows (Serve file port connections) =
+IsJobOf name rows (Serve file port connections log) =
     (name ≡ codes "serve") × IsTextOf (codes "FILE") rows (string_bytes file)
     × IsNumberOf (codes "port") rows port
     × IsCountOf rows connections
+    × (log ≡ is_used (codes "log") rows)
+IsJobOf name rows (Request request) =
+    (name ≡ codes "request") × IsTextOf (codes "FILE") rows (string_bytes request.file)
+    × IsTextOf (codes "METHOD") rows (string_bytes request.method)
+    × IsTextOf (codes "PATH") rows (string_bytes request.path)
+    × (first_of (codes "BODY") rows ≡ option_map string_bytes request.body)
+    × (first_of (codes "token") rows ≡ option_map string_bytes request.token)
 IsJobOf name rows (Define order) =
     (name ≡ codes "define") × IsTextOf (codes "FILE") rows (string_bytes order.file)
     × IsTextOf (codes "NAME") rows (string_bytes order.name)
@@ -44,6 +77,16 @@ IsJobOf name rows (Define order) =
 IsJobOf name rows (Listing file registry) =
     (name ≡ codes "listing") × IsTextOf (codes "FILE") rows (string_bytes file)
     × (first_of (codes "registry") rows ≡ option_map string_bytes registry)
+IsJobOf name rows (Publish source folder) =
+    (name ≡ codes "publish") × IsTextOf (codes "SOURCE") rows (string_bytes source)
+    × IsTextOf (codes "FOLDER") rows (string_bytes folder)
+IsJobOf name rows (Check file) =
+    (name ≡ codes "check") × IsTextOf (codes "FILE") rows (string_bytes file)
+IsJobOf name rows (Tokens file) =
+    (name ≡ codes "tokens") × IsTextOf (codes "FILE") rows (string_bytes file)
+IsJobOf name rows (Revoke file which) =
+    (name ≡ codes "revoke") × IsTextOf (codes "FILE") rows (string_bytes file)
+    × IsWhichOf rows which
 IsJobOf name rows (Help text) = ⊥
 
 abbrev pub IsHelp : Job → Type 0
@@ -55,7 +98,7 @@ IsFromOneTo most number = (1 ≤ number) × (number ≤ most)
 
 -- where the job serves, the port and the count of connections are in their ranges
 abbrev pub IsInRange : Job → Type 0
-IsInRange (Serve file port connections) =
+IsInRange (Serve file port connections log) =
     IsFromOneTo 65535 port × IsFromOneTo 1000000 connections
 IsInRange _ = ⊤
 
@@ -72,16 +115,41 @@ HasNumber id most rows = (text : Text) × (one_of id rows ≡ Some (without_minu
 abbrev pub MayHaveNumber : Text → ℕ → List Row → Type 0
 MayHaveNumber id most rows = (first_of id rows ≡ None) ⊎ HasNumber id most rows
 
+-- the first fact where the condition holds, and else the second
+abbrev pub Where : Bool → Type 0 → Type 0 → Type 0
+Where true P Q = P
+Where false P Q = Q
+
+-- there is a job of this name among those that change or look after an office, and the values that
+-- it needs are there
+abbrev pub HasKeepingJob : Text → List Row → Type 0
+HasKeepingJob name rows =
+    Where (bytes_eq name (codes "publish"))
+    (HasText (codes "SOURCE") rows × HasText (codes "FOLDER") rows)
+    (Where (bytes_eq name (codes "check")) (HasText (codes "FILE") rows)
+    (Where (bytes_eq name (codes "tokens")) (HasText (codes "FILE") rows)
+    (Where (bytes_eq name (codes "revoke")) (HasText (codes "FILE") rows) ⊥)))
+
 -- there is a job of this name, and the values that it needs are there
 abbrev pub HasJob : Text → List Row → Type 0
-HasJob name rows = ((name ≡ codes "script") × HasText (codes "clerk") rows)
-    ⊎ (((name ≡ codes "init") × HasText (codes "FILE") rows × HasText (codes "clerk") rows)
-    ⊎ (((name ≡ codes "serve") × HasText (codes "FILE") rows
-    × HasNumber (codes "port") 65535 rows
+HasJob name rows =
+    Where (bytes_eq name (codes "script")) (HasText (codes "clerk") rows)
+    (Where (bytes_eq name (codes "init"))
+    (HasText (codes "FILE") rows × HasText (codes "clerk") rows)
+    (Where (bytes_eq name (codes "serve"))
+    (HasText (codes "FILE") rows × HasNumber (codes "port") 65535 rows
     × MayHaveNumber (codes "connections") 1000000 rows)
-    ⊎ (((name ≡ codes "define") × HasText (codes "FILE") rows × HasText (codes "NAME") rows
-    × HasText (codes "MAX") rows × HasText (codes "CSV") rows × HasText (codes "clerk") rows)
-    ⊎ ((name ≡ codes "listing") × HasText (codes "FILE") rows))))
+    (Where (bytes_eq name (codes "request"))
+    (HasText (codes "FILE") rows × HasText (codes "METHOD") rows × HasText (codes "PATH") rows)
+    (Where (bytes_eq name (codes "define"))
+    (HasText (codes "FILE") rows × HasText (codes "NAME") rows × HasText (codes "MAX") rows
+    × HasText (codes "CSV") rows × HasText (codes "clerk") rows)
+    (Where (bytes_eq name (codes "listing")) (HasText (codes "FILE") rows)
+    (HasKeepingJob name rows))))))
+
+-- the words of `revoke` do not say which
+abbrev pub IsUnclearRevoke : Text → List Row → Type 0
+IsUnclearRevoke name rows = (name ≡ codes "revoke") × IsUnclear rows
 
 -- the words are taken, name a job, and it is this one; or they ask for help, and that is printed
 abbrev pub IsAsked : List Text → Job → Type 0
@@ -90,7 +158,10 @@ IsAsked words job =
     × IsJobOf met.0 met.1 job × IsInRange job × (fault_of office_app words ≡ []))
     ⊎ (IsHelp job × IsAmong DisplayHelp (fault_of office_app words))
 
--- the words are refused, by a fault other than that they ask for help
+-- the words are refused, by a fault other than that they ask for help; or they are taken, and ask
+-- that capabilities are taken away, and not clearly which
 abbrev pub IsRefused : List Text → Type 0
 IsRefused words =
-    (fault : ErrorKind) × IsAmong fault (fault_of office_app words) × (fault ≡ DisplayHelp → ⊥)
+    ((fault : ErrorKind) × IsAmong fault (fault_of office_app words) × (fault ≡ DisplayHelp → ⊥))
+    ⊎ ((met : Text × List Row) × (subcommand_of office_app words ≡ Some met)
+    × IsUnclearRevoke met.0 met.1 × (fault_of office_app words ≡ []))

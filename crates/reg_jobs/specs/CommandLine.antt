@@ -1,68 +1,92 @@
 -- The program's command line, as the library `clap` reads it.
 use Rattle.std.specs.Prelude.{Some, pos, true, codes}
 use Rattle.clap.specs.Words.{App, Rule, Text, new_app, new_rule, with_rule, with_subcommand}
-use Rattle.clap.specs.declared.builder.action.ArgAction.TheVariants.{Set}
+use Rattle.clap.specs.declared.builder.action.ArgAction.TheVariants.{Set, SetTrue}
 use Rattle.clap.specs.declared.builder.value_parser.ValueParser.TheVariants.{Signed}
 
 -- a word that stands at a place of its own
 abbrev pub place_rule : Text → Rule
 place_rule id = record (new_rule id) { required = true; action = Some Set }
 
+-- a word that may stand at a place of its own
+abbrev pub last_place_rule : Text → Rule
+last_place_rule id = record (new_rule id) { action = Some Set }
+
+-- an option of this name, with a value
+abbrev pub option_rule : Text → Rule
+option_rule id = record (new_rule id) { long = Some id; value_names = 1; action = Some Set }
+
+-- an option of this name, with none
+abbrev pub flag_rule : Text → Rule
+flag_rule id = record (new_rule id) { long = Some id; action = Some SetTrue }
+
 abbrev pub clerk_rule : Rule
-clerk_rule = record (new_rule (codes "clerk")) {
-  long = Some (codes "clerk");
-  value_names = 1;
-  required = true;
-  action = Some Set;
-}
+clerk_rule = record (option_rule (codes "clerk")) { required = true }
 
 abbrev pub port_rule : Rule
-port_rule = record (new_rule (codes "port")) {
-  long = Some (codes "port");
-  value_names = 1;
+port_rule = record (option_rule (codes "port")) {
   required = true;
-  action = Some Set;
   parser = Some (Signed (pos 1) (pos 65535));
 }
 
 abbrev pub connections_rule : Rule
-connections_rule = record (new_rule (codes "connections")) {
-  long = Some (codes "connections");
-  value_names = 1;
-  action = Some Set;
+connections_rule = record (option_rule (codes "connections")) {
   parser = Some (Signed (pos 1) (pos 1000000));
 }
 
-abbrev pub registry_rule : Rule
-registry_rule = record (new_rule (codes "registry")) {
-  long = Some (codes "registry");
-  value_names = 1;
-  action = Some Set;
-}
+-- a command whose first word is an office's file
+abbrev pub file_app : Text → App
+file_app name = with_rule (new_app name) (place_rule (codes "FILE"))
 
 abbrev pub script_app : App
-script_app = with_rule (new_app (codes "script")) clerk_rule
+script_app =
+    with_rule (with_rule (new_app (codes "script")) clerk_rule) (option_rule (codes "file"))
 
 abbrev pub init_app : App
-init_app = with_rule (with_rule (new_app (codes "init")) (place_rule (codes "FILE"))) clerk_rule
+init_app = with_rule (file_app (codes "init")) clerk_rule
 
 abbrev pub serve_app : App
 serve_app =
-    with_rule (with_rule (with_rule (new_app (codes "serve"))
-    (place_rule (codes "FILE"))) port_rule) connections_rule
+    with_rule (with_rule (with_rule (file_app (codes "serve")) port_rule) connections_rule)
+    (flag_rule (codes "log"))
 
 -- the command `define` with its first words
 abbrev pub registry_app : App
 registry_app =
-    with_rule (with_rule (with_rule (new_app (codes "define"))
-    (place_rule (codes "FILE"))) (place_rule (codes "NAME"))) (place_rule (codes "MAX"))
+    with_rule (with_rule (file_app (codes "define")) (place_rule (codes "NAME")))
+    (place_rule (codes "MAX"))
 
 abbrev pub define_app : App
 define_app = with_rule (with_rule registry_app (place_rule (codes "CSV"))) clerk_rule
 
 abbrev pub listing_app : App
-listing_app =
-    with_rule (with_rule (new_app (codes "listing")) (place_rule (codes "FILE"))) registry_rule
+listing_app = with_rule (file_app (codes "listing")) (option_rule (codes "registry"))
+
+-- the command `request` with its first words
+abbrev pub path_app : App
+path_app =
+    with_rule (with_rule (file_app (codes "request")) (place_rule (codes "METHOD")))
+    (place_rule (codes "PATH"))
+
+abbrev pub request_app : App
+request_app =
+    with_rule (with_rule path_app (last_place_rule (codes "BODY"))) (option_rule (codes "token"))
+
+abbrev pub check_app : App
+check_app = file_app (codes "check")
+
+abbrev pub tokens_app : App
+tokens_app = file_app (codes "tokens")
+
+abbrev pub revoke_app : App
+revoke_app =
+    with_rule (with_rule (file_app (codes "revoke")) (option_rule (codes "digest")))
+    (option_rule (codes "account"))
+
+abbrev pub publish_app : App
+publish_app =
+    with_rule (with_rule (new_app (codes "publish")) (place_rule (codes "SOURCE")))
+    (place_rule (codes "FOLDER"))
 
 -- the program, before its jobs
 abbrev pub program_app : App
@@ -70,7 +94,19 @@ program_app =
     let named = new_app (codes "reg_cli") in
     record named { top = record named.top { subcommand_required = true } }
 
+-- the program with the jobs that begin an office and have it served
+abbrev pub serving_app : App
+serving_app =
+    with_subcommand (with_subcommand (with_subcommand program_app script_app.top) init_app.top)
+    serve_app.top
+
+-- the program with the jobs that ask an office too
+abbrev pub asking_app : App
+asking_app =
+    with_subcommand (with_subcommand (with_subcommand (with_subcommand serving_app
+    request_app.top) define_app.top) listing_app.top) publish_app.top
+
 abbrev pub office_app : App
 office_app =
-    with_subcommand (with_subcommand (with_subcommand (with_subcommand (with_subcommand program_app
-    script_app.top) init_app.top) serve_app.top) define_app.top) listing_app.top
+    with_subcommand (with_subcommand (with_subcommand asking_app
+    check_app.top) tokens_app.top) revoke_app.top

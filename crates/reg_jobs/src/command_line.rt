@@ -3,11 +3,11 @@ ghost use Rattle.std.specs.Prelude.{◌≡◌, IfErr, IfOk, List, MatchResult, S
 ghost use Rattle.std.specs.String.{string_bytes};
 ghost use Rattle.clap.specs.Words.{Row, Text, first_of, found_of, kind_of, rows_of, subcommand_rows_of};
 ghost use Rattle.clap.specs.declared.error.kind.ErrorKind.TheVariants.{DisplayHelp, OutOfMemory};
-ghost use Rattle.reg_jobs.specs.Asking.{HasJob, HasNumber, HasText, IsAsked, IsCountOf, IsFromOneTo, IsHelp, IsInRange, IsJobOf, IsNumberOf, IsRefused, IsTextOf, MayHaveNumber};
+ghost use Rattle.reg_jobs.specs.Asking.{HasJob, HasNumber, HasText, IsAsked, IsCountOf, IsFromOneTo, IsHelp, IsInRange, IsJobOf, IsNumberOf, IsRefused, IsTextOf, IsUnclear, IsUnclearRevoke, IsWhichOf, MayHaveNumber, is_used};
 ghost use Rattle.reg_jobs.specs.declared.jobs.JobFault.TheVariants.{Line, Memory};
 
 use crate::definition::{MOST_CONNECTIONS, office};
-use crate::jobs::{Definition, Job, JobFault};
+use crate::jobs::{Definition, Job, JobFault, Request, Which};
 use clap::error::ErrorKind;
 use clap::{ArgMatches, Error};
 use std::alloc::{AllocError, Global};
@@ -49,7 +49,8 @@ fn job_of(alloc: Global, matches: &ArgMatches) -> Result<Job, JobFault>
     ensures said { IfOk result (λ job. (met : Text × List Row)
         × (subcommand_rows_of matches.now ≡ Some met) × IsJobOf met.0 met.1 job) }
     ensures given { (met : Text × List Row) → subcommand_rows_of matches.now ≡ Some met
-        → HasJob met.0 met.1 → MatchResult result IsInRange (λ fault. fault ≡ Memory) }
+        → HasJob met.0 met.1
+        → MatchResult result IsInRange (λ fault. fault ≡ Line → IsUnclearRevoke met.0 met.1) }
 {
     let Some((name, inner)) = matches.subcommand() else {
         return Err(JobFault::Line);
@@ -58,8 +59,13 @@ fn job_of(alloc: Global, matches: &ArgMatches) -> Result<Job, JobFault>
         "script" => script_of(alloc, inner),
         "init" => init_of(alloc, inner),
         "serve" => serve_of(alloc, inner),
+        "request" => request_of(alloc, inner),
         "define" => define_of(alloc, inner),
         "listing" => listing_of(alloc, inner),
+        "publish" => publish_of(alloc, inner),
+        "check" => check_of(alloc, inner),
+        "tokens" => tokens_of(alloc, inner),
+        "revoke" => revoke_of(alloc, inner),
         _ => Err(JobFault::Line),
     }
 }
@@ -71,6 +77,7 @@ fn script_of(alloc: Global, matches: &ArgMatches) -> Result<Job, JobFault>
 {
     Ok(Job::Script {
         clerk: text(alloc, matches, "clerk")?,
+        file: optional_text(alloc, matches, "file")?,
     })
 }
 
@@ -97,6 +104,7 @@ fn serve_of(alloc: Global, matches: &ArgMatches) -> Result<Job, JobFault>
         file: text(alloc, matches, "FILE")?,
         port: port(matches)?,
         connections: connections(matches)?,
+        log: is_flagged(matches, "log"),
     })
 }
 
@@ -153,17 +161,106 @@ fn listing_of(alloc: Global, matches: &ArgMatches) -> Result<Job, JobFault>
 {
     Ok(Job::Listing {
         file: text(alloc, matches, "FILE")?,
-        registry: registry(alloc, matches)?,
+        registry: optional_text(alloc, matches, "registry")?,
     })
 }
 
-// The registry that is listed, if one is said.
-fn registry(alloc: Global, matches: &ArgMatches) -> Result<Option<String>, AllocError>
-    ensures { IfOk result (λ name. first_of (codes "registry") (rows_of (found_of matches.now))
-        ≡ option_map string_bytes name) }
+fn request_of(alloc: Global, matches: &ArgMatches) -> Result<Job, JobFault>
+    ensures said { IfOk result (IsJobOf (codes "request") (rows_of (found_of matches.now))) }
+    ensures given { HasText (codes "FILE") (rows_of (found_of matches.now))
+        → HasText (codes "METHOD") (rows_of (found_of matches.now))
+        → HasText (codes "PATH") (rows_of (found_of matches.now))
+        → MatchResult result IsInRange (λ fault. fault ≡ Memory) }
 {
-    match matches.get_str("registry") {
-        Some(name) => Ok(Some(String::from_str(alloc, name)?)),
+    Ok(Job::Request(Request {
+        file: text(alloc, matches, "FILE")?,
+        method: text(alloc, matches, "METHOD")?,
+        path: text(alloc, matches, "PATH")?,
+        body: optional_text(alloc, matches, "BODY")?,
+        token: optional_text(alloc, matches, "token")?,
+    }))
+}
+
+fn publish_of(alloc: Global, matches: &ArgMatches) -> Result<Job, JobFault>
+    ensures said { IfOk result (IsJobOf (codes "publish") (rows_of (found_of matches.now))) }
+    ensures given { HasText (codes "SOURCE") (rows_of (found_of matches.now))
+        → HasText (codes "FOLDER") (rows_of (found_of matches.now))
+        → MatchResult result IsInRange (λ fault. fault ≡ Memory) }
+{
+    Ok(Job::Publish {
+        source: text(alloc, matches, "SOURCE")?,
+        folder: text(alloc, matches, "FOLDER")?,
+    })
+}
+
+fn check_of(alloc: Global, matches: &ArgMatches) -> Result<Job, JobFault>
+    ensures said { IfOk result (IsJobOf (codes "check") (rows_of (found_of matches.now))) }
+    ensures given { HasText (codes "FILE") (rows_of (found_of matches.now))
+        → MatchResult result IsInRange (λ fault. fault ≡ Memory) }
+{
+    Ok(Job::Check {
+        file: text(alloc, matches, "FILE")?,
+    })
+}
+
+fn tokens_of(alloc: Global, matches: &ArgMatches) -> Result<Job, JobFault>
+    ensures said { IfOk result (IsJobOf (codes "tokens") (rows_of (found_of matches.now))) }
+    ensures given { HasText (codes "FILE") (rows_of (found_of matches.now))
+        → MatchResult result IsInRange (λ fault. fault ≡ Memory) }
+{
+    Ok(Job::Tokens {
+        file: text(alloc, matches, "FILE")?,
+    })
+}
+
+fn revoke_of(alloc: Global, matches: &ArgMatches) -> Result<Job, JobFault>
+    ensures said { IfOk result (IsJobOf (codes "revoke") (rows_of (found_of matches.now))) }
+    ensures given { HasText (codes "FILE") (rows_of (found_of matches.now))
+        → MatchResult result IsInRange
+        (λ fault. fault ≡ Line → IsUnclear (rows_of (found_of matches.now))) }
+{
+    Ok(Job::Revoke {
+        file: text(alloc, matches, "FILE")?,
+        which: which(alloc, matches)?,
+    })
+}
+
+// Which capabilities are taken away, where one of both arguments says it.
+fn which(alloc: Global, matches: &ArgMatches) -> Result<Which, JobFault>
+    ensures said { IfOk result (IsWhichOf (rows_of (found_of matches.now))) }
+    ensures unclear { IfErr result (λ fault. fault ≡ Line
+        → IsUnclear (rows_of (found_of matches.now))) }
+{
+    let digest = optional_text(alloc, matches, "digest")?;
+    let account = optional_text(alloc, matches, "account")?;
+    match (digest, account) {
+        (Some(digits), None) => Ok(Which::Digest(digits)),
+        (None, Some(account)) => Ok(Which::Account(account)),
+        _ => Err(JobFault::Line),
+    }
+}
+
+// Whether an option with no value was used.
+fn is_flagged(matches: &ArgMatches, id: &str) -> bool
+    ensures { result ≡ is_used id.now (rows_of (found_of matches.now)) }
+{
+    match matches.get_str(id) {
+        Some(text) => text == "true",
+        None => false,
+    }
+}
+
+// The value of an argument, if it has one.
+fn optional_text(
+    alloc: Global,
+    matches: &ArgMatches,
+    id: &str,
+) -> Result<Option<String>, AllocError>
+    ensures { IfOk result (λ text. first_of id.now (rows_of (found_of matches.now))
+        ≡ option_map string_bytes text) }
+{
+    match matches.get_str(id) {
+        Some(text) => Ok(Some(String::from_str(alloc, text)?)),
         None => Ok(None),
     }
 }

@@ -5,10 +5,12 @@ use std::io;
 /// What the program is asked to do.
 #[derive(Drop)]
 pub enum Job {
-    /// Founds an office in memory, and answers the lines of standard input on standard output.
+    /// Founds an office, and answers the lines of standard input on standard output.
     Script {
         /// The first clerk's token.
         clerk: String,
+        /// The path of the office's file; without one, the office is in memory.
+        file: Option<String>,
     },
     /// Founds an office in a file, or finds the one that is there.
     Init {
@@ -25,7 +27,11 @@ pub enum Job {
         port: u16,
         /// How many connections are served, from 1 to 1,000,000.
         connections: u32,
+        /// Whether a line on standard error tells of each connection.
+        log: bool,
     },
+    /// Has the office in a file answer one request.
+    Request(Request),
     /// Defines a registry from a range file, in the office in a file.
     Define(Definition),
     /// Prints a listing of the office in a file.
@@ -35,11 +41,59 @@ pub enum Job {
         /// The registry that is listed; without one, the blocks are.
         registry: Option<String>,
     },
+    /// Writes what is published of an office as files that people read.
+    Publish {
+        /// The path of the office's file, or the address at which it is served.
+        source: String,
+        /// The path of the folder in which the files are.
+        folder: String,
+    },
+    /// Says whether the office in a file is well kept, and counts what is in it.
+    Check {
+        /// The path of the office's file.
+        file: String,
+    },
+    /// Prints the capabilities of the office in a file.
+    Tokens {
+        /// The path of the office's file.
+        file: String,
+    },
+    /// Takes capabilities of the office in a file away.
+    Revoke {
+        /// The path of the office's file.
+        file: String,
+        /// Which capabilities are taken away.
+        which: Which,
+    },
     /// Prints how the program, or one of its jobs, is used.
     Help {
         /// What is printed.
         text: String,
     },
+}
+
+/// One request of an office.
+#[derive(Drop)]
+pub struct Request {
+    /// The path of the office's file.
+    pub file: String,
+    /// The request's method.
+    pub method: String,
+    /// The request's path.
+    pub path: String,
+    /// The request's body, or `-` for standard input; without one, it is empty.
+    pub body: Option<String>,
+    /// The token of who asks; without one, anybody does.
+    pub token: Option<String>,
+}
+
+/// Which capabilities are taken away.
+#[derive(Drop)]
+pub enum Which {
+    /// The one whose digest begins with these hexadecimal digits.
+    Digest(String),
+    /// Those of this account.
+    Account(String),
 }
 
 /// How a registry is defined.

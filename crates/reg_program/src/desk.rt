@@ -1,11 +1,15 @@
 //! The jobs that are one command of an office.
+//!
+//! Each is a command at the moment of the clock, as a request asks it, and what is printed of its
+//! answer.
 use crate::faults::{JobFailure, Undone};
 use reg_core::command::Command;
+use reg_core::refusal::Refusal;
 use reg_core::reply::Reply;
-use reg_jobs::jobs::Definition;
+use reg_jobs::jobs::{Definition, Request};
 use reg_keeper::keeper::Keeper;
 use reg_office::Office;
-use reg_wire::answer::{Answer, body_of};
+use reg_wire::answer::{Answer, Format, body_of};
 use reg_wire::command::read_command;
 use reg_wire::refusal::ReadFault;
 use reg_wire::route::Routes;
@@ -32,6 +36,12 @@ pub fn listing(alloc: Global, registry: &Option<String>) -> Result<Command, Undo
     }
 }
 
+/// The command that a request spells with this body. `Refused` where it spells none.
+pub fn requested(alloc: Global, request: &Request, body: &[u8]) -> Result<Command, Undone> {
+    let method = request.method.as_bytes();
+    command(alloc, method, request.path.as_bytes(), body)
+}
+
 fn command(alloc: Global, method: &[u8], path: &[u8], body: &[u8]) -> Result<Command, Undone> {
     let routes = Routes::new(alloc)?;
     match read_command(alloc, &routes, method, path, body) {
@@ -43,52 +53,52 @@ fn command(alloc: Global, method: &[u8], path: &[u8], body: &[u8]) -> Result<Com
     }
 }
 
-/// Has an office carry a clerk's command out, and prints its answer, the status and the body.
-pub fn define_in<K: Keeper, W: Write>(
+/// What is printed of the answer to a command that was accepted. A line feed comes after JSON.
+#[derive(Clone, Copy, Debug, PartialEq, Eq)]
+pub enum Form {
+    /// The body.
+    Body,
+    /// The status and the body, with a space between.
+    Line,
+}
+
+/// Has an office answer one command of the caller with this token, or of anybody, and prints its
+/// answer. `Refused` where it refuses it.
+pub fn ask_in<K: Keeper, W: Write>(
     alloc: Global,
     office: &mut Office<K>,
     moment: u64,
-    clerk: &str,
+    token: Option<&[u8]>,
     command: &Command,
+    form: Form,
     output: &mut W,
 ) -> Result<(), Undone> {
-    let reply = office.handle(moment, Some(clerk.as_bytes()), command)?;
-    let line = accepted_line(alloc, reply)?;
-    print(output, line.as_slice())?;
-    print(output, b"\n")
+    let reply = office.handle(moment, token, command)?;
+    let text = accepted_text(alloc, reply, form)?;
+    print(output, text.as_slice())
 }
 
-/// Has an office answer anybody's command, and prints the body of its answer.
-pub fn list_in<K: Keeper, W: Write>(
-    alloc: Global,
-    office: &mut Office<K>,
-    moment: u64,
-    command: &Command,
-    output: &mut W,
-) -> Result<(), Undone> {
-    let reply = office.handle(moment, None, command)?;
-    let body = accepted_body(alloc, reply)?;
-    print(output, body.as_slice())
-}
-
-// The status and the body of a reply that is no refusal.
-fn accepted_line(alloc: Global, reply: Reply) -> Result<Vec<u8>, Undone> {
-    let is_refused = matches!(reply, Reply::Refused(_));
-    let line = answer_line(alloc, &Answer::Reply(reply))?;
+// What is printed of a reply that is no refusal.
+fn accepted_text(alloc: Global, reply: Reply, form: Form) -> Result<Vec<u8>, Undone> {
+    let is_refused = reply.is_refused();
+    let answer = Answer::Reply(reply);
     if is_refused {
-        Err(Undone::Refused(line))
-    } else {
-        Ok(line)
+        return Err(Undone::Refused(answer_line(alloc, &answer)?));
     }
+    let mut text = match form {
+        Form::Body => body_of(alloc, &answer)?.1,
+        Form::Line => answer_line(alloc, &answer)?,
+    };
+    if answer.format() == Format::Json {
+        text.push(b'\n')?;
+    }
+    Ok(text)
 }
 
-// The body of a reply that is no refusal.
-fn accepted_body(alloc: Global, reply: Reply) -> Result<Vec<u8>, Undone> {
-    if let Reply::Refused(_) = &reply {
-        return Err(Undone::Refused(answer_line(alloc, &Answer::Reply(reply))?));
-    }
-    let (_, body) = body_of(alloc, &Answer::Reply(reply))?;
-    Ok(body)
+/// The status and the body of the answer to a command that is refused, with a space between.
+pub fn refusal_line(alloc: Global, refusal: Refusal) -> Result<Vec<u8>, AllocError> {
+    let line = answer_line(alloc, &Answer::Reply(Reply::Refused(refusal)))?;
+    Ok(line)
 }
 
 // The status and the body of an answer, with a space between.

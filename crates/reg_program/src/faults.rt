@@ -2,7 +2,7 @@
 use reg_keeper::keeper::Fault;
 use reg_office::FoundFault;
 use reg_wire::wire_fault::WireFault;
-use std::alloc::AllocError;
+use std::alloc::{AllocError, AllocFailed};
 use std::fmt;
 use std::fmt::{Display, Formatter, Write};
 
@@ -11,6 +11,8 @@ use std::fmt::{Display, Formatter, Write};
 pub enum Undone {
     /// It met a fault.
     Fault(JobFailure),
+    /// It met a fault, and this is what is known of it, for people.
+    Explained(JobFailure, String),
     /// The office refused the command, or the words of the job spell none. This is the status and
     /// the body of the answer, with a space between.
     Refused(Vec<u8>),
@@ -50,6 +52,18 @@ impl From<JobFailure> for Undone {
 impl From<AllocError> for Undone {
     fn from(_error: AllocError) -> Undone {
         Undone::Fault(JobFailure::Memory)
+    }
+}
+
+impl<T: Drop> From<AllocFailed<T>> for Undone {
+    fn from(_failed: AllocFailed<T>) -> Undone {
+        Undone::Fault(JobFailure::Memory)
+    }
+}
+
+impl From<AllocError> for JobFailure {
+    fn from(_error: AllocError) -> JobFailure {
+        JobFailure::Memory
     }
 }
 

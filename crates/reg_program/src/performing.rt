@@ -1,13 +1,15 @@
 //! Doing the jobs of the program.
-use crate::desk::{definition, listing, print};
+use crate::console::Console;
+use crate::desk::{Form, definition, listing, print, requested};
 use crate::faults::Undone;
-use crate::range_file::bytes_of;
-use crate::tasks::{Offices, Task};
-use reg_jobs::jobs::{Definition, Job, JobFault};
-use reg_keeper::keeper::Keeper;
-use reg_office::Office;
+use crate::inputs::{all_of, bytes_of, optional_token, token_of};
+use crate::publishing::{port_of, publish_served};
+use crate::scripts::run_in;
+use crate::tasks::{Offices, Task, moment};
+use crate::tokens::account_of;
+use reg_jobs::jobs::{Definition, Job, JobFault, Request, Which};
+use reg_office::{Choice, Office};
 use reg_store::lists::ListKeeper;
-use reg_wire::script::run;
 use std::alloc::Global;
 use std::io::{Read, Write};
 
@@ -18,14 +20,12 @@ pub fn perform<O: Offices, R: Read, W: Write, E: Write>(
     rt: &HostRuntime,
     offices: &O,
     job: Job,
-    input: &mut R,
-    output: &mut W,
-    errors: &mut E,
+    console: &mut Console<'_, R, W, E>,
 ) -> u8 {
-    match attempt(rt, offices, &job, input, output) {
+    match attempt(rt, offices, &job, console) {
         Ok(()) => 0,
         Err(undone) => {
-            report(&undone, errors);
+            report(&undone, console.errors);
             1
         }
     }
@@ -52,6 +52,11 @@ fn report<E: Write>(undone: &Undone, errors: &mut E) {
         Undone::Fault(failure) => {
             let _ = writeln!(errors, "fault: {failure}");
         }
+        Undone::Explained(failure, why) => {
+            let _ = writeln!(errors, "fault: {failure}");
+            let _ = errors.write_all(why.as_bytes());
+            let _ = errors.write_all(b"\n");
+        }
         Undone::Refused(line) => {
             let _ = errors.write_all(line.as_slice());
             let _ = errors.write_all(b"\n");
@@ -59,78 +64,169 @@ fn report<E: Write>(undone: &Undone, errors: &mut E) {
     }
 }
 
-fn attempt<O: Offices, R: Read, W: Write>(
+fn attempt<O: Offices, R: Read, W: Write, E: Write>(
     rt: &HostRuntime,
     offices: &O,
     job: &Job,
-    input: &mut R,
-    output: &mut W,
+    console: &mut Console<'_, R, W, E>,
 ) -> Result<(), Undone> {
-    let alloc = rt.alloc();
     match job {
-        Job::Script { clerk } => {
-            found_and_run(alloc, ListKeeper::new(alloc), clerk.as_str(), input, output)
-        }
-        Job::Init { file, clerk } => {
-            let clerk = clerk.as_str();
-            offices.carry_out(rt, file.as_str(), &Task::Found { clerk }, output)
-        }
+        Job::Script { clerk, file } => script(rt, offices, clerk.as_str(), file, console),
+        Job::Init { file, clerk } => init(rt, offices, file.as_str(), clerk.as_str(), console),
         Job::Serve {
             file,
             port,
             connections,
-        } => serve(rt, offices, file.as_str(), *port, *connections, output),
-        Job::Define(order) => define(rt, offices, order, output),
-        Job::Listing { file, registry } => list(rt, offices, file.as_str(), registry, output),
-        Job::Help { text } => print(output, text.as_bytes()),
+            log,
+        } => {
+            let task = Task::Serve {
+                port: *port,
+                connections: *connections,
+                log: *log,
+            };
+            offices.carry_out(rt, file.as_str(), &task, console)
+        }
+        Job::Request(order) => request(rt, offices, order, console),
+        Job::Define(order) => define(rt, offices, order, console),
+        Job::Listing { file, registry } => list(rt, offices, file.as_str(), registry, console),
+        Job::Publish { source, folder } => {
+            publish_at(rt, offices, source.as_str(), folder.as_str(), console)
+        }
+        Job::Check { file } => offices.check(rt, file.as_str(), console.output),
+        Job::Tokens { file } => offices.carry_out(rt, file.as_str(), &Task::Tokens, console),
+        Job::Revoke { file, which } => revoke(rt, offices, file.as_str(), which, console),
+        Job::Help { text } => print(console.output, text.as_bytes()),
     }
 }
 
-fn serve<O: Offices, W: Write>(
+fn script<O: Offices, R: Read, W: Write, E: Write>(
+    rt: &HostRuntime,
+    offices: &O,
+    clerk: &str,
+    file: &Option<String>,
+    console: &mut Console<'_, R, W, E>,
+) -> Result<(), Undone> {
+    let alloc = rt.alloc();
+    let token = token_of(rt, alloc, clerk)?;
+    let clerk = token.as_slice();
+    match file {
+        Some(file) => offices.carry_out(rt, file.as_str(), &Task::Run { clerk }, console),
+        None => {
+            let mut office = Office::new(alloc, ListKeeper::new(alloc));
+            let done = run_in(rt, &mut office, clerk, console);
+            drop(office);
+            done
+        }
+    }
+}
+
+fn init<O: Offices, R: Read, W: Write, E: Write>(
     rt: &HostRuntime,
     offices: &O,
     file: &str,
-    port: u16,
-    connections: u32,
-    output: &mut W,
+    clerk: &str,
+    console: &mut Console<'_, R, W, E>,
 ) -> Result<(), Undone> {
-    offices.carry_out(rt, file, &Task::Serve { port, connections }, output)
+    let token = token_of(rt, rt.alloc(), clerk)?;
+    let clerk = token.as_slice();
+    offices.carry_out(rt, file, &Task::Found { clerk }, console)
 }
 
-fn define<O: Offices, W: Write>(
+fn request<O: Offices, R: Read, W: Write, E: Write>(
+    rt: &HostRuntime,
+    offices: &O,
+    order: &Request,
+    console: &mut Console<'_, R, W, E>,
+) -> Result<(), Undone> {
+    let alloc = rt.alloc();
+    let token = optional_token(rt, alloc, &order.token)?;
+    let body = body_of(alloc, &order.body, console.input)?;
+    let command = requested(alloc, order, body.as_slice())?;
+    let task = Task::Ask {
+        token: token.as_deref(),
+        command,
+        form: Form::Body,
+    };
+    offices.carry_out(rt, order.file.as_str(), &task, console)
+}
+
+// The body that a word says: its bytes, or what stands on standard input for `-`; without a word,
+// nothing.
+fn body_of<R: Read>(
+    alloc: Global,
+    word: &Option<String>,
+    input: &mut R,
+) -> Result<Vec<u8>, Undone> {
+    match word {
+        Some(word) if word.as_str() == "-" => Ok(all_of(alloc, input)?),
+        Some(word) => Ok(all_of(alloc, &mut word.as_bytes())?),
+        None => Ok(Vec::new(alloc)),
+    }
+}
+
+fn define<O: Offices, R: Read, W: Write, E: Write>(
     rt: &HostRuntime,
     offices: &O,
     order: &Definition,
-    output: &mut W,
+    console: &mut Console<'_, R, W, E>,
 ) -> Result<(), Undone> {
-    let ranges = bytes_of(rt, rt.alloc(), order.ranges.as_str())?;
-    let command = definition(rt.alloc(), order, ranges.as_slice())?;
-    let clerk = order.clerk.as_str();
-    let task = Task::Define { clerk, command };
-    offices.carry_out(rt, order.file.as_str(), &task, output)
+    let alloc = rt.alloc();
+    let token = token_of(rt, alloc, order.clerk.as_str())?;
+    let ranges = bytes_of(rt, alloc, order.ranges.as_str())?;
+    let command = definition(alloc, order, ranges.as_slice())?;
+    let task = Task::Ask {
+        token: Some(token.as_slice()),
+        command,
+        form: Form::Line,
+    };
+    offices.carry_out(rt, order.file.as_str(), &task, console)
 }
 
-fn list<O: Offices, W: Write>(
+fn list<O: Offices, R: Read, W: Write, E: Write>(
     rt: &HostRuntime,
     offices: &O,
     file: &str,
     registry: &Option<String>,
-    output: &mut W,
+    console: &mut Console<'_, R, W, E>,
 ) -> Result<(), Undone> {
-    let command = listing(rt.alloc(), registry)?;
-    offices.carry_out(rt, file, &Task::List { command }, output)
+    let task = Task::Ask {
+        token: None,
+        command: listing(rt.alloc(), registry)?,
+        form: Form::Body,
+    };
+    offices.carry_out(rt, file, &task, console)
 }
 
-/// Founds an office over this keeper, and answers the lines.
-pub fn found_and_run<K: Keeper + Drop, R: Read, W: Write>(
-    alloc: Global,
-    keeper: K,
-    clerk: &str,
-    input: &mut R,
-    output: &mut W,
+// Publishes the office that is served at an address, or the one in a file.
+fn publish_at<O: Offices, R: Read, W: Write, E: Write>(
+    rt: &HostRuntime,
+    offices: &O,
+    source: &str,
+    folder: &str,
+    console: &mut Console<'_, R, W, E>,
 ) -> Result<(), Undone> {
-    let mut office = Office::new(alloc, keeper);
-    office.found(clerk.as_bytes())?;
-    run(alloc, &mut office, input, output)?;
-    Ok(())
+    match port_of(source)? {
+        Some(port) => publish_served(rt, port, moment(rt), folder, console.output),
+        None => offices.carry_out(rt, source, &Task::Publish { folder }, console),
+    }
+}
+
+fn revoke<O: Offices, R: Read, W: Write, E: Write>(
+    rt: &HostRuntime,
+    offices: &O,
+    file: &str,
+    which: &Which,
+    console: &mut Console<'_, R, W, E>,
+) -> Result<(), Undone> {
+    match which {
+        Which::Digest(digits) => {
+            let choice = Choice::Digits(digits.as_bytes());
+            offices.carry_out(rt, file, &Task::Revoke { choice }, console)
+        }
+        Which::Account(name) => {
+            let account = account_of(rt.alloc(), name.as_str())?;
+            let choice = Choice::Account(&account);
+            offices.carry_out(rt, file, &Task::Revoke { choice }, console)
+        }
+    }
 }

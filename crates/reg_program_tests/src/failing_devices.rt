@@ -1,6 +1,7 @@
 //! Scripts whose reader fails before a byte or never ends, and whose writer fails after a byte.
 use crate::running::{CLERK, InLists};
 use reg_jobs::jobs::Job;
+use reg_program::console::Console;
 use reg_program::performing::perform;
 use reg_testing::devices::{FailsAfter, FailsBefore, NeverEnds};
 use reg_testing::facts::ensure;
@@ -22,8 +23,14 @@ fn done<R: Read, W: Write>(
     errors: &mut Vec<u8>,
 ) -> Result<u8, Fail> {
     let clerk = String::from_str(rt.alloc(), CLERK)?;
-    let job = Job::Script { clerk };
-    Ok(perform(rt, &InLists, job, input, output, errors))
+    let job = Job::Script { clerk, file: None };
+    let mut console = Console {
+        input,
+        output,
+        errors,
+        is_watched: false,
+    };
+    Ok(perform(rt, &InLists, job, &mut console))
 }
 
 // The answers to the lines whose line feed is among these bytes.

@@ -14,6 +14,7 @@ use reg_core::request::Request;
 use reg_core::rows::Rows;
 use reg_core::text::{Account, Digest, Name, Ref};
 use reg_keeper::keeper::{Fault, Keeper};
+use reg_keeper::rows::{CapRow, LinkRow};
 use reg_ranges::policy::Policy;
 use reg_ranges::table::RangeTable;
 
@@ -40,6 +41,13 @@ impl<K: Keeper> Keeper for FailingKeeper<K> {
     fn cap(&mut self, digest: &Digest) -> Result<Option<Cap>, Fault> {
         match self.keeper.cap(digest) {
             Ok(cap) => Ok(cap),
+            Err(_) => Err(Fault::Store),
+        }
+    }
+
+    fn caps(&mut self) -> Result<Rows<CapRow>, Fault> {
+        match self.keeper.caps() {
+            Ok(rows) => Ok(rows),
             Err(_) => Err(Fault::Store),
         }
     }
@@ -146,6 +154,10 @@ impl<K: Keeper> Keeper for FailingKeeper<K> {
     }
 
     fn is_agent(&mut self, _principal: &Account, _agent: &Account) -> Result<bool, Fault> {
+        Err(Fault::Store)
+    }
+
+    fn links(&mut self) -> Result<Rows<LinkRow>, Fault> {
         Err(Fault::Store)
     }
 

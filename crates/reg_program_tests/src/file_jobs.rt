@@ -4,7 +4,8 @@ use reg_carriers::exercise::Exercise;
 use reg_jobs::jobs::Definition;
 use reg_keeper::keeper::Keeper;
 use reg_office::Office;
-use reg_program::desk::{define_in, definition, list_in, listing};
+use reg_program::console::Console;
+use reg_program::desk::{Form, ask_in, definition, listing};
 use reg_program::faults::{JobFailure, Undone};
 use reg_program::serving::serve_in;
 use reg_program::tasks::found_in;
@@ -17,6 +18,8 @@ use std::test::Fail;
 use std::time::Clock;
 
 const MOMENT: u64 = 1_700_000_000;
+
+const LOGGED: &[u8] = b"Z GET /registries 200 2\n";
 
 const RANGES: &[u8] =
     b"lo,hi,treatment,note\n0,99,first-come-first-served,\n100,255,reserved,kept for later\n";
@@ -46,7 +49,16 @@ fn defined<R: AllocGlobal, K: Keeper>(
     let order = order(rt)?;
     let command = definition(alloc, &order, ranges)?;
     let mut output = Vec::new(alloc);
-    define_in(alloc, office, MOMENT, CLERK, &command, &mut output)?;
+    let clerk = Some(CLERK.as_bytes());
+    ask_in(
+        alloc,
+        office,
+        MOMENT,
+        clerk,
+        &command,
+        Form::Line,
+        &mut output,
+    )?;
     Ok(output)
 }
 
@@ -56,14 +68,22 @@ fn listed<R: AllocGlobal, K: Keeper>(rt: &R, office: &mut Office<K>) -> Result<V
     let name = String::from_str(alloc, "codes")?;
     let command = listing(alloc, &Some(name))?;
     let mut output = Vec::new(alloc);
-    list_in(alloc, office, MOMENT, &command, &mut output)?;
+    ask_in(
+        alloc,
+        office,
+        MOMENT,
+        None,
+        &command,
+        Form::Body,
+        &mut output,
+    )?;
     Ok(output)
 }
 
 // The office is begun, and a registry is defined in it and listed.
 fn assert_done<R: AllocGlobal, K: Keeper>(rt: &R, office: &mut Office<K>) -> Result<(), Fail> {
     let mut output = Vec::new(rt.alloc());
-    let is_found = found_in(office, CLERK, &mut output).is_ok();
+    let is_found = found_in(office, CLERK.as_bytes(), &mut output).is_ok();
     let is_said = output.as_slice() == b"ready\n".as_slice();
     ensure(is_found && is_said, "an office")?;
     let Ok(printed) = defined(rt, office, RANGES) else {
@@ -166,7 +186,17 @@ where
         printed: Vec::new(rt.alloc()),
         stream: None,
     };
-    let done = serve_in(rt, office, port, 1, &mut output);
+    let mut errors = Vec::new(rt.alloc());
+    let mut input: &[u8] = b"";
+    let mut console = Console {
+        input: &mut input,
+        output: &mut output,
+        errors: &mut errors,
+        is_watched: false,
+    };
+    let done = serve_in(rt, office, port, 1, true, &mut console);
+    drop(console);
+    ensure(errors.ends_with(LOGGED), "the log")?;
     let line = format!(in rt.alloc(); "listening on 127.0.0.1:{port}\n")?;
     ensure(done.is_ok(), "an office that is served")?;
     ensure(
@@ -206,7 +236,17 @@ impl Exercise for TakenPort {
         let listener = TcpListener::bind(rt, SocketAddr::from((Ipv4Addr::LOCALHOST, 0)))?;
         let port = listener.local_addr()?.port();
         let mut output = Vec::new(rt.alloc());
-        let done = serve_in(rt, &mut office, port, 1, &mut output);
+        let mut errors = Vec::new(rt.alloc());
+        let mut input: &[u8] = b"";
+        let mut console = Console {
+            input: &mut input,
+            output: &mut output,
+            errors: &mut errors,
+            is_watched: false,
+        };
+        let done = serve_in(rt, &mut office, port, 1, true, &mut console);
+        drop(console);
+        ensure(errors.is_empty(), "nobody was served")?;
         drop(listener);
         let is_taken = matches!(done, Err(Undone::Fault(JobFailure::Port)));
         ensure(is_taken, "a port that is taken")?;

@@ -23,3 +23,5 @@ mod offices;
 mod running;
 #[cfg(test)]
 mod stores;
+#[cfg(test)]
+mod token_jobs;

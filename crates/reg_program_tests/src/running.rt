@@ -3,13 +3,16 @@ use reg_carriers::exercise::Exercise;
 use reg_jobs::jobs::Job;
 use reg_keeper::keeper::Keeper;
 use reg_office::Office;
+use reg_program::checking::check_in;
+use reg_program::console::Console;
 use reg_program::faults::Undone;
-use reg_program::performing::{found_and_run, perform};
-use reg_program::tasks::{Offices, Task};
+use reg_program::performing::perform;
+use reg_program::scripts::found_and_run;
+use reg_program::tasks::{Offices, Task, moment};
 use reg_store::lists::ListKeeper;
 use reg_testing::facts::ensure;
 use std::alloc::Global;
-use std::io::Write;
+use std::io::{Read, Write};
 use std::test::Fail;
 
 /// The token of the clerk for whom offices are founded.
@@ -19,17 +22,23 @@ pub const CLERK: &str = "clerk-token-00001";
 pub struct InLists;
 
 impl Offices for InLists {
-    fn carry_out<W: Write>(
+    fn carry_out<R: Read, W: Write, E: Write>(
         &self,
         rt: &HostRuntime,
         _path: &str,
         task: &Task<'_>,
-        output: &mut W,
+        console: &mut Console<'_, R, W, E>,
     ) -> Result<(), Undone> {
         let mut office = Office::new(rt.alloc(), ListKeeper::new(rt.alloc()));
-        let done = task.carry_out(rt, &mut office, output);
+        let done = task.carry_out(rt, &mut office, console);
         drop(office);
         done
+    }
+
+    fn check<W: Write>(&self, rt: &HostRuntime, _path: &str, output: &mut W) -> Result<(), Undone> {
+        let alloc = rt.alloc();
+        let mut office = Office::new(alloc, ListKeeper::new(alloc));
+        check_in(alloc, &mut office, 3, moment(rt), output)
     }
 }
 
@@ -62,8 +71,14 @@ pub fn script(rt: &HostRuntime, clerk: &str, input: &[u8]) -> Result<Given, Fail
     let mut output = Vec::new(alloc);
     let mut errors = Vec::new(alloc);
     let mut reader = input;
-    let job = Job::Script { clerk };
-    let status = perform(rt, &InLists, job, &mut reader, &mut output, &mut errors);
+    let job = Job::Script { clerk, file: None };
+    let mut console = Console {
+        input: &mut reader,
+        output: &mut output,
+        errors: &mut errors,
+        is_watched: false,
+    };
+    let status = perform(rt, &InLists, job, &mut console);
     Ok(Given {
         status,
         output,
@@ -79,7 +94,9 @@ pub fn answers_over<K: Keeper + Drop>(
 ) -> Result<Vec<u8>, Fail> {
     let mut output = Vec::new(alloc);
     let mut reader = input;
-    let done = found_and_run(alloc, keeper, CLERK, &mut reader, &mut output);
+    let mut office = Office::new(alloc, keeper);
+    let clerk = CLERK.as_bytes();
+    let done = found_and_run(alloc, &mut office, clerk, &mut reader, &mut output);
     ensure(done.is_ok(), "a script that is run")?;
     Ok(output)
 }

@@ -4,6 +4,6 @@ use Rattle.reg_http.proofs.listener.exchange.Goals as goal
 
 pub returns : goal.returns
 returns g c =
-    rw c.status_of.ensures
-    (turn (AnswersOver g.K.Keeper.world g.K.Keeper.Holds g.K.Keeper.Sound g.K.Keeper.FAILS) _
-    c.serve_one.result _ _ _ _ _ _ c.serve_one.ensures.ok c.serve_one.ensures.err)
+    rw c.sent_of.ensures
+    (turn (AnswersOver g.K.Keeper.world g.K.Keeper.Holds g.K.Keeper.Sound g.K.Keeper.FAILS) _ _
+    c.serve_one-served.result _ _ _ _ _ _ c.serve_one-served.ensures.ok c.serve_one-served.ensures.err)

@@ -10,5 +10,5 @@ loop-preserved g c = record {
       rw c.count_of-answered.ensures.count
       (turns_then
       (AnswersOver g.K.Keeper.world g.K.Keeper.Holds g.K.Keeper.Sound g.K.Keeper.FAILS)
-      c.loop.counter 1 c.loop.answered _ _ _ _ c.loop.invariant.turns c.serve_next.ensures);
+      c.loop.counter 1 c.loop.answered _ _ _ _ c.loop.invariant.turns c.serve_next-sent.ensures);
 }

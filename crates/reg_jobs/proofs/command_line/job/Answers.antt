@@ -3,9 +3,9 @@ use Rattle.std.proofs.lemmas.Result.{IfErr-weaker, IfOk-weaker}
 use Rattle.clap.specs.Words.{HasKind, IsAmong, app_of, fault_of, is_simple, is_simple_and_free, kind_of, subcommand_of}
 use Rattle.clap.specs.declared.error.kind.ErrorKind.TheVariants.{DisplayHelp}
 use Rattle.clap.proofs.OnLiterals.{clap_on_literals}
-use Rattle.reg_jobs.specs.Asking.{IsInRange}
+use Rattle.reg_jobs.specs.Asking.{IsInRange, IsUnclearRevoke}
 use Rattle.reg_jobs.specs.CommandLine.{office_app}
-use Rattle.reg_jobs.specs.declared.jobs.JobFault.TheVariants.{Memory}
+use Rattle.reg_jobs.specs.declared.jobs.JobFault.TheVariants.{Line}
 use Rattle.reg_jobs.proofs.Taken.{taken_gives}
 use Rattle.reg_jobs.proofs.command_line.job.Goals as goal
 
@@ -25,9 +25,9 @@ both_err : {X E : Type 0} (r : Result X E) (P Q : E → Type 0) → IfErr r P �
 both_err (Ok x) P Q p q = tt
 both_err (Err e) P Q p q = (p, q)
 
-only_memory : {X E : Type 0} (r : Result X E) (P : X → Type 0) (Q R : E → Type 0) → MatchResult r P Q → ((e : E) → Q e → R e) → IfErr r R
-only_memory (Ok x) P Q R h weaker = tt
-only_memory (Err e) P Q R h weaker = weaker e h
+on_error : {X E : Type 0} (r : Result X E) (P : X → Type 0) (Q R : E → Type 0) → MatchResult r P Q → ((e : E) → Q e → R e) → IfErr r R
+on_error (Ok x) P Q R h weaker = tt
+on_error (Err e) P Q R h weaker = weaker e h
 
 pub returns-in-Ok : goal.returns-in-Ok
 returns-in-Ok c =
@@ -40,7 +40,8 @@ returns-in-Ok c =
     record {
       asked = IfOk-weaker c.job_of-job.result _ _ (λ job h. inl (h.0.0, sym read ∙ h.0.1, h.0.2, h.1, taken))
           (both_ok c.job_of-job.result _ IsInRange _ c.job_of-job.ensures.said given);
-      line = only_memory c.job_of-job.result IsInRange (λ fault. fault ≡ Memory) _ given (λ fault memory line. absurd (cc));
+      line = on_error c.job_of-job.result IsInRange (λ fault. fault ≡ Line → IsUnclearRevoke met.0.0 met.0.1) _ given
+          (λ fault unclear line. inr (met.0, met.1, unclear line, taken));
     }
 
 pub returns-in-Err : goal.returns-in-Err
@@ -59,6 +60,6 @@ returns-in-Err c =
       line = IfErr-weaker c.help_of.result _ _ (λ fault h line.
           elim kinds [
             | inl memory ↦ let not_line = h.0 memory in absurd (cc)
-            | inr among ↦ (kind_of c.in-Err.error, among, h.1 line)
+            | inr among ↦ inl (kind_of c.in-Err.error, among, h.1 line)
           ]) (both_err c.help_of.result _ _ c.help_of.ensures.memory c.help_of.ensures.line);
     }

@@ -1,14 +1,14 @@
-use Rattle.std.proofs.Common.{rules, codes}
+use Rattle.std.proofs.Common.{rules}
 use Rattle.clap.specs.Words.{found_of}
 use Rattle.clap.proofs.WalkLemmas.{first_value-rows}
-use Rattle.reg_jobs.proofs.command_line.registry.Goals as goal
+use Rattle.reg_jobs.proofs.command_line.optional_text.Goals as goal
 
 pub returns-in-None : goal.returns-in-None
 returns-in-None c =
-    let read = first_value-rows (found_of c.args.matches.now) (codes "registry") in
+    let read = first_value-rows (found_of c.args.matches.now) c.args.id.now in
     search rules
 
 pub returns-in_ok-from_str-in-Some : goal.returns-in_ok-from_str-in-Some
 returns-in_ok-from_str-in-Some c =
-    let read = first_value-rows (found_of c.args.matches.now) (codes "registry") in
+    let read = first_value-rows (found_of c.args.matches.now) c.args.id.now in
     search rules

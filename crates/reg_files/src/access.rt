@@ -1,0 +1,46 @@
+//! Who may read an office's files.
+use std::fs::{OpenOptions, Permissions};
+use std::io::Write;
+use std::os::unix::fs::{OpenOptionsExt, PermissionsExt};
+use std::rt::Files;
+use std::{fs, io};
+
+/// Its owner reads and writes a file, and nobody else.
+const OWNER_ALONE: u32 = 0o600;
+
+/// Others than the owner read a file.
+const READ_BY_OTHERS: u32 = 0o044;
+
+/// Makes the file at a path, empty, for its owner alone, where there is none; what is there stays as
+/// it is. Its log is then made with the same mode by what opens the file. There is no moment at
+/// which others may read it, whatever the umask of the process is.
+pub fn make_private<H: Files>(rt: &H, path: &str) -> io::Result<()> {
+    let made = OpenOptions::new()
+        .write(true)
+        .create_new(true)
+        .mode(OWNER_ALONE)
+        .open(rt, path);
+    match made {
+        // A umask may have taken the owner's own rights away.
+        Ok(file) => {
+            let given = fs::OpenFile::set_permissions(&file, Permissions::from_mode(OWNER_ALONE));
+            drop(file);
+            given
+        }
+        Err(error) if error.kind() == io::ErrorKind::AlreadyExists => Ok(()),
+        Err(error) => Err(error),
+    }
+}
+
+/// Warns in one line of a file at a path that others than its owner may read.
+pub fn warn_of_readers<H: Files, E: Write>(rt: &H, path: &str, errors: &mut E) {
+    let Ok(found) = fs::metadata(rt, path) else {
+        return;
+    };
+    if found.permissions().mode() & READ_BY_OTHERS != 0 {
+        let _ = writeln!(
+            errors,
+            "warning: others may read {path}: chmod 600 it, and its -wal"
+        );
+    }
+}

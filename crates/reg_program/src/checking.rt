@@ -1,0 +1,68 @@
+//! The job that says whether an office is well kept, and counts what is in it.
+use crate::desk::print;
+use crate::faults::Undone;
+use crate::tokens::refused_as;
+use reg_core::refusal::Refusal;
+use reg_early::day::day_of;
+use reg_keeper::keeper::Keeper;
+use reg_office::{Counts, Office};
+use std::alloc::{AllocError, Global};
+use std::io::Write;
+
+/// Prints the version of an office that was found well kept, and how many rows of each kind it has
+/// on the day of a moment. `Refused` where the moment is none of the office's clock.
+pub fn check_in<K: Keeper, W: Write>(
+    alloc: Global,
+    office: &mut Office<K>,
+    version: i64,
+    moment: u64,
+    output: &mut W,
+) -> Result<(), Undone> {
+    let Some(today) = day_of(moment) else {
+        return Err(refused_as(alloc, Refusal::Clock)?);
+    };
+    let counts = office.count(moment, today)?;
+    let text = text_of(alloc, version, &counts)?;
+    print(output, text.as_bytes())
+}
+
+/// The version, that the office is well kept, and each count, on lines of their own.
+fn text_of(alloc: Global, version: i64, counts: &Counts) -> Result<String, AllocError> {
+    let published = published_text(alloc, counts)?;
+    let requests = requests_text(alloc, counts)?;
+    let held = held_text(alloc, counts)?;
+    format!(in alloc; "version {version}\nwell kept\n{published}{requests}{held}")
+}
+
+fn published_text(alloc: Global, counts: &Counts) -> Result<String, AllocError> {
+    let registries = counts.registries;
+    let entries = counts.entries.all;
+    let temporary = counts.entries.temporary;
+    let expired = counts.entries.expired;
+    let held = counts.entries.held;
+    format!(in alloc;
+        "registries {registries}\nentries {entries}\ntemporary {temporary}\nexpired {expired}\nheld {held}\n"
+    )
+}
+
+fn requests_text(alloc: Global, counts: &Counts) -> Result<String, AllocError> {
+    let requests = counts.requests.all;
+    let pending = counts.requests.pending;
+    let approved = counts.requests.approved;
+    let declined = counts.requests.declined;
+    let withdrawn = counts.requests.withdrawn;
+    format!(in alloc;
+        "requests {requests}\npending {pending}\napproved {approved}\ndeclined {declined}\nwithdrawn {withdrawn}\n"
+    )
+}
+
+fn held_text(alloc: Global, counts: &Counts) -> Result<String, AllocError> {
+    let caps = counts.caps.all;
+    let valid = counts.caps.valid;
+    let prefixes = counts.prefixes;
+    let blocks = counts.blocks;
+    let agents = counts.agents;
+    format!(in alloc;
+        "capabilities {caps}\nvalid {valid}\nprefixes {prefixes}\nblocks {blocks}\nagents {agents}\n"
+    )
+}

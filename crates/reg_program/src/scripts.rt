@@ -1,0 +1,41 @@
+//! The job that has an office answer the lines of a script.
+use crate::console::Console;
+use crate::faults::Undone;
+use crate::progress::Progress;
+use reg_keeper::keeper::Keeper;
+use reg_office::Office;
+use reg_wire::script::run;
+use std::alloc::Global;
+use std::io::{Read, Write};
+use std::time::Clock;
+
+/// Founds an office, and answers the lines of standard input. Where standard error is a terminal,
+/// it tells there how far it is.
+pub fn run_in<H: AllocGlobal + Clock, K: Keeper, R: Read, W: Write, E: Write>(
+    rt: &H,
+    office: &mut Office<K>,
+    clerk: &[u8],
+    console: &mut Console<'_, R, W, E>,
+) -> Result<(), Undone> {
+    let alloc = rt.alloc();
+    if !console.is_watched {
+        return found_and_run(alloc, office, clerk, console.input, console.output);
+    }
+    let mut progress = Progress::new(rt, console.output, console.errors);
+    let done = found_and_run(alloc, office, clerk, console.input, &mut progress);
+    progress.end();
+    done
+}
+
+/// Founds an office, and answers the lines.
+pub fn found_and_run<K: Keeper, R: Read, W: Write>(
+    alloc: Global,
+    office: &mut Office<K>,
+    clerk: &[u8],
+    input: &mut R,
+    output: &mut W,
+) -> Result<(), Undone> {
+    office.found(clerk)?;
+    run(alloc, office, input, output)?;
+    Ok(())
+}
