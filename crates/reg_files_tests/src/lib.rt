@@ -3,6 +3,8 @@
 #![tactic(auto)]
 
 #[cfg(test)]
+mod looks;
+#[cfg(test)]
 mod outcomes;
 #[cfg(test)]
 mod requests;

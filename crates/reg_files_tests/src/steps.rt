@@ -7,6 +7,7 @@ use reg_program::performing::perform;
 use reg_testing::facts::ensure;
 use sqlite::Connection;
 use std::alloc::Global;
+use std::io::ErrorKind;
 use std::os::unix::fs::PermissionsExt;
 use std::path::PathBuf;
 use std::test::Fail;
@@ -26,6 +27,11 @@ pub enum Step {
     Private,
     /// A command line is not done, with this on standard error.
     Undone(&'static str, &'static str),
+    /// A command line prints this, and nothing else, and leaves the office's file and its log as they
+    /// are, to the byte.
+    Looks(&'static str, &'static str),
+    /// A command line is not done, with this on standard error, and leaves the files as they are.
+    LooksInVain(&'static str, &'static str),
     /// No job opens the file, and each says this on standard error.
     Unopened(&'static str),
     /// This is written to the office's file.
@@ -84,6 +90,34 @@ impl Paths {
             "%" => self.token.as_str(),
             _ => word,
         }
+    }
+}
+
+/// What the office's file and its log have; nothing where they are not there.
+#[derive(Drop)]
+struct Kept {
+    office: Option<Vec<u8>>,
+    log: Option<Vec<u8>>,
+}
+
+impl Kept {
+    fn at(rt: &HostRuntime, paths: &Paths) -> Result<Kept, Fail> {
+        let office = bytes_at(rt, paths.office.as_str())?;
+        let log = bytes_at(rt, paths.log.as_str())?;
+        Ok(Kept { office, log })
+    }
+
+    fn is_as(&self, before: &Kept) -> bool {
+        self.office.as_deref() == before.office.as_deref()
+            && self.log.as_deref() == before.log.as_deref()
+    }
+}
+
+fn bytes_at(rt: &HostRuntime, path: &str) -> Result<Option<Vec<u8>>, Fail> {
+    match fs::read(rt, path) {
+        Ok(bytes) => Ok(Some(bytes)),
+        Err(error) if error.kind() == ErrorKind::NotFound => Ok(None),
+        Err(error) => Err(error.into()),
     }
 }
 
@@ -164,14 +198,40 @@ fn assert_undone(
     ensure(given.status == 1, line)
 }
 
+// The office's file and its log are what they were.
+fn assert_kept(rt: &HostRuntime, paths: &Paths, before: &Kept) -> Result<(), Fail> {
+    let after = Kept::at(rt, paths)?;
+    ensure(after.is_as(before), "the files as they were")
+}
+
+fn assert_looks(rt: &HostRuntime, paths: &Paths, line: &str, wanted: &str) -> Result<(), Fail> {
+    let before = Kept::at(rt, paths)?;
+    assert_prints(rt, paths, line, b"", wanted)?;
+    assert_kept(rt, paths, &before)
+}
+
+fn assert_looks_in_vain(
+    rt: &HostRuntime,
+    paths: &Paths,
+    line: &str,
+    wanted: &str,
+) -> Result<(), Fail> {
+    let before = Kept::at(rt, paths)?;
+    assert_undone(rt, paths, line, b"", wanted)?;
+    assert_kept(rt, paths, &before)
+}
+
 // What opens an office.
-const OPENINGS: [&str; 6] = [
+const OPENINGS: [&str; 9] = [
     "init @ --clerk short",
     "script --file @ --clerk short",
     "request @ GET /registries",
     "serve @ --port 1",
     "listing @",
     "listing @ --registry codes",
+    "tokens @",
+    "revoke @ --account alice",
+    "revoke @ --digest ff2676003e48",
 ];
 
 fn assert_unopened(rt: &HostRuntime, paths: &Paths, wanted: &str) -> Result<(), Fail> {
@@ -230,6 +290,8 @@ fn take_step(rt: &HostRuntime, paths: &Paths, step: &Step) -> Result<(), Fail> {
             assert_private(rt, paths.log.as_str())
         }
         Step::Undone(line, wanted) => assert_undone(rt, paths, line, b"", wanted),
+        Step::Looks(line, wanted) => assert_looks(rt, paths, line, wanted),
+        Step::LooksInVain(line, wanted) => assert_looks_in_vain(rt, paths, line, wanted),
         Step::Unopened(wanted) => assert_unopened(rt, paths, wanted),
         Step::Office(text) => Ok(fs::write(rt, office, text.as_bytes())?),
         Step::Ranges(text) => Ok(fs::write(rt, ranges, text.as_bytes())?),

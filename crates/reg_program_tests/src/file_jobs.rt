@@ -224,6 +224,28 @@ fn an_office_is_served(rt: HostRuntime) -> Result<(), Fail> {
     over_lists(&rt, Serving)
 }
 
+// A port on which another listens is not served, and nothing is printed.
+fn assert_unserved<R, K: Keeper>(rt: &R, office: &mut Office<K>, port: u16) -> Result<(), Fail>
+where
+    R: AllocGlobal + Clock + Net<Listener = TcpListener, Stream = TcpStream>,
+{
+    let mut output = Vec::new(rt.alloc());
+    let mut errors = Vec::new(rt.alloc());
+    let mut input: &[u8] = b"";
+    let mut console = Console {
+        input: &mut input,
+        output: &mut output,
+        errors: &mut errors,
+        is_watched: false,
+    };
+    let done = serve_in(rt, office, port, 1, true, &mut console);
+    drop(console);
+    ensure(errors.is_empty(), "nobody was served")?;
+    let is_taken = matches!(done, Err(Undone::Fault(JobFailure::Port)));
+    ensure(is_taken, "a port that is taken")?;
+    ensure(output.is_empty(), "no line")
+}
+
 /// A port that is listened on already.
 #[derive(Drop)]
 struct TakenPort;
@@ -235,22 +257,9 @@ impl Exercise for TakenPort {
         let mut office = Office::new(rt.alloc(), keeper);
         let listener = TcpListener::bind(rt, SocketAddr::from((Ipv4Addr::LOCALHOST, 0)))?;
         let port = listener.local_addr()?.port();
-        let mut output = Vec::new(rt.alloc());
-        let mut errors = Vec::new(rt.alloc());
-        let mut input: &[u8] = b"";
-        let mut console = Console {
-            input: &mut input,
-            output: &mut output,
-            errors: &mut errors,
-            is_watched: false,
-        };
-        let done = serve_in(rt, &mut office, port, 1, true, &mut console);
-        drop(console);
-        ensure(errors.is_empty(), "nobody was served")?;
+        let done = assert_unserved(rt, &mut office, port);
         drop(listener);
-        let is_taken = matches!(done, Err(Undone::Fault(JobFailure::Port)));
-        ensure(is_taken, "a port that is taken")?;
-        ensure(output.is_empty(), "no line")
+        done
     }
 }
 

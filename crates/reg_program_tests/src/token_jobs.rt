@@ -126,6 +126,35 @@ fn assert_refused<K: Keeper>(
     )
 }
 
+fn assert_digits_taken<K: Keeper>(
+    rt: &HostRuntime,
+    office: &mut Office<K>,
+    digits: &[u8],
+    rows: &str,
+) -> Result<(), Fail> {
+    assert_taken(rt, office, Choice::Digits(digits), rows)
+}
+
+fn assert_account_taken<K: Keeper>(
+    rt: &HostRuntime,
+    office: &mut Office<K>,
+    name: &str,
+    rows: &str,
+) -> Result<(), Fail> {
+    let account = Account::read(name.as_bytes()).ok_or("no account")?;
+    assert_taken(rt, office, Choice::Account(&account), rows)
+}
+
+fn assert_account_refused<K: Keeper>(
+    rt: &HostRuntime,
+    office: &mut Office<K>,
+    name: &str,
+    wanted: &str,
+) -> Result<(), Fail> {
+    let account = Account::read(name.as_bytes()).ok_or("no account")?;
+    assert_refused(rt, office, Choice::Account(&account), wanted)
+}
+
 /// Digits that choose no capability, or more than one, and accounts that have none, or the clerk's
 /// last one.
 fn assert_all_refused<K: Keeper>(rt: &HostRuntime, office: &mut Office<K>) -> Result<(), Fail> {
@@ -140,10 +169,7 @@ fn assert_all_refused<K: Keeper>(rt: &HostRuntime, office: &mut Office<K>) -> Re
         assert_refused(rt, office, Choice::Digits(digits), wanted)?;
     }
     for (name, wanted) in [("carol", NONE), ("clerk", OWN)] {
-        let Ok(account) = account_of(rt.alloc(), name) else {
-            return Err("no account".into());
-        };
-        assert_refused(rt, office, Choice::Account(&account), wanted)?;
+        assert_account_refused(rt, office, name, wanted)?;
     }
     ensure(account_of(rt.alloc(), "No account").is_err(), "an account")
 }
@@ -160,14 +186,12 @@ impl Exercise for TokenJobs {
         assert_listed(rt, &mut office, ALL)?;
         assert_all_refused(rt, &mut office)?;
         assert_listed(rt, &mut office, ALL)?;
-        let alice = Account::read(b"alice").ok_or("no account")?;
         let old = "alice,applicant,2000-01-01T00:00:00Z,9f390627313c\n";
         let older = "alice,applicant,1970-01-01T00:00:00Z,3edb5d9d72eb\n";
-        assert_taken(rt, &mut office, Choice::Digits(b"9f390627"), old)?;
-        assert_taken(rt, &mut office, Choice::Account(&alice), older)?;
-        assert_refused(rt, &mut office, Choice::Account(&alice), NONE)?;
-        let bob = Account::read(b"bob").ok_or("no account")?;
-        assert_taken(rt, &mut office, Choice::Account(&bob), OF_BOB)?;
+        assert_digits_taken(rt, &mut office, b"9f390627", old)?;
+        assert_account_taken(rt, &mut office, "alice", older)?;
+        assert_account_refused(rt, &mut office, "alice", NONE)?;
+        assert_account_taken(rt, &mut office, "bob", OF_BOB)?;
         let clerk = "clerk,clerk,3000-01-01T00:00:00Z,ff2676003e48\n";
         assert_listed(rt, &mut office, clerk)
     }
