@@ -16,6 +16,8 @@ mod floods;
 #[cfg(test)]
 mod http;
 #[cfg(test)]
+mod job_faults;
+#[cfg(test)]
 mod lines;
 #[cfg(test)]
 mod offices;
