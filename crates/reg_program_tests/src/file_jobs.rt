@@ -224,6 +224,27 @@ fn an_office_is_served(rt: HostRuntime) -> Result<(), Fail> {
     over_lists(&rt, Serving)
 }
 
+// Serves one connection at a port.
+fn serve_one_at<R, K: Keeper, W: Write>(
+    rt: &R,
+    office: &mut Office<K>,
+    port: u16,
+    output: &mut W,
+    errors: &mut Vec<u8>,
+) -> Result<(), Undone>
+where
+    R: AllocGlobal + Clock + Net<Listener = TcpListener, Stream = TcpStream>,
+{
+    let mut input: &[u8] = b"";
+    let mut console = Console {
+        input: &mut input,
+        output,
+        errors,
+        is_watched: false,
+    };
+    serve_in(rt, office, port, 1, true, &mut console)
+}
+
 // A port on which another listens is not served, and nothing is printed.
 fn assert_unserved<R, K: Keeper>(rt: &R, office: &mut Office<K>, port: u16) -> Result<(), Fail>
 where
@@ -231,19 +252,10 @@ where
 {
     let mut output = Vec::new(rt.alloc());
     let mut errors = Vec::new(rt.alloc());
-    let mut input: &[u8] = b"";
-    let mut console = Console {
-        input: &mut input,
-        output: &mut output,
-        errors: &mut errors,
-        is_watched: false,
-    };
-    let done = serve_in(rt, office, port, 1, true, &mut console);
-    drop(console);
-    ensure(errors.is_empty(), "nobody was served")?;
+    let done = serve_one_at(rt, office, port, &mut output, &mut errors);
     let is_taken = matches!(done, Err(Undone::Fault(JobFailure::Port)));
     ensure(is_taken, "a port that is taken")?;
-    ensure(output.is_empty(), "no line")
+    ensure(output.is_empty() && errors.is_empty(), "no line")
 }
 
 /// A port that is listened on already.
