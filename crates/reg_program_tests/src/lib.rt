@@ -22,6 +22,8 @@ mod lines;
 #[cfg(test)]
 mod offices;
 #[cfg(test)]
+mod publishing;
+#[cfg(test)]
 mod running;
 #[cfg(test)]
 mod stores;

@@ -1,0 +1,76 @@
+//! The job `publish` by its words: offices in files, and addresses where nobody answers.
+use crate::publishing::directories::folder_for;
+use crate::running::{Given, InLists};
+use reg_jobs::jobs::Job;
+use reg_program::console::Console;
+use reg_program::performing::perform;
+use reg_testing::facts::ensure;
+use std::fs;
+use std::net::{Ipv4Addr, SocketAddr, TcpListener};
+use std::test::Fail;
+
+// What the job gives for these words.
+fn published(rt: &HostRuntime, source: &str, folder: &str) -> Result<Given, Fail> {
+    let alloc = rt.alloc();
+    let source = String::from_str(alloc, source)?;
+    let folder = String::from_str(alloc, folder)?;
+    let mut output = Vec::new(alloc);
+    let mut errors = Vec::new(alloc);
+    let mut reader: &[u8] = b"";
+    let job = Job::Publish { source, folder };
+    let mut console = Console {
+        input: &mut reader,
+        output: &mut output,
+        errors: &mut errors,
+        is_watched: false,
+    };
+    let status = perform(rt, &InLists, job, &mut console);
+    Ok(Given {
+        status,
+        output,
+        errors,
+    })
+}
+
+// Words that are the address of no office.
+const NOBODY: [&str; 6] = [
+    "http://127.0.0.1:",
+    "http://127.0.0.1:0",
+    "http://127.0.0.1:x",
+    "http://127.0.0.1:65536",
+    "http://127.0.0.1:8080/",
+    "http://127.0.0.1:-1",
+];
+
+#[test]
+fn addresses_of_nobody(rt: HostRuntime) -> Result<(), Fail> {
+    let folder = folder_for(&rt, "nobody")?;
+    for source in NOBODY {
+        let given = published(&rt, source, folder.as_str())?;
+        given.assert_is(1, b"", b"fault: read\n")?;
+    }
+    ensure(!fs::exists(&rt, folder.as_str())?, "no folder")
+}
+
+#[test]
+fn a_port_where_nobody_listens(rt: HostRuntime) -> Result<(), Fail> {
+    let folder = folder_for(&rt, "unheard")?;
+    let listener = TcpListener::bind(&rt, SocketAddr::from((Ipv4Addr::LOCALHOST, 0)))?;
+    let port = listener.local_addr()?.port();
+    drop(listener);
+    let source = format!(in rt.alloc(); "http://127.0.0.1:{port}")?;
+    let given = published(&rt, source.as_str(), folder.as_str())?;
+    given.assert_is(1, b"", b"fault: read\n")?;
+    Ok(fs::remove_dir_all(&rt, folder.as_str())?)
+}
+
+#[test]
+fn an_office_in_a_file_is_published(rt: HostRuntime) -> Result<(), Fail> {
+    let folder = folder_for(&rt, "empty")?;
+    let given = published(&rt, "o.db", folder.as_str())?;
+    let line = b"published 0 registries, 0 entries, 0 blocks\n";
+    given.assert_is(0, line.as_slice(), b"")?;
+    let given = published(&rt, "o.db", "")?;
+    given.assert_is(1, b"", b"fault: write\n")?;
+    Ok(fs::remove_dir_all(&rt, folder.as_str())?)
+}
