@@ -5,7 +5,7 @@ ghost use Rattle.reg_site.specs.Blocks.{assignments_text, block_links, block_row
 ghost use Rattle.reg_site.specs.Markup.{all_of};
 ghost use Rattle.reg_site.specs.Table.{row};
 
-use crate::document::{push_end, push_start};
+use crate::document::{push_end, push_start, room_for};
 use crate::markup::{push, push_link};
 use crate::table;
 use crate::table::push_row;
@@ -59,7 +59,7 @@ fn same_size(a: Size, b: Size) -> bool
 pub fn blocks_page(alloc: Global, rows: &[Listed]) -> Result<Vec<u8>, AllocError>
     ensures { IfOk result (λ v. v.items ≡ blocks_page rows.now) }
 {
-    let mut out = Vec::new(alloc);
+    let mut out = Vec::with_capacity(alloc, room_for(rows.len()))?;
     push_start(&mut out, "style.css", "Blocks")?;
     push_links(&mut out)?;
     push_blocks(&mut out, alloc, rows)?;

@@ -7,6 +7,19 @@ use crate::escape::push_text;
 use crate::markup::push;
 use std::alloc::AllocError;
 
+/// How many bytes a row of a page has at most, but where its texts are long.
+const ROW_BYTES: usize = 256;
+
+/// How many bytes stand on a page of a registry or of the blocks beside its rows, but where there are
+/// many ranges.
+const OTHER_BYTES: usize = 8_192;
+
+/// How many bytes a page with so many rows is given room for at once. A buffer that grows among other
+/// texts leaves its places behind, which nothing else fits into.
+pub(crate) fn room_for(rows: usize) -> usize {
+    rows.saturating_mul(ROW_BYTES).saturating_add(OTHER_BYTES)
+}
+
 /// Begins a page: its head, by the place of the style sheet and the title, and its heading.
 pub(crate) fn push_start(out: &mut Vec<u8>, style: &str, title: &str) -> Result<(), AllocError>
     ensures { OnOk result (Appended out.old.items out.new.items (page_start style.now title.now)) }

@@ -7,7 +7,7 @@ ghost use Rattle.reg_site.specs.Registry.{entries_table, entry_row, forms, links
 ghost use Rattle.reg_site.specs.Table.{row};
 
 use crate::bar::push_bar;
-use crate::document::{push_end, push_start};
+use crate::document::{push_end, push_start, room_for};
 use crate::markup::{push, push_link};
 use crate::summary::Summary;
 use crate::table;
@@ -46,7 +46,7 @@ fn page_of(
     ensures { IfOk result
         (λ v. v.items ≡ page_by name.now summary.now ranges.now (map row_view rows.now)) }
 {
-    let mut out = Vec::new(alloc);
+    let mut out = Vec::with_capacity(alloc, room_for(rows.len()))?;
     push_start(&mut out, "../style.css", name)?;
     push_links(&mut out, alloc, name)?;
     push_bar(&mut out, alloc, summary)?;
