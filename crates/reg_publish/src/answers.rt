@@ -5,18 +5,19 @@ use reg_ranges::number::read_number;
 use std::alloc::Global;
 use std::io::Read;
 
-/// How many bytes the body of an answer has at most.
-pub const MOST_BYTES: usize = 268_435_456;
-
-/// How many bytes the head of an answer has at most.
-const HEAD_BYTES: usize = 160;
+/// How many bytes an answer has at most: 160 of its head, and 268,435,456 of its body.
+pub const MOST_BYTES: usize = 160 + 268_435_456;
 
 /// How many bytes are read at once.
 const PIECE_BYTES: usize = 16_384;
 
-/// Reads an answer to its end, and gives its bytes. `Large` where they are more than an answer may
-/// have, and `Read` where they cannot be read.
-pub fn read_answer<R: Read>(alloc: Global, reader: &mut R) -> Result<Vec<u8>, Unpublished> {
+/// Reads an answer to its end, and gives its bytes. `Large` where they are more than so many, and
+/// `Read` where they cannot be read.
+pub fn read_answer<R: Read>(
+    alloc: Global,
+    most: usize,
+    reader: &mut R,
+) -> Result<Vec<u8>, Unpublished> {
     let mut bytes = Vec::new(alloc);
     let mut piece = [0; PIECE_BYTES];
     for _ in 0..u64::MAX {
@@ -25,7 +26,7 @@ pub fn read_answer<R: Read>(alloc: Global, reader: &mut R) -> Result<Vec<u8>, Un
             return Ok(bytes);
         }
         bytes.extend_from_slice(&piece[..count])?;
-        if bytes.len() > MOST_BYTES + HEAD_BYTES {
+        if bytes.len() > most {
             return Err(Unpublished::Large);
         }
     }

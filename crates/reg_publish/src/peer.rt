@@ -2,7 +2,7 @@
 ghost use Rattle.reg_core.specs.View.{published as shown};
 ghost use Rattle.reg_core.specs.World.{empty_world};
 
-use crate::answers::{body_of, read_answer};
+use crate::answers::{MOST_BYTES, body_of, read_answer};
 use crate::reading::content_of;
 use crate::source::Source;
 use crate::timed::{Timed, left};
@@ -73,7 +73,7 @@ fn exchange<H: AllocGlobal + Clock + Net<Listener = TcpListener, Stream = TcpStr
         end,
     };
     timed.write_all(request).map_err(unread)?;
-    read_answer(rt.alloc(), &mut timed)
+    read_answer(rt.alloc(), MOST_BYTES, &mut timed)
 }
 
 fn end_of_patience<C: Clock>(clock: &C) -> io::Result<Duration> {

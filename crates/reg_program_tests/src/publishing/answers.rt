@@ -11,12 +11,41 @@ use reg_print::answer::Format;
 use reg_publish::answers::{body_of, read_answer};
 use reg_publish::reading::content_of;
 use reg_publish::unpublished::Unpublished;
-use reg_testing::devices::{FailsBefore, GivesOne};
+use reg_testing::devices::{FailsBefore, GivesOne, NeverEnds};
 use reg_testing::facts::ensure;
 use std::alloc::Global;
 use std::test::Fail;
 
 const BYTES: &[u8] = b"0123456789";
+
+// How an answer is read that may have so many bytes.
+fn read_of(alloc: Global, most: usize) -> Result<Vec<u8>, Unpublished> {
+    let mut reader = GivesOne {
+        bytes: BYTES,
+        reads: 0,
+    };
+    read_answer(alloc, most, &mut reader)
+}
+
+#[test]
+fn answers_above_the_limit(rt: HostRuntime) -> Result<(), Fail> {
+    for most in [BYTES.len(), usize::MAX] {
+        let Ok(read) = read_of(rt.alloc(), most) else {
+            return Err("not read".into());
+        };
+        ensure(read.as_slice() == BYTES, "what was read")?;
+    }
+    for most in 0..BYTES.len() {
+        let is_large = matches!(read_of(rt.alloc(), most), Err(Unpublished::Large));
+        ensure(is_large, "an answer that is too large")?;
+    }
+    let mut endless = NeverEnds { reads: 0 };
+    let read = read_answer(rt.alloc(), 1000, &mut endless);
+    ensure(
+        matches!(read, Err(Unpublished::Large)),
+        "an answer without end",
+    )
+}
 
 #[test]
 fn answers_that_break_off(rt: HostRuntime) -> Result<(), Fail> {
@@ -24,17 +53,10 @@ fn answers_that_break_off(rt: HostRuntime) -> Result<(), Fail> {
         let mut reader = FailsBefore {
             bytes: &BYTES[..count],
         };
-        let read = read_answer(rt.alloc(), &mut reader);
+        let read = read_answer(rt.alloc(), 1000, &mut reader);
         ensure(matches!(read, Err(Unpublished::Read)), "a read that fails")?;
     }
-    let mut reader = GivesOne {
-        bytes: BYTES,
-        reads: 0,
-    };
-    let Ok(read) = read_answer(rt.alloc(), &mut reader) else {
-        return Err("not read".into());
-    };
-    ensure(read.as_slice() == BYTES, "what was read")
+    Ok(())
 }
 
 const GOOD: &[u8] =
