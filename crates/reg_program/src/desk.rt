@@ -2,6 +2,20 @@
 //!
 //! Each is a command at the moment of the clock, as a request asks it, and what is printed of its
 //! answer.
+ghost use Rattle.std.specs.Prelude.{◌≡◌, ◌++◌, codes, IfOk, IfErr, OnOk, false, true};
+ghost use Rattle.std.specs.Io.KnownBytes.{Appends, Keeps};
+ghost use Rattle.std.specs.Option.{option_copied};
+ghost use Rattle.std.specs.String.{string_bytes};
+ghost use Rattle.reg_core.specs.Laws.{is_refused as refuses};
+ghost use Rattle.reg_core.specs.World.{World};
+ghost use Rattle.reg_office.specs.Caller.{step_by};
+ghost use Rattle.reg_parse.specs.Command.{asked};
+ghost use Rattle.reg_print.specs.declared.answer.Answer.TheVariants as answer;
+ghost use Rattle.reg_program.specs.Asking.{IsPrinted, IsUnprinted, Spells, after_body, definition_at, in_form, printed};
+ghost use Rattle.reg_program.specs.Doing.{Does};
+ghost use Rattle.reg_program.specs.Looking.{only_looks};
+ghost use Rattle.reg_program.specs.Undone.{IsRefusedBy, answer_line as line_of};
+
 use crate::faults::{JobFailure, Undone};
 use reg_core::command::Command;
 use reg_core::refusal::Refusal;
@@ -18,7 +32,10 @@ use std::io::Write;
 
 /// The command that defines a registry from the bytes of a range file. `Refused` where they spell
 /// none.
-pub fn definition(alloc: Global, order: &Definition, ranges: &[u8]) -> Result<Command, Undone> {
+pub fn definition(alloc: Global, order: &Definition, ranges: &[u8]) -> Result<Command, Undone>
+    ensures { let path = definition_at (string_bytes order.now.name) (string_bytes order.now.max) in
+        Spells (asked (codes "PUT") path ranges.now) result }
+{
     let name = order.name.as_str();
     let max = order.max.as_str();
     let path = format!(in alloc; "/desk/registries/{name}/{max}")?;
@@ -26,7 +43,9 @@ pub fn definition(alloc: Global, order: &Definition, ranges: &[u8]) -> Result<Co
 }
 
 /// The command that lists a registry or, without one, the blocks. `Refused` where the name is none.
-pub fn listing(alloc: Global, registry: &Option<String>) -> Result<Command, Undone> {
+pub fn listing(alloc: Global, registry: &Option<String>) -> Result<Command, Undone>
+    ensures looks { IfOk result (λ command. only_looks command ≡ true) }
+{
     match registry {
         Some(name) => {
             let path = format!(in alloc; "/listings/registries/{name}")?;
@@ -37,12 +56,21 @@ pub fn listing(alloc: Global, registry: &Option<String>) -> Result<Command, Undo
 }
 
 /// The command that a request spells with this body. `Refused` where it spells none.
-pub fn requested(alloc: Global, request: &Request, body: &[u8]) -> Result<Command, Undone> {
+pub fn requested(alloc: Global, request: &Request, body: &[u8]) -> Result<Command, Undone>
+    ensures spelled { Spells
+        (asked (string_bytes request.now.method) (string_bytes request.now.path) body.now) result }
+    ensures looks { string_bytes request.now.method ≡ codes "GET" →
+        IfOk result (λ command. only_looks command ≡ true) }
+{
     let method = request.method.as_bytes();
     command(alloc, method, request.path.as_bytes(), body)
 }
 
-fn command(alloc: Global, method: &[u8], path: &[u8], body: &[u8]) -> Result<Command, Undone> {
+fn command(alloc: Global, method: &[u8], path: &[u8], body: &[u8]) -> Result<Command, Undone>
+    ensures spelled { Spells (asked method.now path.now body.now) result }
+    ensures looks { method.now ≡ codes "GET" →
+        IfOk result (λ command. only_looks command ≡ true) }
+{
     let routes = Routes::new(alloc)?;
     match read_command(alloc, &routes, method, path, body) {
         Ok(command) => Ok(command),
@@ -72,53 +100,101 @@ pub fn ask_in<K: Keeper, W: Write>(
     command: &Command,
     form: Form,
     output: &mut W,
-) -> Result<(), Undone> {
+) -> Result<(), Undone>
+    ensures does { let step = λ (w : World). step_by w (option_copied token.entry) moment command.now in
+        Does K.world K.Holds K.Sound K.FAILS office.old office.new result
+        (λ old new. IsPrinted form (W.contents output.old) (W.contents output.new) (step old) new)
+        (λ old new. IsUnprinted (step old) old new) }
+    ensures looks { only_looks command.now ≡ true →
+        K.Holds office.new → K.world office.new ≡ K.world office.old }
+{
     let reply = office.handle(moment, token, command)?;
     let text = accepted_text(alloc, reply, form)?;
     print(output, text.as_slice())
 }
 
 // What is printed of a reply that is no refusal.
-fn accepted_text(alloc: Global, reply: Reply, form: Form) -> Result<Vec<u8>, Undone> {
+fn accepted_text(alloc: Global, reply: Reply, form: Form) -> Result<Vec<u8>, Undone>
+    ensures accepted { OnOk result (refuses reply ≡ false) }
+    ensures text { IfOk result (λ text. text.items ≡ printed form (answer.Reply reply)) }
+    ensures refused { IfErr result (IsRefusedBy reply) }
+{
     let is_refused = reply.is_refused();
     let answer = Answer::Reply(reply);
     if is_refused {
         return Err(Undone::Refused(answer_line(alloc, &answer)?));
     }
-    let mut text = match form {
-        Form::Body => body_of(alloc, &answer)?.1,
-        Form::Line => answer_line(alloc, &answer)?,
-    };
-    if answer.format() == Format::Json {
-        text.push(b'\n')?;
+    Ok(printed(alloc, &answer, form)?)
+}
+
+// What is printed of an answer.
+fn printed(alloc: Global, answer: &Answer, form: Form) -> Result<Vec<u8>, AllocError>
+    ensures { IfOk result (λ text. text.items ≡ printed form answer.now) }
+{
+    let text = in_form(alloc, answer, form)?;
+    with_end(text, answer.format())
+}
+
+// The body of an answer, or its line.
+fn in_form(alloc: Global, answer: &Answer, form: Form) -> Result<Vec<u8>, AllocError>
+    ensures { IfOk result (λ text. text.items ≡ in_form form answer.now) }
+{
+    match form {
+        Form::Body => Ok(body_of(alloc, answer)?.1),
+        Form::Line => answer_line(alloc, answer),
     }
-    Ok(text)
+}
+
+// A line feed after JSON.
+fn with_end(mut text: Vec<u8>, format: Format) -> Result<Vec<u8>, AllocError>
+    ensures { IfOk result (λ ended. ended.items ≡ text.items ++ after_body format) }
+{
+    match format {
+        Format::Json => {
+            text.push(b'\n')?;
+            Ok(text)
+        }
+        Format::Csv => Ok(text),
+    }
 }
 
 /// The status and the body of the answer to a command that is refused, with a space between.
-pub fn refusal_line(alloc: Global, refusal: Refusal) -> Result<Vec<u8>, AllocError> {
+pub fn refusal_line(alloc: Global, refusal: Refusal) -> Result<Vec<u8>, AllocError>
+    ensures { IfOk result
+        (λ line. line.items ≡ line_of (answer.Reply (Reply.Refused refusal))) }
+{
     let line = answer_line(alloc, &Answer::Reply(Reply::Refused(refusal)))?;
     Ok(line)
 }
 
 // The status and the body of an answer, with a space between.
-fn answer_line(alloc: Global, answer: &Answer) -> Result<Vec<u8>, AllocError> {
+fn answer_line(alloc: Global, answer: &Answer) -> Result<Vec<u8>, AllocError>
+    ensures { IfOk result (λ line. line.items ≡ line_of answer.now) }
+{
     let (status, body) = body_of(alloc, answer)?;
-    let status = format!(in alloc; "{status} ")?;
-    let mut line = Vec::new(alloc);
-    line.extend_from_slice(status.as_bytes())?;
+    let mut line = format!(in alloc; "{status} ")?.into_bytes();
     line.extend_from_slice(body.as_slice())?;
     Ok(line)
 }
 
 /// Writes all the bytes, and has them go out. `Write` where that fails.
-pub fn print<W: Write>(output: &mut W, bytes: &[u8]) -> Result<(), Undone> {
+pub fn print<W: Write>(output: &mut W, bytes: &[u8]) -> Result<(), Undone>
+    ensures ok { OnOk result
+        (Appends (W.contents output.old) (W.contents output.new) bytes.now) }
+    ensures err { IfErr result (λ undone. undone ≡ Undone.Fault JobFailure.Write) }
+{
     match output.write_all(bytes) {
         Ok(()) => flush(output),
         Err(_) => Err(Undone::Fault(JobFailure::Write)),
     }
 }
 
-fn flush<W: Write>(output: &mut W) -> Result<(), Undone> {
-    output.flush().map_err(|_| Undone::Fault(JobFailure::Write))
+fn flush<W: Write>(output: &mut W) -> Result<(), Undone>
+    ensures keeps { Keeps (W.contents output.old) (W.contents output.new) }
+    ensures err { IfErr result (λ undone. undone ≡ Undone.Fault JobFailure.Write) }
+{
+    match output.flush() {
+        Ok(()) => Ok(()),
+        Err(_) => Err(Undone::Fault(JobFailure::Write)),
+    }
 }

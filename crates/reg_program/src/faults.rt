@@ -44,36 +44,70 @@ pub enum JobFailure {
 }
 
 impl From<JobFailure> for Undone {
+    ghost use Rattle.std.specs.Prelude.{◌≡◌};
+    ghost use Rattle.reg_program.specs.declared.faults.Undone.TheVariants.{Fault as OfFault};
+
+    ghost from_gives = { λ failure undone. undone ≡ OfFault failure };
+
     fn from(failure: JobFailure) -> Undone {
         Undone::Fault(failure)
     }
 }
 
 impl From<AllocError> for Undone {
+    ghost use Rattle.std.specs.Prelude.{◌≡◌};
+    ghost use Rattle.reg_program.specs.declared.faults.JobFailure.TheVariants.{Memory};
+    ghost use Rattle.reg_program.specs.declared.faults.Undone.TheVariants.{Fault as OfFault};
+
+    ghost from_gives = { λ _ undone. undone ≡ OfFault Memory };
+
     fn from(_error: AllocError) -> Undone {
         Undone::Fault(JobFailure::Memory)
     }
 }
 
 impl<T: Drop> From<AllocFailed<T>> for Undone {
+    ghost use Rattle.std.specs.Prelude.{◌≡◌};
+    ghost use Rattle.reg_program.specs.declared.faults.JobFailure.TheVariants.{Memory};
+    ghost use Rattle.reg_program.specs.declared.faults.Undone.TheVariants.{Fault as OfFault};
+
+    ghost from_gives = { λ _ undone. undone ≡ OfFault Memory };
+
     fn from(_failed: AllocFailed<T>) -> Undone {
         Undone::Fault(JobFailure::Memory)
     }
 }
 
 impl From<AllocError> for JobFailure {
+    ghost use Rattle.std.specs.Prelude.{◌≡◌};
+    ghost use Rattle.reg_program.specs.declared.faults.JobFailure.TheVariants.{Memory};
+
+    ghost from_gives = { λ _ failure. failure ≡ Memory };
+
     fn from(_error: AllocError) -> JobFailure {
         JobFailure::Memory
     }
 }
 
 impl From<Fault> for Undone {
+    ghost use Rattle.std.specs.Prelude.{◌≡◌};
+    ghost use Rattle.reg_program.specs.Undone.{failure_of};
+    ghost use Rattle.reg_program.specs.declared.faults.Undone.TheVariants.{Fault as OfFault};
+
+    ghost from_gives = { λ fault undone. undone ≡ OfFault (failure_of fault) };
+
     fn from(fault: Fault) -> Undone {
         Undone::Fault(JobFailure::from(fault))
     }
 }
 
 impl From<FoundFault> for Undone {
+    ghost use Rattle.std.specs.Prelude.{◌≡◌};
+    ghost use Rattle.reg_program.specs.Undone.{found_failure};
+    ghost use Rattle.reg_program.specs.declared.faults.Undone.TheVariants.{Fault as OfFault};
+
+    ghost from_gives = { λ fault undone. undone ≡ OfFault (found_failure fault) };
+
     fn from(fault: FoundFault) -> Undone {
         Undone::Fault(match fault {
             FoundFault::Token => JobFailure::Token,
@@ -84,6 +118,12 @@ impl From<FoundFault> for Undone {
 }
 
 impl From<WireFault> for Undone {
+    ghost use Rattle.std.specs.Prelude.{◌≡◌};
+    ghost use Rattle.reg_program.specs.Undone.{script_failure};
+    ghost use Rattle.reg_program.specs.declared.faults.Undone.TheVariants.{Fault as OfFault};
+
+    ghost from_gives = { λ fault undone. undone ≡ OfFault (script_failure fault) };
+
     fn from(fault: WireFault) -> Undone {
         Undone::Fault(match fault {
             WireFault::Read | WireFault::TooManyReads => JobFailure::Read,
@@ -94,6 +134,11 @@ impl From<WireFault> for Undone {
 }
 
 impl From<Fault> for JobFailure {
+    ghost use Rattle.std.specs.Prelude.{◌≡◌};
+    ghost use Rattle.reg_program.specs.Undone.{failure_of};
+
+    ghost from_gives = { λ fault failure. failure ≡ failure_of fault };
+
     fn from(fault: Fault) -> JobFailure {
         match fault {
             Fault::Memory => JobFailure::Memory,

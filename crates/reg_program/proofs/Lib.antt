@@ -1,0 +1,4 @@
+pub mod Asked
+pub mod Did
+pub mod Gotten
+pub mod Results

@@ -1,0 +1,4 @@
+pub mod Asking
+pub mod Doing
+pub mod Looking
+pub mod Undone
