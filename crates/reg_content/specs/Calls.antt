@@ -2,10 +2,14 @@
 use Rattle.std.specs.Prelude.{◌≡◌, Result, IfOk, OnOk, OnErr}
 use Rattle.sqlite.specs.Effect.{Database}
 use Rattle.sqlite.specs.State.{State, HasCleanDisk, KeepsCommit}
+use Rattle.sqlite.specs.Steps.{FailsToCommit}
+use Rattle.sqlite.specs.declared.error.Error.{Error}
 use Rattle.reg_core.specs.World.{World}
+use Rattle.reg_keeper.specs.declared.keeper.Fault.{Fault}
 use Rattle.reg_tables.specs.Connection.{Endures, Holds, HoldsOn, IsIdle, Stays, WentOn}
 use Rattle.reg_statements.specs.Content.{IsStored, content_of, parts_of, world_in}
 use Rattle.reg_statements.specs.Parts.{Parts}
+use Rattle.reg_statements.specs.Reading.{fault_of}
 
 -- no transaction is open, and what was committed are the rows of an office
 pub record IsKeeping (s : State) : Type 0 where
@@ -67,3 +71,10 @@ Steps old new result Fits changed = StepsAt content_of old new result Fits chang
 abbrev pub StepsIn : {T E : Type 0} → State → State → Result T E → (Parts → Type 0)
     → (Parts → Parts) → Type 0
 StepsIn old new result Fits changed = StepsAt parts_of old new result Fits changed
+
+-- The library's error that a fault tells of a commit, and why it gave that: there was no memory, the
+-- device failed, a failure had shut the store, or no transaction was open any more.
+pub record IsUncommitted (old new : State) (fault : Fault) : Type 0 where
+  pub error : Error
+  pub told : fault ≡ fault_of error
+  pub cause : HasCleanDisk new → FailsToCommit old new error

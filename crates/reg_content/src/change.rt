@@ -1,10 +1,11 @@
 //! Changes, each in one transaction.
-ghost use Rattle.std.specs.Prelude.{◌≡◌};
+ghost use Rattle.std.specs.Prelude.{◌≡◌, ◌⊎◌, [], false, IfErr, IsTrue, OnErr, OnOk};
 ghost use Rattle.sqlite.specs.Held.{state};
+ghost use Rattle.sqlite.specs.State.{HasCleanDisk, IsRolledBack, IsUnchanged, KeepsCounts, Shows, Survives};
 ghost use Rattle.reg_core.specs.WellKept.{WellKept, CanApply};
 ghost use Rattle.reg_core.specs.World.{World, applied};
 ghost use Rattle.reg_tables.specs.Connection.{Holds};
-ghost use Rattle.reg_content.specs.Calls.{Alters, IsKeeping, Steps};
+ghost use Rattle.reg_content.specs.Calls.{Alters, IsKeeping, IsUncommitted, Steps};
 ghost use Rattle.reg_content.specs.Changing.{Fits};
 ghost use Rattle.reg_statements.specs.Content.{world_in};
 
@@ -40,6 +41,29 @@ pub fn apply<S: Alter>(
 {
     let mut tx = conn.transaction();
     make(alloc, &mut tx, change)?;
+    commit(tx)?;
+    Ok(())
+}
+
+/// Commits what a transaction wrote, or undoes it. A fault is what the library's error is: want of
+/// memory is `Memory`, and any other `Store`.
+fn commit<S: Alter>(tx: Transaction<'_, S>) -> Result<(), Fault>
+    ensures ended { tx.exit.0.now.in_transaction ≡ false }
+    ensures committed { HasCleanDisk (state S.Store tx.exit.0.now)
+        → OnOk result (IsTrue (state S.Store tx.entry.conn.now).in_transaction
+        × Shows (state S.Store tx.entry.conn.now) (state S.Store tx.exit.0.now)
+        (state S.Store tx.entry.conn.now).now (state S.Store tx.entry.conn.now).now false
+        × KeepsCounts (state S.Store tx.entry.conn.now) (state S.Store tx.exit.0.now)
+        × ((state S.Store tx.exit.0.now).marks ≡ [])) }
+    ensures undone { HasCleanDisk (state S.Store tx.exit.0.now)
+        → OnErr result (IsRolledBack (state S.Store tx.entry.conn.now) (state S.Store tx.exit.0.now)
+        ⊎ (((state S.Store tx.entry.conn.now).in_transaction ≡ false)
+        × IsUnchanged (state S.Store tx.entry.conn.now) (state S.Store tx.exit.0.now))) }
+    ensures survives { Survives (state S.Store tx.entry.conn.now) (state S.Store tx.exit.0.now)
+        (λ db. db ≡ (state S.Store tx.entry.conn.now).now.trees) }
+    ensures fault { IfErr result (IsUncommitted (state S.Store tx.entry.conn.now)
+        (state S.Store tx.exit.0.now)) }
+{
     match tx.commit() {
         Ok(()) => Ok(()),
         Err(error) => Err(fault(&error)),
