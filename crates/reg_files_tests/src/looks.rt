@@ -132,7 +132,7 @@ const NO_OFFICES: [Step; 4] = [
     Step::Office("a letter to the office"),
     Step::LooksInVain(
         "check @",
-        "fault: not ours\nit is no SQLite database, or a damaged one\n",
+        "fault: not ours\nit has not the tables of an office\n",
     ),
 ];
 
@@ -149,7 +149,7 @@ const TAMPERED: [(&str, &str); 6] = [
     ),
     (
         "DELETE FROM office",
-        "fault: not ours\nit has not the tables of an office, or not the row that says their version\n",
+        "fault: not ours\nit has not the tables of an office\n",
     ),
     (
         "UPDATE caps SET account = ''",
@@ -157,7 +157,7 @@ const TAMPERED: [(&str, &str); 6] = [
     ),
     (
         "INSERT INTO pool VALUES (65536)",
-        "fault: not ours\na row of the table pool does not read\n",
+        "fault: not ours\na row of the table pool does not fit the rows before it\n",
     ),
     (
         "INSERT INTO agents VALUES ('a', 'a')",
