@@ -9,15 +9,25 @@ use std::fs;
 use std::net::{Ipv4Addr, SocketAddr, TcpListener};
 use std::test::Fail;
 
+// The job for these words.
+fn job(rt: &HostRuntime, source: &str, folder: &str) -> Result<Job, Fail> {
+    Ok(Job::Publish {
+        source: String::from_str(rt.alloc(), source)?,
+        folder: String::from_str(rt.alloc(), folder)?,
+    })
+}
+
 // What the job gives for these words.
 fn published(rt: &HostRuntime, source: &str, folder: &str) -> Result<Given, Fail> {
+    given(rt, job(rt, source, folder)?, b"")
+}
+
+// What a job gives for this on standard input.
+fn given(rt: &HostRuntime, job: Job, input: &[u8]) -> Result<Given, Fail> {
     let alloc = rt.alloc();
-    let source = String::from_str(alloc, source)?;
-    let folder = String::from_str(alloc, folder)?;
     let mut output = Vec::new(alloc);
     let mut errors = Vec::new(alloc);
-    let mut reader: &[u8] = b"";
-    let job = Job::Publish { source, folder };
+    let mut reader = input;
     let mut console = Console {
         input: &mut reader,
         output: &mut output,
