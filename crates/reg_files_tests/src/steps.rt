@@ -222,13 +222,14 @@ fn assert_looks_in_vain(
 }
 
 // What opens an office.
-const OPENINGS: [&str; 9] = [
+const OPENINGS: [&str; 10] = [
     "init @ --clerk short",
     "script --file @ --clerk short",
     "request @ GET /registries",
     "serve @ --port 1",
     "listing @",
     "listing @ --registry codes",
+    "publish @ a-site-that-is-not-published",
     "tokens @",
     "revoke @ --account alice",
     "revoke @ --digest ff2676003e48",
