@@ -225,19 +225,19 @@ fn an_office_is_served(rt: HostRuntime) -> Result<(), Fail> {
 }
 
 // Serves one connection at a port.
-fn serve_one_at<R, K: Keeper, W: Write>(
+fn serve_one_at<R, K: Keeper, I: Read, W: Write>(
     rt: &R,
     office: &mut Office<K>,
     port: u16,
+    input: &mut I,
     output: &mut W,
     errors: &mut Vec<u8>,
 ) -> Result<(), Undone>
 where
     R: AllocGlobal + Clock + Net<Listener = TcpListener, Stream = TcpStream>,
 {
-    let mut input: &[u8] = b"";
     let mut console = Console {
-        input: &mut input,
+        input,
         output,
         errors,
         is_watched: false,
@@ -250,9 +250,10 @@ fn assert_unserved<R, K: Keeper>(rt: &R, office: &mut Office<K>, port: u16) -> R
 where
     R: AllocGlobal + Clock + Net<Listener = TcpListener, Stream = TcpStream>,
 {
+    let mut input: &[u8] = b"";
     let mut output = Vec::new(rt.alloc());
     let mut errors = Vec::new(rt.alloc());
-    let done = serve_one_at(rt, office, port, &mut output, &mut errors);
+    let done = serve_one_at(rt, office, port, &mut input, &mut output, &mut errors);
     let is_taken = matches!(done, Err(Undone::Fault(JobFailure::Port)));
     ensure(is_taken, "a port that is taken")?;
     ensure(output.is_empty() && errors.is_empty(), "no line")

@@ -51,6 +51,24 @@ fn job_of(alloc: Global, line: &str) -> Result<Job, Fail> {
     }
 }
 
+// The exit status of the job of a command line.
+fn status_of<R: Read, W: Write>(
+    rt: &HostRuntime,
+    line: &str,
+    input: &mut R,
+    output: &mut W,
+    errors: &mut Vec<u8>,
+) -> Result<u8, Fail> {
+    let job = job_of(rt.alloc(), line)?;
+    let mut console = Console {
+        input,
+        output,
+        errors,
+        is_watched: false,
+    };
+    Ok(perform(rt, &InLists, job, &mut console))
+}
+
 // The job of a command line ends with the status 1, and says this.
 fn assert_undone<R: Read, W: Write>(
     rt: &HostRuntime,
@@ -59,16 +77,8 @@ fn assert_undone<R: Read, W: Write>(
     output: &mut W,
     said: &[u8],
 ) -> Result<(), Fail> {
-    let job = job_of(rt.alloc(), line)?;
     let mut errors = Vec::new(rt.alloc());
-    let mut console = Console {
-        input,
-        output,
-        errors: &mut errors,
-        is_watched: false,
-    };
-    let status = perform(rt, &InLists, job, &mut console);
-    drop(console);
+    let status = status_of(rt, line, input, output, &mut errors)?;
     ensure(status == 1 && errors.as_slice() == said, line)
 }
 
