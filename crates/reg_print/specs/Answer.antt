@@ -6,8 +6,6 @@ use Rattle.reg_core.specs.declared.reply.Reply.{Reply}
 use Rattle.reg_core.specs.declared.reply.Reply.TheVariants as reply
 use Rattle.reg_print.specs.declared.answer.Answer.{Answer}
 use Rattle.reg_print.specs.declared.answer.Answer.TheVariants as answer
-use Rattle.reg_core.specs.declared.wire_refusal.ReadFault.{ReadFault}
-use Rattle.reg_core.specs.declared.wire_refusal.ReadFault.TheVariants.{Refused, Memory}
 use Rattle.reg_print.specs.Body.{Body, json, listing, block_listing, text_of}
 use Rattle.reg_print.specs.Trees.Agent.{agent_tree}
 use Rattle.reg_print.specs.Trees.File.{file_tree}
@@ -20,11 +18,6 @@ use Rattle.reg_print.specs.Refusal.{office_row, wire_row, storage_row}
 use Rattle.reg_print.specs.Trees.Request.{request_tree, requests_tree, desk_tree, desks_tree}
 use Rattle.reg_print.specs.Trees.Capability.{cap_tree, revoked_tree}
 use Rattle.reg_print.specs.Trees.Refusal.{error_tree}
-
--- what is answered where no command was read
-abbrev pub answer_to_fault : ReadFault → Answer
-answer_to_fault (Refused refusal) = answer.Wire refusal
-answer_to_fault Memory = answer.Storage
 
 -- ---- Status
 

@@ -16,7 +16,7 @@ use crate::printing::{Itself, printed};
 use crate::refusal::{RefusalRow, office_row, storage_row, wire_row};
 use reg_core::content::Content;
 use reg_core::reply::Reply;
-use reg_core::wire_refusal::{ReadFault, WireRefusal};
+use reg_core::wire_refusal::WireRefusal;
 use std::alloc::{AllocError, Global};
 
 /// What the bytes of a body are.
@@ -47,19 +47,6 @@ impl Answer {
         match self {
             Answer::Reply(Reply::Accepted(Content::Listing(_) | Content::Blocks(_))) => Format::Csv,
             Answer::Reply(_) | Answer::Wire(_) | Answer::Storage => Format::Json,
-        }
-    }
-}
-
-impl From<ReadFault> for Answer {
-    ghost use Rattle.reg_print.specs.Answer.{answer_to_fault};
-
-    ghost from_gives = { λ fault answer. answer ≡ answer_to_fault fault };
-
-    fn from(fault: ReadFault) -> Answer {
-        match fault {
-            ReadFault::Refused(refusal) => Answer::Wire(refusal),
-            ReadFault::Memory => Answer::Storage,
         }
     }
 }

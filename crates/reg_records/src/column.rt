@@ -2,7 +2,6 @@
 ghost use Rattle.std.specs.Prelude.{◌≡◌, ◌<◌, ◌^◌, IfOk, option_map};
 ghost use Rattle.sqlite.specs.Order.{column};
 ghost use Rattle.sqlite.specs.Value.{owned};
-ghost use Rattle.sqlite.specs.Values.{or_null};
 ghost use Rattle.sqlite.specs.declared.types.Value.TheVariants.{Text as TextValue};
 ghost use Rattle.reg_ranges.specs.Texts.{is_text};
 ghost use Rattle.reg_records.specs.Columns.{int_in, whole_in, number_in, is_number, flag_in, text_in, read_in, formed_in, is_null as null, or_null_in, whole_value, flag_value};
@@ -99,16 +98,6 @@ pub fn number_or_null(row: &Row, at: usize) -> Option<Option<u32>>
     number(row, at).map(Some)
 }
 
-/// The answer in a column that may be NULL.
-pub fn flag_or_null(row: &Row, at: usize) -> Option<Option<bool>>
-    ensures { result ≡ or_null_in flag_in (column row.now at) }
-{
-    if is_null(row, at) {
-        return Some(None);
-    }
-    flag(row, at).map(Some)
-}
-
 /// The value whose word is in a column that may be NULL.
 pub fn word_or_null<W: Worded>(row: &Row, at: usize) -> Option<Option<W>>
     ensures { result ≡ or_null_in (read_in W.read_word) (column row.now at) }
@@ -117,16 +106,6 @@ pub fn word_or_null<W: Worded>(row: &Row, at: usize) -> Option<Option<W>>
         return Some(None);
     }
     word(row, at).map(Some)
-}
-
-/// The name in a column that may be NULL.
-pub fn name_or_null<F: Form>(row: &Row, at: usize) -> Option<Option<Word<F>>>
-    ensures { result ≡ or_null_in (formed_in F.fits) (column row.now at) }
-{
-    if is_null(row, at) {
-        return Some(None);
-    }
-    name(row, at).map(Some)
 }
 
 /// The printable text in a column that may be NULL.
@@ -184,14 +163,4 @@ pub fn printable_value(text: &Text) -> ValueRef<'_>
     ensures { owned result ≡ TextValue text.now }
 {
     ValueRef::Text(text.as_str().as_bytes())
-}
-
-/// What is written for a value that may be missing: NULL for none.
-pub fn value_or_null(value: Option<ValueRef<'_>>) -> ValueRef<'_>
-    ensures { owned result ≡ or_null owned value.entry }
-{
-    match value {
-        Some(value) => value,
-        None => ValueRef::Null,
-    }
 }

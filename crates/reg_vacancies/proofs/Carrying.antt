@@ -11,7 +11,7 @@ use Rattle.reg_blocks.specs.Block.{SizedPrefix}
 use Rattle.reg_core.specs.Maps.{update}
 use Rattle.reg_core.proofs.MapLaws.{IsKeyOrder, block_keys, get-at_insert, get-update, place_keys, tied}
 use Rattle.reg_places.specs.Places.{Follows}
-use Rattle.reg_vacancies.specs.Laws.{EntriesAreReplaced, HoldersAreChanged, HoldersAreReplaced, KeysDecide}
+use Rattle.reg_vacancies.specs.Laws.{EntriesAreReplaced, HoldersAreChanged, KeysDecide}
 use Rattle.reg_vacancies.specs.Places.{AreLeftBy, AreUnchanged, Blocks, places_in}
 use Rattle.reg_vacancies.specs.Vacancies.{AreSame, AreVacancies, Pool, free_in, taken_in}
 use Rattle.reg_vacancies.specs.Values.{Entries}
@@ -94,11 +94,6 @@ pub entries_are_replaced : EntriesAreReplaced
 entries_are_replaced vacancies entries pool blocks are place there row =
     keys_decide vacancies entries (insert entries place row) pool blocks blocks
     (contains-replaced place_keys entries place row there) (λ block. refl) are
-
-pub holders_are_replaced : HoldersAreReplaced
-holders_are_replaced vacancies entries pool blocks are block there holder =
-    keys_decide vacancies entries entries pool blocks (insert blocks block holder)
-    (λ place. refl) (contains-replaced block_keys blocks block holder there) are
 
 pub holders_are_changed : HoldersAreChanged
 holders_are_changed vacancies entries pool blocks are block change =

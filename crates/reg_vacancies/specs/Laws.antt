@@ -26,14 +26,7 @@ EntriesAreReplaced =
     (place : Place) → IsSome (get entries place) → (row : Registration)
     → AreVacancies vacancies (insert entries place row) pool blocks)
 
--- so does a holder in the place of one that stands
-abbrev pub HoldersAreReplaced : Type 0
-HoldersAreReplaced =
-    (vacancies : Vacancies) → OfAll vacancies (λ entries pool blocks.
-    (block : SizedPrefix) → IsSome (get blocks block) → (holder : Holder)
-    → AreVacancies vacancies entries pool (insert blocks block holder))
-
--- and so does what is changed in a holder, as a mark
+-- so does what is changed in a holder, as a mark
 abbrev pub HoldersAreChanged : Type 0
 HoldersAreChanged =
     (vacancies : Vacancies) → OfAll vacancies (λ entries pool blocks.

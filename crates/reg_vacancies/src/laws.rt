@@ -1,5 +1,5 @@
 //! The laws of vacancies. Each function is its contract.
-ghost use Rattle.reg_vacancies.specs.Laws.{EntriesAreReplaced, HoldersAreChanged, HoldersAreReplaced, KeysDecide};
+ghost use Rattle.reg_vacancies.specs.Laws.{EntriesAreReplaced, HoldersAreChanged, KeysDecide};
 
 /// Where there are entries and blocks decides what is free, and not what they say.
 pub fn keys_decide()
@@ -9,11 +9,6 @@ pub fn keys_decide()
 /// An entry in the place of one that stands leaves the vacancies.
 pub fn entries_are_replaced()
     ensures { EntriesAreReplaced }
-{}
-
-/// A holder in the place of one that stands leaves the vacancies.
-pub fn holders_are_replaced()
-    ensures { HoldersAreReplaced }
 {}
 
 /// What is changed in a holder, as a mark, leaves the vacancies.
