@@ -13,7 +13,7 @@ use Rattle.reg_blocks.specs.Block.{SizedPrefix, first_address}
 use Rattle.reg_core.specs.Advice.{verdict_word}
 use Rattle.reg_core.specs.Maps.{same_text}
 use Rattle.reg_core.specs.Holding.{with_mark}
-use Rattle.reg_core.specs.Request.{has_state_form, word_of}
+use Rattle.reg_core.specs.Request.{has_state_form, state_word, word_of}
 use Rattle.reg_core.specs.World.{Link, Place, RequestName, Seat, in_state, name_cmp}
 use Rattle.reg_core.specs.declared.request.State as request
 use Rattle.reg_core.specs.declared.entry.Entry.{Entry}
@@ -22,7 +22,6 @@ use Rattle.reg_records.specs.Columns.{flag_value, whole_value}
 use Rattle.reg_records.specs.Entries.{entry_values}
 use Rattle.reg_records.specs.Requests.Forms.{gives_its_kind}
 use Rattle.reg_records.specs.Requests.Values.{given_text, reason_text, state_values}
-use Rattle.reg_records.specs.Requests.Words.{state_word}
 use Rattle.reg_records.proofs.RequestLaws.Rows.{state_replaced}
 use Rattle.reg_tables.specs.Schema.{entries_table}
 use Rattle.reg_tables.specs.Selecting.{equals, stored}

@@ -3,7 +3,7 @@ pub mod EntriesInRange
 pub mod Cases
 pub mod MapLaws
 pub mod KeySets
-pub mod VerdictsReadBack
+pub mod WordsReadBack
 pub mod SamenessIsDecided
 pub mod Stepping
 pub mod Links

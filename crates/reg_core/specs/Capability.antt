@@ -1,9 +1,25 @@
 -- What a capability is.
-use Rattle.std.specs.Prelude.{ℕ, Bool, true, false, ◌&&◌, nat_le, ◌==◌, bytes_eq, Option, Some, None, if◌then◌else◌}
+use Rattle.std.specs.Prelude.{ℕ, Bool, true, false, ◌&&◌, nat_le, ◌==◌, bytes_eq, codes, List, [], ◌∷◌, Option, Some, None, if◌then◌else◌}
+use Rattle.reg_ranges.specs.Words.{read_among}
 use Rattle.reg_core.specs.Names.{is_name}
 use Rattle.reg_core.specs.declared.capability.Kind.{Kind}
 use Rattle.reg_core.specs.declared.capability.Kind.TheVariants.{Applicant, Expert, Clerk}
 use Rattle.reg_core.specs.declared.capability.Cap.{Cap}
+
+-- ---- The words of kinds
+
+abbrev pub kinds : List Kind
+kinds = Applicant ∷ Expert ∷ Clerk ∷ []
+
+abbrev pub kind_word : Kind → List ℕ
+kind_word Applicant = codes "applicant"
+kind_word Expert = codes "expert"
+kind_word Clerk = codes "clerk"
+
+abbrev pub read_kind : List ℕ → Option Kind
+read_kind s = read_among kinds kind_word s
+
+-- ---- Capabilities
 
 -- the first moment of the year 3000
 abbrev pub last_until : ℕ

@@ -1,6 +1,7 @@
 pub mod Names
 pub mod Capability
 pub mod Ask
+pub mod AskKind
 pub mod Advice
 pub mod Registry
 pub mod Command

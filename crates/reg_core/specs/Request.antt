@@ -1,8 +1,9 @@
 -- Requests with their names, and without.
-use Rattle.std.specs.Prelude.{Bool, true, false, ◌^◌, nat_lt, List, map, Option, Some, None, unwrap_or}
+use Rattle.std.specs.Prelude.{ℕ, Bool, true, false, ◌^◌, nat_lt, codes, List, [], ◌∷◌, map, Option, Some, None, unwrap_or}
 use Rattle.std.specs.FinMap.{FinMap, entries}
 use Rattle.reg_blocks.specs.Block.{is_block}
 use Rattle.reg_ranges.specs.Texts.{is_text}
+use Rattle.reg_ranges.specs.Words.{read_among}
 use Rattle.reg_core.specs.World.{RequestName, name_cmp, in_state}
 use Rattle.reg_core.specs.declared.change.Change.{Change}
 use Rattle.reg_core.specs.declared.change.Change.TheVariants.{Grant, Revoke, Define, AddPool, Submit, Close, Assign, Advise, GiveValue, GiveBlock, SetPrivate, SetHold, SetAgent}
@@ -51,6 +52,20 @@ word_of Pending = word.Pending
 word_of (Approved given) = word.Approved
 word_of (Declined reason) = word.Declined
 word_of Withdrawn = word.Withdrawn
+
+-- all four words
+abbrev pub states : List StateWord
+states = word.Pending ∷ word.Approved ∷ word.Declined ∷ word.Withdrawn ∷ []
+
+abbrev pub state_word : StateWord → List ℕ
+state_word word.Pending = codes "pending"
+state_word word.Approved = codes "approved"
+state_word word.Declined = codes "declined"
+state_word word.Withdrawn = codes "withdrawn"
+
+-- the state of this word
+abbrev pub read_state : List ℕ → Option StateWord
+read_state s = read_among states state_word s
 
 -- the state in which a change leaves the request that it is about, if it is about one
 abbrev pub state_by : Change → Option State

@@ -1,6 +1,6 @@
 //! Capabilities: what the holder of a token may do, and until when.
 ghost use Rattle.std.specs.Prelude.{◌≡◌, ◌≤◌};
-ghost use Rattle.reg_core.specs.Capability.{last_until, read_until};
+ghost use Rattle.reg_core.specs.Capability.{kind_word, last_until, read_kind, read_until};
 
 use crate::text::Account;
 use reg_ranges::formed::Formed;
@@ -12,6 +12,32 @@ pub enum Kind {
     Applicant,
     Expert,
     Clerk,
+}
+
+impl Kind {
+    /// All three.
+    pub const ALL: [Kind; 3] = [Kind::Applicant, Kind::Expert, Kind::Clerk];
+
+    /// The word by which messages and tables name the kind.
+    pub fn word(&self) -> &'static str
+        ensures { result.now ≡ kind_word self.now }
+    {
+        match self {
+            Kind::Applicant => "applicant",
+            Kind::Expert => "expert",
+            Kind::Clerk => "clerk",
+        }
+    }
+
+    /// The kind of this word, compared exactly.
+    pub fn read(word: &[u8]) -> Option<Kind>
+        ensures { result ≡ read_kind word.now }
+    {
+        Self::ALL
+            .iter()
+            .copied()
+            .find(|kind| kind.word().as_bytes() == word)
+    }
 }
 
 /// The moment at which a capability ends: 0 to 32,503,680,000 seconds since 1970-01-01T00:00:00Z,

@@ -5,12 +5,14 @@ ghost use Rattle.reg_ranges.specs.Words.{ReadsWords};
 ghost use Rattle.reg_core.specs.Agents.{LinksAreTheirPrincipals};
 ghost use Rattle.reg_core.specs.Advice.{read_verdict, same_advice, verdict_word};
 ghost use Rattle.reg_core.specs.Ask.{same_ask};
+ghost use Rattle.reg_core.specs.AskKind.{ask_kind_word, read_ask_kind};
 ghost use Rattle.reg_core.specs.BlocksGiven.{BlockAsksAreServedDuly, BlocksAreApart, BlocksDueAreLeast, ForeignBlocksAreHidden, PrivateHoldersAreHidden};
-ghost use Rattle.reg_core.specs.Capability.{same_cap, same_kind};
+ghost use Rattle.reg_core.specs.Capability.{kind_word, read_kind, same_cap, same_kind};
 ghost use Rattle.reg_core.specs.EarlyAllocations.{ExpiredValuesAreTaken, ForeignEntriesAreHidden, TermsMoveDuly};
 ghost use Rattle.reg_core.specs.FirstRefusals.{FirstRefusalsAreAnswered};
 ghost use Rattle.reg_core.specs.Laws.{AnswersAreDone, ApprovalsAreAdvised, ApprovalsGiveWhatIsAllowed, ApprovalsStand, ChangesFit, DecidesSame, FirstWorldsAreWellKept, GivenStays, GivesDigests, RefusalsChangeNothing, RepeatsActOnce, RunsKeepWell, SubmissionsStand, TwoWorlds};
 ghost use Rattle.reg_core.specs.MayBeGiven.{AsksMeetTheirPolicy, NoValueIsGivenTwice};
+ghost use Rattle.reg_core.specs.Request.{read_state, state_word};
 ghost use Rattle.reg_core.specs.Striking.{StagesAreOfRun, UnseenLeaveNoTrace};
 
 /// Isolation: two well kept worlds that show a caller who is no clerk the same view answer its
@@ -175,9 +177,13 @@ pub fn first_worlds_are_well_kept()
     ensures { FirstWorldsAreWellKept }
 {}
 
-/// The word of a verdict reads to it, and no other text does.
-pub fn verdicts_read_back()
-    ensures { ReadsWords verdict_word read_verdict }
+/// The word of a verdict, a kind of capabilities or of asks, or a state reads to it, and no other
+/// text does.
+pub fn words_read_back()
+    ensures verdicts { ReadsWords verdict_word read_verdict }
+    ensures kinds { ReadsWords kind_word read_kind }
+    ensures asks { ReadsWords ask_kind_word read_ask_kind }
+    ensures states { ReadsWords state_word read_state }
 {}
 
 /// The tests of sameness by which repeats are told from other commands decide equality.

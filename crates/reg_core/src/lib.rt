@@ -4,6 +4,7 @@
 
 pub mod advice;
 pub mod ask;
+pub mod ask_kind;
 pub mod capability;
 pub mod change;
 pub mod command;

@@ -1,6 +1,6 @@
 //! Requests: what was asked for, under which name, and where it stands.
 ghost use Rattle.std.specs.Prelude.{◌≡◌, true, IfOk};
-ghost use Rattle.reg_core.specs.Request.{has_state_form, word_of};
+ghost use Rattle.reg_core.specs.Request.{has_state_form, read_state, state_word, word_of};
 
 use crate::ask::Ask;
 use crate::text::{Account, Ref, Text};
@@ -37,6 +37,38 @@ pub enum StateWord {
     Approved,
     Declined,
     Withdrawn,
+}
+
+impl StateWord {
+    /// All four.
+    pub const ALL: [StateWord; 4] = [
+        StateWord::Pending,
+        StateWord::Approved,
+        StateWord::Declined,
+        StateWord::Withdrawn,
+    ];
+
+    /// The word by which messages and tables name the state.
+    pub fn word(&self) -> &'static str
+        ensures { result.now ≡ state_word self.now }
+    {
+        match self {
+            StateWord::Pending => "pending",
+            StateWord::Approved => "approved",
+            StateWord::Declined => "declined",
+            StateWord::Withdrawn => "withdrawn",
+        }
+    }
+
+    /// The state of this word, compared exactly.
+    pub fn read(word: &[u8]) -> Option<StateWord>
+        ensures { result ≡ read_state word.now }
+    {
+        Self::ALL
+            .iter()
+            .copied()
+            .find(|state| state.word().as_bytes() == word)
+    }
 }
 
 /// A request without its name: what is asked for, and where it stands.

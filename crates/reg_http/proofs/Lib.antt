@@ -1,4 +1,3 @@
-mod Sent
 mod StorageText
 mod AlikeRequests
 mod Exchanges

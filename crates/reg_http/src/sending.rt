@@ -1,5 +1,5 @@
 //! Writes an answer.
-ghost use Rattle.std.specs.Prelude.{◌≡◌, ◌≢◌, ◌<◌, [], true, false, OnOk, IfOk, IfErr, take, length};
+ghost use Rattle.std.specs.Prelude.{◌≡◌, ◌≢◌, true, false, IfOk, IfErr};
 ghost use Rattle.std.specs.Io.KnownBytes.{Appends};
 ghost use Rattle.reg_http.specs.Response.{status, response_text};
 ghost use Rattle.reg_http.specs.Sending.{IsUnsent};
@@ -7,6 +7,7 @@ ghost use Rattle.reg_http.specs.Serving.{storage};
 
 use crate::response::{Response, response_bytes};
 use reg_print::answer::Answer;
+use reg_wire::sending::send;
 use reg_wire::wire_fault::WireFault;
 use std::alloc::Global;
 use std::io::Write;
@@ -58,21 +59,4 @@ fn send_storage<W: Write>(writer: &mut W) -> Result<u16, WireFault>
         Ok(()) => Ok(503),
         Err(n) => Err(WireFault::Write(n)),
     }
-}
-
-/// Writes all the bytes; a fault says how many went out.
-fn send<W: Write>(writer: &mut W, bytes: &[u8]) -> Result<(), usize>
-    ensures ok { OnOk result (Appends (W.contents writer.old) (W.contents writer.new) bytes.now) }
-    ensures err { IfErr result
-        (λ n. (n < length bytes.now)
-        × Appends (W.contents writer.old) (W.contents writer.new) (take n bytes.now)) }
-{
-    let mut at = 0;
-    while at < bytes.len() {
-        match writer.write(&bytes[at..]) {
-            Ok(0) | Err(_) => return Err(at),
-            Ok(n) => at += n,
-        }
-    }
-    Ok(())
 }

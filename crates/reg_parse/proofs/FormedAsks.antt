@@ -16,8 +16,8 @@ use Rattle.reg_core.specs.declared.ask.Ask.TheVariants.{Code, Early, Renew, Perm
 use Rattle.reg_core.specs.declared.ask.Want.TheVariants as want
 use Rattle.reg_core.specs.declared.item.Item.TheVariants as item
 use Rattle.reg_core.specs.declared.wire_refusal.WireRefusal.TheVariants as refusal
-use Rattle.reg_parse.specs.declared.bodies.ask.AskKind.{AskKind}
-use Rattle.reg_parse.specs.declared.bodies.ask.AskKind.TheVariants as kind
+use Rattle.reg_core.specs.declared.ask_kind.AskKind.{AskKind}
+use Rattle.reg_core.specs.declared.ask_kind.AskKind.TheVariants as kind
 use Rattle.reg_parse.specs.declared.bodies.value.AllocatedValue.{AllocatedValue}
 use Rattle.reg_parse.specs.declared.bodies.value.WantedValue.{WantedValue}
 use Rattle.reg_core.specs.Item.{item_name}

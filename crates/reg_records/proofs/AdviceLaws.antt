@@ -6,7 +6,7 @@ use Rattle.sqlite.specs.declared.types.Value.TheVariants.{Text}
 use Rattle.reg_ranges.specs.Texts.{is_text}
 use Rattle.reg_core.specs.Advice.{verdict_word}
 use Rattle.reg_core.specs.Names.{is_name}
-use Rattle.reg_core.proofs.VerdictsReadBack.{verdicts_read}
+use Rattle.reg_core.proofs.WordsReadBack.{verdicts_read}
 use Rattle.reg_records.specs.Advice.{advice_columns, advice_in, advice_values, is_expert_advice, own_advice_in}
 use Rattle.reg_records.specs.Laws.{KeepsRows}
 use Rattle.reg_records.specs.declared.advice.ExpertAdvice.{ExpertAdvice}

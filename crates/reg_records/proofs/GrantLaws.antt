@@ -7,7 +7,7 @@ use Rattle.reg_records.specs.Caps.{grant_columns, grant_in, grant_values, is_gra
 use Rattle.reg_records.specs.Laws.{KeepsRows}
 use Rattle.reg_records.specs.declared.caps.Grant.{Grant}
 use Rattle.reg_records.proofs.ColumnLaws.{both, column_some, column-at, formed_texts, numbers, words}
-use Rattle.reg_records.proofs.WordsReadBack.{kinds_read}
+use Rattle.reg_core.proofs.WordsReadBack.{kinds_read}
 
 pub grant_back : (grant : Grant) → is_grant grant ≡ true
     → grant_in (grant_values grant) ≡ Some grant

@@ -1,19 +1,11 @@
--- The words of kinds and of sizes read to them, and no others do.
+-- The words of sizes read to them, and no others do.
 use Rattle.std.proofs.Common.{◌≡◌, Option, Some, None, refl, sym}
 use Rattle.std.proofs.lemmas.Option.{none-some}
 use Rattle.reg_blocks.specs.declared.size.Size.TheVariants.{MaL, MaM, MaS}
 use Rattle.reg_blocks.specs.Size.{word_of}
-use Rattle.reg_core.specs.declared.capability.Kind.TheVariants.{Applicant, Expert, Clerk}
 use Rattle.reg_ranges.specs.Words.{ReadsWords}
 use Rattle.reg_ranges.proofs.WordsReadBack.{reads_words}
-use Rattle.reg_records.specs.Words.{kinds, kind_word, read_kind, sizes, read_size}
-
-pub kinds_read : ReadsWords kind_word read_kind
-kinds_read = reads_words kinds kind_word (elim [
-  | Applicant ↦ refl
-  | Expert ↦ refl
-  | Clerk ↦ refl
-])
+use Rattle.reg_records.specs.Words.{sizes, read_size}
 
 pub sizes_read : ReadsWords word_of read_size
 sizes_read = reads_words sizes word_of (elim [

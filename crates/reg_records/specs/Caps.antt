@@ -2,11 +2,10 @@
 use Rattle.std.specs.Prelude.{ℕ, Bool, nat_le, [], ◌∷◌, Option, Some}
 use Rattle.sqlite.specs.Order.{Row, column}
 use Rattle.sqlite.specs.declared.types.Value.TheVariants.{Text}
-use Rattle.reg_core.specs.Capability.{last_until}
+use Rattle.reg_core.specs.Capability.{kind_word, last_until, read_kind}
 use Rattle.reg_core.specs.Names.{is_name, is_digest}
 use Rattle.reg_core.specs.WellKept.{has_grant_form}
 use Rattle.reg_records.specs.Columns.{formed_in, given, number_in, read_in, whole_value}
-use Rattle.reg_records.specs.Words.{kind_word, read_kind}
 use Rattle.reg_records.specs.declared.caps.Grant.{Grant}
 
 -- a moment at which a capability can end

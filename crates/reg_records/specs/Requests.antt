@@ -1,5 +1,4 @@
 -- The table of requests: what its rows hold, and what is written of a request.
-pub mod Words
 pub mod Forms
 pub mod Values
 pub mod Reading

@@ -2,8 +2,9 @@
 ghost use Rattle.std.specs.Prelude.{◌≡◌, ℕ, List, Option};
 ghost use Rattle.reg_blocks.specs.Size.{word_of};
 ghost use Rattle.reg_core.specs.Advice.{read_verdict, verdict_word};
+ghost use Rattle.reg_core.specs.Capability.{kind_word, read_kind};
 ghost use Rattle.reg_ranges.specs.Words.{read_treatment, treatment_word};
-ghost use Rattle.reg_records.specs.Words.{kind_word, read_kind, read_size};
+ghost use Rattle.reg_records.specs.Words.{read_size};
 
 use reg_blocks::size::Size;
 use reg_core::advice::Verdict;
@@ -27,26 +28,17 @@ pub trait Worded: Copy {
         ensures { result ≡ read_word word.now };
 }
 
-const KINDS: [Kind; 3] = [Kind::Applicant, Kind::Expert, Kind::Clerk];
-
 impl Worded for Kind {
     ghost word_of = { kind_word };
 
     ghost read_word = { read_kind };
 
     fn written(&self) -> &'static str {
-        match self {
-            Kind::Applicant => "applicant",
-            Kind::Expert => "expert",
-            Kind::Clerk => "clerk",
-        }
+        self.word()
     }
 
     fn read_word(word: &[u8]) -> Option<Self> {
-        KINDS
-            .iter()
-            .copied()
-            .find(|kind| kind.written().as_bytes() == word)
+        Kind::read(word)
     }
 }
 

@@ -36,8 +36,8 @@ use Rattle.reg_core.specs.Item.{item_name}
 use Rattle.reg_print.specs.Trees.Members.{Listed, object_with, text, text_if, true_if, whole_number}
 use Rattle.reg_print.specs.Trees.Ask.{ask_tree, block_members, block_tree, code_members, code_tree, early_members, early_tree, least_if, permanence_members, permanence_tree, renewal_members, renewal_tree, rfc_if, rfc_tree, value_if}
 use Rattle.reg_print.proofs.ListedMembers.{ascends}
-use Rattle.reg_parse.specs.declared.bodies.ask.AskKind.{AskKind}
-use Rattle.reg_parse.specs.declared.bodies.ask.AskKind.TheVariants as kind
+use Rattle.reg_core.specs.declared.ask_kind.AskKind.{AskKind}
+use Rattle.reg_core.specs.declared.ask_kind.AskKind.TheVariants as kind
 use Rattle.reg_parse.specs.declared.bodies.value.AllocatedValue.{AllocatedValue}
 use Rattle.reg_parse.specs.declared.bodies.value.WantedValue.{WantedValue}
 use Rattle.reg_parse.specs.Bodies.Members.{Reading, ◌>>=◌, needed, formed, number_form, optional, optional_truth, only, text_form, truth_by}

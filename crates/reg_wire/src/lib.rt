@@ -5,6 +5,7 @@
 pub mod exchange;
 pub mod laws;
 pub mod script;
+pub mod sending;
 pub mod wire_fault;
 
 pub use reg_core::{item, wire_refusal as refusal};

@@ -1,5 +1,5 @@
 -- The ask that an object is, or the first of its members at fault.
-use Rattle.std.specs.Prelude.{ℕ, List, [], ◌∷◌, Option, Some, None, Ok, codes, if◌then◌else◌, option_and_then}
+use Rattle.std.specs.Prelude.{ℕ, List, [], ◌∷◌, Option, Some, None, Ok, if◌then◌else◌, option_and_then}
 use Rattle.std.specs.Str.{bytes_eq}
 use Rattle.serde_json.specs.Data.{Data}
 use Rattle.serde_json.specs.Find.{as_str}
@@ -9,6 +9,7 @@ use Rattle.reg_blocks.specs.declared.size.Size.TheVariants.{MaL, MaM, MaS}
 use Rattle.reg_ranges.specs.Texts.{is_text}
 use Rattle.reg_ranges.specs.declared.evidence.Evidence.{Evidence}
 use Rattle.reg_early.specs.declared.evidence.EarlyEvidence.{EarlyEvidence}
+use Rattle.reg_core.specs.AskKind.{read_ask_kind}
 use Rattle.reg_core.specs.declared.ask.Ask.{Ask}
 use Rattle.reg_core.specs.declared.ask.Ask.TheVariants as ask
 use Rattle.reg_core.specs.declared.ask.BlockAsk.{BlockAsk}
@@ -16,10 +17,10 @@ use Rattle.reg_core.specs.declared.ask.CodeAsk.{CodeAsk}
 use Rattle.reg_core.specs.declared.ask.EarlyAsk.{EarlyAsk}
 use Rattle.reg_core.specs.declared.ask.PermanenceAsk.{PermanenceAsk}
 use Rattle.reg_core.specs.declared.ask.RenewalAsk.{RenewalAsk}
+use Rattle.reg_core.specs.declared.ask_kind.AskKind.{AskKind}
+use Rattle.reg_core.specs.declared.ask_kind.AskKind.TheVariants as kind
 use Rattle.reg_core.specs.declared.item.Item.{Item}
 use Rattle.reg_core.specs.declared.item.Item.TheVariants as item
-use Rattle.reg_parse.specs.declared.bodies.ask.AskKind.{AskKind}
-use Rattle.reg_parse.specs.declared.bodies.ask.AskKind.TheVariants as kind
 use Rattle.reg_parse.specs.declared.bodies.value.AllocatedValue.{AllocatedValue}
 use Rattle.reg_parse.specs.declared.bodies.value.WantedValue.{WantedValue}
 use Rattle.reg_parse.specs.Bodies.Members.{Reading, ◌>>=◌, needed, optional, only, text_form}
@@ -27,17 +28,8 @@ use Rattle.reg_parse.specs.Bodies.EarlyEvidence.{early_evidence_of}
 use Rattle.reg_parse.specs.Bodies.Evidence.{evidence_of}
 use Rattle.reg_parse.specs.Bodies.Value.{allocated_value_of, wanted_value_of}
 
--- which kind of ask its word names
-abbrev pub ask_kind_named : List ℕ → Option AskKind
-ask_kind_named word =
-    if bytes_eq word (codes "code") then Some kind.Code
-    else (if bytes_eq word (codes "early") then Some kind.Early
-    else (if bytes_eq word (codes "renew") then Some kind.Renew
-    else (if bytes_eq word (codes "permanent") then Some kind.Permanent
-    else (if bytes_eq word (codes "block") then Some kind.Block else None))))
-
 abbrev pub ask_kind_form : Data → Option AskKind
-ask_kind_form json = option_and_then ask_kind_named (as_str json)
+ask_kind_form json = option_and_then read_ask_kind (as_str json)
 
 -- which size its word names
 abbrev pub size_named : List ℕ → Option Size

@@ -1,5 +1,5 @@
 -- How the members of a body are read.
-use Rattle.std.specs.Prelude.{◌≡◌, ℕ, ◌^◌, ◌&&◌, List, Bool, true, false, nat_lt, Option, Some, None, Result, Ok, Err, codes, if◌then◌else◌, option_and_then, option_map, ⊤}
+use Rattle.std.specs.Prelude.{◌≡◌, ℕ, ◌^◌, ◌&&◌, List, Bool, true, false, nat_lt, Option, Some, None, Result, Ok, Err, if◌then◌else◌, option_and_then, option_map, ⊤}
 use Rattle.std.specs.Str.{is_utf8, bytes_eq}
 use Rattle.std.specs.List.{list_any}
 use Rattle.serde_json.specs.Data.{Data, Members, member, no_members}
@@ -7,10 +7,9 @@ use Rattle.serde_json.specs.Read.{read}
 use Rattle.serde_json.specs.Find.{get, as_object, as_bool, as_str, as_number, as_u64}
 use Rattle.reg_ranges.specs.Texts.{read_text}
 use Rattle.reg_core.specs.Advice.{read_verdict}
-use Rattle.reg_core.specs.Capability.{read_until}
+use Rattle.reg_core.specs.Capability.{read_kind, read_until}
 use Rattle.reg_core.specs.declared.advice.Verdict.{Verdict}
 use Rattle.reg_core.specs.declared.capability.Kind.{Kind}
-use Rattle.reg_core.specs.declared.capability.Kind.TheVariants.{Applicant, Expert, Clerk}
 use Rattle.reg_core.specs.Item.{item_name}
 use Rattle.reg_core.specs.declared.item.Item.{Item}
 use Rattle.reg_core.specs.declared.item.Item.TheVariants.{Extra}
@@ -109,14 +108,8 @@ until_form json = option_and_then read_until (whole json)
 abbrev pub truth_form : Data → Option Bool
 truth_form json = as_bool json
 
-abbrev pub kind_named : List ℕ → Option Kind
-kind_named word =
-    if bytes_eq word (codes "applicant") then Some Applicant
-    else (if bytes_eq word (codes "expert") then Some Expert
-    else (if bytes_eq word (codes "clerk") then Some Clerk else None))
-
 abbrev pub kind_form : Data → Option Kind
-kind_form json = option_and_then kind_named (as_str json)
+kind_form json = option_and_then read_kind (as_str json)
 
 abbrev pub verdict_form : Data → Option Verdict
 verdict_form json = option_and_then read_verdict (as_str json)

@@ -1,8 +1,7 @@
 //! Reads asks.
-ghost use Rattle.std.specs.Prelude.{◌≡◌};
 ghost use Rattle.serde_json.specs.View.{view};
 ghost use Rattle.reg_parse.specs.Bodies.Members.{Gives, needed};
-ghost use Rattle.reg_parse.specs.Bodies.Ask.{ask_kind_named, ask_kind_form, ask_of};
+ghost use Rattle.reg_parse.specs.Bodies.Ask.{ask_kind_form, ask_of};
 
 mod block;
 mod code;
@@ -16,20 +15,11 @@ use crate::bodies::ask::early::read_early;
 use crate::bodies::ask::permanence::read_permanence;
 use crate::bodies::ask::renewal::read_renewal;
 use reg_core::ask::Ask;
+use reg_core::ask_kind::AskKind;
 use reg_core::item::Item;
 use reg_core::wire_refusal::ReadFault;
 use serde_json::Value;
 use std::alloc::Global;
-
-/// What kind of ask a body holds.
-#[derive(Clone, Copy, Debug, PartialEq, Eq)]
-pub enum AskKind {
-    Code,
-    Early,
-    Renew,
-    Permanent,
-    Block,
-}
 
 /// The ask that this object is, or the first of its members at fault. `kind` is read first.
 #[tactic(auto, unfolding(crate::specs::Bodies::Ask::ask_of))]
@@ -49,23 +39,10 @@ fn ask_kind(json: &Value) -> Result<AskKind, ReadFault>
     ensures { Gives result (needed Item.Kind ask_kind_form (view json.now)) }
 {
     match json.get(Item::Kind.name()).and_then(Value::as_str) {
-        Some(word) => match ask_kind_named(word) {
+        Some(word) => match AskKind::read(word.as_bytes()) {
             Some(kind) => Ok(kind),
             None => Err(ReadFault::field(Item::Kind)),
         },
         None => Err(ReadFault::field(Item::Kind)),
-    }
-}
-
-fn ask_kind_named(word: &str) -> Option<AskKind>
-    ensures { result ≡ ask_kind_named word.now }
-{
-    match word {
-        "code" => Some(AskKind::Code),
-        "early" => Some(AskKind::Early),
-        "renew" => Some(AskKind::Renew),
-        "permanent" => Some(AskKind::Permanent),
-        "block" => Some(AskKind::Block),
-        _ => None,
     }
 }

@@ -7,7 +7,7 @@ ghost use Rattle.std.specs.String.{string_bytes};
 ghost use Rattle.serde_json.specs.View.{view};
 ghost use Rattle.serde_json.specs.Find.{as_object};
 ghost use Rattle.reg_ranges.specs.Texts.{is_text};
-ghost use Rattle.reg_parse.specs.Bodies.Members.{Gives, GivesSeen, object_of, needed, optional, optional_truth, only, is_among, names_any, text_form, number_form, until_form, truth_form, kind_form, kind_named, verdict_form};
+ghost use Rattle.reg_parse.specs.Bodies.Members.{Gives, GivesSeen, object_of, needed, optional, optional_truth, only, is_among, names_any, text_form, number_form, until_form, truth_form, kind_form, verdict_form};
 
 use reg_core::advice::Verdict;
 use reg_core::capability::{Kind, Until};
@@ -140,22 +140,11 @@ pub fn kind(object: &Value, item: Item) -> Result<Kind, ReadFault>
     ensures { Gives result (needed item kind_form (view object.now)) }
 {
     match object.get(item.name()).and_then(Value::as_str) {
-        Some(word) => match kind_named(word) {
+        Some(word) => match Kind::read(word.as_bytes()) {
             Some(kind) => Ok(kind),
             None => Err(ReadFault::field(item)),
         },
         None => Err(ReadFault::field(item)),
-    }
-}
-
-fn kind_named(word: &str) -> Option<Kind>
-    ensures { result ≡ kind_named word.now }
-{
-    match word {
-        "applicant" => Some(Kind::Applicant),
-        "expert" => Some(Kind::Expert),
-        "clerk" => Some(Kind::Clerk),
-        _ => None,
     }
 }
 

@@ -4,6 +4,7 @@ use Rattle.serde_json.specs.Data.{Data}
 use Rattle.reg_blocks.specs.Size.{word_of}
 use Rattle.reg_ranges.specs.Rfcs.{PublishedRfc}
 use Rattle.reg_ranges.specs.Words.{policy_word, stream_word, track_word}
+use Rattle.reg_core.specs.AskKind.{ask_kind_word}
 use Rattle.reg_core.specs.declared.ask.Ask.{Ask}
 use Rattle.reg_core.specs.declared.ask.Ask.TheVariants.{Code, Early, Renew, Permanent, Block}
 use Rattle.reg_core.specs.declared.ask.BlockAsk.{BlockAsk}
@@ -13,6 +14,7 @@ use Rattle.reg_core.specs.declared.ask.PermanenceAsk.{PermanenceAsk}
 use Rattle.reg_core.specs.declared.ask.RenewalAsk.{RenewalAsk}
 use Rattle.reg_core.specs.declared.ask.Want.{Want}
 use Rattle.reg_core.specs.declared.ask.Want.TheVariants.{Value, Least}
+use Rattle.reg_core.specs.declared.ask_kind.AskKind.TheVariants as kind
 use Rattle.reg_print.specs.Trees.Members.{Listed, object_with, text, text_if, true_if, whole_number}
 
 abbrev pub rfc_members : PublishedRfc → Listed
@@ -41,7 +43,7 @@ least_if (Least policy) = text (policy_word policy)
 abbrev pub code_members : CodeAsk → Listed
 code_members ask =
     (codes "contact", text_if ask.evidence.contact)
-    ∷ (codes "kind", text (codes "code"))
+    ∷ (codes "kind", text (ask_kind_word kind.Code))
     ∷ (codes "label", text ask.label)
     ∷ (codes "least", least_if ask.want)
     ∷ (codes "minute", text_if ask.evidence.minute)
@@ -60,7 +62,7 @@ early_members ask =
     ∷ (codes "director", text_if ask.evidence.director)
     ∷ (codes "draft", text_if ask.evidence.draft)
     ∷ (codes "interest", true_if ask.evidence.interest)
-    ∷ (codes "kind", text (codes "early"))
+    ∷ (codes "kind", text (ask_kind_word kind.Early))
     ∷ (codes "label", text ask.label)
     ∷ (codes "least", least_if ask.want)
     ∷ (codes "registry", text ask.registry)
@@ -79,7 +81,7 @@ renewal_members ask =
     ∷ (codes "draft", text_if ask.evidence.draft)
     ∷ (codes "iesg", text_if ask.iesg)
     ∷ (codes "interest", true_if ask.evidence.interest)
-    ∷ (codes "kind", text (codes "renew"))
+    ∷ (codes "kind", text (ask_kind_word kind.Renew))
     ∷ (codes "registry", text ask.registry)
     ∷ (codes "stable", true_if ask.evidence.stable)
     ∷ (codes "value", whole_number ask.value)
@@ -92,7 +94,7 @@ renewal_tree ask = object_with (renewal_members ask)
 abbrev pub permanence_members : PermanenceAsk → Listed
 permanence_members ask =
     (codes "contact", text_if ask.evidence.contact)
-    ∷ (codes "kind", text (codes "permanent"))
+    ∷ (codes "kind", text (ask_kind_word kind.Permanent))
     ∷ (codes "minute", text_if ask.evidence.minute)
     ∷ (codes "registry", text ask.registry)
     ∷ (codes "rfc", rfc_if ask.evidence.rfc)
@@ -106,7 +108,7 @@ permanence_tree ask = object_with (permanence_members ask)
 abbrev pub block_members : BlockAsk → Listed
 block_members ask =
     (codes "address", text ask.address)
-    ∷ (codes "kind", text (codes "block"))
+    ∷ (codes "kind", text (ask_kind_word kind.Block))
     ∷ (codes "organization", text ask.organization)
     ∷ (codes "size", text (word_of ask.size))
     ∷ []

@@ -1,15 +1,9 @@
 -- The JSON of capabilities.
-use Rattle.std.specs.Prelude.{ℕ, List, [], ◌∷◌, true, Some, codes}
+use Rattle.std.specs.Prelude.{[], ◌∷◌, true, Some, codes}
 use Rattle.serde_json.specs.Data.{Data, boolean}
+use Rattle.reg_core.specs.Capability.{kind_word}
 use Rattle.reg_core.specs.declared.capability.Cap.{Cap}
-use Rattle.reg_core.specs.declared.capability.Kind.{Kind}
-use Rattle.reg_core.specs.declared.capability.Kind.TheVariants.{Applicant, Expert, Clerk}
 use Rattle.reg_print.specs.Trees.Members.{Listed, object_with, text, whole_number}
-
-abbrev pub kind_word : Kind → List ℕ
-kind_word Applicant = codes "applicant"
-kind_word Expert = codes "expert"
-kind_word Clerk = codes "clerk"
 
 abbrev pub cap_members : Cap → Listed
 cap_members cap =

@@ -2,12 +2,12 @@
 use Rattle.std.specs.Prelude.{List, [], ◌∷◌, map, Option, Some, option_map, codes}
 use Rattle.serde_json.specs.Data.{Data, array}
 use Rattle.serde_json.specs.View.{items_of}
+use Rattle.reg_core.specs.Request.{state_word}
 use Rattle.reg_core.specs.declared.advice.Advice.{Advice}
 use Rattle.reg_core.specs.declared.queue.QueueRow.{QueueRow}
 use Rattle.reg_print.specs.Trees.Advice.{advice_tree}
 use Rattle.reg_print.specs.Trees.Ask.{ask_tree}
 use Rattle.reg_print.specs.Trees.Members.{Listed, object_with, text}
-use Rattle.reg_print.specs.Trees.Request.{state_word}
 
 -- the expert's own advice, where it was given
 abbrev pub advice_if : Option Advice → Option Data

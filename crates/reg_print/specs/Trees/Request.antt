@@ -9,17 +9,9 @@ use Rattle.reg_core.specs.declared.request.Given.TheVariants.{Value, Block}
 use Rattle.reg_core.specs.declared.request.Request.{Request}
 use Rattle.reg_core.specs.declared.request.State.{State}
 use Rattle.reg_core.specs.declared.request.State.TheVariants.{Pending, Approved, Declined, Withdrawn}
-use Rattle.reg_core.specs.declared.request.StateWord.{StateWord}
-use Rattle.reg_core.specs.declared.request.StateWord.TheVariants as word
-use Rattle.reg_core.specs.Request.{word_of}
+use Rattle.reg_core.specs.Request.{state_word, word_of}
 use Rattle.reg_print.specs.Trees.Members.{Listed, object_with, text}
 use Rattle.reg_print.specs.Trees.Ask.{ask_tree}
-
-abbrev pub state_word : StateWord → List ℕ
-state_word word.Pending = codes "pending"
-state_word word.Approved = codes "approved"
-state_word word.Declined = codes "declined"
-state_word word.Withdrawn = codes "withdrawn"
 
 -- what was given, as a text: a value in decimal, a block as the digits of its prefix
 abbrev pub given_text : Given → List ℕ

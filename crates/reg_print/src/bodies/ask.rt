@@ -5,6 +5,7 @@ ghost use Rattle.reg_print.specs.Trees.Ask.{ask_tree, block_tree, code_tree, ear
 
 use crate::printing::{Itself, Print, Printer};
 use reg_core::ask::{Ask, BlockAsk, CodeAsk, EarlyAsk, PermanenceAsk, RenewalAsk, Want};
+use reg_core::ask_kind::AskKind;
 use reg_ranges::evidence::Rfc;
 use std::alloc::AllocError;
 
@@ -33,7 +34,7 @@ impl Print<Itself> for CodeAsk {
     fn print(&self, out: &mut Printer) -> Result<(), AllocError> {
         out.open_object()?;
         out.put_if("contact", &self.evidence.contact)?;
-        out.put_text("kind", "code")?;
+        out.put_text("kind", AskKind::Code.word())?;
         out.put("label", &self.label)?;
         put_least_if(out, self.want)?;
         out.put_if("minute", &self.evidence.minute)?;
@@ -57,7 +58,7 @@ impl Print<Itself> for EarlyAsk {
         out.put_if("director", &self.evidence.director)?;
         out.put_if("draft", &self.evidence.draft)?;
         out.put_true_if("interest", self.evidence.interest)?;
-        out.put_text("kind", "early")?;
+        out.put_text("kind", AskKind::Early.word())?;
         out.put("label", &self.label)?;
         put_least_if(out, self.want)?;
         out.put("registry", &self.registry)?;
@@ -81,7 +82,7 @@ impl Print<Itself> for RenewalAsk {
         out.put_if("draft", &self.evidence.draft)?;
         out.put_if("iesg", &self.iesg)?;
         out.put_true_if("interest", self.evidence.interest)?;
-        out.put_text("kind", "renew")?;
+        out.put_text("kind", AskKind::Renew.word())?;
         out.put("registry", &self.registry)?;
         out.put_true_if("stable", self.evidence.stable)?;
         out.put_number("value", u64::from(self.value))?;
@@ -99,7 +100,7 @@ impl Print<Itself> for PermanenceAsk {
     fn print(&self, out: &mut Printer) -> Result<(), AllocError> {
         out.open_object()?;
         out.put_if("contact", &self.evidence.contact)?;
-        out.put_text("kind", "permanent")?;
+        out.put_text("kind", AskKind::Permanent.word())?;
         out.put_if("minute", &self.evidence.minute)?;
         out.put("registry", &self.registry)?;
         out.put_if("rfc", &self.evidence.rfc)?;
@@ -118,7 +119,7 @@ impl Print<Itself> for BlockAsk {
     fn print(&self, out: &mut Printer) -> Result<(), AllocError> {
         out.open_object()?;
         out.put("address", &self.address)?;
-        out.put_text("kind", "block")?;
+        out.put_text("kind", AskKind::Block.word())?;
         out.put("organization", &self.organization)?;
         out.put_text("size", self.size.word())?;
         out.close_object()?;

@@ -1,9 +1,8 @@
 //! Prints capabilities.
-ghost use Rattle.std.specs.Prelude.{◌≡◌};
-ghost use Rattle.reg_print.specs.Trees.Capability.{cap_tree, kind_word, revoked_tree};
+ghost use Rattle.reg_print.specs.Trees.Capability.{cap_tree, revoked_tree};
 
 use crate::printing::{Itself, Print, Printer};
-use reg_core::capability::{Cap, Kind};
+use reg_core::capability::Cap;
 use std::alloc::AllocError;
 
 /// That a token has no capability now.
@@ -18,7 +17,7 @@ impl Print<Itself> for Cap {
     fn print(&self, out: &mut Printer) -> Result<(), AllocError> {
         out.open_object()?;
         out.put("account", &self.account)?;
-        out.put_text("kind", kind_word(self.kind))?;
+        out.put_text("kind", self.kind.word())?;
         out.put_number("until", self.until.seconds())?;
         out.close_object()?;
         Ok(())
@@ -35,15 +34,5 @@ impl Print<Itself> for Revoked {
         out.put_flag("revoked", true)?;
         out.close_object()?;
         Ok(())
-    }
-}
-
-fn kind_word(kind: Kind) -> &'static str
-    ensures { result.now ≡ kind_word kind }
-{
-    match kind {
-        Kind::Applicant => "applicant",
-        Kind::Expert => "expert",
-        Kind::Clerk => "clerk",
     }
 }

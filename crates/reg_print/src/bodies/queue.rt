@@ -1,7 +1,6 @@
 //! Prints requests as their experts see them.
 ghost use Rattle.reg_print.specs.Trees.Queue.{queue_tree};
 
-use crate::bodies::request::state_word;
 use crate::printing::{Itself, Print, Printer};
 use reg_core::queue::QueueRow;
 use std::alloc::AllocError;
@@ -19,7 +18,7 @@ impl Print<Itself> for QueueRow {
         out.put_if("advice", &self.advice)?;
         out.put("ask", &self.ask)?;
         out.put("reference", &self.reference)?;
-        out.put_text("state", state_word(self.word))?;
+        out.put_text("state", self.word.word())?;
         out.close_object()?;
         Ok(())
     }

@@ -2,10 +2,10 @@
 ghost use Rattle.std.specs.Prelude.{◌≡◌, [], ◌∷◌, codes, IfOk, OnOk};
 ghost use Rattle.std.specs.String.{string_bytes};
 ghost use Rattle.reg_print.specs.Printed.{PrintedMembers};
-ghost use Rattle.reg_print.specs.Trees.Request.{request_tree, desk_tree, request_members, standing_members, given_if, given_text, reason_if, state_word};
+ghost use Rattle.reg_print.specs.Trees.Request.{request_tree, desk_tree, request_members, standing_members, given_if, given_text, reason_if};
 
 use crate::printing::{Itself, Print, Printer};
-use reg_core::request::{Given, Request, State, StateWord};
+use reg_core::request::{Given, Request, State};
 use std::alloc::{AllocError, Global};
 
 /// A request as the desk sees it.
@@ -59,20 +59,9 @@ pub(crate) fn put_standing(out: &mut Printer, request: &Request) -> Result<(), A
     put_given_if(out, &request.state)?;
     put_reason_if(out, &request.state)?;
     out.put("reference", &request.reference)?;
-    out.put_text("state", state_word(request.state.word()))?;
+    let state = request.state.word();
+    out.put_text("state", state.word())?;
     Ok(())
-}
-
-/// The bare word by which answers tell where a request stands.
-pub(crate) fn state_word(word: StateWord) -> &'static str
-    ensures { result.now ≡ state_word word }
-{
-    match word {
-        StateWord::Pending => "pending",
-        StateWord::Approved => "approved",
-        StateWord::Declined => "declined",
-        StateWord::Withdrawn => "withdrawn",
-    }
 }
 
 fn put_reason_if(out: &mut Printer, state: &State) -> Result<(), AllocError>

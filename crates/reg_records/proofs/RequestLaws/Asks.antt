@@ -8,8 +8,6 @@ use Rattle.sqlite.specs.Order.{Row, column}
 use Rattle.sqlite.specs.declared.types.Value.TheVariants.{Text}
 use Rattle.reg_ranges.specs.Forms.{has_evidence_form}
 use Rattle.reg_ranges.specs.Texts.{is_text}
-use Rattle.reg_ranges.specs.Words.{ReadsWords}
-use Rattle.reg_ranges.proofs.WordsReadBack.{reads_words}
 use Rattle.reg_early.specs.Forms.{has_early_form}
 use Rattle.reg_core.specs.Ask.{has_ask_form, has_block_form, has_note_form, has_code_form, has_early_ask_form, has_permanence_form, has_renewal_form, has_want_form}
 use Rattle.reg_core.specs.Names.{is_name}
@@ -22,11 +20,12 @@ use Rattle.reg_core.specs.declared.ask.PermanenceAsk.{PermanenceAsk}
 use Rattle.reg_core.specs.declared.ask.RenewalAsk.{RenewalAsk}
 use Rattle.reg_records.specs.Columns.{is_number}
 use Rattle.reg_core.specs.Minutes.{is_bare}
+use Rattle.reg_core.specs.AskKind.{ask_kind_of, ask_kind_word}
+use Rattle.reg_core.proofs.WordsReadBack.{ask_kinds_read}
+use Rattle.reg_core.specs.declared.ask_kind.AskKind.{AskKind}
+use Rattle.reg_core.specs.declared.ask_kind.AskKind.TheVariants as kind
 use Rattle.reg_records.specs.Requests.Reading.{columns, are_null, code_in, early_ask_in, renewal_in, permanence_in, block_in, ask_of, ask_in}
 use Rattle.reg_records.specs.Requests.Values.{nulls, evidence_values, early_values, asked_values, ask_values}
-use Rattle.reg_records.specs.Requests.Words.{kind_of, kinds, kind_word, read_kind}
-use Rattle.reg_records.specs.declared.requests.words.AskKind.{AskKind}
-use Rattle.reg_records.specs.declared.requests.words.AskKind.TheVariants as kind
 use Rattle.reg_records.proofs.ColumnLaws.{column_some, numbers, words}
 use Rattle.reg_records.proofs.WordsReadBack.{sizes_read}
 use Rattle.reg_records.proofs.RequestLaws.Parts.{want_values, wants, evidences, earlies}
@@ -217,45 +216,36 @@ blocks = record { back = block_back; kept = block_kept }
 
 -- ---- Asks of any kind
 
-kinds_read : ReadsWords kind_word read_kind
-kinds_read = reads_words kinds kind_word (elim [
-  | kind.Code ↦ refl
-  | kind.Early ↦ refl
-  | kind.Renew ↦ refl
-  | kind.Permanent ↦ refl
-  | kind.Block ↦ refl
-])
-
 -- the form of an ask that a row holds
 abbrev pub is_asked : Ask → Bool
 is_asked a = has_ask_form a && is_bare a
 
 -- an ask of the kind, as its own reading makes it
 of_kind_kept : (kind : AskKind) (row : Row) (a : Ask) → ask_of kind row ≡ Some a
-    → (columns row 3 19 ≡ asked_values a) × (kind ≡ kind_of a) × (is_asked a ≡ true)
+    → (columns row 3 19 ≡ asked_values a) × (kind ≡ ask_kind_of a) × (is_asked a ≡ true)
 of_kind_kept kind.Code row a h = map_some ask.Code (code_in row) a h (λ b is same.
-    subst (λ a. (columns row 3 19 ≡ asked_values a) × (kind.Code ≡ kind_of a)
+    subst (λ a. (columns row 3 19 ≡ asked_values a) × (kind.Code ≡ ask_kind_of a)
     × (is_asked a ≡ true)) same
     (let k = codes.kept row b is in (k.0, refl, and_from _ true k.1 refl)))
 of_kind_kept kind.Early row a h = map_some ask.Early (early_ask_in row) a h (λ b is same.
-    subst (λ a. (columns row 3 19 ≡ asked_values a) × (kind.Early ≡ kind_of a)
+    subst (λ a. (columns row 3 19 ≡ asked_values a) × (kind.Early ≡ ask_kind_of a)
     × (is_asked a ≡ true)) same
     (let k = early_asks.kept row b is in (k.0, refl, and_from _ true k.1 refl)))
 of_kind_kept kind.Renew row a h = map_some ask.Renew (renewal_in row) a h (λ b is same.
-    subst (λ a. (columns row 3 19 ≡ asked_values a) × (kind.Renew ≡ kind_of a)
+    subst (λ a. (columns row 3 19 ≡ asked_values a) × (kind.Renew ≡ ask_kind_of a)
     × (is_asked a ≡ true)) same
     (let k = renewals.kept row b is in (k.0, refl, k.1)))
 of_kind_kept kind.Permanent row a h = map_some ask.Permanent (permanence_in row) a h (λ b is same.
-    subst (λ a. (columns row 3 19 ≡ asked_values a) × (kind.Permanent ≡ kind_of a)
+    subst (λ a. (columns row 3 19 ≡ asked_values a) × (kind.Permanent ≡ ask_kind_of a)
     × (is_asked a ≡ true)) same
     (let k = permanences.kept row b is in (k.0, refl, and_from _ true k.1 refl)))
 of_kind_kept kind.Block row a h = map_some ask.Block (block_in row) a h (λ b is same.
-    subst (λ a. (columns row 3 19 ≡ asked_values a) × (kind.Block ≡ kind_of a)
+    subst (λ a. (columns row 3 19 ≡ asked_values a) × (kind.Block ≡ ask_kind_of a)
     × (is_asked a ≡ true)) same
     (let k = blocks.kept row b is in (k.0, refl, and_from _ true k.1 refl)))
 
 of_kind_back : (row : Row) (a : Ask) → columns row 3 19 ≡ asked_values a
-    → is_asked a ≡ true → ask_of (kind_of a) row ≡ Some a
+    → is_asked a ≡ true → ask_of (ask_kind_of a) row ≡ Some a
 of_kind_back row (ask.Code a) h form =
     rw (codes.back row a h ((and_parts (has_code_form a) true form).0)) refl
 of_kind_back row (ask.Early a) h form =
@@ -270,16 +260,16 @@ ask_kept : (row : Row) (a : Ask) → ask_in row ≡ Some a
     → (columns row 2 20 ≡ ask_values a) × (is_asked a ≡ true)
 unfolding ask_in
 ask_kept row a h =
-    column_some (words kinds_read) (column row 2) _ a h (λ kind is form h.
+    column_some (words ask_kinds_read) (column row 2) _ a h (λ kind is form h.
     let k = of_kind_kept kind row a h in
-    (rw (is, k.1) (ap (λ cells. Text (kind_word (kind_of a)) ∷ cells) k.0), k.2))
+    (rw (is, k.1) (ap (λ cells. Text (ask_kind_word (ask_kind_of a)) ∷ cells) k.0), k.2))
 
 ask_back : (row : Row) (a : Ask) → columns row 2 20 ≡ ask_values a → is_asked a ≡ true
     → ask_in row ≡ Some a
 unfolding ask_in
 ask_back row a h form =
     let asked : columns row 3 19 ≡ asked_values a = ap (λ cells. drop 1 cells) h in
-    value-at (words kinds_read) (column row 2) (kind_of a) (cell 0 h) refl _ _
+    value-at (words ask_kinds_read) (column row 2) (ask_kind_of a) (cell 0 h) refl _ _
     (of_kind_back row a asked form)
 
 pub asks : IsPart ask_in 2 20 ask_values is_asked

@@ -4,12 +4,13 @@ use Rattle.sqlite.specs.Order.{Row, column}
 use Rattle.reg_core.specs.declared.ask.Ask.{Ask}
 use Rattle.reg_core.specs.declared.request.StateWord.{StateWord}
 use Rattle.reg_core.specs.declared.request.StateWord.TheVariants.{Pending, Approved, Declined, Withdrawn}
+use Rattle.reg_core.specs.AskKind.{read_ask_kind}
+use Rattle.reg_core.specs.Request.{read_state}
+use Rattle.reg_core.specs.declared.ask_kind.AskKind.{AskKind}
+use Rattle.reg_core.specs.declared.ask_kind.AskKind.TheVariants as kind
 use Rattle.reg_records.specs.Columns.{given, read_in}
 use Rattle.reg_records.specs.Requests.Laws.{RowsReadByTheirColumns}
 use Rattle.reg_records.specs.Requests.Reading.{ask_in, ask_of, block_in, code_in, early_ask_in, early_in, evidence_in, name_in, permanence_in, renewal_in, request_columns, request_in, rfc_in, state_in, state_of, want_in}
-use Rattle.reg_records.specs.Requests.Words.{read_kind, read_state}
-use Rattle.reg_records.specs.declared.requests.words.AskKind.{AskKind}
-use Rattle.reg_records.specs.declared.requests.words.AskKind.TheVariants as kind
 
 given-same : {A B : Type 0} (o : Option A) (f g : A → Option B) → ((x : A) → f x ≡ g x)
     → given o f ≡ given o g
@@ -27,7 +28,7 @@ ask_of-columns kind.Block row = refl
 ask_in-columns : (row : Row) → ask_in (request_columns row) ≡ ask_in row
 unfolding ask_in
 ask_in-columns row =
-    given-same (read_in read_kind (column row 2)) _ _ (λ kind. ask_of-columns kind row)
+    given-same (read_in read_ask_kind (column row 2)) _ _ (λ kind. ask_of-columns kind row)
 
 state_of-columns : (ask : Ask) (word : StateWord) (row : Row)
     → state_of ask word (request_columns row) ≡ state_of ask word row

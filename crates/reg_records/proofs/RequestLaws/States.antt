@@ -15,10 +15,9 @@ use Rattle.reg_blocks.proofs.ReadingIsExact.{read_block-is_exact}
 use Rattle.reg_blocks.proofs.TextReadsBack.{read_block-block_text}
 use Rattle.reg_ranges.specs.Numbers.{read_number}
 use Rattle.reg_ranges.specs.Texts.{is_text}
-use Rattle.reg_ranges.specs.Words.{ReadsWords}
 use Rattle.reg_ranges.proofs.Numerals.{reads_decimals}
-use Rattle.reg_ranges.proofs.WordsReadBack.{reads_words}
-use Rattle.reg_core.specs.Request.{has_given_form, has_state_form, word_of}
+use Rattle.reg_core.specs.Request.{has_given_form, has_state_form, state_word, word_of}
+use Rattle.reg_core.proofs.WordsReadBack.{states_read}
 use Rattle.reg_core.specs.declared.ask.Ask.{Ask}
 use Rattle.reg_core.specs.declared.ask.Ask.TheVariants as ask
 use Rattle.reg_core.specs.declared.request.Given.{Given}
@@ -31,7 +30,6 @@ use Rattle.reg_records.specs.Columns.{read_in}
 use Rattle.reg_records.specs.Requests.Forms.{is_of_kind, gives_its_kind}
 use Rattle.reg_records.specs.Requests.Reading.{columns, are_null, written_block, read_given, state_of, state_in}
 use Rattle.reg_records.specs.Requests.Values.{text_of, state_values}
-use Rattle.reg_records.specs.Requests.Words.{states, state_word, read_state}
 use Rattle.reg_records.proofs.ColumnLaws.{IsColumn, given_some, column_some, texts, words}
 use Rattle.reg_records.proofs.RequestLaws.Steps.{IsPart, test_some, map_some, value-at, test-at, printables, nulls_kept, nulls_back, ◌⊕◌, one, cell, within}
 
@@ -105,14 +103,6 @@ givens a = texts (record {
 })
 
 -- ---- States
-
-states_read : ReadsWords state_word read_state
-states_read = reads_words states state_word (elim [
-  | Pending ↦ refl
-  | Approved ↦ refl
-  | Declined ↦ refl
-  | Withdrawn ↦ refl
-])
 
 -- the form of a state of a request for this
 abbrev pub fits : Ask → State → Bool

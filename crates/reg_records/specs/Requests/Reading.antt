@@ -33,11 +33,12 @@ use Rattle.reg_core.specs.declared.request.State.{State}
 use Rattle.reg_core.specs.declared.request.State.TheVariants as state
 use Rattle.reg_core.specs.declared.request.StateWord.{StateWord}
 use Rattle.reg_core.specs.declared.request.StateWord.TheVariants.{Pending, Approved, Declined, Withdrawn}
+use Rattle.reg_core.specs.AskKind.{read_ask_kind}
+use Rattle.reg_core.specs.Request.{read_state}
+use Rattle.reg_core.specs.declared.ask_kind.AskKind.{AskKind}
+use Rattle.reg_core.specs.declared.ask_kind.AskKind.TheVariants as kind
 use Rattle.reg_records.specs.Columns.{flag_in, formed_in, given, is_null, is_number, number_in, or_null_in, read_in}
-use Rattle.reg_records.specs.declared.requests.words.AskKind.{AskKind}
-use Rattle.reg_records.specs.declared.requests.words.AskKind.TheVariants as kind
 use Rattle.reg_records.specs.Words.{read_size}
-use Rattle.reg_records.specs.Requests.Words.{read_kind, read_state}
 
 -- a part, and what is made of it
 infixl 10 ◌>>=◌
@@ -193,7 +194,7 @@ ask_of kind.Block row = option_map ask.Block (block_in row)
 -- the ask, of the kind that its word names
 unfoldable pub ask_in : Row → Option Ask
 ask_in row = do
-  kind ← read_in read_kind (column row 2)
+  kind ← read_in read_ask_kind (column row 2)
   ask_of kind row
 
 -- ---- Where a request stands

@@ -10,7 +10,7 @@ use Rattle.reg_blocks.specs.Size.{word_of as size_word}
 use Rattle.reg_ranges.specs.Words.{policy_word, stream_word, track_word}
 use Rattle.reg_ranges.specs.declared.evidence.Evidence.{Evidence}
 use Rattle.reg_early.specs.declared.evidence.EarlyEvidence.{EarlyEvidence}
-use Rattle.reg_core.specs.Request.{word_of}
+use Rattle.reg_core.specs.Request.{state_word, word_of}
 use Rattle.reg_core.specs.declared.ask.Ask.{Ask}
 use Rattle.reg_core.specs.declared.ask.Ask.TheVariants as ask
 use Rattle.reg_core.specs.declared.ask.BlockAsk.{BlockAsk}
@@ -21,8 +21,8 @@ use Rattle.reg_core.specs.declared.request.Given.TheVariants as given
 use Rattle.reg_core.specs.declared.request.Request.{Request}
 use Rattle.reg_core.specs.declared.request.State.{State}
 use Rattle.reg_core.specs.declared.request.State.TheVariants.{Pending, Approved, Declined, Withdrawn}
+use Rattle.reg_core.specs.AskKind.{ask_kind_word, ask_kind_of}
 use Rattle.reg_records.specs.Columns.{whole_value, flag_value}
-use Rattle.reg_records.specs.Requests.Words.{kind_of, kind_word, state_word}
 
 -- ---- What is asked for
 
@@ -108,7 +108,7 @@ asked_values ask =
 
 -- an ask's kind and what it asks for
 abbrev pub ask_values : Ask → Row
-ask_values ask = Text (kind_word (kind_of ask)) ∷ asked_values ask
+ask_values ask = Text (ask_kind_word (ask_kind_of ask)) ∷ asked_values ask
 
 -- ---- Where a request stands
 

@@ -3,13 +3,13 @@ ghost use Rattle.std.specs.Prelude.{◌≡◌, ◌-◌, IfOk};
 ghost use Rattle.reg_records.specs.Requests.Reading.{are_null, want_in, rfc_of, rfc_in, evidence_in, early_in, code_in, early_ask_in, renewal_in, permanence_in, block_in, ask_in};
 
 use crate::column;
-use crate::requests::words::AskKind;
 use crate::requests::{
     ADDRESS, CHAIR, CONTACT, DIRECTOR, DRAFT, INTEREST, KIND, LABEL, LEAST, MINUTE, ORGANIZATION,
     REGISTRY, RFC_NUMBER, RFC_STREAM, RFC_TRACK, SIZE, SPECIFICATION, STABLE, STATE, VALUE,
     WILL_BE_RFC,
 };
 use reg_core::ask::{Ask, BlockAsk, CodeAsk, EarlyAsk, PermanenceAsk, RenewalAsk, Want};
+use reg_core::ask_kind::AskKind;
 use reg_early::evidence::EarlyEvidence;
 use reg_ranges::evidence::{Evidence, Rfc, Stream, Track};
 use sqlite::Row;

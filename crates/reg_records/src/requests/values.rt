@@ -3,12 +3,12 @@ ghost use Rattle.std.specs.Prelude.{◌≡◌, IfOk, option_map, string_bytes};
 ghost use Rattle.sqlite.specs.Value.{owned};
 ghost use Rattle.sqlite.specs.Values.{bound, bound_value, or_null};
 ghost use Rattle.sqlite.specs.declared.types.Value.TheVariants.{Text as TextValue};
-ghost use Rattle.reg_records.specs.Requests.Words.{kind_of, kind_word};
+ghost use Rattle.reg_core.specs.AskKind.{ask_kind_word, ask_kind_of};
 ghost use Rattle.reg_records.specs.Requests.Values.{block_wanted_values, early_shown_values, early_values, evidence_values, given_text, least_wanted, reason_text, request_values, shown_values, state_values, value_wanted, wanted_values};
 
 use crate::column::{flag_value, name_value, number_value, printable_value, word_value};
-use crate::requests::words::AskKind;
 use reg_core::ask::{Ask, Want};
+use reg_core::ask_kind::AskKind;
 use reg_core::request::{Given, Request, State};
 use reg_core::text::Text;
 use reg_early::evidence::EarlyEvidence;
@@ -85,7 +85,7 @@ pub fn request_values<'a>(request: &'a Request, given: &'a Option<String>) -> [V
 
 // What the column `kind` has.
 fn kind_value(ask: &Ask) -> ValueRef<'static>
-    ensures { owned result ≡ TextValue (kind_word (kind_of ask.now)) }
+    ensures { owned result ≡ TextValue (ask_kind_word (ask_kind_of ask.now)) }
 {
     word_value(&AskKind::of(ask))
 }

@@ -1,28 +1,12 @@
-//! Writes bytes, and counts those that went out before a fault.
-ghost use Rattle.std.specs.Prelude.{◌≡◌, ◌<◌, ◌+◌, List, ℕ, OnOk, IfOk, IfErr, take, length};
+//! Writes the lines of answers, and counts the bytes that went out.
+ghost use Rattle.std.specs.Prelude.{◌≡◌, ◌+◌, List, ℕ, IfOk, IfErr, length};
 ghost use Rattle.std.specs.Io.KnownBytes.{Appends};
 ghost use Rattle.reg_wire.specs.Script.Lines.{ended};
 ghost use Rattle.reg_wire.specs.Script.LineBuffer.{CutShort};
 
+use crate::sending::send;
 use crate::wire_fault::WireFault;
 use std::io::Write;
-
-/// Writes all the bytes; a fault says how many went out.
-fn send<W: Write>(writer: &mut W, bytes: &[u8]) -> Result<(), usize>
-    ensures ok { OnOk result (Appends (W.contents writer.old) (W.contents writer.new) bytes.now) }
-    ensures err { IfErr result
-        (λ n. (n < length bytes.now)
-        × Appends (W.contents writer.old) (W.contents writer.new) (take n bytes.now)) }
-{
-    let mut at = 0;
-    while at < bytes.len() {
-        match writer.write(&bytes[at..]) {
-            Ok(0) | Err(_) => return Err(at),
-            Ok(n) => at += n,
-        }
-    }
-    Ok(())
-}
 
 /// Writes the line of an answer, after `sent` bytes of others; gives how many bytes went out by now.
 pub(crate) fn send_answer<W: Write>(

@@ -5,7 +5,7 @@ use Rattle.reg_print.proofs.bodies.queue.QueueRowPrintItself.print.Goals as goal
 
 pub returns : goal.returns
 returns c =
-    let state = rw c.state_word.ensures at c.in_ok-put_text.ensures in
+    let state = rw c.word.ensures at c.in_ok-put_text.ensures in
     prints_object (queue_members c.args.self.now) refl c.in_ok-open_object.ensures
     (c.in_ok-put.ensures ▸ c.in_ok-put_if.ensures ▸ c.in_ok-put-2.ensures ▸ c.in_ok-put-3.ensures
     ▸ state)

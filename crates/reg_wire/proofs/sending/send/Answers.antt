@@ -1,6 +1,6 @@
 use Rattle.std.proofs.Common.{arith, length, length-take, length-drop, drop, ◌-◌}
-use Rattle.reg_http.proofs.Sent.{sent_more}
-use Rattle.reg_http.proofs.sending.send.Goals as goal
+use Rattle.reg_wire.proofs.Sent.{sent_more}
+use Rattle.reg_wire.proofs.sending.send.Goals as goal
 
 pub loop-at-preserved : goal.loop-at-preserved
 loop-at-preserved g c = record {
