@@ -9,24 +9,11 @@ pub mod Stepping
 pub mod Links
 pub mod Blocks
 pub mod Queues
-pub mod Agents
 pub mod Files
 pub mod ValuesIn
 pub mod Terms
 pub mod Checks
 pub mod Allowances
-pub mod FirstRefusals
 pub mod Outcomes
 pub mod Fitting
 pub mod Keeping
-pub mod TermsStand
-pub mod GivenStays
-pub mod BlocksAreGivenDuly
-pub mod TwoWorlds
-pub mod ValuesAreGivenOnce
-pub mod TermsMoveDuly
-pub mod LinksAreTheirPrincipals
-pub mod AsksInVain
-pub mod Repeats
-pub mod Striking
-mod Worked

@@ -1,5 +1,5 @@
-//! The rows, commands, changes and replies of the office, the rule by which each command is
-//! decided, and the laws of the whole.
+//! The rows, commands, changes and replies of the office, and the rule by which each command is
+//! decided.
 #![tactic(auto)]
 
 pub mod advice;

@@ -15,7 +15,7 @@ ghost use Rattle.reg_office.specs.Caller.{token_digest};
 pub fn two_worlds()
     ensures { TwoWorlds token_digest }
 {
-    reg_core::laws::two_worlds();
+    reg_laws::two_worlds();
 }
 
 /// Striking: requests of others that an account never sees, and that are given nothing, can be
@@ -27,21 +27,21 @@ pub fn struck()
     ensures no_trace { UnseenLeaveNoTrace token_digest }
     ensures stages { StagesAreOfRun token_digest }
 {
-    reg_core::laws::struck();
+    reg_laws::struck();
 }
 
 /// What a step changes is new to the office that it changes, and leaves it well kept.
 pub fn changes_fit()
     ensures { ChangesFit token_digest }
 {
-    reg_core::laws::changes_fit();
+    reg_laws::changes_fit();
 }
 
 /// Every run from a well kept office ends in a well kept one.
 pub fn runs_keep_well()
     ensures { RunsKeepWell token_digest }
 {
-    reg_core::laws::runs_keep_well();
+    reg_laws::runs_keep_well();
 }
 
 /// What is answered was done: the office after a command has what the reply says. Lists, pages and
@@ -50,14 +50,14 @@ pub fn runs_keep_well()
 pub fn answers_are_done()
     ensures { AnswersAreDone token_digest }
 {
-    reg_core::laws::answers_are_done();
+    reg_laws::answers_are_done();
 }
 
 /// An approval that changes something gives exactly what the ask is allowed, on that day.
 pub fn approvals_give_what_is_allowed()
     ensures { ApprovalsGiveWhatIsAllowed token_digest }
 {
-    reg_core::laws::approvals_give_what_is_allowed();
+    reg_laws::approvals_give_what_is_allowed();
 }
 
 /// An approval that changes something, of what experts review (RFC 8126 sections 4.5 and 4.6), is
@@ -65,7 +65,7 @@ pub fn approvals_give_what_is_allowed()
 pub fn approvals_are_advised()
     ensures { ApprovalsAreAdvised token_digest }
 {
-    reg_core::laws::approvals_are_advised();
+    reg_laws::approvals_are_advised();
 }
 
 /// The first refusal is answered: of the refusals that apply to an ask, each by itself, it gets the
@@ -73,7 +73,7 @@ pub fn approvals_are_advised()
 pub fn first_refusals_are_answered()
     ensures { FirstRefusalsAreAnswered }
 {
-    reg_core::laws::first_refusals_are_answered();
+    reg_laws::first_refusals_are_answered();
 }
 
 /// Asks meet their policy: a request is taken in, and approved, only for a value of its registry's
@@ -85,7 +85,7 @@ pub fn first_refusals_are_answered()
 pub fn asks_meet_their_policy()
     ensures { AsksMeetTheirPolicy token_digest }
 {
-    reg_core::laws::asks_meet_their_policy();
+    reg_laws::asks_meet_their_policy();
 }
 
 /// No value is given twice: in a run from a well kept office, what is given after an entry was is
@@ -93,7 +93,7 @@ pub fn asks_meet_their_policy()
 pub fn no_value_is_given_twice()
     ensures { NoValueIsGivenTwice token_digest }
 {
-    reg_core::laws::no_value_is_given_twice();
+    reg_laws::no_value_is_given_twice();
 }
 
 /// Terms move duly: whatever a command does, each entry stands after it as before; or a clerk
@@ -104,7 +104,7 @@ pub fn no_value_is_given_twice()
 pub fn terms_move_duly()
     ensures { TermsMoveDuly token_digest }
 {
-    reg_core::laws::terms_move_duly();
+    reg_laws::terms_move_duly();
 }
 
 /// An entry is Temporary on each day before its expiry, and Expired on that day and on each day
@@ -144,7 +144,7 @@ pub fn settled_terms_are_for_good()
 pub fn expired_values_are_taken()
     ensures { ExpiredValuesAreTaken token_digest }
 {
-    reg_core::laws::expired_values_are_taken();
+    reg_laws::expired_values_are_taken();
 }
 
 /// Entries of others are hidden from asks: a caller who asks for the renewal or the permanence of an
@@ -153,7 +153,7 @@ pub fn expired_values_are_taken()
 pub fn foreign_entries_are_hidden()
     ensures { ForeignEntriesAreHidden token_digest }
 {
-    reg_core::laws::foreign_entries_are_hidden();
+    reg_laws::foreign_entries_are_hidden();
 }
 
 /// No address is given twice: in every run from a well kept office each block that was given lies
@@ -161,7 +161,7 @@ pub fn foreign_entries_are_hidden()
 pub fn blocks_are_apart()
     ensures { BlocksAreApart token_digest }
 {
-    reg_core::laws::blocks_are_apart();
+    reg_laws::blocks_are_apart();
 }
 
 /// The block due is of the free blocks of its size the one with the least first address, and there
@@ -169,7 +169,7 @@ pub fn blocks_are_apart()
 pub fn blocks_due_are_least()
     ensures { BlocksDueAreLeast }
 {
-    reg_core::laws::blocks_due_are_least();
+    reg_laws::blocks_due_are_least();
 }
 
 /// Asks for blocks are served duly: a request is taken in where a block of its size is free, and
@@ -177,7 +177,7 @@ pub fn blocks_due_are_least()
 pub fn block_asks_are_served_duly()
     ensures { BlockAsksAreServedDuly token_digest }
 {
-    reg_core::laws::block_asks_are_served_duly();
+    reg_laws::block_asks_are_served_duly();
 }
 
 /// Private holders are hidden: two well kept offices that differ only in who holds a private block,
@@ -186,7 +186,7 @@ pub fn block_asks_are_served_duly()
 pub fn private_holders_are_hidden()
     ensures { PrivateHoldersAreHidden token_digest }
 {
-    reg_core::laws::private_holders_are_hidden();
+    reg_laws::private_holders_are_hidden();
 }
 
 /// Blocks of others are hidden: a caller who says how a block is listed that it does not hold is
@@ -194,7 +194,7 @@ pub fn private_holders_are_hidden()
 pub fn foreign_blocks_are_hidden()
     ensures { ForeignBlocksAreHidden token_digest }
 {
-    reg_core::laws::foreign_blocks_are_hidden();
+    reg_laws::foreign_blocks_are_hidden();
 }
 
 /// What was given stays: in every run from a well kept office an entry keeps its label and its
@@ -205,7 +205,7 @@ pub fn foreign_blocks_are_hidden()
 pub fn given_stays()
     ensures { GivenStays token_digest }
 {
-    reg_core::laws::given_stays();
+    reg_laws::given_stays();
 }
 
 /// Links are their principals': whatever a command does, who is whose agent stays as before; or the
@@ -213,14 +213,14 @@ pub fn given_stays()
 pub fn links_are_their_principals()
     ensures { LinksAreTheirPrincipals token_digest }
 {
-    reg_core::laws::links_are_their_principals();
+    reg_laws::links_are_their_principals();
 }
 
 /// A refusal changes nothing.
 pub fn refusals_change_nothing()
     ensures { RefusalsChangeNothing token_digest }
 {
-    reg_core::laws::refusals_change_nothing();
+    reg_laws::refusals_change_nothing();
 }
 
 /// Repeats act once: an accepted command that is given again as the next step is accepted and
@@ -228,7 +228,7 @@ pub fn refusals_change_nothing()
 pub fn repeats_act_once()
     ensures { RepeatsActOnce token_digest }
 {
-    reg_core::laws::repeats_act_once();
+    reg_laws::repeats_act_once();
 }
 
 /// The same request is answered again after any run, by its row as it stands then, and changes
@@ -236,19 +236,19 @@ pub fn repeats_act_once()
 pub fn submissions_stand()
     ensures { SubmissionsStand token_digest }
 {
-    reg_core::laws::submissions_stand();
+    reg_laws::submissions_stand();
 }
 
 /// The same approval is answered again as it first was after any run, and changes nothing.
 pub fn approvals_stand()
     ensures { ApprovalsStand token_digest }
 {
-    reg_core::laws::approvals_stand();
+    reg_laws::approvals_stand();
 }
 
 /// The empty office is well kept, and so is one that has only its first clerk.
 pub fn first_offices_are_well_kept()
     ensures { FirstWorldsAreWellKept }
 {
-    reg_core::laws::first_worlds_are_well_kept();
+    reg_laws::first_worlds_are_well_kept();
 }

@@ -1,5 +1,0 @@
-use Rattle.reg_core.proofs.BlocksAreGivenDuly.{foreign_hidden}
-use Rattle.reg_core.proofs.laws.foreign_blocks_are_hidden.Goals as goal
-
-pub returns : goal.returns
-returns c = foreign_hidden

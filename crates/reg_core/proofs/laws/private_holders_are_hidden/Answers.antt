@@ -1,5 +1,0 @@
-use Rattle.reg_core.proofs.BlocksAreGivenDuly.{private_hidden}
-use Rattle.reg_core.proofs.laws.private_holders_are_hidden.Goals as goal
-
-pub returns : goal.returns
-returns c = private_hidden

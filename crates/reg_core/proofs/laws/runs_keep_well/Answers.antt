@@ -1,5 +1,0 @@
-use Rattle.reg_core.proofs.Keeping.RunsKeepWell.{runs_keep}
-use Rattle.reg_core.proofs.laws.runs_keep_well.Goals as goal
-
-pub returns : goal.returns
-returns c = runs_keep

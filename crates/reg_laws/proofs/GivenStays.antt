@@ -1,0 +1,428 @@
+-- What a well kept world has stays in every run.
+use Rattle.std.proofs.Common.{◌≡◌, ℕ, Bool, true, false, cond, List, [], ◌∷◌, refl, sym, ap, subst, ◌∙◌}
+use Rattle.std.specs.Prelude.{Option, Some, None, IsSome, is_some, option_map}
+use Rattle.std.specs.Cmp.{first_so, second_so}
+use Rattle.std.specs.declared.cmp.Ordering.{Ordering}
+use Rattle.std.specs.Ordering.{eq_by_cmp}
+use Rattle.std.specs.FinMap.{FinMap, get, insert, remove}
+use Rattle.std.specs.FinSet.{FinSet}
+use Rattle.reg_early.specs.Calendar.{IsDay}
+use Rattle.reg_early.specs.Moment.{is_in_clock, utc_day}
+use Rattle.reg_early.proofs.MomentsHaveDays.{IsDay-utc_day}
+use Rattle.reg_ranges.specs.Tables.{Table}
+use Rattle.reg_core.specs.Command.{has_command_form}
+use Rattle.reg_core.specs.Entry.{registration_in, with_hold}
+use Rattle.reg_core.specs.Holding.{holder_in, with_mark}
+use Rattle.reg_blocks.specs.Block.{SizedPrefix, block_cmp}
+use Rattle.reg_core.specs.Laws.{GivesDigests, GivenStays, SameReview, Stays, StillGiven, StillHeld, StillStands, StillAsks}
+use Rattle.reg_core.specs.Maps.{text_cmp, update}
+use Rattle.reg_core.specs.MayBeGiven.{IsDuly, place_of}
+use Rattle.reg_core.specs.Request.{is_pending}
+use Rattle.reg_core.specs.Run.{Event, have_forms, step_of, world_after}
+use Rattle.reg_core.specs.WellKept.{WellKept}
+use Rattle.reg_core.specs.World.{World, RequestName, Place, Seat, name_cmp, place_cmp, seat_cmp, link_cmp, in_state, pending, applied, applied_if}
+use Rattle.reg_core.specs.declared.advice.Advice.{Advice}
+use Rattle.reg_core.specs.declared.ask.Ask.{Ask}
+use Rattle.reg_core.specs.declared.change.Change.{Change}
+use Rattle.reg_core.specs.declared.capability.Cap.{Cap}
+use Rattle.reg_core.specs.declared.entry.Registration.{Registration}
+use Rattle.reg_core.specs.declared.entry.Entry.{Entry}
+use Rattle.reg_core.specs.declared.holding.Holder.{Holder}
+use Rattle.reg_core.specs.declared.holding.Holding.{Holding}
+use Rattle.reg_core.specs.declared.request.Case.{Case}
+use Rattle.reg_core.specs.declared.request.Given.TheVariants.{Value, Block}
+use Rattle.reg_core.specs.declared.request.State.{State}
+use Rattle.reg_core.specs.declared.request.State.TheVariants.{Pending, Approved, Declined, Withdrawn}
+use Rattle.reg_core.proofs.Keeping.RunsKeepWell.{step_keeps_well}
+use Rattle.reg_core.proofs.KeySets.{still_in}
+use Rattle.reg_core.proofs.MapLaws.{IsKeyOrder, number_keys, text_keys, name_keys, place_keys, seat_keys, block_keys, tied, get-at_insert, get-update}
+use Rattle.reg_core.specs.declared.change.Change.TheVariants.{Grant, Revoke, Define, AddPool, Submit, Close, Assign, Advise, GiveValue, GiveBlock, SetPrivate, SetHold, SetAgent}
+use Rattle.reg_core.proofs.Blocks.{due_is_new}
+use Rattle.reg_core.proofs.Outcomes.Dues.{WasPending, MarksEntry, Due, each_step}
+use Rattle.reg_laws.proofs.TermsStand.{term_stands, marked_stands, term_stands_on, given_duly, still_given}
+
+-- ---- Nothing goes away
+
+stands_itself : (state : State) → StillStands state state
+stands_itself Pending = tt
+stands_itself (Approved given) = refl
+stands_itself (Declined reason) = refl
+stands_itself Withdrawn = refl
+
+given_itself : (a : Registration) (existing : Option Registration) → existing ≡ Some a
+    → StillGiven a existing
+given_itself a existing is = subst (StillGiven a) (sym is) (refl, refl, term_stands a.term)
+
+held_itself : (h : Holder) (existing : Option Holder) → existing ≡ Some h → StillHeld h existing
+held_itself h existing is = subst (StillHeld h) (sym is) (refl, refl, refl)
+
+asks_itself : (case : Case) (existing : Option Case) → existing ≡ Some case
+    → StillAsks case existing
+asks_itself case existing is = subst (StillAsks case) (sym is) (refl, stands_itself case.state)
+
+pub stays_itself : (w : World) → Stays w w
+stays_itself w = record {
+  registries = λ name table is. is;
+  entries = λ place a is. given_itself a (get w.entries place) is;
+  requests = λ name case is. asks_itself case (get w.requests name) is;
+  reviews = λ name case is decided expert. (refl, refl);
+  pool = λ prefix there. there;
+  blocks = λ block h is. held_itself h (get w.blocks block) is;
+}
+
+-- ---- What stays goes on to stay
+
+-- what is decided stays decided
+decided_on : (state now : State) → StillStands state now → is_pending state ≡ false
+    → is_pending now ≡ false
+decided_on Pending now h decided = absurd (cc)
+decided_on (Approved given) now h decided = ap is_pending h
+decided_on (Declined reason) now h decided = ap is_pending h
+decided_on Withdrawn now h decided = ap is_pending h
+
+still_decided : (case : Case) (existing : Option Case) → StillAsks case existing
+    → is_pending case.state ≡ false
+    → (now : Case) × (existing ≡ Some now) × (is_pending now.state ≡ false)
+still_decided case None h decided = absurd h
+still_decided case (Some now) h decided =
+    (now, refl, decided_on case.state now.state h.1 decided)
+
+stands_on : (before now later : State) → StillStands before now → StillStands now later
+    → StillStands before later
+stands_on Pending now later h k = tt
+stands_on (Approved given) now later h k = subst (λ s. StillStands s later) h k
+stands_on (Declined reason) now later h k = subst (λ s. StillStands s later) h k
+stands_on Withdrawn now later h k = subst (λ s. StillStands s later) h k
+
+given_on : (a : Registration) (now later : Option Registration) → StillGiven a now
+    → ((b : Registration) → now ≡ Some b → StillGiven b later) → StillGiven a later
+given_on a None later h k = absurd h
+given_on a (Some b) later h k = on later (k b refl)
+  where
+    on : (later : Option Registration) → StillGiven b later → StillGiven a later
+    on None k = k
+    on (Some c) k = (k.0 ∙ h.0, k.1 ∙ h.1, term_stands_on a.term b.term c.term h.2 k.2)
+
+held_on : (h : Holder) (now later : Option Holder) → StillHeld h now
+    → ((k : Holder) → now ≡ Some k → StillHeld k later) → StillHeld h later
+held_on h None later still k = absurd still
+held_on h (Some b) later still k = on later (k b refl)
+  where
+    on : (later : Option Holder) → StillHeld b later → StillHeld h later
+    on None k = k
+    on (Some c) k = (k.0 ∙ still.0, k.1 ∙ still.1, k.2 ∙ still.2)
+
+asks_on : (case : Case) (now later : Option Case) → StillAsks case now
+    → ((b : Case) → now ≡ Some b → StillAsks b later) → StillAsks case later
+asks_on case None later h k = absurd h
+asks_on case (Some b) later h k = on later (k b refl)
+  where
+    on : (later : Option Case) → StillAsks b later → StillAsks case later
+    on None k = k
+    on (Some c) k = (k.0 ∙ h.0, stands_on case.state b.state c.state h.1 k.1)
+
+pub stays_on : (w v u : World) → Stays w v → Stays v u → Stays w u
+stays_on w v u first then = record {
+  registries = λ name table is. then.registries name table (first.registries name table is);
+  entries = λ place a is.
+      given_on a (get v.entries place) (get u.entries place) (first.entries place a is)
+      (λ b at. then.entries place b at);
+  requests = λ name case is.
+      asks_on case (get v.requests name) (get u.requests name) (first.requests name case is)
+      (λ b at. then.requests name b at);
+  reviews = λ name case is decided expert.
+      let now =
+      still_decided case (get v.requests name) (first.requests name case is) decided in
+      let one = first.reviews name case is decided expert in
+      let two = then.reviews name now.0 now.1 now.2 expert in (two.0 ∙ one.0, two.1 ∙ one.1);
+  pool = λ prefix there. then.pool prefix (first.pool prefix there);
+  blocks = λ block h is.
+      held_on h (get v.blocks block) (get u.blocks block) (first.blocks block h is)
+      (λ b at. then.blocks block b at);
+}
+
+-- ---- One change
+
+-- a row that is there stays after another is added
+module _ {K X : Type 0} {R : K → K → Ordering} (o : IsKeyOrder R) (m : FinMap R X) (k : K) (v : X)
+    (free : get m k ≡ None) where
+  stays_there : (q : K) (x : X) → get m q ≡ Some x → get (insert m k v) q ≡ Some x
+  stays_there q x is = by (eq_by_cmp R q k) refl
+    where
+      by : (b : Bool) → eq_by_cmp R q k ≡ b → get (insert m k v) q ≡ Some x
+      by true t = let none : get m q ≡ None = ap (get m) (tied o q k t) ∙ free in absurd (cc)
+      by false t = get-at_insert o m k v q ∙ ap (λ b. cond b (Some v) (get m q)) t ∙ is
+
+-- of capabilities and agents nothing is said, nor of who reviews a pending request, and of advice on
+-- one
+registers_stay : (w : World) (caps : FinMap text_cmp Cap) (queue : FinSet seat_cmp)
+    (advice : FinMap seat_cmp Advice) (agents : FinSet link_cmp)
+    → ((name : RequestName) (case : Case) → get w.requests name ≡ Some case
+    → is_pending case.state ≡ false
+    → SameReview w (record w { caps = caps; queue = queue; advice = advice; agents = agents }) name)
+    → Stays w (record w { caps = caps; queue = queue; advice = advice; agents = agents })
+registers_stay w caps queue advice agents reviewed = record {
+  registries = λ name table is. is;
+  entries = λ place a is. given_itself a (get w.entries place) is;
+  requests = λ name case is. asks_itself case (get w.requests name) is;
+  reviews = reviewed;
+  pool = λ prefix there. there;
+  blocks = λ block h is. held_itself h (get w.blocks block) is;
+}
+
+-- a row for a pending request is none of one that is decided
+of_another : (w : World) (name other : RequestName) (case : Case) → WasPending w name
+    → get w.requests other ≡ Some case → is_pending case.state ≡ false
+    → (expert reviewer : List ℕ)
+    → eq_by_cmp seat_cmp (other, expert) (name, reviewer) ≡ false
+of_another w name other case was is decided expert reviewer =
+    by (eq_by_cmp seat_cmp (other, expert) (name, reviewer)) refl
+  where
+    by : (b : Bool) → eq_by_cmp seat_cmp (other, expert) (name, reviewer) ≡ b → b ≡ false
+    by false t = refl
+    by true t =
+        let seat = tied seat_keys (other, expert) (name, reviewer) t in
+        let same : other ≡ name = ap (λ (s : Seat). s.0) seat in
+        let both : Some case ≡ Some was.case =
+        sym is ∙ ap (get w.requests) same ∙ was.is_there in
+        let itself : case ≡ was.case = cc in
+        let pending = ap (λ (c : Case). is_pending c.state) itself ∙ ap is_pending was.state in
+        absurd (cc)
+
+module _ (w : World) (name : RequestName) (was : WasPending w name) (reviewer : List ℕ) where
+  assigned_review : (other : RequestName) (case : Case) → get w.requests other ≡ Some case
+      → is_pending case.state ≡ false
+      → SameReview w (applied w (Assign name.0 name.1 reviewer)) other
+  assigned_review other case is decided expert = (
+    ap is_some (get-at_insert seat_keys w.queue (name, reviewer) tt (other, expert)
+        ∙ ap (λ b. cond b (Some tt) (get w.queue (other, expert)))
+        (of_another w name other case was is decided expert reviewer)),
+    refl,
+  )
+
+  advised_review : (advice : Advice) (other : RequestName) (case : Case)
+      → get w.requests other ≡ Some case → is_pending case.state ≡ false
+      → SameReview w (applied w (Advise name.0 name.1 reviewer advice)) other
+  advised_review advice other case is decided expert = (
+    refl,
+    get-at_insert seat_keys w.advice (name, reviewer) advice (other, expert)
+        ∙ ap (λ b. cond b (Some advice) (get w.advice (other, expert)))
+        (of_another w name other case was is decided expert reviewer),
+  )
+
+define_stays : (w : World) (name : List ℕ) (table : Table) → get w.registries name ≡ None
+    → Stays w (applied w (Define name table))
+define_stays w name table free = record {
+  registries = stays_there text_keys w.registries name table free;
+  entries = λ place a is. given_itself a (get w.entries place) is;
+  requests = λ name case is. asks_itself case (get w.requests name) is;
+  reviews = λ name case is decided expert. (refl, refl);
+  pool = λ prefix there. there;
+  blocks = λ block h is. held_itself h (get w.blocks block) is;
+}
+
+pool_stays : (w : World) (prefix : ℕ) → Stays w (applied w (AddPool prefix))
+pool_stays w prefix = record {
+  registries = λ name table is. is;
+  entries = λ place a is. given_itself a (get w.entries place) is;
+  requests = λ name case is. asks_itself case (get w.requests name) is;
+  reviews = λ name case is decided expert. (refl, refl);
+  pool = still_in number_keys w.pool prefix tt;
+  blocks = λ block h is. held_itself h (get w.blocks block) is;
+}
+
+submit_stays : (w : World) (name : RequestName) (ask : Ask) → get w.requests name ≡ None
+    → Stays w (applied w (Submit name.0 name.1 ask))
+submit_stays w name ask free = record {
+  registries = λ name table is. is;
+  entries = λ place a is. given_itself a (get w.entries place) is;
+  requests = λ other case is.
+      asks_itself case _ (stays_there name_keys w.requests name (pending ask) free other case is);
+  reviews = λ name case is decided expert. (refl, refl);
+  pool = λ prefix there. there;
+  blocks = λ block h is. held_itself h (get w.blocks block) is;
+}
+
+-- a pending request may go into any state
+state_stays : (w : World) (name : RequestName) (state : State) → WasPending w name
+    → (other : RequestName) (old : Case) → get w.requests other ≡ Some old
+    → StillAsks old (get (update w.requests name (in_state state)) other)
+state_stays w name state was other old is =
+    subst (StillAsks old) (sym (get-update name_keys w.requests name (in_state state) other))
+    (by (eq_by_cmp name_cmp other name) refl)
+  where
+    replaced_row : other ≡ name → old ≡ was.case
+    replaced_row same = let both : Some old ≡ Some was.case =
+        sym is ∙ ap (get w.requests) same ∙ was.is_there in cc
+
+    by : (b : Bool) → eq_by_cmp name_cmp other name ≡ b
+        → StillAsks old
+        (cond b (option_map (in_state state) (get w.requests name)) (get w.requests other))
+    by true t =
+        let itself = replaced_row (tied name_keys other name t) in
+        subst (λ o. StillAsks old (option_map (in_state state) o)) (sym was.is_there) (
+          ap (λ (f : Case). f.ask) (sym itself),
+          subst (λ (f : Case). StillStands f.state state) (sym itself)
+              (subst (λ s. StillStands s state) (sym was.state) tt),
+        )
+    by false t = asks_itself old (get w.requests other) is
+
+close_stays : (w : World) (name : RequestName) (state : State) → WasPending w name
+    → Stays w (applied w (Close name.0 name.1 state))
+close_stays w name state was = record {
+  registries = λ name table is. is;
+  entries = λ place a is. given_itself a (get w.entries place) is;
+  requests = state_stays w name state was;
+  reviews = λ name case is decided expert. (refl, refl);
+  pool = λ prefix there. there;
+  blocks = λ block h is. held_itself h (get w.blocks block) is;
+}
+
+-- an entry is given at a place that has none, or in place of the same entry in another term
+give_stays : (w : World) → WellKept w → (name : RequestName) (today : ℕ) → IsDay today → (ask : Ask)
+    (entry : Entry) → WasPending w name → IsDuly w today name.0 ask entry
+    → Stays w (applied w (GiveValue name.0 name.1 entry))
+give_stays w kept name today day ask entry was duly = record {
+  registries = λ name table is. is;
+  entries = λ place a is.
+      subst (StillGiven a)
+      (sym (get-at_insert place_keys w.entries (place_of entry) (registration_in entry) place))
+      (by place a is (eq_by_cmp place_cmp place (place_of entry)) refl);
+  requests = state_stays w name (Approved (Value entry.value)) was;
+  reviews = λ name case is decided expert. (refl, refl);
+  pool = λ prefix there. there;
+  blocks = λ block h is. held_itself h (get w.blocks block) is;
+}
+  where
+    by : (place : Place) (a : Registration) → get w.entries place ≡ Some a → (b : Bool)
+        → eq_by_cmp place_cmp place (place_of entry) ≡ b
+        → StillGiven a (cond b (Some (registration_in entry)) (get w.entries place))
+    by place a is true t =
+        still_given w today name.0 entry kept day ask duly a
+        (ap (get w.entries) (sym (tied place_keys place (place_of entry) t)) ∙ is)
+    by place a is false t = given_itself a (get w.entries place) is
+
+give_block_stays : (w : World) (name : RequestName) (holding : Holding) → WasPending w name
+    → get w.blocks holding.block ≡ None
+    → Stays w (applied w (GiveBlock name.0 name.1 holding))
+give_block_stays w name holding was free = record {
+  registries = λ name table is. is;
+  entries = λ place a is. given_itself a (get w.entries place) is;
+  requests = state_stays w name (Approved (Block holding.block)) was;
+  reviews = λ name case is decided expert. (refl, refl);
+  pool = λ prefix there. there;
+  blocks = λ block h is.
+      held_itself h _
+      (stays_there block_keys w.blocks holding.block (holder_in holding) free block h is);
+}
+
+-- the mark of a block may change
+mark_stays : (w : World) (block : SizedPrefix) (private : Bool)
+    → Stays w (applied w (SetPrivate block private))
+mark_stays w block private = record {
+  registries = λ name table is. is;
+  entries = λ place a is. given_itself a (get w.entries place) is;
+  requests = λ name case is. asks_itself case (get w.requests name) is;
+  reviews = λ name case is decided expert. (refl, refl);
+  pool = λ prefix there. there;
+  blocks = λ other h is.
+      subst (StillHeld h) (sym (get-update block_keys w.blocks block (with_mark private) other))
+      (by other h is (eq_by_cmp block_cmp other block) refl);
+}
+  where
+    by : (other : SizedPrefix) (h : Holder) → get w.blocks other ≡ Some h → (b : Bool)
+        → eq_by_cmp block_cmp other block ≡ b
+        → StillHeld h
+        (cond b (option_map (with_mark private) (get w.blocks block)) (get w.blocks other))
+    by other h is true t =
+        let there = ap (get w.blocks) (sym (tied block_keys other block t)) ∙ is in
+        subst (λ o. StillHeld h (option_map (with_mark private) o)) (sym there) (refl, refl, refl)
+    by other h is false t = held_itself h (get w.blocks other) is
+
+-- so may the mark of an entry that expires
+hold_stays : (w : World) (place : Place) (held : Bool) {today : ℕ} → MarksEntry w today place held
+    → Stays w (applied w (SetHold place.0 place.1 held))
+hold_stays w place held marks = record {
+  registries = λ name table is. is;
+  entries = λ other a is.
+      subst (StillGiven a)
+      (sym (get-update place_keys w.entries place (with_hold held) other))
+      (by other a is (eq_by_cmp place_cmp other place) refl);
+  requests = λ name case is. asks_itself case (get w.requests name) is;
+  reviews = λ name case is decided expert. (refl, refl);
+  pool = λ prefix there. there;
+  blocks = λ block h is. held_itself h (get w.blocks block) is;
+}
+  where
+    by : (other : Place) (a : Registration) → get w.entries other ≡ Some a → (b : Bool)
+        → eq_by_cmp place_cmp other place ≡ b
+        → StillGiven a
+        (cond b (option_map (with_hold held) (get w.entries place)) (get w.entries other))
+    by other a is true t =
+        let there : get w.entries place ≡ Some a =
+        ap (get w.entries) (sym (tied place_keys other place t)) ∙ is in
+        let both : Some marks.entry ≡ Some a = sym marks.is_there ∙ there in
+        let same : marks.entry ≡ a = cc in
+        subst (λ o. StillGiven a (option_map (with_hold held) o)) (sym there) (
+          refl,
+          refl,
+          marked_stands a.term held
+              (subst (λ (r : Registration). IsSome r.term.expires) same marks.expires),
+        )
+    by other a is false t = given_itself a (get w.entries other) is
+
+-- ---- Each change of a step
+
+-- a line for each change
+module _ (w : World) (kept : WellKept w) (caller : Option (List ℕ)) (moment : ℕ)
+    (is_open : is_in_clock moment ≡ true) where
+  due_stays : (change : Change) → Due w caller moment change → Stays w (applied w change)
+  due_stays (Grant digest cap) due =
+      registers_stay w (insert w.caps digest cap) w.queue w.advice w.agents
+      (λ name case is decided expert. (refl, refl))
+  due_stays (Revoke digest) due =
+      registers_stay w (remove w.caps digest) w.queue w.advice w.agents
+      (λ name case is decided expert. (refl, refl))
+  due_stays (Define name table) due = define_stays w name table due.1
+  due_stays (AddPool prefix) due = pool_stays w prefix
+  due_stays (Submit account reference ask) due = submit_stays w (account, reference) ask due.1
+  due_stays (Close account reference state) due = close_stays w (account, reference) state due.0
+  due_stays (Assign account reference expert) due =
+      registers_stay w w.caps (insert w.queue ((account, reference), expert) tt) w.advice w.agents
+      (assigned_review w (account, reference) due.1 expert)
+  due_stays (Advise account reference expert advice) due =
+      registers_stay w w.caps w.queue (insert w.advice ((account, reference), expert) advice) w.agents
+      (advised_review w (account, reference) due.1 expert advice)
+  due_stays (GiveValue account reference entry) due =
+      let is = given_duly w kept (utc_day moment) account reference entry due.1 in
+      give_stays w kept (account, reference) (utc_day moment) (IsDay-utc_day moment is_open) is.ask entry
+      due.1.pending is.duly
+  due_stays (GiveBlock account reference holding) due =
+      let is = due.1 in
+      give_block_stays w (account, reference) holding is.pending
+      (due_is_new w is.ask.size holding.block is.due)
+  due_stays (SetPrivate block private) due = mark_stays w block private
+  due_stays (SetHold name value held) due = hold_stays w (name, value) held due.1
+  due_stays (SetAgent principal agent true) due =
+      registers_stay w w.caps w.queue w.advice (insert w.agents (principal, agent) tt)
+      (λ name case is decided expert. (refl, refl))
+  due_stays (SetAgent principal agent false) due =
+      registers_stay w w.caps w.queue w.advice (remove w.agents (principal, agent))
+      (λ name case is decided expert. (refl, refl))
+
+-- ---- Steps and runs
+
+module _ (digest_of : List ℕ → List ℕ) where
+  step_stays : (w : World) → WellKept w → (e : Event) → Stays w (step_of digest_of w e).world
+  step_stays w kept e =
+      each_step digest_of w e.caller e.moment e.command (λ change. Stays w (applied_if w change))
+      (stays_itself w) (λ change is. due_stays w kept e.caller e.moment is.is_open change is.due)
+
+  pub runs_stay : GivesDigests digest_of → GivenStays digest_of
+  runs_stay digests w [] kept forms = stays_itself w
+  runs_stay digests w (e ∷ events) kept forms =
+      let first = first_so (has_command_form e.command) (have_forms events) forms in
+      let rest = second_so (has_command_form e.command) (have_forms events) forms in
+      let v = (step_of digest_of w e).world in
+      stays_on w v (world_after digest_of v events) (step_stays w kept e)
+      (runs_stay digests v events (step_keeps_well digest_of digests w kept e first) rest)

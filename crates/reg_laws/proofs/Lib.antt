@@ -1,0 +1,14 @@
+pub mod Outcomes
+pub mod Agents
+pub mod FirstRefusals
+pub mod TermsStand
+pub mod GivenStays
+pub mod BlocksAreGivenDuly
+pub mod TwoWorlds
+pub mod ValuesAreGivenOnce
+pub mod TermsMoveDuly
+pub mod LinksAreTheirPrincipals
+pub mod AsksInVain
+pub mod Repeats
+pub mod Striking
+mod Worked

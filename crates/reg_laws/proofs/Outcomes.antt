@@ -1,0 +1,5 @@
+-- The laws that are read off an answer taken apart.
+pub mod WholeLists
+pub mod AnswersAreDone
+pub mod ApprovalsGiveAndAreAdvised
+pub mod RefusalsChangeNothing

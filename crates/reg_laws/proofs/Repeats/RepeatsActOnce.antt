@@ -1,0 +1,429 @@
+-- An accepted command that is given again is accepted, and changes nothing, since what its caller
+-- was told is so.
+use Rattle.std.proofs.Common.{◌≡◌, ℕ, Bool, true, false, List, refl, sym, ap, subst, ◌∙◌, arith}
+use Rattle.std.specs.Prelude.{Option, Some, None, IsSome, is_some, Ok, nat_le, nat_lt}
+use Rattle.std.specs.FinMap.{get, contains_key, keys}
+use Rattle.std.proofs.lemmas.Bool.Decides.{nat_tests}
+use Rattle.std.proofs.lemmas.Slice.Eq.{bytes_eq-Decides}
+use Rattle.reg_early.specs.Moment.{is_in_clock, utc_day}
+use Rattle.reg_early.specs.Terms.{status_on}
+use Rattle.reg_early.specs.declared.term.Status.{Status}
+use Rattle.reg_core.specs.Entry.{page_entry, with_hold}
+use Rattle.reg_core.specs.Link.{agent_rows, principal_names}
+use Rattle.reg_core.specs.Holding.{holder_in, holding_row, holding_rows, listed_rows, with_mark}
+use Rattle.reg_core.specs.Page.{page}
+use Rattle.reg_core.specs.Ask.{same_ask}
+use Rattle.reg_core.specs.Answer.{Answer, Outcome, reply_of, change_of, unchanged, own_row, desk_row, item}
+use Rattle.reg_core.specs.Capability.{same_kind}
+use Rattle.reg_core.specs.Command.{kind_of}
+use Rattle.reg_core.specs.File.{file}
+use Rattle.reg_core.specs.Queue.{queue_rows}
+use Rattle.reg_core.specs.Laws.{is_refused, IsStillValid, MayRepeat, IsDone, RepeatsActOnce}
+use Rattle.reg_core.specs.Lists.{IsRow, IsOwnRow}
+use Rattle.reg_core.specs.Maps.{same_text}
+use Rattle.reg_blocks.specs.Block.{SizedPrefix}
+use Rattle.reg_core.specs.Request.{case_of, request_rows}
+use Rattle.reg_core.specs.Rules.{listing_rule, link_rule, mark_rule}
+use Rattle.reg_core.specs.Step.{answer_to, step}
+use Rattle.reg_core.specs.View.{Queued, as_queued, published, requests_by, requests_of, holdings_of, queue_of, agents_of, principals_of, principal_rows_of, cap_at}
+use Rattle.reg_core.specs.World.{World, RequestName, Place, Link, in_state, applied_if}
+use Rattle.reg_core.specs.declared.ask.Ask.{Ask}
+use Rattle.reg_core.specs.declared.capability.Cap.{Cap}
+use Rattle.reg_core.specs.declared.capability.Kind.{Kind}
+use Rattle.reg_core.specs.declared.capability.Kind.TheVariants as kind
+use Rattle.reg_core.specs.declared.command.Command.{Command}
+use Rattle.reg_core.specs.declared.command.Command.TheVariants.{Public, Applicant, Expert, Clerk}
+use Rattle.reg_core.specs.declared.command.ApplicantCommand.{ApplicantCommand}
+use Rattle.reg_core.specs.declared.command.ApplicantCommand.TheVariants.{Own, OwnOne, Submit, Withdraw, Holdings, SetListing, SetAgent, Agents, Principals, PrincipalRows}
+use Rattle.reg_core.specs.declared.command.ExpertCommand.{ExpertCommand}
+use Rattle.reg_core.specs.declared.command.ExpertCommand.TheVariants.{Queue, Advise}
+use Rattle.reg_core.specs.declared.command.ClerkCommand.{ClerkCommand}
+use Rattle.reg_core.specs.declared.command.ClerkCommand.TheVariants.{AllRequests, OneRequest, AssignExpert, Approve, Decline, SetHold, Define, AddPool, Grant, Revoke}
+use Rattle.reg_core.specs.declared.command.PublicCommand.{PublicCommand}
+use Rattle.reg_core.specs.declared.command.PublicCommand.TheVariants.{Registries, Registry, RegistryListing, PoolList, BlockListing}
+use Rattle.reg_core.specs.declared.content.Content.{Content}
+use Rattle.reg_core.specs.declared.content.Content.TheVariants as content
+use Rattle.reg_core.specs.declared.decide.Decision.TheVariants.{Same}
+use Rattle.reg_core.specs.declared.request.Case.{Case}
+use Rattle.reg_core.specs.declared.request.Given.{Given}
+use Rattle.reg_core.specs.declared.request.Request.{Request}
+use Rattle.reg_core.specs.declared.request.State.TheVariants.{Approved}
+use Rattle.reg_core.proofs.SamenessIsDecided.{same_text-itself, same_advice-itself, same_cap-itself, same_ask-itself, same_table-itself}
+use Rattle.reg_core.proofs.Outcomes.Accepted.{Serves, ClerkServes, CommandSo}
+use Rattle.reg_laws.proofs.Outcomes.AnswersAreDone.{Done, accepted_done}
+use Rattle.reg_core.proofs.Links.{own_agent, own_principal}
+use Rattle.reg_core.proofs.Blocks.{own_holding}
+use Rattle.reg_core.proofs.Queues.{found_queued}
+use Rattle.reg_core.proofs.Stepping.{own_request}
+
+-- ---- A caller who may act as before
+
+-- who had this capability, if any, has one of the same account, of this kind, and valid
+pub record Acts (v : World) (caller : Option (List ℕ)) (moment : ℕ) (by : Option Cap)
+    (kind : Kind) : Type 0 where
+  pub cap : Cap
+  pub is_there : cap_at v caller ≡ Some cap
+  pub of_kind : same_kind cap.kind kind ≡ true
+  pub late : nat_le cap.until moment ≡ false
+  pub early : nat_lt moment cap.until ≡ true
+  pub account : (old : Cap) → by ≡ Some old → old.account ≡ cap.account
+
+pub acts : (w v : World) (caller : Option (List ℕ)) (first second : ℕ) (kind : Kind)
+    → Serves w caller first kind → IsStillValid w v caller second
+    → Acts v caller second (cap_at w caller) kind
+acts w v caller first second kind serves may =
+    let both : Some serves.cap ≡ Some may.before = sym serves.is_there ∙ may.had in
+    let same : serves.cap ≡ may.before = cc in
+    let valid = may.valid in
+    record {
+      cap = may.after;
+      is_there = may.has;
+      of_kind = ap (λ k. same_kind k kind) (may.kind ∙ sym (ap (λ (c : Cap). c.kind) same))
+          ∙ serves.of_kind;
+      late = grind (arith, nat_tests, valid);
+      early = grind (arith, nat_tests, valid);
+      account = λ old is. let again : Some old ≡ Some may.before = sym is ∙ may.had in
+          let itself : old ≡ may.before = cc in
+          ap (λ (c : Cap). c.account) itself ∙ sym may.account;
+    }
+
+-- a clerk who still may is known by the same digest
+pub clerk_acts : (w v : World) (caller : Option (List ℕ)) (first second : ℕ)
+    (by : ClerkServes w caller first) → IsStillValid w v caller second
+    → Acts v (Some by.digest) second (cap_at w caller) kind.Clerk
+clerk_acts w v caller first second by may =
+    subst (λ c. Acts v c second (cap_at w caller) kind.Clerk) by.is
+    (acts w v caller first second kind.Clerk by.serves may)
+
+-- a block with the mark that is asked for is left as it is
+marked_already : (block : SizedPrefix) (private old : Bool) → old ≡ private
+    → listing_rule block private old ≡ Same
+marked_already block true true is = refl
+marked_already block false false is = refl
+marked_already block true false is = absurd (cc)
+marked_already block false true is = absurd (cc)
+
+-- and so is an entry with the mark that is asked for
+held_already : (place : Place) (held old : Bool) (now : Status) → old ≡ held
+    → mark_rule place held old now ≡ Ok Same
+held_already place true true now is = refl
+held_already place false false now is = refl
+held_already place true false now is = absurd (cc)
+held_already place false true now is = absurd (cc)
+
+-- and a link that is there, or is not, as is said
+said_already : (link : Link) (reads there : Bool) → there ≡ reads
+    → link_rule link reads there ≡ Same
+said_already link true true is = refl
+said_already link false false is = refl
+said_already link true false is = absurd (cc)
+said_already link false true is = absurd (cc)
+
+-- other texts are not the same
+apart : (a b : List ℕ) → ¬ (a ≡ b) → same_text a b ≡ false
+apart a b other = by (same_text a b) refl
+  where
+    by : (t : Bool) → same_text a b ≡ t → t ≡ false
+    by false t = refl
+    by true t = absurd (other ((bytes_eq-Decides a b).0 t))
+
+-- a row that is there
+row_of : {X : Type 0} (existing : Option X) → IsSome existing → (x : X) × (existing ≡ Some x)
+row_of None h = absurd (cc)
+row_of (Some x) h = (x, refl)
+
+-- ---- What is so again, a line for each command
+
+-- the answer tells something, and changes nothing
+abbrev pub OnlyTells : Answer → Type 0
+OnlyTells a = (content : Content) × (a ≡ unchanged content)
+
+pub row_at : (v : World) (account reference : List ℕ) (row : Request)
+    → IsRow v account reference row → get v.requests (account, reference) ≡ Some (case_of row)
+row_at v account reference row is = let at = is.0 in let under = is.1 in
+    sym (ap (get v.requests) (λ i. (at i, under i))) ∙ is.2
+
+module _ (digest_of : List ℕ → List ℕ) (v : World) (moment : ℕ) (now : is_in_clock moment ≡ true)
+    (by : Option Cap) (day : ℕ) where
+  module _ (caller : Option (List ℕ)) where
+    public_again : (command : PublicCommand) (content : Content)
+        → IsDone digest_of v by day (Public command) content
+        → OnlyTells (answer_to digest_of v caller moment (Public command))
+    public_again Registries (content.Names names) so =
+        rw now (content.Names (keys v.registries), refl)
+    public_again (Registry name) (content.Page shown) so =
+        (content.Page (page (published v) name shown.table (utc_day moment)), rw (now, so.1) refl)
+    public_again (RegistryListing name) (content.Listing shown) so = (
+      content.Listing (page (published v) name shown.table (utc_day moment)),
+      rw (now, so.1) refl,
+    )
+    public_again PoolList (content.Pool prefixes) so = rw now (content.Pool (keys v.pool), refl)
+    public_again BlockListing (content.Blocks rows) so =
+        rw now (content.Blocks (listed_rows (published v).blocks), refl)
+    public_again command content so = absurd so
+
+    module _ (may : Acts v caller moment by kind.Applicant) where
+      mine : (reference : List ℕ) (row : Request) → IsOwnRow v by reference row
+          → get v.requests (may.cap.account, reference) ≡ Some (case_of row)
+      mine reference row own =
+          subst (λ a. get v.requests (a, reference) ≡ Some (case_of row)) (may.account own.0 own.1)
+          (row_at v own.0.account reference row own.2)
+
+      -- a request that is there with this ask is accepted again
+      pub submit_again : (reference : List ℕ) (ask : Ask) (case : Case)
+          → get v.requests (may.cap.account, reference) ≡ Some case → case.ask ≡ ask
+          → answer_to digest_of v caller moment (Applicant (Submit reference ask))
+          ≡ unchanged (own_row (may.cap.account, reference) case)
+      submit_again reference ask case is asks =
+          let same : same_ask case.ask ask ≡ true =
+          subst (λ a. same_ask case.ask a ≡ true) asks (same_ask-itself case.ask) in
+          rw (
+            now,
+            may.is_there,
+            may.late,
+            may.of_kind,
+            own_request may.cap.account reference v,
+            is,
+            same,
+          ) refl
+
+      own_again : (command : ApplicantCommand) (content : Content)
+          → IsDone digest_of v by day (Applicant command) content
+          → OnlyTells (answer_to digest_of v caller moment (Applicant command))
+      own_again Own (content.Rows rows) so = (
+        content.Rows (request_rows (requests_of may.cap.account v)),
+        rw (now, may.is_there, may.late, may.of_kind) refl,
+      )
+      own_again (OwnOne reference) (content.Row row) so = (
+        own_row (may.cap.account, reference) (case_of row),
+        rw (
+          now,
+          may.is_there,
+          may.late,
+          may.of_kind,
+          own_request may.cap.account reference v,
+          mine reference row so,
+        ) refl,
+      )
+      own_again (Submit reference ask) (content.Made row) so = (
+        own_row (may.cap.account, reference) (case_of row),
+        submit_again reference ask (case_of row) (mine reference row so.1) so.0,
+      )
+      own_again (Submit reference ask) (content.Row row) so = (
+        own_row (may.cap.account, reference) (case_of row),
+        submit_again reference ask (case_of row) (mine reference row so.1) so.0,
+      )
+      own_again (Withdraw reference) (content.Row row) so = (
+        own_row (may.cap.account, reference) (case_of row),
+        rw (
+          now,
+          may.is_there,
+          may.late,
+          may.of_kind,
+          own_request may.cap.account reference v,
+          mine reference row so.1,
+          so.0,
+        ) refl,
+      )
+      own_again Holdings (content.Holdings rows) so = (
+        content.Holdings (holding_rows (holdings_of may.cap.account v)),
+        rw (now, may.is_there, may.late, may.of_kind) refl,
+      )
+      own_again (SetListing block private) (content.Held row) so =
+          let h = holder_in row in
+          let at = subst (λ b. get v.blocks b ≡ Some h) so.0 so.4.1 in
+          let mine = so.4.0 ∙ may.account so.2 so.3 in
+          let there = own_holding may.cap.account v block h at mine in (
+            content.Held (holding_row block (with_mark private h)),
+            rw (
+              now,
+              may.is_there,
+              may.late,
+              may.of_kind,
+              there,
+              marked_already block private row.private so.1,
+            ) refl,
+          )
+      own_again (SetAgent agent reads) (content.Agent given is) so =
+          let said = so.2 in
+          let mine = may.account said.cap said.has in
+          let other = apart agent may.cap.account (λ same. said.other (same ∙ sym mine)) in
+          let there = own_agent may.cap.account agent v
+          ∙ ap (λ a. contains_key v.agents (a, agent)) (sym mine) ∙ said.is in (
+            content.Agent agent reads,
+            rw (
+              now,
+              may.is_there,
+              may.late,
+              may.of_kind,
+              other,
+              said_already (may.cap.account, agent) reads
+                  (contains_key (agents_of may.cap.account v) (may.cap.account, agent)) there,
+            ) refl,
+          )
+      own_again Agents (content.Accounts names) so = (
+        content.Accounts (agent_rows (agents_of may.cap.account v)),
+        rw (now, may.is_there, may.late, may.of_kind) refl,
+      )
+      own_again Principals (content.Accounts names) so = (
+        content.Accounts (principal_names (principals_of may.cap.account v)),
+        rw (now, may.is_there, may.late, may.of_kind) refl,
+      )
+      own_again (PrincipalRows principal) (content.Rows rows) so =
+          let there =
+          subst (λ a. contains_key v.agents (principal, a) ≡ true) (may.account so.0 so.1) so.2 in
+          let link =
+          row_of (get (principals_of may.cap.account v) (principal, may.cap.account))
+          (ap is_some (own_principal may.cap.account principal v) ∙ there) in (
+            content.Rows
+                (request_rows (requests_by principal (principal_rows_of may.cap.account v))),
+            rw (now, may.is_there, may.late, may.of_kind, link.1) refl,
+          )
+      own_again command content so = absurd so
+
+    module _ (may : Acts v caller moment by kind.Expert) where
+      expert_again : (command : ExpertCommand) (content : Content)
+          → IsDone digest_of v by day (Expert command) content
+          → OnlyTells (answer_to digest_of v caller moment (Expert command))
+      expert_again Queue (content.Items rows) so = (
+        content.Items (queue_rows (queue_of may.cap.account v)),
+        rw (now, may.is_there, may.late, may.of_kind) refl,
+      )
+      expert_again (Advise account reference advice) (content.Item row) so =
+          let name : RequestName = (account, reference) in
+          let is = so.3 in
+          let assigned =
+          subst (λ a. contains_key v.queue (name, a) ≡ true) (may.account so.1 so.2) is.2 in
+          let given : get v.advice (name, may.cap.account) ≡ Some advice =
+          subst (λ a. get v.advice (name, a) ≡ Some advice) (may.account so.1 so.2)
+          (sym is.3 ∙ so.0) in
+          let queued : Queued = as_queued (Some advice) is.4 in
+          let there : get (queue_of may.cap.account v) name ≡ Some queued =
+          found_queued may.cap.account v name is.4 is.5 assigned
+          ∙ ap (λ old. Some (as_queued old is.4)) given in (
+            item name queued,
+            rw (now, may.is_there, may.late, may.of_kind, there, same_advice-itself advice) refl,
+          )
+      expert_again command content so = absurd so
+
+  module _ (digest : List ℕ) (may : Acts v (Some digest) moment by kind.Clerk) where
+    -- an approved request is answered as it is
+    pub approve_again : (account reference : List ℕ) (case : Case) (given : Given)
+        → get v.requests (account, reference) ≡ Some case → case.state ≡ Approved given
+        → answer_to digest_of v (Some digest) moment (Clerk (Approve account reference))
+        ≡ unchanged (desk_row (account, reference) (in_state (Approved given) case))
+    approve_again account reference case given is approved =
+        rw (now, may.is_there, may.of_kind, may.early, is, approved) refl
+
+    -- a token that has no capability is not the caller's
+    other_token : (token : List ℕ) → get v.caps token ≡ None → same_text digest token ≡ false
+    other_token token none = by_sameness (same_text digest token) refl
+      where
+        by_sameness : (b : Bool) → same_text digest token ≡ b → b ≡ false
+        by_sameness false is = refl
+        by_sameness true is =
+            let same : digest ≡ token = (bytes_eq-Decides digest token).0 is in
+            let gone : get v.caps digest ≡ None = ap (get v.caps) same ∙ none in
+            let has = may.is_there in
+            absurd (cc)
+
+    clerk_again : (command : ClerkCommand) (content : Content)
+        → IsDone digest_of v by day (Clerk command) content
+        → OnlyTells (answer_to digest_of v (Some digest) moment (Clerk command))
+    clerk_again AllRequests (content.Desks rows) so = (
+      content.Desks (request_rows v.requests),
+      rw (now, may.is_there, may.of_kind, may.early) refl,
+    )
+    clerk_again (OneRequest account reference) (content.Filed of) so =
+        let is = row_at v account reference of.request so.0 in (
+          content.Filed (file v (account, reference) (case_of of.request)),
+          rw (now, may.is_there, may.of_kind, may.early, is) refl,
+        )
+    clerk_again (AssignExpert account reference expert) (content.Desk row) so =
+        let is = row_at v account reference row so.1 in (
+          desk_row (account, reference) (case_of row),
+          rw (now, may.is_there, may.of_kind, may.early, is, so.0) refl,
+        )
+    clerk_again (Approve account reference) (content.Desk row) so = (
+      desk_row (account, reference) (in_state (Approved so.0.0) (case_of row)),
+      approve_again account reference (case_of row) so.0.0
+          (row_at v account reference row so.1) so.0.1,
+    )
+    clerk_again (Decline account reference reason) (content.Desk row) so =
+        let is = row_at v account reference row so.1 in (
+          desk_row (account, reference) (case_of row),
+          rw (now, may.is_there, may.of_kind, may.early, is, so.0, same_text-itself reason) refl,
+        )
+    clerk_again (SetHold name value held) (content.Marked row) so =
+        let table = row_of (get v.registries name) so.registry in (
+          content.Marked (page_entry (utc_day moment) value (with_hold held so.entry)),
+          rw (
+            now,
+            may.is_there,
+            may.of_kind,
+            may.early,
+            table.1,
+            so.standing,
+            so.expires,
+            held_already (name, value) held so.entry.term.held
+                (status_on so.entry.term (utc_day moment)) so.mark,
+          ) refl,
+        )
+    clerk_again (Define name table) (content.Defined given) so = (
+      content.Defined name,
+      rw (now, may.is_there, may.of_kind, may.early, so.1, same_table-itself table) refl,
+    )
+    clerk_again (AddPool prefix) (content.Pooled given) so =
+        (content.Pooled prefix, rw (now, may.is_there, may.of_kind, may.early, so.1, so.2) refl)
+    clerk_again (Grant token cap) (content.Granted given) so = (
+      content.Granted cap,
+      rw (now, may.is_there, may.of_kind, may.early, so.1, same_cap-itself cap) refl,
+    )
+    clerk_again (Revoke token) content.Revoked so = (
+      content.Revoked,
+      rw (now, may.is_there, may.of_kind, may.early, other_token (digest_of token) so, so) refl,
+    )
+    clerk_again command content so = absurd so
+
+-- ---- The law
+
+-- the answer is no refusal, and changes nothing
+abbrev pub ChangesNothing : World → Answer → Type 0
+ChangesNothing v a = (is_refused (reply_of a) ≡ false) × (applied_if v (change_of a) ≡ v)
+
+pub nothing : (v : World) (a : Answer) → OnlyTells a → ChangesNothing v a
+nothing v a tells =
+    (ap (λ a. is_refused (reply_of a)) tells.1, ap (λ a. applied_if v (change_of a)) tells.1)
+
+module _ (digest_of : List ℕ → List ℕ) (w : World) (caller : Option (List ℕ)) (first second : ℕ)
+    (now : is_in_clock second ≡ true) where
+  -- after an outcome its command is accepted again, by whose command it was
+  again : (command : Command) (o : Outcome) → CommandSo digest_of w caller first command o
+      → let v = applied_if w o.change in
+      MayRepeat w v caller second (kind_of command) → Done digest_of w caller first command o
+      → OnlyTells (answer_to digest_of v caller second command)
+  again (Public command) o so may done =
+      public_again digest_of (applied_if w o.change) second now (cap_at w caller) (utc_day first)
+      caller command o.content done
+  again (Applicant command) o so may done =
+      own_again digest_of (applied_if w o.change) second now (cap_at w caller) (utc_day first)
+      caller (acts w (applied_if w o.change) caller first second kind.Applicant so.0 may) command
+      o.content done
+  again (Expert command) o so may done =
+      expert_again digest_of (applied_if w o.change) second now (cap_at w caller) (utc_day first)
+      caller (acts w (applied_if w o.change) caller first second kind.Expert so.0 may) command
+      o.content done
+  again (Clerk command) o so may done =
+      let v = applied_if w o.change in
+      subst (λ c. OnlyTells (answer_to digest_of v c second (Clerk command))) (sym so.0.is)
+      (clerk_again digest_of v second now (cap_at w caller) (utc_day first) so.0.digest
+      (clerk_acts w v caller first second so.0 may) command o.content done)
+
+pub once : (digest_of : List ℕ → List ℕ) → RepeatsActOnce digest_of
+once digest_of w caller first second command accepted now may =
+    let by = accepted_done digest_of w caller first command accepted in
+    let after = ap (λ a. applied_if w (change_of a)) by.is in
+    nothing (step digest_of w caller first command).world _
+    (subst (λ u. OnlyTells (answer_to digest_of u caller second command)) (sym after)
+    (again digest_of w caller first second now command by.outcome by.so
+    (subst (λ u. MayRepeat w u caller second (kind_of command)) after may) by.done))

@@ -1,0 +1,142 @@
+-- An accepted request, and an approval, that are given again after a run.
+use Rattle.std.proofs.Common.{◌≡◌, ℕ, List, refl, sym, ap, subst, ◌∙◌}
+use Rattle.std.specs.Prelude.{Option, Some, None}
+use Rattle.std.specs.FinMap.{get}
+use Rattle.reg_early.specs.Moment.{utc_day}
+use Rattle.reg_core.specs.Answer.{change_of, reply_of, unchanged, desk_row}
+use Rattle.reg_core.specs.Laws.{GivesDigests, IsApproved, IsDone, IsLater, StillAsks, StillStands, SubmissionsStand, ApprovalsStand}
+use Rattle.reg_core.specs.Lists.{IsOwnRow, IsRow}
+use Rattle.reg_core.specs.Request.{case_of, request_row}
+use Rattle.reg_core.specs.Run.{Event}
+use Rattle.reg_core.specs.Step.{answer_to, step}
+use Rattle.reg_core.specs.View.{cap_at}
+use Rattle.reg_core.specs.World.{World, RequestName, in_state, applied_if}
+use Rattle.reg_core.specs.declared.ask.Ask.{Ask}
+use Rattle.reg_core.specs.declared.capability.Cap.{Cap}
+use Rattle.reg_core.specs.declared.capability.Kind.TheVariants as kind
+use Rattle.reg_core.specs.declared.command.Command.{Command}
+use Rattle.reg_core.specs.declared.command.Command.TheVariants.{Applicant, Clerk}
+use Rattle.reg_core.specs.declared.command.ApplicantCommand.TheVariants.{Submit}
+use Rattle.reg_core.specs.declared.command.ClerkCommand.TheVariants.{Approve}
+use Rattle.reg_core.specs.declared.content.Content.{Content}
+use Rattle.reg_core.specs.declared.content.Content.TheVariants as content
+use Rattle.reg_core.specs.declared.reply.Reply.TheVariants.{Accepted}
+use Rattle.reg_core.specs.declared.request.Case.{Case}
+use Rattle.reg_core.specs.declared.request.Request.{Request}
+use Rattle.reg_core.specs.declared.request.State.TheVariants.{Approved}
+use Rattle.reg_laws.proofs.Outcomes.AnswersAreDone.{accepted_done}
+use Rattle.reg_core.proofs.Keeping.RunsKeepWell.{step_keeps_well}
+use Rattle.reg_laws.proofs.Repeats.RepeatsActOnce.{acts, clerk_acts, row_at, submit_again, approve_again}
+use Rattle.reg_laws.proofs.GivenStays.{runs_stay}
+
+-- what an accepted request's caller is told is the caller's own request with the ask
+submitted : (digest_of : List ℕ → List ℕ) (w : World) (by : Option Cap) (day : ℕ)
+    (reference : List ℕ) (ask : Ask) (told : Content)
+    → IsDone digest_of w by day (Applicant (Submit reference ask)) told
+    → (row : Request) × (row.ask ≡ ask) × IsOwnRow w by reference row
+submitted digest_of w by day reference ask (content.Made row) so = (row, so.0, so.1)
+submitted digest_of w by day reference ask (content.Row row) so = (row, so.0, so.1)
+submitted digest_of w by day reference ask told so = absurd so
+
+-- what an approval's caller is told is the request, approved
+approved : (digest_of : List ℕ → List ℕ) (w : World) (by : Option Cap) (day : ℕ)
+    (account reference : List ℕ) (told : Content)
+    → IsDone digest_of w by day (Clerk (Approve account reference)) told
+    → (row : Request) × (told ≡ content.Desk row) × IsApproved row.state
+    × IsRow w account reference row
+approved digest_of w by day account reference (content.Desk row) so = (row, refl, so.0, so.1)
+approved digest_of w by day account reference told so = absurd so
+
+-- a request that still is as it was asked is there
+record IsThere (case : Case) (existing : Option Case) : Type 0 where
+  row : Case
+  is : existing ≡ Some row
+  asks : row.ask ≡ case.ask
+  stands : StillStands case.state row.state
+
+still_there : (case : Case) (existing : Option Case) → StillAsks case existing
+    → IsThere case existing
+still_there case None h = absurd h
+still_there case (Some row) h = record { row = row; is = refl; asks = h.0; stands = h.1 }
+
+module _ (digest_of : List ℕ → List ℕ) (digests : GivesDigests digest_of) where
+  -- what is there after the first command is so still
+  later_request : (w v : World) (caller : Option (List ℕ)) (first second : ℕ) (command : Command)
+      (events : List Event)
+      → IsLater digest_of w caller first command events second v
+      → (name : RequestName) (case : Case)
+      → get (step digest_of w caller first command).world.requests name ≡ Some case
+      → IsThere case (get v.requests name)
+  later_request w v caller first second command events later name case is_there =
+      let kept = step_keeps_well digest_of digests w later.kept
+      (record { caller = caller; moment = first; command = command }) later.form in
+      let stays = runs_stay digest_of digests
+      (step digest_of w caller first command).world events kept later.forms in
+      subst (λ u. IsThere case (get u.requests name)) (sym later.after)
+      (still_there case _ (stays.requests name case is_there))
+
+  pub submissions_stand : SubmissionsStand digest_of
+  submissions_stand w v caller first second reference ask events later =
+      let command = Applicant (Submit reference ask) in
+      let by = accepted_done digest_of w caller first command later.accepted in
+      let u = applied_if w by.outcome.change in
+      let after : (step digest_of w caller first command).world ≡ u =
+      ap (λ a. applied_if w (change_of a)) by.is in
+      let told = submitted digest_of u (cap_at w caller) (utc_day first) reference ask
+      by.outcome.content by.done in
+      let name : RequestName = (told.2.0.account, reference) in
+      let row : get (step digest_of w caller first command).world.requests name
+      ≡ Some (case_of told.0) =
+      ap (λ (u : World). get u.requests name) after ∙ row_at u name.0 reference told.0 told.2.2 in
+      let now = later_request w v caller first second command events later name (case_of told.0)
+      row in
+      let may = acts w v caller first second kind.Applicant by.so.0 later.may in
+      let its = subst (λ a. get v.requests (a, reference) ≡ Some now.row)
+      (may.account told.2.0 told.2.1) now.is in
+      let asks = now.asks ∙ told.1 in
+      let again = submit_again digest_of v second later.is_open (cap_at w caller) (utc_day first)
+      caller may reference ask now.row its asks in (
+        request_row (may.cap.account, reference) now.row,
+        asks,
+        (may.cap, may.is_there, (refl, refl, its)),
+        ap reply_of again,
+        ap (λ a. applied_if v (change_of a)) again,
+      )
+
+  pub approvals_stand : ApprovalsStand digest_of
+  approvals_stand w v caller first second account reference events later =
+      let name : RequestName = (account, reference) in
+      let command = Clerk (Approve account reference) in
+      let by = accepted_done digest_of w caller first command later.accepted in
+      let u = applied_if w by.outcome.change in
+      let after : (step digest_of w caller first command).world ≡ u =
+      ap (λ a. applied_if w (change_of a)) by.is in
+      let told = approved digest_of u (cap_at w caller) (utc_day first) account reference
+      by.outcome.content by.done in
+      let row : get (step digest_of w caller first command).world.requests name
+      ≡ Some (case_of told.0) =
+      ap (λ (u : World). get u.requests name) after ∙ row_at u account reference told.0 told.3 in
+      let now = later_request w v caller first second command events later name (case_of told.0)
+      row in
+      let given = told.2.0 in
+      let state = told.2.1 in
+      let is = subst (λ s. StillStands s now.row.state) state now.stands in
+      let may = clerk_acts w v caller first second by.so.0 later.may in
+      let shown = desk_row name (in_state (Approved given) now.row) in
+      let again = subst (λ c. answer_to digest_of v c second command ≡ unchanged shown)
+      (sym by.so.0.is)
+      (approve_again digest_of v second later.is_open (cap_at w caller) (utc_day first)
+      by.so.0.digest may account reference now.row given now.is is) in
+      let at = told.3.0 in
+      let under = told.3.1 in
+      let asks = now.asks in
+      let same : shown ≡ content.Desk told.0 =
+      λ i. content.Desk (record {
+        account = sym at i;
+        reference = sym under i;
+        ask = asks i;
+        state = sym state i;
+      }) in (
+        ap reply_of again ∙ ap Accepted (same ∙ sym told.1) ∙ sym (ap reply_of by.is),
+        ap (λ a. applied_if v (change_of a)) again,
+      )

@@ -1,0 +1,168 @@
+-- Lists of requests without the hidden ones: maps that agree but for those, and where none is.
+use Rattle.std.proofs.Common.{◌≡◌, ℕ, Bool, true, false, cond, not, List, [], ◌∷◌, refl, sym, ap, subst, ◌∙◌}
+use Rattle.std.specs.Prelude.{Option, Some, None, Ok, Err, option_and_then, filter, All}
+use Rattle.std.specs.FinMap.{FinMap, get, entries}
+use Rattle.std.proofs.lemmas.List.Elements.{All-head, All-tail, All-map}
+use Rattle.reg_early.specs.Moment.{utc_day}
+use Rattle.reg_core.specs.Answer.{Answer, Outcome, reply_of, made_row}
+use Rattle.reg_core.specs.Queue.{queue_row, queue_rows}
+use Rattle.reg_core.specs.Request.{request_row, request_rows}
+use Rattle.reg_core.specs.Run.{Event}
+use Rattle.reg_core.specs.Step.{answer_to}
+use Rattle.reg_core.specs.Striking.{HasNone, requests_without, queue_without, content_without, reply_without}
+use Rattle.reg_core.specs.View.{Queued, queued_to, requests_of, queue_of}
+use Rattle.reg_core.specs.World.{World, RequestName, name_cmp}
+use Rattle.reg_core.specs.declared.ask.Ask.{Ask}
+use Rattle.reg_core.specs.declared.command.Command.{Command}
+use Rattle.reg_core.specs.declared.command.Command.TheVariants.{Public, Applicant, Expert, Clerk}
+use Rattle.reg_core.specs.declared.command.ApplicantCommand.{ApplicantCommand}
+use Rattle.reg_core.specs.declared.command.ApplicantCommand.TheVariants.{Own, OwnOne, Submit, Withdraw, Holdings, SetListing, SetAgent, Agents, Principals, PrincipalRows}
+use Rattle.reg_core.specs.declared.command.ExpertCommand.{ExpertCommand}
+use Rattle.reg_core.specs.declared.command.ExpertCommand.TheVariants.{Queue, Advise}
+use Rattle.reg_core.specs.declared.command.ClerkCommand.{ClerkCommand}
+use Rattle.reg_core.specs.declared.command.ClerkCommand.TheVariants.{AllRequests, OneRequest, AssignExpert, Approve, Decline, SetHold}
+use Rattle.reg_core.specs.declared.command.PublicCommand.{PublicCommand}
+use Rattle.reg_core.specs.declared.command.PublicCommand.TheVariants.{Registries, Registry, RegistryListing, PoolList, BlockListing}
+use Rattle.reg_core.specs.declared.content.Content.TheVariants as content
+use Rattle.reg_core.specs.declared.queue.QueueRow.{QueueRow}
+use Rattle.reg_core.specs.declared.reply.Reply.TheVariants.{Accepted}
+use Rattle.reg_core.specs.declared.request.Case.{Case}
+use Rattle.reg_core.specs.declared.request.Request.{Request}
+use Rattle.reg_core.proofs.MapLaws.{name_keys, get-select, All-entries}
+use Rattle.reg_core.proofs.Outcomes.Accepted.{PublicSo, OwnSo, ExpertSo, ClerkSo, CommandSo, accepted}
+use Rattle.reg_laws.proofs.Striking.Maps.{AgreeBut, rows_of, same_rows}
+
+module _ (hidden : RequestName → Bool) where
+  -- the row is of no hidden request
+  abbrev seen_request : Request → Bool
+  seen_request row = not (hidden (row.account, row.reference))
+
+  abbrev seen_queued : QueueRow → Bool
+  seen_queued row = not (hidden (row.account, row.reference))
+
+  -- ---- Two maps
+
+  pub same_requests : (m n : FinMap name_cmp Case) → AgreeBut hidden m n
+      → requests_without hidden (request_rows m) ≡ requests_without hidden (request_rows n)
+  same_requests m n =
+      same_rows name_keys hidden seen_request request_row m n (λ name h case. ap not h)
+
+  pub same_queue : (m n : FinMap name_cmp Queued) → AgreeBut hidden m n
+      → queue_without hidden (queue_rows m) ≡ queue_without hidden (queue_rows n)
+  same_queue m n = same_rows name_keys hidden seen_queued queue_row m n (λ name h queued. ap not h)
+
+-- ---- No hidden row
+
+-- a test that all pass leaves the list as it is
+all_pass : {A : Type 0} (test : A → Bool) (xs : List A) → All (λ x. test x ≡ true) xs
+    → filter test xs ≡ xs
+all_pass test [] all = refl
+all_pass test (x ∷ xs) all =
+    ap (λ b. cond b (x ∷ filter test xs) (filter test xs)) (All-head (λ x. test x ≡ true) x xs all)
+    ∙ ap (λ rest. x ∷ rest) (all_pass test xs (All-tail (λ x. test x ≡ true) x xs all))
+
+-- nothing is hidden in this map
+abbrev IsBare : {X : Type 0} → (RequestName → Bool) → FinMap name_cmp X → Type 0
+IsBare hidden m = (name : RequestName) → hidden name ≡ true → get m name ≡ None
+
+plain_rows : {X Y : Type 0} (hidden : RequestName → Bool)
+    (seen : Y → Bool) (row : RequestName → X → Y)
+    → ((name : RequestName) (x : X) → seen (row name x) ≡ not (hidden name))
+    → (m : FinMap name_cmp X) → IsBare hidden m → filter seen (rows_of row m) ≡ rows_of row m
+plain_rows {X = X} hidden seen row test m bare =
+    let shown = λ (name : RequestName) (x : X) (is_there : get m name ≡ Some x).
+    test name x ∙ by name x is_there (hidden name) refl in
+    all_pass seen (rows_of row m) (All-map (λ y. seen y ≡ true) (λ e. row e.0 e.1) (entries m)
+    (All-entries name_keys.total (λ e. seen (row e.0 e.1) ≡ true) m shown))
+  where
+    by : (name : RequestName) (x : X) → get m name ≡ Some x
+        → (b : Bool) → hidden name ≡ b → not (hidden name) ≡ true
+    by name x is_there true h = let gone = bare name h in absurd (cc)
+    by name x is_there false h = ap not h
+
+-- ---- No hidden request
+
+module _ (hidden : RequestName → Bool) (v : World) (none : HasNone hidden v) where
+  own_bare : (account : List ℕ) → IsBare hidden (requests_of account v)
+  own_bare account name h =
+      get-select name_keys _ v.requests name ∙ ap (option_and_then _) (none name h)
+
+  queue_bare : (account : List ℕ) → IsBare hidden (queue_of account v)
+  queue_bare account name h =
+      get-select name_keys (queued_to account v) v.requests name
+      ∙ ap (option_and_then (queued_to account v name)) (none name h)
+
+  plain_requests : (m : FinMap name_cmp Case) → IsBare hidden m
+      → requests_without hidden (request_rows m) ≡ request_rows m
+  plain_requests = plain_rows hidden (seen_request hidden) request_row (λ name case. refl)
+
+  -- an outcome that tells of no hidden request in a list
+  abbrev IsPlain : Outcome → Type 0
+  IsPlain o = content_without hidden o.content ≡ o.content
+
+  plain : {x o : Outcome} → o ≡ x → IsPlain x → IsPlain o
+  plain is h = subst IsPlain (sym is) h
+
+  public_plain : (today : ℕ) (given : PublicCommand) (o : Outcome)
+      → PublicSo v today given o → IsPlain o
+  public_plain today Registries o so = plain so refl
+  public_plain today (Registry name) o so = plain so.so refl
+  public_plain today (RegistryListing name) o so = plain so.so refl
+  public_plain today PoolList o so = plain so refl
+  public_plain today BlockListing o so = plain so refl
+
+  made_plain : (name : RequestName) (ask : Ask) (existing : Option Case)
+      → content_without hidden (made_row name ask existing) ≡ made_row name ask existing
+  made_plain name ask None = refl
+  made_plain name ask (Some case) = refl
+
+  own_plain : (of : List ℕ) (given : ApplicantCommand) (o : Outcome)
+      → OwnSo v of given o → IsPlain o
+  own_plain of Own o so =
+      plain so (ap content.Rows (plain_requests (requests_of of v) (own_bare of)))
+  own_plain of (OwnOne reference) o so = plain so.so refl
+  own_plain of (Submit reference ask) o so =
+      plain so.is (made_plain (of, reference) ask (get v.requests (of, reference)))
+  own_plain of (Withdraw reference) o so = plain so.so.is refl
+  own_plain of Holdings o so = plain so refl
+  own_plain of (SetListing block private) o so = plain so.so.is refl
+  own_plain of (SetAgent agent reads) o so = plain so.is refl
+  own_plain of Agents o so = plain so refl
+  own_plain of Principals o so = plain so refl
+  own_plain of (PrincipalRows principal) o so =
+      plain so.so (ap content.Rows (plain_requests (requests_of principal v) (own_bare principal)))
+
+  expert_plain : (of : List ℕ) (given : ExpertCommand) (o : Outcome)
+      → ExpertSo v of given o → IsPlain o
+  expert_plain of Queue o so =
+      plain so (ap content.Items (plain_rows hidden (seen_queued hidden) queue_row
+      (λ name queued. refl) (queue_of of v) (queue_bare of)))
+  expert_plain of (Advise applicant reference advice) o so = plain so.so.is refl
+
+  clerk_plain : (digest_of : List ℕ → List ℕ) (in_use : List ℕ) (today : ℕ) (given : ClerkCommand)
+      (o : Outcome) → ClerkSo digest_of v in_use today given o → IsPlain o
+  clerk_plain digest_of in_use today AllRequests o so =
+      plain so (ap content.Desks (plain_requests v.requests none))
+  clerk_plain digest_of in_use today (OneRequest account reference) o so = plain so.so refl
+  clerk_plain digest_of in_use today (AssignExpert account reference of) o so = plain so.so.is refl
+  clerk_plain digest_of in_use today (Approve account reference) o so = plain so.so.is refl
+  clerk_plain digest_of in_use today (Decline account reference reason) o so = plain so.so.is refl
+  clerk_plain digest_of in_use today (SetHold name value held) o so = plain so.so.so.is refl
+  clerk_plain digest_of in_use today given o so = plain so.is refl
+
+  module _ (digest_of : List ℕ → List ℕ) (e : Event) where
+    command_plain : (given : Command) (o : Outcome)
+        → CommandSo digest_of v e.caller e.moment given o → IsPlain o
+    command_plain (Public given) o so = public_plain (utc_day e.moment) given o so
+    command_plain (Applicant given) o so = own_plain so.0.cap.account given o so.1
+    command_plain (Expert given) o so = expert_plain so.0.cap.account given o so.1
+    command_plain (Clerk given) o so =
+        clerk_plain digest_of so.0.digest (utc_day e.moment) given o so.1
+
+    -- no answer lists one
+    pub answer_plain : (a : Answer) → answer_to digest_of v e.caller e.moment e.command ≡ a
+        → reply_without hidden (reply_of a) ≡ reply_of a
+    answer_plain (Err refusal) is = refl
+    answer_plain (Ok o) is =
+        let told = accepted digest_of v e.caller e.moment e.command o is in
+        ap Accepted (command_plain e.command o told.so)

@@ -1,0 +1,139 @@
+-- Two worlds that agree but for requests that an account does not see show the account the same.
+use Rattle.std.proofs.Common.{◌≡◌, ℕ, Bool, true, false, List, refl, sym, ap, ◌∙◌, inl, inr}
+use Rattle.std.specs.Prelude.{Option, Some, None, option_map, is_some}
+use Rattle.std.specs.FinMap.{FinMap, get, contains_key}
+use Rattle.std.proofs.lemmas.Bool.{or_cases, both_ways}
+use Rattle.std.proofs.lemmas.Slice.Eq.{bytes_eq-Decides}
+use Rattle.reg_core.specs.File.{same_name, seats_of}
+use Rattle.reg_core.specs.Maps.{same_text, only_if}
+use Rattle.reg_core.specs.Striking.{has_account, ShowSame}
+use Rattle.reg_core.specs.View.{published, personal, requests_of, requests_by, queue_of, principal_rows_of, queued_to, as_queued, cap_at, with_personal}
+use Rattle.reg_core.specs.World.{World, RequestName, Seat, seat_cmp}
+use Rattle.reg_core.specs.declared.capability.Cap.{Cap}
+use Rattle.reg_core.specs.declared.request.Case.{Case}
+use Rattle.reg_core.proofs.Files.{same_name-is}
+use Rattle.reg_core.proofs.MapLaws.{name_keys, seat_keys}
+use Rattle.reg_laws.proofs.Striking.Maps.{AgreeBut, NoneAt, ChooseAlike, both_select, same_select}
+use Rattle.reg_laws.proofs.Striking.Worlds.{at_seat, Agree, Blind, Unaware}
+
+module _ {hidden : RequestName → Bool} {w v : World} (a : Agree hidden w v) where
+  -- anybody's own requests
+  pub own_agree : (of : List ℕ) → AgreeBut hidden (requests_of of w) (requests_of of v)
+  own_agree of = both_select name_keys hidden _ _ _ _ (λ name h case. refl) a.requests
+
+  queued_alike : (of : List ℕ) → ChooseAlike hidden (queued_to of w) (queued_to of v)
+  queued_alike of name h case i =
+      only_if (is_some (a.queue (name, of) h i)) (as_queued (a.advice (name, of) h i) case)
+
+  -- and anybody's queue
+  pub queue_agree : (of : List ℕ) → AgreeBut hidden (queue_of of w) (queue_of of v)
+  queue_agree of =
+      both_select name_keys hidden (queued_to of w) (queued_to of v) _ _
+      (queued_alike of) a.requests
+
+  -- and the requests of one of anybody's principals
+  pub rows_agree : (of principal : List ℕ)
+      → AgreeBut hidden (requests_by principal (principal_rows_of of w))
+      (requests_by principal (principal_rows_of of v))
+  rows_agree of principal =
+      both_select name_keys hidden (by principal) (by principal) _ _ (λ name h case. refl)
+      (both_select name_keys hidden (chosen w) (chosen v) _ _ alike a.requests)
+    where
+      by : List ℕ → RequestName → Case → Option Case
+      by applicant name case = only_if (same_text name.0 applicant) case
+
+      chosen : World → RequestName → Case → Option Case
+      chosen x name case = only_if (contains_key x.agents (name.0, of)) case
+
+      alike : ChooseAlike hidden (chosen w) (chosen v)
+      alike name h case = ap (λ (x : World). chosen x name case) a.rest
+
+-- and the rows of one request
+pub seats_same : {X : Type 0} (hidden : RequestName → Bool) (m n : FinMap seat_cmp X)
+    → AgreeBut (at_seat hidden) m n → (name : RequestName) → hidden name ≡ false
+    → seats_of name m ≡ seats_of name n
+seats_same {X = X} hidden m n agree name h =
+    same_select seat_keys (at_seat hidden) its its m n (λ seat k x. refl) agree none none
+  where
+    its : Seat → X → Option X
+    its seat x = only_if (same_name seat.0 name) x
+
+    by : (seat : Seat) (x : X) → hidden seat.0 ≡ true
+        → (b : Bool) → same_name seat.0 name ≡ b → only_if b x ≡ None
+    by seat x k true t =
+        let named = same_name-is seat.0 name t in
+        absurd (both_ways (hidden name) h (ap hidden (sym named) ∙ k))
+    by seat x k false t = refl
+
+    none : NoneAt (at_seat hidden) its
+    none seat k x = by seat x k (same_name seat.0 name) refl
+
+-- ---- What the account sees
+
+module _
+    (account : List ℕ) (hidden : RequestName → Bool) (w v : World)
+    (un : Unaware account hidden w v) where
+  requests_same : requests_of account w ≡ requests_of account v
+  requests_same =
+      same_select name_keys hidden own own _ _ (λ name h case. refl) un.agree.requests none none
+    where
+      own : RequestName → Case → Option Case
+      own name case = only_if (same_text name.0 account) case
+
+      none : NoneAt hidden own
+      none name h case = ap (λ b. only_if b case) (un.not_own name h)
+
+  queue_same : queue_of account w ≡ queue_of account v
+  queue_same =
+      same_select name_keys hidden (queued_to account w) (queued_to account v) _ _
+      (queued_alike un.agree account) un.agree.requests (none w un.blind_w) (none v un.blind_v)
+    where
+      none : (x : World) → Blind account hidden x → NoneAt hidden (queued_to account x)
+      none x blind name h case =
+          let queued = as_queued (get x.advice (name, account)) case in
+          ap (λ seat. only_if (is_some seat) queued) (blind.no_seat name h)
+
+  rows_same : principal_rows_of account w ≡ principal_rows_of account v
+  rows_same =
+      same_select name_keys hidden (chosen w) (chosen v) _ _ alike un.agree.requests
+      (none w un.blind_w) (none v un.blind_v)
+    where
+      chosen : World → RequestName → Case → Option Case
+      chosen x name case = only_if (contains_key x.agents (name.0, account)) case
+
+      alike : ChooseAlike hidden (chosen w) (chosen v)
+      alike name h case = ap (λ (x : World). chosen x name case) un.agree.rest
+
+      none : (x : World) → Blind account hidden x → NoneAt hidden (chosen x)
+      none x blind name h case = ap (λ b. only_if b case) (blind.no_link name h)
+
+  -- so for every capability of the account's
+  pub personal_same : (of : List ℕ) → same_text of account ≡ true → personal of w ≡ personal of v
+  personal_same of h =
+      let mine = (bytes_eq-Decides of account).0 h in
+      ap (λ of. personal of w) mine
+      ∙ (λ i. record (personal account (un.agree.rest i)) {
+        requests = requests_same i;
+        queue = queue_same i;
+        principal_rows = rows_same i;
+      })
+      ∙ sym (ap (λ of. personal of v) mine)
+
+  me_same : (existing : Option Cap) → has_account account existing ≡ true
+      → option_map (with_personal w) existing ≡ option_map (with_personal v) existing
+  me_same None h = refl
+  me_same (Some cap) h = ap (λ my. Some (cap, my)) (personal_same cap.account h)
+
+  pub show_same : ShowSame account w v
+  show_same = record {
+    published = ap published un.agree.rest;
+    views = λ caller h.
+        let caps : cap_at w caller ≡ cap_at v caller = ap (λ x. cap_at x caller) un.agree.rest in
+        let mine : has_account account (cap_at w caller) ≡ true =
+        elim (or_cases (has_account account (cap_at w caller)) _ h) [
+          | inl first ↦ first
+          | inr second ↦ ap (has_account account) caps ∙ second
+        ] in
+        let me = me_same (cap_at w caller) mine ∙ ap (option_map (with_personal v)) caps in
+        λ i. record { published = ap published un.agree.rest i; me = me i };
+  }

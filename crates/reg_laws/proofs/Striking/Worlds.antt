@@ -1,0 +1,225 @@
+-- Two worlds that agree but for hidden requests: after the same change of both, and after a change
+-- of a hidden request in the first.
+use Rattle.std.proofs.Common.{◌≡◌, Bool, true, false, cond, ◌&&◌, List, ℕ, refl, sym, ap, ◌∙◌}
+use Rattle.std.specs.Prelude.{Option, Some, None}
+use Rattle.std.specs.Ordering.{eq_by_cmp}
+use Rattle.std.specs.Cmp.Derive.{both_true}
+use Rattle.std.specs.FinMap as map
+use Rattle.std.specs.FinMap.{FinMap, get, insert, contains_key}
+use Rattle.std.specs.FinSet.{FinSet}
+use Rattle.std.proofs.lemmas.Bool.{both_ways}
+use Rattle.reg_core.specs.Entry.{registration_in}
+use Rattle.reg_core.specs.File.{same_name}
+use Rattle.reg_core.specs.Holding.{holder_in}
+use Rattle.reg_core.specs.Maps.{same_text}
+use Rattle.reg_core.specs.Unseen.{reveals_if, is_hidden}
+use Rattle.reg_core.specs.World.{World, RequestName, name_cmp, Place, Seat, seat_cmp, Link, link_cmp, in_state, pending, applied, applied_if}
+use Rattle.reg_core.specs.declared.advice.Advice.{Advice}
+use Rattle.reg_core.specs.declared.change.Change.{Change}
+use Rattle.reg_core.specs.declared.change.Change.TheVariants.{Submit, Close, Assign, Advise, GiveValue, GiveBlock, SetAgent}
+use Rattle.reg_core.specs.declared.request.Case.{Case}
+use Rattle.reg_core.specs.declared.request.State.TheVariants.{Approved}
+use Rattle.reg_core.specs.declared.request.Given.TheVariants.{Value, Block}
+use Rattle.reg_core.proofs.Files.{same_name-itself}
+use Rattle.reg_laws.proofs.Agents.{there_after}
+use Rattle.reg_core.proofs.MapLaws.{name_keys, seat_keys, link_keys, tied, get-at_insert}
+use Rattle.reg_core.proofs.Outcomes.Dues.{change_about}
+use Rattle.reg_core.proofs.SamenessIsDecided.{same_text-itself}
+use Rattle.reg_laws.proofs.Striking.Maps.{AgreeBut, both_insert, both_update, one_insert, one_update}
+
+-- the rows of a hidden request: its own, and those of its experts and of their advice
+abbrev pub at_seat : (RequestName → Bool) → Seat → Bool
+at_seat hidden seat = hidden seat.0
+
+-- a world with the requests of another one, and with what its experts have of them
+abbrev pub with_requests_of : World → World → World
+with_requests_of w v = record v { requests = w.requests; queue = w.queue; advice = w.advice }
+
+abbrev without_requests : World → World
+without_requests w = record w { requests = map.empty; queue = map.empty; advice = map.empty }
+
+pub record Agree (hidden : RequestName → Bool) (w v : World) : Type 0 where
+  pub rest : without_requests w ≡ without_requests v
+  pub requests : AgreeBut hidden w.requests v.requests
+  pub queue : AgreeBut (at_seat hidden) w.queue v.queue
+  pub advice : AgreeBut (at_seat hidden) w.advice v.advice
+
+pub agree_itself : (hidden : RequestName → Bool) (w : World) → Agree hidden w w
+agree_itself hidden w =
+    let same : AgreeBut (at_seat hidden) w.queue w.queue = λ seat h. refl in
+    record { rest = refl; requests = λ name h. refl; queue = same; advice = λ seat h. refl }
+
+-- so the first is the second but for the requests
+pub agree_rest : {hidden : RequestName → Bool} {w v : World} → Agree hidden w v
+    → with_requests_of w v ≡ w
+agree_rest {w = w} a =
+    sym (λ i. record (a.rest i) { requests = w.requests; queue = w.queue; advice = w.advice })
+
+-- ---- Changes of requests
+
+-- the change shows the account no hidden request
+abbrev pub IsQuiet : List ℕ → (RequestName → Bool) → Option Change → Type 0
+IsQuiet account hidden made =
+    (name : RequestName) → hidden name ≡ true → reveals_if account name made ≡ false
+
+-- what is made, if anything, is of a hidden request; or of none
+abbrev pub IsOfHidden : Bool → (RequestName → Bool) → Option Change → Type 0
+IsOfHidden b hidden made =
+    (change : Change) → made ≡ Some change → is_hidden hidden (change_about change) ≡ b
+
+module _ (hidden : RequestName → Bool) (w v : World) (a : Agree hidden w v) where
+  requests_set : (m n : FinMap name_cmp Case) → AgreeBut hidden m n
+      → Agree hidden (record w { requests = m }) (record v { requests = n })
+  requests_set m n same =
+      record { rest = a.rest; requests = same; queue = a.queue; advice = a.advice }
+
+  queue_set : (m n : FinSet seat_cmp) → AgreeBut (at_seat hidden) m n
+      → Agree hidden (record w { queue = m }) (record v { queue = n })
+  queue_set m n same =
+      record { rest = a.rest; requests = a.requests; queue = same; advice = a.advice }
+
+  advice_set : (m n : FinMap seat_cmp Advice) → AgreeBut (at_seat hidden) m n
+      → Agree hidden (record w { advice = m }) (record v { advice = n })
+  advice_set m n same =
+      record { rest = a.rest; requests = a.requests; queue = a.queue; advice = same }
+
+  -- of both worlds
+  agree_both : (change : Change) → Agree hidden (applied w change) (applied v change)
+  agree_both (Submit account reference ask) =
+      requests_set _ _
+      (both_insert name_keys hidden _ _ a.requests (account, reference) (pending ask))
+  agree_both (Close account reference state) =
+      requests_set _ _
+      (both_update name_keys hidden _ _ a.requests (account, reference) (in_state state))
+  agree_both (Assign account reference expert) =
+      queue_set _ _
+      (both_insert seat_keys (at_seat hidden) _ _ a.queue ((account, reference), expert) tt)
+  agree_both (Advise account reference expert advice) =
+      advice_set _ _
+      (both_insert seat_keys (at_seat hidden) _ _ a.advice ((account, reference), expert) advice)
+  agree_both (GiveValue account reference entry) =
+      let place : Place = (entry.registry, entry.value) in
+      let there = registration_in entry in
+      let new = λ (x : World). record x { entries = insert x.entries place there } in
+      let given = in_state (Approved (Value entry.value)) in
+      let requests = both_update name_keys hidden _ _ a.requests (account, reference) given in
+      record { rest = ap new a.rest; requests = requests; queue = a.queue; advice = a.advice }
+  agree_both (GiveBlock account reference holding) =
+      let there = holder_in holding in
+      let new = λ (x : World). record x { blocks = insert x.blocks holding.block there } in
+      let given = in_state (Approved (Block holding.block)) in
+      let requests = both_update name_keys hidden _ _ a.requests (account, reference) given in
+      record { rest = ap new a.rest; requests = requests; queue = a.queue; advice = a.advice }
+  agree_both change =
+      let rest = ap (λ x. applied x change) a.rest in
+      record { rest = rest; requests = a.requests; queue = a.queue; advice = a.advice }
+
+  pub agree_if : (made : Option Change) → Agree hidden (applied_if w made) (applied_if v made)
+  agree_if None = a
+  agree_if (Some change) = agree_both change
+
+  -- of a hidden request, in the first world alone: where it gives it nothing, they go on to agree
+  agree_hidden : (account : List ℕ) (change : Change)
+      → is_hidden hidden (change_about change) ≡ true → IsQuiet account hidden (Some change)
+      → Agree hidden (applied w change) v
+  agree_hidden of (Submit account reference ask) h quiet =
+      requests_set _ _
+      (one_insert name_keys hidden _ _ a.requests (account, reference) (pending ask) h)
+  agree_hidden of (Close account reference state) h quiet =
+      requests_set _ _
+      (one_update name_keys hidden _ _ a.requests (account, reference) (in_state state) h)
+  agree_hidden of (Assign account reference expert) h quiet =
+      queue_set _ _
+      (one_insert seat_keys (at_seat hidden) _ _ a.queue ((account, reference), expert) tt h)
+  agree_hidden of (Advise account reference expert advice) h quiet =
+      advice_set _ _
+      (one_insert seat_keys (at_seat hidden) _ _ a.advice ((account, reference), expert) advice h)
+  agree_hidden of (GiveValue account reference entry) h quiet =
+      let name : RequestName = (account, reference) in
+      absurd (both_ways (same_name name name) (quiet name h) (same_name-itself name))
+  agree_hidden of (GiveBlock account reference holding) h quiet =
+      let name : RequestName = (account, reference) in
+      absurd (both_ways (same_name name name) (quiet name h) (same_name-itself name))
+  agree_hidden of change h quiet = absurd (cc)
+
+  pub agree_hidden_if : (account : List ℕ) (made : Option Change) → IsOfHidden true hidden made
+      → IsQuiet account hidden made → Agree hidden (applied_if w made) v
+  agree_hidden_if of None h quiet = a
+  agree_hidden_if of (Some change) h quiet = agree_hidden of change (h change refl) quiet
+
+-- ---- What the account is blind to
+
+-- no hidden request is assigned to the account, or of an applicant whose agent the account is
+pub record Blind (account : List ℕ) (hidden : RequestName → Bool) (w : World) : Type 0 where
+  pub no_seat : (name : RequestName) → hidden name ≡ true → get w.queue (name, account) ≡ None
+  pub no_link : (name : RequestName) → hidden name ≡ true
+      → contains_key w.agents (name.0, account) ≡ false
+
+module _
+    (account : List ℕ) (hidden : RequestName → Bool) (w : World) (blind : Blind account hidden w)
+  where
+    no_seat : (change : Change) → IsQuiet account hidden (Some change) → (name : RequestName)
+        → hidden name ≡ true → get (applied w change).queue (name, account) ≡ None
+    no_seat (Assign applicant reference expert) quiet name h =
+        get-at_insert seat_keys w.queue new tt old ∙ by (eq_by_cmp seat_cmp old new) refl
+      where
+        new : Seat
+        new = ((applicant, reference), expert)
+
+        old : Seat
+        old = (name, account)
+
+        shown : Seat → Bool
+        shown seat = same_name seat.0 name && same_text seat.1 account
+
+        by : (t : Bool) → eq_by_cmp seat_cmp old new ≡ t → cond t (Some tt) (get w.queue old) ≡ None
+        by true t =
+            let at_new : shown new ≡ true =
+            ap shown (sym (tied seat_keys old new t))
+            ∙ both_true (same_name-itself name) (same_text-itself account) in
+            absurd (both_ways (shown new) (quiet name h) at_new)
+        by false t = blind.no_seat name h
+    no_seat change quiet name h = blind.no_seat name h
+
+    no_link : (change : Change) → IsQuiet account hidden (Some change) → (name : RequestName)
+        → hidden name ≡ true → contains_key (applied w change).agents (name.0, account) ≡ false
+    no_link (SetAgent principal agent reads) quiet name h =
+        there_after reads new w.agents old ∙ by (eq_by_cmp link_cmp old new) refl reads refl
+      where
+        new : Link
+        new = (principal, agent)
+
+        old : Link
+        old = (name.0, account)
+
+        shown : Link → Bool
+        shown link = same_text link.0 name.0 && same_text link.1 account
+
+        by : (t : Bool) → eq_by_cmp link_cmp old new ≡ t → (said : Bool) → reads ≡ said
+            → cond t said (contains_key w.agents old) ≡ false
+        by true t true is =
+            let at_new : shown new ≡ true =
+            ap shown (sym (tied link_keys old new t))
+            ∙ both_true (same_text-itself name.0) (same_text-itself account) in
+            let unsaid : shown new ≡ false =
+            ap (λ b. b && shown new) (sym is) ∙ quiet name h in
+            absurd (both_ways (shown new) unsaid at_new)
+        by true t false is = refl
+        by false t said is = blind.no_link name h
+    no_link change quiet name h = blind.no_link name h
+
+    pub blind_if : (made : Option Change) → IsQuiet account hidden made
+        → Blind account hidden (applied_if w made)
+    blind_if None quiet = blind
+    blind_if (Some change) quiet =
+        record { no_seat = no_seat change quiet; no_link = no_link change quiet }
+
+-- ---- What the account is unaware of
+
+-- the account is blind to hidden requests, of which none is its own, in two worlds that agree on all
+-- others
+pub record Unaware (account : List ℕ) (hidden : RequestName → Bool) (w v : World) : Type 0 where
+  pub agree : Agree hidden w v
+  pub not_own : (name : RequestName) → hidden name ≡ true → same_text name.0 account ≡ false
+  pub blind_w : Blind account hidden w
+  pub blind_v : Blind account hidden v

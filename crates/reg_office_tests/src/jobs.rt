@@ -1,0 +1,6 @@
+//! Jobs over offices in files.
+mod looks;
+mod outcomes;
+mod requests;
+mod scripts;
+mod steps;
