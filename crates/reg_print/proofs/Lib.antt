@@ -3,4 +3,5 @@ pub mod ListedMembers
 pub mod ListingText
 pub mod PrintedTokens
 pub mod ReadObjects
+pub mod WrittenDigits
 pub mod WrittenRecords

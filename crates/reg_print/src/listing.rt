@@ -1,6 +1,7 @@
 //! Registries and blocks as listings: their rows, and the records that are printed of them.
 
 pub mod blocks;
+mod digits;
 pub mod records;
 pub mod rows;
 pub mod writing;

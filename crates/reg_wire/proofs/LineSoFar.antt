@@ -1,41 +1,40 @@
 -- The kept bytes of a line, up to the first that makes it too long.
-use Rattle.std.proofs.Common.{◌≡◌, ℕ, ◌+◌, ◌<◌, ◌≤◌, List, [], ◌∷◌, ◌++◌, true, length, take, refl, sym, ap, ◌∙◌, arith, length-append, inl, inr}
+use Rattle.std.proofs.Common.{◌≡◌, ℕ, ◌+◌, ◌-◌, ◌<◌, ◌≤◌, List, ◌++◌, true, length, take, refl, sym, ap, ◌∙◌, arith, append-nil, inl, inr}
+use Rattle.std.proofs.Math.Seq.{take-append-add}
 use Rattle.std.proofs.lemmas.Bool.{lt-ltb, cases_lt}
-use Rattle.std.proofs.lemmas.List.{take_all, take-append-le, length-take, length-take-le}
-use Rattle.std.specs.Prelude.{nat_lt, None}
+use Rattle.std.proofs.lemmas.List.{take_all, take_min, take-append-le, length-take-le}
+use Rattle.std.specs.Prelude.{nat_lt, min, None, Result, Ok, Err, is_ok, OnOk, if◌then◌else◌}
 use Rattle.reg_wire.specs.Script.Line.{line_of, most_bytes}
 use Rattle.reg_wire.specs.Script.LineBuffer.{IsBuffered}
 
--- another byte of a line that is not too long
-short : (n : ℕ) (line buffered : List ℕ) → buffered ≡ take (n + 1) line → length buffered ≤ n
-    → take (n + 1) line ≡ line
-short n line buffered e h = elim (cases_lt n (length line)) [
-  | inl long ↦ let p : n + 1 ≤ length line = omega arith in
-      absurd (omega (arith, ap length e, length-take-le (n + 1) line p))
-  | inr fits ↦ take_all (n + 1) line (omega arith)
+-- as much of more bytes is kept as there is room for
+kept_more : (n : ℕ) (line buffered more : List ℕ) → buffered ≡ take n line
+    → buffered ++ take (n - length buffered) more ≡ take n (line ++ more)
+kept_more n line buffered more e = elim (cases_lt (length line) n) [
+  | inl short ↦
+      let whole : buffered ≡ line = e ∙ take_all n line (omega arith) in
+      let size : n ≡ length line + (n - length line) = omega arith in
+      rw whole
+      (sym (ap (λ k. take k (line ++ more)) size
+      ∙ take-append-add line more (n - length line)))
+  | inr full ↦
+      let none : n - length buffered ≡ 0 =
+      omega (arith, ap length e, length-take-le n line full) in
+      rw none (append-nil buffered ∙ e ∙ sym (take-append-le n line more full))
 ]
 
-more : (n : ℕ) (line buffered : List ℕ) (b : ℕ) → buffered ≡ take (n + 1) line → length buffered ≤ n
-    → buffered ++ b ∷ [] ≡ take (n + 1) (line ++ b ∷ [])
-more n line buffered b e h =
-    let whole = e ∙ short n line buffered e h in
-    let size : length (line ++ b ∷ []) ≤ n + 1 =
-    omega (arith, ap length whole, length-append line (b ∷ [])) in
-    ap (λ t. t ++ b ∷ []) whole ∙ sym (take_all (n + 1) (line ++ b ∷ []) size)
-
-full : (n : ℕ) (line buffered : List ℕ) (b : ℕ) → buffered ≡ take (n + 1) line → n < length buffered
-    → buffered ≡ take (n + 1) (line ++ b ∷ [])
-full n line buffered b e h =
-    let size : n + 1 ≤ length line = omega (arith, ap length e, length-take (n + 1) line) in
-    e ∙ sym (take-append-le (n + 1) line (b ∷ []) size)
-
-pub buffered_more : (line buffered : List ℕ) (b : ℕ) → IsBuffered line buffered
-    → length buffered ≤ most_bytes → IsBuffered (line ++ b ∷ []) (buffered ++ b ∷ [])
-buffered_more line buffered b e h = more most_bytes line buffered b e h
-
-pub buffered_full : (line buffered : List ℕ) (b : ℕ) → IsBuffered line buffered
-    → most_bytes < length buffered → IsBuffered (line ++ b ∷ []) buffered
-buffered_full line buffered b e h = full most_bytes line buffered b e h
+-- after they were appended, where there was memory
+pub buffered_more : {T E : Type 0} (r : Result T E) (buffered new more : List ℕ) (room kept : ℕ)
+    → room ≡ most_bytes + 1 - length buffered → kept ≡ min room (length more)
+    → new ≡ (if is_ok r then buffered ++ take kept more else buffered)
+    → OnOk r ((line : List ℕ) → IsBuffered line buffered → IsBuffered (line ++ more) new)
+buffered_more (Ok v) buffered new more room kept size least is =
+    λ line before.
+    let front : take kept more ≡ take room more =
+    ap (λ n. take n more) least ∙ take_min room more in
+    let kept_all = kept_more (most_bytes + 1) line buffered more before in
+    is ∙ ap (λ t. buffered ++ t) (front ∙ ap (λ n. take n more) size) ∙ kept_all
+buffered_more (Err e) buffered new more room kept size least is = tt
 
 long_none : (n : ℕ) (line : List ℕ) → n < length line → nat_lt n (length (take (n + 1) line)) ≡ true
 long_none n line h = let p : n + 1 ≤ length line = omega arith in

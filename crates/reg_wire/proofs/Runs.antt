@@ -1,7 +1,9 @@
--- One line more, and one byte more.
-use Rattle.std.proofs.Common.{◌≡◌, ◌≢◌, ℕ, ◌+◌, ◌<◌, ◌≤◌, List, [], ◌∷◌, ◌++◌, Option, None, Some, length, take, drop, arith, refl, sym, ap, ◌∙◌, append_assoc, append-nil, inl, inr, length-append, subst, get_or, add-one, drop-cons, take-append-drop}
+-- One line more, and more bytes of a line.
+use Rattle.std.proofs.Common.{◌≡◌, ◌≢◌, ℕ, ◌+◌, ◌<◌, ◌≤◌, List, [], ◌∷◌, ◌++◌, Option, None, Some, length, take, drop, arith, refl, sym, ap, ◌∙◌, append_assoc, append-nil, zero, suc, true, inl, inr, length-append, length-drop, ◌-◌, subst, get_or, take-append-drop}
 use Rattle.std.proofs.KnownBytes.{Appends-trans, Appends-nil, Consumes-nil}
-use Rattle.std.proofs.lemmas.List.{length-take}
+use Rattle.std.proofs.lemmas.Bool.{eq-eqb, eqb-true}
+use Rattle.std.proofs.lemmas.List.{drop_more, length-take, take_all}
+use Rattle.std.specs.Prelude.{◌==◌}
 use Rattle.std.proofs.Math.Seq.{take-append-add}
 use Rattle.std.specs.List.{flat_map, AllByRecursion}
 use Rattle.std.specs.Io.KnownBytes.{Appends, Consumes, IsAtEnd}
@@ -47,16 +49,16 @@ lines_more : (lines : List (List ℕ)) (line : List ℕ) → AllByRecursion IsOn
 lines_more [] line h k = (k, tt)
 lines_more (l ∷ lines) line h k = (h.0, lines_more lines line h.1 k)
 
-line_more : (rest : List ℕ) (b : ℕ) → b ≢ 10 → IsOneLine rest → IsOneLine (rest ++ b ∷ [])
-line_more [] b n h = (n, tt)
-line_more (x ∷ rest) b n h = (h.0, line_more rest b n h.1)
+line_more : (rest more : List ℕ) → IsOneLine rest → IsOneLine more → IsOneLine (rest ++ more)
+line_more [] more h k = k
+line_more (x ∷ rest) more h k = (h.0, line_more rest more h.1 k)
 
-cut_byte : (bytes : List ℕ) (lines : List (List ℕ)) (rest : List ℕ) (b : ℕ) → b ≢ 10
-    → Cut bytes lines rest → Cut (bytes ++ b ∷ []) lines (rest ++ b ∷ [])
-cut_byte bytes lines rest b n h = record {
-  whole = ap (λ t. t ++ b ∷ []) h.whole ∙ append_assoc (flat_map ended lines) rest (b ∷ []);
+cut_more : (bytes : List ℕ) (lines : List (List ℕ)) (rest more : List ℕ) → IsOneLine more
+    → Cut bytes lines rest → Cut (bytes ++ more) lines (rest ++ more)
+cut_more bytes lines rest more k h = record {
+  whole = ap (λ t. t ++ more) h.whole ∙ append_assoc (flat_map ended lines) rest more;
   each = h.each;
-  last = line_more rest b n h.last;
+  last = line_more rest more h.last k;
 }
 
 cut_line : (bytes : List ℕ) (lines : List (List ℕ)) (rest : List ℕ) → Cut bytes lines rest
@@ -147,18 +149,18 @@ module _ {S : Type 0} (Serves : S → Call → List ℕ → S → Type 0) (first
             (omega (arith, got.3, p.count, length-append (flat_map ended p.answers) (ended got.0)));
       }
 
-  -- another byte comes
-  pub progress_byte : (bytes buffered longer : List ℕ) (sent : ℕ) (w : S) (has : Option (List ℕ))
-      (b : ℕ)
-      → b ≢ 10
+  -- more bytes of a line come
+  pub progress_more : (bytes buffered longer more : List ℕ) (sent : ℕ) (w : S)
+      (has : Option (List ℕ))
+      → IsOneLine more
       → Progress Serves first had bytes buffered sent w has
-      → ((line : List ℕ) → IsBuffered line buffered → IsBuffered (line ++ b ∷ []) longer)
-      → Progress Serves first had (bytes ++ b ∷ []) longer sent w has
-  progress_byte bytes buffered longer sent w has b other p h = record {
+      → ((line : List ℕ) → IsBuffered line buffered → IsBuffered (line ++ more) longer)
+      → Progress Serves first had (bytes ++ more) longer sent w has
+  progress_more bytes buffered longer more sent w has one p h = record {
     lines = p.lines;
-    rest = p.rest ++ b ∷ [];
+    rest = p.rest ++ more;
     answers = p.answers;
-    cut = cut_byte bytes p.lines p.rest b other p.cut;
+    cut = cut_more bytes p.lines p.rest more one p.cut;
     is_buffered = h p.rest p.is_buffered;
     ran = p.ran;
     wrote = p.wrote;
@@ -394,13 +396,28 @@ pub one_more : (bytes buf : List ℕ) (made count : ℕ) → made ≤ length byt
 one_more bytes buf made count far some room =
     omega (arith, far, some, room, length-append bytes (take count buf), length-take count buf)
 
--- a byte of a piece, and the bytes after it
-pub piece_all : (bytes piece : List ℕ) (i : ℕ) → i < length piece
-    → ((bytes ++ take i piece) ++ get_or piece i 0 ∷ []) ++ drop (i + 1) piece ≡ bytes ++ piece
-piece_all bytes piece i h =
-    let e : get_or piece i 0 ∷ drop (i + 1) piece ≡ drop i piece =
-    rw (add-one, drop-cons piece i 0) refl in
-    append_assoc (bytes ++ take i piece) (get_or piece i 0 ∷ []) (drop (i + 1) piece)
-    ∙ ap (λ t. (bytes ++ take i piece) ++ t) e
-    ∙ append_assoc bytes (take i piece) (drop i piece)
-    ∙ ap (λ t. bytes ++ t) (take-append-drop i piece)
+-- ---- The next line feed
+
+-- no byte before a place is a line feed
+pub before_feed : (xs : List ℕ) (n : ℕ)
+    → ((k : ℕ) → 0 ≤ k → k < n → ¬ ((get_or xs k 0 == 10) ≡ true)) → IsOneLine (take n xs)
+before_feed xs zero h = tt
+before_feed [] (suc n) h = tt
+before_feed (x ∷ xs) (suc n) h = (
+  λ e. h 0 (omega arith) (omega arith) (eq-eqb x 10 e),
+  before_feed xs n (λ k a b. h (suc k) (omega arith) (omega arith)),
+)
+
+-- bytes, cut after a line feed among them
+pub at_feed : (xs : List ℕ) (at : ℕ) → at < length xs → (get_or xs at 0 == 10) ≡ true
+    → xs ≡ ended (take at xs) ++ drop (at + 1) xs
+at_feed xs at h e =
+    sym (take-append-drop at xs)
+    ∙ ap (λ t. take at xs ++ t)
+    (drop_more xs at 0 h ∙ ap (λ x. x ∷ drop (at + 1) xs) (eqb-true _ _ e))
+    ∙ sym (append_assoc (take at xs) (10 ∷ []) (drop (at + 1) xs))
+
+-- all from a place on
+pub from_place : (xs : List ℕ) (i : ℕ) → take (length xs - i) (drop i xs) ≡ drop i xs
+from_place xs i =
+    let size = length-drop i xs in take_all (length xs - i) (drop i xs) (omega arith)

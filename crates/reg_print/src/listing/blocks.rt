@@ -3,6 +3,7 @@ ghost use Rattle.std.specs.Prelude.{◌≡◌, ◌∷◌, IfOk, OnOk, [], codes,
 ghost use Rattle.reg_print.specs.BlockListing.{block_fields, block_header, block_listing_text};
 ghost use Rattle.reg_print.specs.Records.{Adds};
 
+use crate::listing::digits::BlockDigits;
 use crate::listing::writing::{empty, text_of, write_record};
 use csv::Writer;
 use reg_core::holding::Listed;
@@ -16,7 +17,7 @@ pub fn block_listing(alloc: Global, rows: &[Listed]) -> Result<Vec<u8>, AllocErr
     let mut writer = empty(alloc);
     write_header(&mut writer)?;
     for row in rows {
-        write_row(alloc, &mut writer, row)?;
+        write_row(&mut writer, row)?;
     }
     text_of(writer)
 }
@@ -35,19 +36,15 @@ fn write_header<W: Write + Drop>(writer: &mut Writer<W>) -> Result<(), AllocErro
     )
 }
 
-fn write_row<W: Write + Drop>(
-    alloc: Global,
-    writer: &mut Writer<W>,
-    row: &Listed,
-) -> Result<(), AllocError>
+fn write_row<W: Write + Drop>(writer: &mut Writer<W>, row: &Listed) -> Result<(), AllocError>
     ensures { OnOk result (Adds W.contents writer.old writer.new (block_fields row.now)) }
 {
-    let digits = row.block.text(alloc)?;
+    let digits = BlockDigits::of(&row.block);
     let size = row.block.size();
     write_fields(
         writer,
         size.word(),
-        digits.as_str(),
+        digits.as_slice(),
         organization_text(row),
         address_text(row),
     )
@@ -57,7 +54,7 @@ fn write_row<W: Write + Drop>(
 fn write_fields<'a, W: Write + Drop>(
     writer: &mut Writer<W>,
     size: &'a str,
-    digits: &'a str,
+    digits: &'a [u8],
     organization: &'a str,
     address: &'a str,
 ) -> Result<(), AllocError>
@@ -69,7 +66,7 @@ fn write_fields<'a, W: Write + Drop>(
         writer,
         &[
             size.as_bytes(),
-            digits.as_bytes(),
+            digits,
             organization.as_bytes(),
             address.as_bytes(),
         ],

@@ -13,15 +13,17 @@ use reg_ranges::policy::Policy;
 use std::alloc::{AllocError, Global};
 use std::io::Write;
 
-/// A registry as a listing. One writer writes all of its records.
+/// A registry as a listing. One writer writes all of its records, and one text has the values of
+/// each in turn.
 pub fn listing(alloc: Global, page: &Page) -> Result<Vec<u8>, AllocError>
     ensures { IfOk result (λ v. v.items ≡ listing_text page.now) }
 {
     let rows = rows(alloc, page)?;
     let mut writer = empty(alloc);
+    let mut values = String::new(alloc);
     write_header(&mut writer)?;
     for row in &rows {
-        write_row(alloc, &mut writer, row)?;
+        write_row(alloc, &mut writer, &mut values, row)?;
     }
     text_of(writer)
 }
@@ -43,14 +45,17 @@ fn write_header<W: Write + Drop>(writer: &mut Writer<W>) -> Result<(), AllocErro
     )
 }
 
+// A record of a row. `values` has room for its values, and those of an earlier row.
 fn write_row<W: Write + Drop>(
     alloc: Global,
     writer: &mut Writer<W>,
+    values: &mut String,
     row: &ListingRow<'_>,
 ) -> Result<(), AllocError>
     ensures { OnOk result (Adds W.contents writer.old writer.new (row_fields (row_view row.now))) }
 {
-    let values = format!(in alloc; "{}", row.values)?;
+    values.clear();
+    write!(values, "{}", row.values)?;
     let first = first_text(alloc, row)?;
     let expiry = expiry_text(alloc, row)?;
     write_fields(

@@ -1,5 +1,5 @@
 //! The line that is being read, so far.
-ghost use Rattle.std.specs.Prelude.{◌≡◌, ◌<◌, length, ◌++◌, ◌∷◌, [], List, ℕ, IsTrue, ◌↔◌, OnOk, option_map};
+ghost use Rattle.std.specs.Prelude.{◌≡◌, length, ◌++◌, [], List, ℕ, IsTrue, ◌↔◌, OnOk, option_map};
 ghost use Rattle.reg_wire.specs.Script.Line.{line_of, call_of};
 ghost use Rattle.reg_wire.specs.Script.LineBuffer.{IsBuffered};
 
@@ -45,15 +45,14 @@ impl LineBuffer {
         read_line(self.bytes.as_slice())
     }
 
-    /// One byte more.
-    pub fn push(&mut self, byte: u8) -> Result<(), AllocError>
+    /// More bytes of the line.
+    pub fn extend(&mut self, more: &[u8]) -> Result<(), AllocError>
         ensures { OnOk result
-            ((line : List ℕ) → IsBuffered line self.old → IsBuffered (line ++ byte ∷ []) self.new) }
+            ((line : List ℕ) → IsBuffered line self.old → IsBuffered (line ++ more.now) self.new) }
     {
-        if self.bytes.len() <= MOST_BYTES {
-            self.bytes.push(byte)?;
-        }
-        Ok(())
+        let room = (MOST_BYTES + 1).saturating_sub(self.bytes.len());
+        let kept = room.min(more.len());
+        self.bytes.extend_from_slice(&more[..kept])
     }
 
     /// Nothing of the next line.

@@ -1,13 +1,14 @@
 //! The lines of a script, answered in turn by any responder.
-ghost use Rattle.std.specs.Prelude.{◌≡◌, ◌+◌, ◌++◌, ◌∷◌, [], List, ℕ, Option, OnOk, IfOk, IfErr, length};
+ghost use Rattle.std.specs.Prelude.{◌≡◌, ◌+◌, ◌++◌, List, ℕ, Option, OnOk, IfOk, IfErr, length};
 ghost use Rattle.std.specs.Io.KnownBytes.{Appends};
-ghost use Rattle.reg_wire.specs.Script.Lines.{ended, Answered, AnswersAll, StopsAt};
+ghost use Rattle.reg_wire.specs.Script.Lines.{ended, Answered, AnswersAll, IsOneLine, StopsAt};
 ghost use Rattle.reg_wire.specs.Script.LineBuffer.{IsBuffered, CutShort, Progress, Whole, Halted, HaltedLast};
 
 use crate::script::line_buffer::LineBuffer;
 use crate::script::responder::{Responder, Unanswered};
 use crate::script::sending::send_answer;
 use crate::wire_fault::WireFault;
+use memchr::memchr;
 use std::alloc::Global;
 use std::io::{Read, Write};
 
@@ -73,31 +74,29 @@ fn answer_buffered<A: Responder, W: Write>(
     }
 }
 
-// Takes one byte of the script, and answers the line that it ends.
-fn take_byte<A: Responder, W: Write>(
+// Takes the last bytes of a line, which end before its line feed, and answers the line.
+fn take_line<A: Responder, W: Write>(
     alloc: Global,
     responder: &mut A,
     routes: &A::Routes,
     writer: &mut W,
     buffer: &mut LineBuffer,
     sent: usize,
-    byte: u8,
+    last: &[u8],
 ) -> Result<usize, WireFault>
+    requires { IsOneLine last.now }
     ensures ok { IfOk result
         (λ n. (first : A) (had : Option (List ℕ)) (bytes : List ℕ)
         → Progress A.Serves first had bytes buffer.old sent responder.old (W.contents writer.old)
-        → Progress A.Serves first had (bytes ++ byte ∷ []) buffer.new n responder.new
+        → Progress A.Serves first had (bytes ++ ended last.now) buffer.new n responder.new
         (W.contents writer.new)) }
     ensures err { IfErr result
         (λ fault. (first : A) (had : Option (List ℕ)) (bytes : List ℕ)
         → Progress A.Serves first had bytes buffer.old sent responder.old (W.contents writer.old)
-        → Halted A.Serves fault first had (bytes ++ byte ∷ []) responder.new
+        → Halted A.Serves fault first had (bytes ++ ended last.now) responder.new
         (W.contents writer.new)) }
 {
-    if byte != b'\n' {
-        buffer.push(byte)?;
-        return Ok(sent);
-    }
+    buffer.extend(last)?;
     let sent = answer_buffered(alloc, responder, routes, writer, buffer, sent)?;
     buffer.clear();
     Ok(sent)
@@ -125,9 +124,12 @@ fn take_piece<A: Responder, W: Write>(
         (W.contents writer.new)) }
 {
     let mut total = sent;
-    for byte in piece {
-        total = take_byte(alloc, responder, routes, writer, buffer, total, *byte)?;
+    let mut rest = piece;
+    'lines: while let Some(at) = memchr(b'\n', rest) {
+        total = take_line(alloc, responder, routes, writer, buffer, total, &rest[..at])?;
+        rest = &rest[at + 1..];
     }
+    buffer.extend(rest)?;
     Ok(total)
 }
 

@@ -1,5 +1,6 @@
 //! The office as the responder of a script.
 ghost use Rattle.std.specs.Prelude.{◌≡◌, ◌++◌, ◌∷◌, map, IfOk};
+ghost use Rattle.std.specs.Cow.{cow_slice_items};
 ghost use Rattle.std.specs.Fmt.{decimal};
 ghost use Rattle.reg_keeper.specs.Keeper.{Makes};
 ghost use Rattle.reg_wire.specs.Exchange.{answer_to, world_then, IsAnswered};
@@ -10,11 +11,13 @@ ghost use Rattle.reg_wire.specs.Script.Lines.{ended};
 use crate::exchange::{Call, answer_to};
 use crate::script::line::Line;
 use crate::script::responder::{Responder, Unanswered};
+use memchr::memchr;
 use reg_keeper::keeper::{Fault, Keeper};
 use reg_office::Office;
 use reg_parse::route::Routes;
 use reg_print::answer::{Answer, body_of};
 use std::alloc::{AllocError, Global};
+use std::borrow::CowSlice;
 
 impl<K: Keeper> Responder for Office<K> {
     type Routes = Routes;
@@ -61,11 +64,14 @@ fn answer_to_line<K: Keeper>(
     answer_to(alloc, office, routes, &call)
 }
 
-// A body as it is written in a line, with its line feeds.
-fn with_line_feeds(alloc: Global, body: &[u8]) -> Result<Vec<u8>, AllocError>
-    ensures { IfOk result (λ v. v.items ≡ map line_feed body.now) }
+// A body as it is written in a line, with its line feeds. One that has none is not copied.
+fn with_line_feeds(alloc: Global, body: &[u8]) -> Result<CowSlice<'_, u8>, AllocError>
+    ensures { IfOk result (λ text. cow_slice_items text ≡ map line_feed body.now) }
 {
-    body.iter().map(|b| line_feed_of(*b)).collect(alloc)
+    match memchr(b'\t', body) {
+        None => Ok(CowSlice::Borrowed(body)),
+        Some(_) => Ok(CowSlice::Owned(body.iter().map(|b| line_feed_of(*b)).collect(alloc)?)),
+    }
 }
 
 fn line_feed_of(b: u8) -> u8
