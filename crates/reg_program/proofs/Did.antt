@@ -7,7 +7,7 @@ use Rattle.reg_keeper.specs.Keeper.{GoesOn, MayFault}
 use Rattle.reg_keeper.specs.declared.keeper.Fault.{Fault as KeeperFault}
 use Rattle.reg_keeper.specs.declared.keeper.Fault.TheVariants as keeper
 use Rattle.reg_program.specs.Doing.{Does}
-use Rattle.reg_program.specs.Undone.{IsOfPrinting, MayUndo, failure_of}
+use Rattle.reg_program.specs.Undone.{IsOfPrinting, IsOfStoreOrPrinting, MayUndo, failure_of}
 use Rattle.reg_program.specs.declared.faults.JobFailure.{JobFailure}
 use Rattle.reg_program.specs.declared.faults.JobFailure.TheVariants as failure
 use Rattle.reg_program.specs.declared.faults.Undone.{Undone}
@@ -43,9 +43,35 @@ printing_may fails (Fault why) h = printing_fails fails why h
 printing_may fails (Explained why text) h = absurd h
 printing_may fails (Refused line) h = tt
 
+pub write_may : (fails : Bool) (why : Undone) → why ≡ Fault failure.Write → MayUndo fails why
+write_may fails why h = rw h tt
+
 -- output that could not be written is of printing
 pub write_prints : (why : Undone) → why ≡ Fault failure.Write → IsOfPrinting why
 write_prints why h = rw h tt
+
+-- ---- Faults of a store or of printing
+
+pub fault_is_common : (fault : KeeperFault) → IsOfStoreOrPrinting (Fault (failure_of fault))
+fault_is_common keeper.Memory = tt
+fault_is_common keeper.Store = tt
+
+printing_common : (why : JobFailure) → IsOfPrinting (Fault why) → IsOfStoreOrPrinting (Fault why)
+printing_common failure.Memory h = tt
+printing_common failure.Store h = tt
+printing_common failure.Read h = absurd h
+printing_common failure.Write h = tt
+printing_common failure.NotOurs h = absurd h
+printing_common (failure.Version version) h = absurd h
+printing_common failure.Token h = absurd h
+printing_common failure.Exists h = absurd h
+printing_common failure.Port h = absurd h
+printing_common failure.Large h = absurd h
+
+pub printing_is_common : (why : Undone) → IsOfPrinting why → IsOfStoreOrPrinting why
+printing_is_common (Fault why) h = printing_common why h
+printing_is_common (Explained why text) h = absurd h
+printing_is_common (Refused line) h = absurd h
 
 -- ---- The premise
 
@@ -93,6 +119,26 @@ module _ {S : Type 0} (world : S → World) (Holds Sound : S → Type 0) (fails 
           fault = may;
         })
 
+    -- it ends by a call of which an error is of these kinds
+    pub ends_by : (Why : Undone → Type 0) (result : Result ⊤ Undone) (Printed : Type 0)
+        → OnOk result Printed → IfErr result Why → ((why : Undone) → Why why → MayUndo fails why)
+        → GoesOn Holds Sound before after ⊤
+        → (Holds after → Printed → Done (world before) (world after))
+        → (Holds after → (why : Undone) → Why why → Fails (world before) (world after) why)
+        → Does world Holds Sound fails before after result Done Fails
+    ends_by Why (Ok u) Printed ok err may goes done_so fails_so = record {
+      done = λ h. done_so h ok;
+      undone = λ h. tt;
+      premise = goes_as goes (λ _. tt);
+      fault = tt;
+    }
+    ends_by Why (Err why) Printed ok err may goes done_so fails_so = record {
+      done = λ h. tt;
+      undone = λ h. fails_so h why err;
+      premise = goes_as goes (λ _. tt);
+      fault = may why err;
+    }
+
     -- it ends by printing
     pub ends_printing : (result : Result ⊤ Undone) (Printed : Type 0) → OnOk result Printed
         → IfErr result IsOfPrinting → GoesOn Holds Sound before after ⊤
@@ -100,15 +146,4 @@ module _ {S : Type 0} (world : S → World) (Holds Sound : S → Type 0) (fails 
         → (Holds after → (why : Undone) → IsOfPrinting why
         → Fails (world before) (world after) why)
         → Does world Holds Sound fails before after result Done Fails
-    ends_printing (Ok u) Printed ok err goes done_so fails_so = record {
-      done = λ h. done_so h ok;
-      undone = λ h. tt;
-      premise = goes_as goes (λ _. tt);
-      fault = tt;
-    }
-    ends_printing (Err why) Printed ok err goes done_so fails_so = record {
-      done = λ h. tt;
-      undone = λ h. fails_so h why err;
-      premise = goes_as goes (λ _. tt);
-      fault = printing_may fails why err;
-    }
+    ends_printing result Printed ok err = ends_by IsOfPrinting result Printed ok err (printing_may fails)

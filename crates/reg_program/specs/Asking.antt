@@ -1,5 +1,5 @@
 -- The jobs that are one command: which command that is, and what is printed of its answer.
-use Rattle.std.specs.Prelude.{◌≡◌, ◌⊎◌, ◌∷◌, ◌++◌, ℕ, [], Bool, true, false, List, Option}
+use Rattle.std.specs.Prelude.{◌≡◌, ◌⊎◌, ◌∷◌, ◌++◌, ℕ, [], true, false, List, Option, Some, None}
 use Rattle.std.specs.Prelude.{Result, Err, Ok, MatchResult, codes}
 use Rattle.std.specs.Io.KnownBytes.{Appends}
 use Rattle.reg_core.specs.Laws.{is_refused}
@@ -26,6 +26,11 @@ use Rattle.reg_program.specs.declared.faults.Undone.TheVariants.{Fault, Explaine
 -- where a registry is defined
 abbrev pub definition_at : List ℕ → List ℕ → List ℕ
 definition_at name max = codes "/desk/registries/" ++ (name ++ (codes "/" ++ max))
+
+-- where a registry is listed or, without one, the blocks
+abbrev pub listing_at : Option (List ℕ) → List ℕ
+listing_at (Some name) = codes "/listings/registries/" ++ name
+listing_at None = codes "/listings/blocks"
 
 -- the bytes spell no command, and this line says why; or there was no memory
 abbrev pub IsUnread : Reading Command → Undone → Type 0

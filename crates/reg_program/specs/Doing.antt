@@ -1,5 +1,5 @@
 -- What a job does with an office.
-use Rattle.std.specs.Prelude.{◌≡◌, Bool, false, Result, OnOk, IfErr}
+use Rattle.std.specs.Prelude.{Bool, false, Result, OnOk, IfErr}
 use Rattle.reg_core.specs.World.{World}
 use Rattle.reg_keeper.specs.Keeper.{GoesOn}
 use Rattle.reg_program.specs.Undone.{MayUndo}

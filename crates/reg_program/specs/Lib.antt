@@ -1,4 +1,10 @@
 pub mod Asking
+pub mod Checking
 pub mod Doing
+pub mod Founding
 pub mod Looking
+pub mod Printing
+pub mod Revoking
+pub mod Tasks
+pub mod Tokens
 pub mod Undone

@@ -2,7 +2,9 @@
 use Rattle.std.specs.Prelude.{◌≡◌, ◌∷◌, ◌++◌, ⊤, ℕ, Bool, true, List, IsTrue}
 use Rattle.std.specs.Fmt.{decimal}
 use Rattle.reg_core.specs.Laws.{is_refused}
+use Rattle.reg_core.specs.declared.refusal.Refusal.{Refusal}
 use Rattle.reg_core.specs.declared.reply.Reply.{Reply}
+use Rattle.reg_core.specs.declared.reply.Reply.TheVariants as reply
 use Rattle.reg_keeper.specs.declared.keeper.Fault.{Fault as KeeperFault}
 use Rattle.reg_keeper.specs.declared.keeper.Fault.TheVariants as keeper
 use Rattle.reg_office.specs.declared.found.FoundFault.{FoundFault}
@@ -51,6 +53,13 @@ IsOfPrinting (Fault Memory) = ⊤
 IsOfPrinting (Fault Write) = ⊤
 IsOfPrinting _ = ⊥
 
+-- there was no memory, the store failed, or what is printed could not be written
+abbrev pub IsOfStoreOrPrinting : Undone → Type 0
+IsOfStoreOrPrinting (Fault Memory) = ⊤
+IsOfStoreOrPrinting (Fault Store) = ⊤
+IsOfStoreOrPrinting (Fault Write) = ⊤
+IsOfStoreOrPrinting _ = ⊥
+
 -- the status and the body of an answer, with a space between
 abbrev pub answer_line : Answer → List ℕ
 answer_line a = decimal (status_of a) ++ 32 ∷ body_text a
@@ -61,3 +70,13 @@ IsRefusedBy reply (Refused line) =
     (is_refused reply ≡ true) × (line.items ≡ answer_line (answer.Reply reply))
 IsRefusedBy reply (Fault failure) = failure ≡ Memory
 IsRefusedBy reply (Explained failure why) = ⊥
+
+-- what is answered to a command that is refused so
+abbrev pub refusal_line : Refusal → List ℕ
+refusal_line refusal = answer_line (answer.Reply (reply.Refused refusal))
+
+-- this line says why; or there was no memory
+abbrev pub IsSaidBy : List ℕ → Undone → Type 0
+IsSaidBy text (Refused line) = line.items ≡ text
+IsSaidBy text (Fault failure) = failure ≡ Memory
+IsSaidBy text (Explained failure why) = ⊥

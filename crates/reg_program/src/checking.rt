@@ -1,4 +1,12 @@
 //! The job that says whether an office is well kept, and counts what is in it.
+ghost use Rattle.std.specs.Prelude.{◌≡◌, IfOk, IfErr};
+ghost use Rattle.std.specs.String.{string_bytes};
+ghost use Rattle.reg_program.specs.Checking.{IsChecked, IsUnchecked, counts_text};
+ghost use Rattle.reg_program.specs.Checking.{held_text as text_of_held};
+ghost use Rattle.reg_program.specs.Checking.{published_text as text_of_published};
+ghost use Rattle.reg_program.specs.Checking.{requests_text as text_of_requests};
+ghost use Rattle.reg_program.specs.Doing.{Does};
+
 use crate::desk::print;
 use crate::faults::Undone;
 use crate::tokens::refused_as;
@@ -17,7 +25,14 @@ pub fn check_in<K: Keeper, W: Write>(
     version: i64,
     moment: u64,
     output: &mut W,
-) -> Result<(), Undone> {
+) -> Result<(), Undone>
+    ensures does { Does K.world K.Holds K.Sound K.FAILS office.old office.new result
+        (λ old new. IsChecked version moment (W.contents output.old) (W.contents output.new)
+        old new)
+        (λ old new why. new ≡ old) }
+    ensures looks { K.Holds office.new → K.world office.new ≡ K.world office.old }
+    ensures why { IfErr result (IsUnchecked moment) }
+{
     let Some(today) = day_of(moment) else {
         return Err(refused_as(alloc, Refusal::Clock)?);
     };
@@ -27,14 +42,18 @@ pub fn check_in<K: Keeper, W: Write>(
 }
 
 /// The version, that the office is well kept, and each count, on lines of their own.
-fn text_of(alloc: Global, version: i64, counts: &Counts) -> Result<String, AllocError> {
+fn text_of(alloc: Global, version: i64, counts: &Counts) -> Result<String, AllocError>
+    ensures { IfOk result (λ text. string_bytes text ≡ counts_text version counts.now) }
+{
     let published = published_text(alloc, counts)?;
     let requests = requests_text(alloc, counts)?;
     let held = held_text(alloc, counts)?;
     format!(in alloc; "version {version}\nwell kept\n{published}{requests}{held}")
 }
 
-fn published_text(alloc: Global, counts: &Counts) -> Result<String, AllocError> {
+fn published_text(alloc: Global, counts: &Counts) -> Result<String, AllocError>
+    ensures { IfOk result (λ text. string_bytes text ≡ text_of_published counts.now) }
+{
     let registries = counts.registries;
     let entries = counts.entries.all;
     let temporary = counts.entries.temporary;
@@ -45,7 +64,9 @@ fn published_text(alloc: Global, counts: &Counts) -> Result<String, AllocError> 
     )
 }
 
-fn requests_text(alloc: Global, counts: &Counts) -> Result<String, AllocError> {
+fn requests_text(alloc: Global, counts: &Counts) -> Result<String, AllocError>
+    ensures { IfOk result (λ text. string_bytes text ≡ text_of_requests counts.now) }
+{
     let requests = counts.requests.all;
     let pending = counts.requests.pending;
     let approved = counts.requests.approved;
@@ -56,7 +77,9 @@ fn requests_text(alloc: Global, counts: &Counts) -> Result<String, AllocError> {
     )
 }
 
-fn held_text(alloc: Global, counts: &Counts) -> Result<String, AllocError> {
+fn held_text(alloc: Global, counts: &Counts) -> Result<String, AllocError>
+    ensures { IfOk result (λ text. string_bytes text ≡ text_of_held counts.now) }
+{
     let caps = counts.caps.all;
     let valid = counts.caps.valid;
     let prefixes = counts.prefixes;

@@ -2,7 +2,7 @@
 //!
 //! Each is a command at the moment of the clock, as a request asks it, and what is printed of its
 //! answer.
-ghost use Rattle.std.specs.Prelude.{◌≡◌, ◌++◌, codes, IfOk, IfErr, OnOk, false, true};
+ghost use Rattle.std.specs.Prelude.{◌≡◌, ◌++◌, [], codes, option_map, IfOk, IfErr, OnOk, false, true};
 ghost use Rattle.std.specs.Io.KnownBytes.{Appends, Keeps};
 ghost use Rattle.std.specs.Option.{option_copied};
 ghost use Rattle.std.specs.String.{string_bytes};
@@ -11,10 +11,10 @@ ghost use Rattle.reg_core.specs.World.{World};
 ghost use Rattle.reg_office.specs.Caller.{step_by};
 ghost use Rattle.reg_parse.specs.Command.{asked};
 ghost use Rattle.reg_print.specs.declared.answer.Answer.TheVariants as answer;
-ghost use Rattle.reg_program.specs.Asking.{IsPrinted, IsUnprinted, Spells, after_body, definition_at, in_form, printed};
+ghost use Rattle.reg_program.specs.Asking.{IsPrinted, IsUnprinted, Spells, after_body, definition_at, in_form, listing_at, printed};
 ghost use Rattle.reg_program.specs.Doing.{Does};
 ghost use Rattle.reg_program.specs.Looking.{only_looks};
-ghost use Rattle.reg_program.specs.Undone.{IsRefusedBy, answer_line as line_of};
+ghost use Rattle.reg_program.specs.Undone.{IsRefusedBy, answer_line as line_of, refusal_line as text_of_refusal};
 
 use crate::faults::{JobFailure, Undone};
 use reg_core::command::Command;
@@ -44,6 +44,8 @@ pub fn definition(alloc: Global, order: &Definition, ranges: &[u8]) -> Result<Co
 
 /// The command that lists a registry or, without one, the blocks. `Refused` where the name is none.
 pub fn listing(alloc: Global, registry: &Option<String>) -> Result<Command, Undone>
+    ensures spelled { let path = listing_at (option_map string_bytes registry.now) in
+        Spells (asked (codes "GET") path []) result }
     ensures looks { IfOk result (λ command. only_looks command ≡ true) }
 {
     match registry {
@@ -160,8 +162,7 @@ fn with_end(mut text: Vec<u8>, format: Format) -> Result<Vec<u8>, AllocError>
 
 /// The status and the body of the answer to a command that is refused, with a space between.
 pub fn refusal_line(alloc: Global, refusal: Refusal) -> Result<Vec<u8>, AllocError>
-    ensures { IfOk result
-        (λ line. line.items ≡ line_of (answer.Reply (Reply.Refused refusal))) }
+    ensures { IfOk result (λ line. line.items ≡ text_of_refusal refusal) }
 {
     let line = answer_line(alloc, &Answer::Reply(Reply::Refused(refusal)))?;
     Ok(line)

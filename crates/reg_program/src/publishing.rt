@@ -1,4 +1,6 @@
 //! The job that publishes an office.
+ghost use Rattle.std.specs.Prelude.{◌≡◌, OnOk};
+
 use crate::desk::{print, refusal_line};
 use crate::faults::{JobFailure, Undone};
 use reg_publish::directory::Directory;
@@ -46,7 +48,10 @@ pub fn publish_in<S: Source, W: Write>(
     moment: u64,
     folder: &str,
     output: &mut W,
-) -> Result<(), Undone> {
+) -> Result<(), Undone>
+    ensures { OnOk result
+        (S.Holds source.new → S.published source.new ≡ S.published source.old) }
+{
     let alloc = rt.alloc();
     match publish_locked(rt, alloc, source, moment, folder) {
         Ok(count) => print(output, line_of(alloc, count)?.as_bytes()),
@@ -61,7 +66,10 @@ fn publish_locked<S: Source>(
     source: &mut S,
     moment: u64,
     folder: &str,
-) -> Result<Count, Unpublished> {
+) -> Result<Count, Unpublished>
+    ensures { OnOk result
+        (S.Holds source.new → S.published source.new ≡ S.published source.old) }
+{
     let mut directory = Directory::open(rt, alloc, folder)?;
     let lock = locked(rt, folder)?;
     let count = publish(alloc, source, &mut directory, moment);

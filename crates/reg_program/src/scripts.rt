@@ -1,4 +1,7 @@
 //! The job that has an office answer the lines of a script.
+ghost use Rattle.std.specs.Prelude.{OnOk, IfErr};
+ghost use Rattle.reg_program.specs.Founding.{RunsAll, RunsUpTo, told_beside};
+
 use crate::console::Console;
 use crate::faults::Undone;
 use crate::progress::Progress;
@@ -16,7 +19,16 @@ pub fn run_in<H: AllocGlobal + Clock, K: Keeper, R: Read, W: Write, E: Write>(
     office: &mut Office<K>,
     clerk: &[u8],
     console: &mut Console<'_, R, W, E>,
-) -> Result<(), Undone> {
+) -> Result<(), Undone>
+    ensures ok { let known = λ (w : W). told_beside console.old.is_watched (W.contents w) in
+        OnOk result (RunsAll K.world K.Holds K.Sound K.FAILS office.old office.new clerk.now
+        (R.remaining console.old.input.now) (R.remaining console.new.input.now)
+        (known console.old.output.now) (known console.new.output.now)) }
+    ensures err { let known = λ (w : W). told_beside console.old.is_watched (W.contents w) in
+        IfErr result (RunsUpTo K.world K.Holds K.Sound K.FAILS office.old office.new clerk.now
+        (R.remaining console.old.input.now) (R.remaining console.new.input.now)
+        (known console.old.output.now) (known console.new.output.now)) }
+{
     let alloc = rt.alloc();
     if !console.is_watched {
         return found_and_run(alloc, office, clerk, console.input, console.output);
@@ -34,7 +46,16 @@ pub fn found_and_run<K: Keeper, R: Read, W: Write>(
     clerk: &[u8],
     input: &mut R,
     output: &mut W,
-) -> Result<(), Undone> {
+) -> Result<(), Undone>
+    ensures ok { OnOk result
+        (RunsAll K.world K.Holds K.Sound K.FAILS office.old office.new clerk.now
+        (R.remaining input.old) (R.remaining input.new) (W.contents output.old)
+        (W.contents output.new)) }
+    ensures err { IfErr result
+        (RunsUpTo K.world K.Holds K.Sound K.FAILS office.old office.new clerk.now
+        (R.remaining input.old) (R.remaining input.new) (W.contents output.old)
+        (W.contents output.new)) }
+{
     office.found(clerk)?;
     run(alloc, office, input, output)?;
     Ok(())

@@ -1,4 +1,11 @@
 //! What jobs do with the offices in files.
+ghost use Rattle.std.specs.Prelude.{◌≡◌, false, true, Err};
+ghost use Rattle.reg_core.specs.Names.{is_token};
+ghost use Rattle.reg_program.specs.Doing.{Does};
+ghost use Rattle.reg_program.specs.Founding.{IsReady, IsUnready};
+ghost use Rattle.reg_program.specs.Tasks.{Did, looks_on, streams};
+ghost use Rattle.reg_program.specs.declared.faults.JobFailure.TheVariants as failure;
+
 use crate::console::Console;
 use crate::desk::{Form, ask_in, print};
 use crate::faults::Undone;
@@ -84,7 +91,14 @@ impl Task<'_> {
         rt: &HostRuntime,
         office: &mut Office<K>,
         console: &mut Console<'_, R, W, E>,
-    ) -> Result<(), Undone> {
+    ) -> Result<(), Undone>
+        ensures did { let io = streams console.old.is_watched
+            (R.remaining console.old.input.now) (R.remaining console.new.input.now)
+            (W.contents console.old.output.now) (W.contents console.new.output.now) in
+            Did K.world K.Holds K.Sound K.FAILS office.old office.new io result self.now }
+        ensures looks { looks_on self.now ≡ true →
+            K.Holds office.new → K.world office.new ≡ K.world office.old }
+    {
         match self {
             Task::Found { clerk } => found_in(office, clerk, console.output),
             Task::Run { clerk } => run_in(rt, office, clerk, console),
@@ -125,7 +139,13 @@ pub fn found_in<K: Keeper, W: Write>(
     office: &mut Office<K>,
     clerk: &[u8],
     output: &mut W,
-) -> Result<(), Undone> {
+) -> Result<(), Undone>
+    ensures does { Does K.world K.Holds K.Sound K.FAILS office.old office.new result
+        (λ old new. IsReady clerk.now (W.contents output.old) (W.contents output.new) old new)
+        (λ old new why. IsUnready clerk.now old new why) }
+    ensures ill_formed { is_token clerk.now ≡ false →
+        result ≡ Err (Undone.Fault failure.Token) }
+{
     office.found(clerk)?;
     print(output, b"ready\n")
 }
