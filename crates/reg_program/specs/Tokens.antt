@@ -12,7 +12,7 @@ use Rattle.reg_keeper.specs.Rows.{cap_rows}
 use Rattle.reg_keeper.specs.declared.rows.CapRow.{CapRow}
 use Rattle.reg_print.specs.Listing.{csv_text}
 use Rattle.reg_print.specs.Records.{Adds}
-use Rattle.reg_print.specs.Trees.Capability.{kind_word}
+use Rattle.reg_core.specs.Capability.{kind_word}
 use Rattle.reg_program.specs.Printing.{Prints}
 
 -- ---- One capability

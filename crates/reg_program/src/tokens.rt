@@ -2,7 +2,6 @@
 ghost use Rattle.std.specs.Prelude.{◌≡◌, ◌∷◌, [], ◌*ℤ◌, pos, take, IfOk, IfErr, IsErrAnd, OnOk};
 ghost use Rattle.std.specs.String.{string_bytes};
 ghost use Rattle.reg_print.specs.Records.{Adds};
-ghost use Rattle.reg_print.specs.Trees.Capability.{kind_word};
 ghost use Rattle.reg_program.specs.Doing.{Does};
 ghost use Rattle.reg_program.specs.Printing.{Prints};
 ghost use Rattle.reg_program.specs.Revoking.{IsUnnamed, IsUnrevoked, IsUnrevokedBy, Revokes};
@@ -14,7 +13,7 @@ use crate::faults::Undone;
 use csv::Writer;
 use jiff::Timestamp;
 use jiff::tz::Offset;
-use reg_core::capability::{Kind, Until};
+use reg_core::capability::Until;
 use reg_core::refusal::Refusal;
 use reg_core::text::{Account, Digest};
 use reg_keeper::keeper::Keeper;
@@ -134,7 +133,7 @@ fn write_row<W: Write + Drop>(
 {
     let end = end_text(alloc, row.cap.until)?;
     let account = row.cap.account.as_str().as_bytes();
-    let kind = word_of(row.cap.kind).as_bytes();
+    let kind = row.cap.kind.word().as_bytes();
     write(
         writer,
         account,
@@ -179,15 +178,4 @@ fn instant_of(until: Until) -> Timestamp
     ensures { result.nanosecond ≡ pos until *ℤ pos 1_000_000_000 }
 {
     Timestamp::from_second(until.seconds() as i64).unwrap()
-}
-
-/// The word of a kind, as in answers.
-fn word_of(kind: Kind) -> &'static str
-    ensures { result.now ≡ kind_word kind }
-{
-    match kind {
-        Kind::Applicant => "applicant",
-        Kind::Expert => "expert",
-        Kind::Clerk => "clerk",
-    }
 }
