@@ -1,5 +1,5 @@
 -- The digits of a block, written in place.
-use Rattle.std.proofs.Common.{◌≡◌, ℕ, List, [], ◌∷◌, ◌++◌, true, ◌+◌, ◌-◌, ◌*◌, ◌/◌, ◌%◌, ◌^◌, ◌<◌, length, take, set, arith}
+use Rattle.std.proofs.Common.{◌≡◌, ℕ, List, true, ◌+◌, ◌-◌, ◌*◌, ◌/◌, ◌%◌, ◌^◌, ◌<◌, length, take, set, arith}
 use Rattle.std.proofs.lemmas.List.{take_more_set}
 use Rattle.std.specs.Fmt.{digit_glyph}
 use Rattle.reg_blocks.specs.Digits.{hex_digits}

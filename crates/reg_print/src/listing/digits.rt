@@ -8,7 +8,7 @@ use reg_blocks::block::Block;
 use reg_blocks::size::Size;
 use std::marker::Model;
 
-/// How many digits an MA-S has, of which the prefix is longest.
+/// The digits of an MA-S, whose prefix is longest.
 const MOST_DIGITS: usize = 9;
 
 /// The hexadecimal digits of a block's prefix, in upper case.
