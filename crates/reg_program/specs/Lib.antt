@@ -3,6 +3,7 @@ pub mod Checking
 pub mod Doing
 pub mod Founding
 pub mod Looking
+pub mod Performing
 pub mod Printing
 pub mod Revoking
 pub mod Tasks

@@ -1,4 +1,8 @@
 //! Doing the jobs of the program.
+ghost use Rattle.std.specs.Prelude.{◌≡◌, ◌⊎◌, ⊤, Some, Ok, OnOk, option_map};
+ghost use Rattle.std.specs.String.{string_bytes};
+ghost use Rattle.reg_program.specs.Performing.{Carries, DoesJob, IsDefinedBy, IsFounding, IsListedBy, IsRequestedBy, IsRunning, IsTakenBy, RunsIn, refused_status};
+
 use crate::console::Console;
 use crate::desk::{Form, definition, listing, print, requested};
 use crate::faults::Undone;
@@ -21,7 +25,10 @@ pub fn perform<O: Offices, R: Read, W: Write, E: Write>(
     offices: &O,
     job: Job,
     console: &mut Console<'_, R, W, E>,
-) -> u8 {
+) -> u8
+    ensures status { (result ≡ 0) ⊎ (result ≡ 1) }
+    ensures done { result ≡ 0 → DoesJob (O.Carried offices.now) (Ok tt) job }
+{
     match attempt(rt, offices, &job, console) {
         Ok(()) => 0,
         Err(undone) => {
@@ -33,7 +40,9 @@ pub fn perform<O: Offices, R: Read, W: Write, E: Write>(
 
 /// Says on standard error that there is no job, and gives the exit status: 2 for words that are no
 /// command line, else 1.
-pub fn refuse<E: Write>(fault: JobFault, errors: &mut E) -> u8 {
+pub fn refuse<E: Write>(fault: JobFault, errors: &mut E) -> u8
+    ensures { result ≡ refused_status fault }
+{
     match fault {
         JobFault::Line => {
             let _ = writeln!(errors, "fault: line");
@@ -69,7 +78,9 @@ fn attempt<O: Offices, R: Read, W: Write, E: Write>(
     offices: &O,
     job: &Job,
     console: &mut Console<'_, R, W, E>,
-) -> Result<(), Undone> {
+) -> Result<(), Undone>
+    ensures { OnOk result (DoesJob (O.Carried offices.now) result job.now) }
+{
     match job {
         Job::Script { clerk, file } => script(rt, offices, clerk.as_str(), file, console),
         Job::Init { file, clerk } => init(rt, offices, file.as_str(), clerk.as_str(), console),
@@ -105,7 +116,10 @@ fn script<O: Offices, R: Read, W: Write, E: Write>(
     clerk: &str,
     file: &Option<String>,
     console: &mut Console<'_, R, W, E>,
-) -> Result<(), Undone> {
+) -> Result<(), Undone>
+    ensures { OnOk result (RunsIn (O.Carried offices.now)
+        (option_map string_bytes file.now) result) }
+{
     let alloc = rt.alloc();
     let token = token_of(rt, alloc, clerk)?;
     let clerk = token.as_slice();
@@ -126,7 +140,9 @@ fn init<O: Offices, R: Read, W: Write, E: Write>(
     file: &str,
     clerk: &str,
     console: &mut Console<'_, R, W, E>,
-) -> Result<(), Undone> {
+) -> Result<(), Undone>
+    ensures { OnOk result (Carries (O.Carried offices.now) file.now IsFounding result) }
+{
     let token = token_of(rt, rt.alloc(), clerk)?;
     let clerk = token.as_slice();
     offices.carry_out(rt, file, &Task::Found { clerk }, console)
@@ -137,7 +153,10 @@ fn request<O: Offices, R: Read, W: Write, E: Write>(
     offices: &O,
     order: &Request,
     console: &mut Console<'_, R, W, E>,
-) -> Result<(), Undone> {
+) -> Result<(), Undone>
+    ensures { OnOk result (Carries (O.Carried offices.now) (string_bytes order.now.file)
+        (IsRequestedBy order.now) result) }
+{
     let alloc = rt.alloc();
     let token = optional_token(rt, alloc, &order.token)?;
     let body = body_of(alloc, &order.body, console.input)?;
@@ -169,7 +188,10 @@ fn define<O: Offices, R: Read, W: Write, E: Write>(
     offices: &O,
     order: &Definition,
     console: &mut Console<'_, R, W, E>,
-) -> Result<(), Undone> {
+) -> Result<(), Undone>
+    ensures { OnOk result (Carries (O.Carried offices.now) (string_bytes order.now.file)
+        (IsDefinedBy order.now) result) }
+{
     let alloc = rt.alloc();
     let token = token_of(rt, alloc, order.clerk.as_str())?;
     let ranges = bytes_of(rt, alloc, order.ranges.as_str())?;
@@ -188,7 +210,10 @@ fn list<O: Offices, R: Read, W: Write, E: Write>(
     file: &str,
     registry: &Option<String>,
     console: &mut Console<'_, R, W, E>,
-) -> Result<(), Undone> {
+) -> Result<(), Undone>
+    ensures { OnOk result (Carries (O.Carried offices.now) file.now
+        (IsListedBy (option_map string_bytes registry.now)) result) }
+{
     let task = Task::Ask {
         token: None,
         command: listing(rt.alloc(), registry)?,
@@ -217,7 +242,10 @@ fn revoke<O: Offices, R: Read, W: Write, E: Write>(
     file: &str,
     which: &Which,
     console: &mut Console<'_, R, W, E>,
-) -> Result<(), Undone> {
+) -> Result<(), Undone>
+    ensures { OnOk result (Carries (O.Carried offices.now) file.now (IsTakenBy which.now)
+        result) }
+{
     match which {
         Which::Digest(digits) => {
             let choice = Choice::Digits(digits.as_bytes());

@@ -56,6 +56,13 @@ pub enum Task<'a> {
 
 /// What has the offices in files.
 pub trait Offices {
+    ghost use Rattle.std.specs.Prelude.{⊤, ℕ, List, Result};
+    ghost use Rattle.reg_program.specs.declared.faults.Undone.{Undone as OfJob};
+    ghost use Rattle.reg_program.specs.declared.tasks.Task.{Task as OfOffice};
+
+    /// What is known of a task that was carried out with the office in the file at a path.
+    ghost Carried: { Self → List ℕ → OfOffice → Result ⊤ OfJob → Type 0 } = { λ _ _ _ _. Unit {0} };
+
     /// Carries a task out with the office in the file at a path, which is begun, empty, where the
     /// task begins it and there is no file, or one with nothing in it. `NotOurs` where there is no
     /// office, or one that is not well kept, and `Version` where it is of another version; else as
@@ -66,7 +73,8 @@ pub trait Offices {
         path: &str,
         task: &Task<'_>,
         console: &mut Console<'_, R, W, E>,
-    ) -> Result<(), Undone>;
+    ) -> Result<(), Undone>
+        ensures { Carried self.now path.now task.now result };
 
     /// Looks at the office in the file at a path, as at the moment of the clock, and changes nothing:
     /// an older one stays as it is, and an absent file is not made. As `check_in`; `Explained` where

@@ -1,0 +1,94 @@
+-- What becomes of a job: which task is carried out, with the office in which file.
+use Rattle.std.specs.Prelude.{◌≡◌, ⊤, ℕ, [], List, Option, Some, None, Result, Ok, codes, option_map}
+use Rattle.std.specs.String.{string_bytes}
+use Rattle.reg_jobs.specs.declared.jobs.Definition.{Definition}
+use Rattle.reg_jobs.specs.declared.jobs.Job.{Job}
+use Rattle.reg_jobs.specs.declared.jobs.Job.TheVariants as job
+use Rattle.reg_jobs.specs.declared.jobs.JobFault.{JobFault}
+use Rattle.reg_jobs.specs.declared.jobs.JobFault.TheVariants as fault
+use Rattle.reg_jobs.specs.declared.jobs.Request.{Request}
+use Rattle.reg_jobs.specs.declared.jobs.Which.{Which}
+use Rattle.reg_jobs.specs.declared.jobs.Which.TheVariants as which
+use Rattle.reg_office.specs.declared.revocation.Choice.TheVariants as choice
+use Rattle.reg_parse.specs.Command.{asked}
+use Rattle.reg_program.specs.Asking.{definition_at, listing_at}
+use Rattle.reg_program.specs.declared.desk.Form.TheVariants.{Body, Line}
+use Rattle.reg_program.specs.declared.faults.Undone.{Undone}
+use Rattle.reg_program.specs.declared.tasks.Task.{Task}
+use Rattle.reg_program.specs.declared.tasks.Task.TheVariants.{Found, Run, Serve, Ask, Tokens, Revoke}
+
+-- the exit status where there is no job
+abbrev pub refused_status : JobFault → ℕ
+refused_status fault.Line = 2
+refused_status fault.Memory = 1
+
+-- ---- Tasks
+
+abbrev pub IsFounding : Task → Type 0
+IsFounding (Found clerk) = ⊤
+IsFounding _ = ⊥
+
+abbrev pub IsRunning : Task → Type 0
+IsRunning (Run clerk) = ⊤
+IsRunning _ = ⊥
+
+-- the command is the one that a method, a path and some body spell
+abbrev pub IsRequestedBy : Request → Task → Type 0
+IsRequestedBy order (Ask token command form) =
+    (form ≡ Body) × (body : List ℕ)
+    × (asked (string_bytes order.method) (string_bytes order.path) body ≡ Ok command)
+IsRequestedBy order _ = ⊥
+
+-- the command is the one that defines a registry of some range file, for a clerk
+abbrev pub IsDefinedBy : Definition → Task → Type 0
+IsDefinedBy order (Ask (Some token) command form) =
+    (form ≡ Line) × (ranges : List ℕ)
+    × (asked (codes "PUT") (definition_at (string_bytes order.name) (string_bytes order.max)) ranges
+    ≡ Ok command)
+IsDefinedBy order _ = ⊥
+
+-- the command is the one that lists a registry or, without one, the blocks, for anybody
+abbrev pub IsListedBy : Option (List ℕ) → Task → Type 0
+IsListedBy registry (Ask None command form) =
+    (form ≡ Body) × (asked (codes "GET") (listing_at registry) [] ≡ Ok command)
+IsListedBy registry _ = ⊥
+
+abbrev pub IsTakenBy : Which → Task → Type 0
+IsTakenBy (which.Digest digits) (Revoke (choice.Digits given)) = given.now ≡ string_bytes digits
+IsTakenBy (which.Account name) (Revoke (choice.Account given)) = given.now ≡ string_bytes name
+IsTakenBy which _ = ⊥
+
+-- ---- Jobs
+
+-- a task of this kind was carried out with the office in a file, and this is what became of it
+abbrev pub Carries : (List ℕ → Task → Result ⊤ Undone → Type 0) → List ℕ → (Task → Type 0)
+    → Result ⊤ Undone → Type 0
+Carries Carried file Is done = (task : Task) × Is task × Carried file task done
+
+-- the script is run with the office in a file; without one nothing is said here
+abbrev pub RunsIn : (List ℕ → Task → Result ⊤ Undone → Type 0) → Option (List ℕ)
+    → Result ⊤ Undone → Type 0
+RunsIn Carried None done = ⊤
+RunsIn Carried (Some file) done = Carries Carried file IsRunning done
+
+-- What a job that is done had carried out. Of a script without a file, of what is published, of a
+-- check and of help nothing is said here.
+abbrev pub DoesJob : (List ℕ → Task → Result ⊤ Undone → Type 0) → Result ⊤ Undone → Job → Type 0
+DoesJob Carried done (job.Script clerk file) =
+    RunsIn Carried (option_map string_bytes file) done
+DoesJob Carried done (job.Init file clerk) = Carries Carried (string_bytes file) IsFounding done
+DoesJob Carried done (job.Serve file port connections log) =
+    Carries Carried (string_bytes file) (λ task. task ≡ Serve port connections log) done
+DoesJob Carried done (job.Request order) =
+    Carries Carried (string_bytes order.file) (IsRequestedBy order) done
+DoesJob Carried done (job.Define order) =
+    Carries Carried (string_bytes order.file) (IsDefinedBy order) done
+DoesJob Carried done (job.Listing file registry) =
+    Carries Carried (string_bytes file) (IsListedBy (option_map string_bytes registry)) done
+DoesJob Carried done (job.Publish source folder) = ⊤
+DoesJob Carried done (job.Check file) = ⊤
+DoesJob Carried done (job.Tokens file) =
+    Carries Carried (string_bytes file) (λ task. task ≡ Tokens) done
+DoesJob Carried done (job.Revoke file chosen) =
+    Carries Carried (string_bytes file) (IsTakenBy chosen) done
+DoesJob Carried done (job.Help text) = ⊤
