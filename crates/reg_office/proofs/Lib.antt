@@ -1,11 +1,5 @@
 pub mod Admitted
-pub mod Approvals
 pub mod Counted
-pub mod Decided
-pub mod Digests
-pub mod Pages
 pub mod Performing
 pub mod Revocations
 pub mod Selected
-pub mod Rows
-pub mod Submissions

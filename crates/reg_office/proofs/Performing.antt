@@ -9,10 +9,10 @@ use Rattle.reg_core.specs.declared.content.Content.{Content}
 use Rattle.reg_core.specs.declared.refusal.Refusal.{Refusal}
 use Rattle.reg_core.specs.declared.reply.Reply.TheVariants.{Accepted}
 use Rattle.reg_keeper.proofs.Premises.{goes_on_then}
-use Rattle.reg_office.specs.Performs.{Finds, Performs}
-use Rattle.reg_office.specs.Stops.{Refuses}
-use Rattle.reg_office.specs.declared.stop.Stop.{Stop}
-use Rattle.reg_office.specs.declared.stop.Stop.TheVariants.{Refused, Fault}
+use Rattle.reg_commands.specs.Performs.{Finds, Performs}
+use Rattle.reg_commands.specs.Stops.{Refuses}
+use Rattle.reg_commands.specs.declared.stop.Stop.{Stop}
+use Rattle.reg_commands.specs.declared.stop.Stop.TheVariants.{Refused, Fault}
 
 -- what was found, and then done by it, was done
 pub performs_then : {S T : Type 0} {world : S → World} {Holds Sound : S → Type 0} {fails : Bool}

@@ -6,7 +6,7 @@ use Rattle.reg_core.specs.Names.{is_token}
 use Rattle.reg_core.specs.World.{World, applied_if}
 use Rattle.reg_core.specs.declared.command.ClerkCommand.TheVariants.{Grant}
 use Rattle.reg_keeper.specs.Keeper.{MayFault}
-use Rattle.reg_office.specs.Answers.{answer_at_desk}
+use Rattle.reg_commands.specs.Answers.{answer_at_desk}
 use Rattle.reg_office.specs.declared.found.FoundFault.{FoundFault}
 use Rattle.reg_office.specs.declared.found.FoundFault.TheVariants.{Token, Exists, Fault}
 

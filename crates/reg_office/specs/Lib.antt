@@ -1,10 +1,4 @@
-pub mod Answers
-pub mod Caller
 pub mod Counting
-pub mod Decisions
 pub mod Found
-pub mod Pages
-pub mod Performs
 pub mod Revocation
-pub mod Rows
-pub mod Stops
+pub use Rattle.reg_commands.specs.Caller

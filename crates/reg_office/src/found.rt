@@ -5,8 +5,8 @@ ghost use Rattle.reg_core.specs.Names.{is_token};
 ghost use Rattle.reg_keeper.specs.Keeper.{GoesOn};
 ghost use Rattle.reg_office.specs.Found.{WasFounded, IsCause, MayFound};
 
-use crate::clerk::grant;
-use crate::stop::Stop;
+use reg_commands::clerk::grant;
+use reg_commands::stop::Stop;
 use reg_core::capability::{Cap, Kind, Until};
 use reg_core::text::{Account, Token};
 use reg_keeper::keeper::{Fault, Keeper};

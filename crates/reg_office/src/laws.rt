@@ -8,7 +8,7 @@ ghost use Rattle.reg_core.specs.FirstRefusals.{FirstRefusalsAreAnswered};
 ghost use Rattle.reg_core.specs.Laws.{AnswersAreDone, ApprovalsAreAdvised, ApprovalsGiveWhatIsAllowed, ApprovalsStand, ChangesFit, FirstWorldsAreWellKept, GivenStays, RefusalsChangeNothing, RepeatsActOnce, RunsKeepWell, SubmissionsStand, TwoWorlds};
 ghost use Rattle.reg_core.specs.MayBeGiven.{AsksMeetTheirPolicy, NoValueIsGivenTwice};
 ghost use Rattle.reg_core.specs.Striking.{StagesAreOfRun, UnseenLeaveNoTrace};
-ghost use Rattle.reg_office.specs.Caller.{token_digest};
+ghost use Rattle.reg_commands.specs.Caller.{token_digest};
 
 /// Isolation: two well kept offices that show a caller who is no clerk the same view answer its
 /// command alike, and then show it the same view again, whatever else they hold.

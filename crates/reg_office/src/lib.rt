@@ -1,24 +1,11 @@
-//! The office: tokens and their digests, and one command at a time over whatever keeps its content.
+//! The office: founding, and one command at a time over whatever keeps its content; and its laws.
 #![tactic(auto)]
 
-mod admission;
-mod agents;
-mod applicant;
-mod carrying;
-mod clerk;
 mod counting;
-mod desk;
-mod digest;
-mod expert;
 mod found;
-mod ground;
-mod holdings;
 pub mod laws;
 mod office;
-mod public;
-mod registers;
 mod revocation;
-mod stop;
 
 pub use counting::{CapCounts, Counts, EntryCounts, RequestCounts};
 pub use found::FoundFault;

@@ -5,7 +5,7 @@ ghost use Rattle.reg_office.specs.Revocation.{HasClerkAt, IsCause, IsPartlyRevok
 ghost use Rattle.reg_office.specs.Revocation.{is_chosen, is_clerk_at, leaves_clerk as clerk_is_left};
 ghost use Rattle.reg_office.specs.Revocation.{may_take as may_go, revoked, taken, taken_of};
 
-use crate::carrying::make;
+use reg_commands::carrying::make;
 use reg_core::capability::{Cap, Kind};
 use reg_core::change::Change;
 use reg_core::rows::Rows;

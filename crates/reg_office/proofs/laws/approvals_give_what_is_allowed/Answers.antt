@@ -1,4 +1,4 @@
-use Rattle.reg_office.specs.Caller.{token_digest}
+use Rattle.reg_commands.specs.Caller.{token_digest}
 use Rattle.reg_office.proofs.laws.approvals_give_what_is_allowed.Goals as goal
 
 pub returns : goal.returns

@@ -1,4 +1,4 @@
-use Rattle.reg_office.specs.Caller.{token_digest}
+use Rattle.reg_commands.specs.Caller.{token_digest}
 use Rattle.reg_office.proofs.laws.links_are_their_principals.Goals as goal
 
 pub returns : goal.returns

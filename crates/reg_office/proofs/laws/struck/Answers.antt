@@ -1,4 +1,4 @@
-use Rattle.reg_office.specs.Caller.{token_digest}
+use Rattle.reg_commands.specs.Caller.{token_digest}
 use Rattle.reg_office.proofs.laws.struck.Goals as goal
 
 pub returns-clause-no_trace : goal.returns-clause-no_trace

@@ -1,5 +1,5 @@
-use Rattle.reg_office.specs.Caller.{token_digest}
-use Rattle.reg_office.proofs.Digests.{gives_digests}
+use Rattle.reg_commands.specs.Caller.{token_digest}
+use Rattle.reg_commands.proofs.Digests.{gives_digests}
 use Rattle.reg_office.proofs.laws.submissions_stand.Goals as goal
 
 pub returns : goal.returns

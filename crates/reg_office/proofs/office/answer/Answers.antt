@@ -6,9 +6,9 @@ use Rattle.reg_core.specs.Step.{answer_to}
 use Rattle.reg_core.specs.World.{World}
 use Rattle.reg_core.specs.declared.capability.Kind.TheVariants as kind
 use Rattle.reg_core.specs.declared.refusal.Refusal.{Refusal}
-use Rattle.reg_office.specs.Answers.{answer_to_account, answer_to_clerk, answer_to_expert}
-use Rattle.reg_office.specs.Caller.{token_digest, caller_of as caller, admission}
-use Rattle.reg_office.specs.declared.admission.Caller.{Caller}
+use Rattle.reg_commands.specs.Answers.{answer_to_account, answer_to_clerk, answer_to_expert}
+use Rattle.reg_commands.specs.Caller.{token_digest, caller_of as caller, admission}
+use Rattle.reg_commands.specs.declared.admission.Caller.{Caller}
 use Rattle.reg_office.proofs.Admitted.{is_open_on, applicant_answered, expert_answered, clerk_answered}
 use Rattle.reg_office.proofs.Performing.{performs_then, performs_stopped}
 use Rattle.reg_office.proofs.office.answer.Given.{Over}

@@ -1,0 +1,6 @@
+pub mod Approvals
+pub mod Decided
+pub mod Digests
+pub mod Pages
+pub mod Rows
+pub mod Submissions

@@ -1,0 +1,73 @@
+-- What a caller who is admitted is answered over the content.
+use Rattle.std.specs.Prelude.{ℕ, List, [], Option, Some, None}
+use Rattle.std.specs.FinMap.{contains_key}
+use Rattle.reg_core.specs.Allowance.{◌>>=◌, or_refusal}
+use Rattle.reg_core.specs.Answer.{Answer, own_answer, expert_answer, unchanged}
+use Rattle.reg_core.specs.Maps.{only_if}
+use Rattle.reg_core.specs.Request.{request_row, request_rows}
+use Rattle.reg_core.specs.Step.{clerk_answer}
+use Rattle.reg_core.specs.View.{Personal, published, personal, requests_of}
+use Rattle.reg_core.specs.World.{World, RequestName, pending}
+use Rattle.reg_core.specs.declared.ask.Ask.{Ask}
+use Rattle.reg_core.specs.declared.command.ApplicantCommand.{ApplicantCommand}
+use Rattle.reg_core.specs.declared.command.ApplicantCommand.TheVariants.{Own, OwnOne, Submit, Withdraw, Holdings, SetListing, SetAgent, Agents, Principals, PrincipalRows}
+use Rattle.reg_core.specs.declared.command.ClerkCommand.{ClerkCommand}
+use Rattle.reg_core.specs.declared.command.ExpertCommand.{ExpertCommand}
+use Rattle.reg_core.specs.declared.content.Content.{Content}
+use Rattle.reg_core.specs.declared.content.Content.TheVariants.{Made, Row, Rows}
+use Rattle.reg_core.specs.declared.refusal.Refusal.TheVariants as no
+use Rattle.reg_core.specs.declared.request.Request.{Request}
+use Rattle.reg_commands.specs.Caller.{token_digest}
+
+-- ---- An applicant
+
+-- under its own names an account finds its requests and its agents among all
+abbrev pub by_name : List ℕ → World → Personal
+by_name account w = record (personal account w) { requests = w.requests; agents = w.agents }
+
+-- the requests of a principal, where the account is its agent
+abbrev pub rows_of_principal : List ℕ → List ℕ → World → Option (List Request)
+rows_of_principal account principal w =
+    only_if (contains_key w.agents (principal, account)) (request_rows (requests_of principal w))
+
+abbrev pub answer_to_account : List ℕ → ApplicantCommand → World → Answer
+answer_to_account account Own w = own_answer (published w) account (personal account w) Own
+answer_to_account account (OwnOne reference) w =
+    own_answer (published w) account (by_name account w) (OwnOne reference)
+answer_to_account account (Submit reference ask) w =
+    own_answer (published w) account (by_name account w) (Submit reference ask)
+answer_to_account account (Withdraw reference) w =
+    own_answer (published w) account (by_name account w) (Withdraw reference)
+answer_to_account account Holdings w =
+    own_answer (published w) account (personal account w) Holdings
+answer_to_account account (SetListing block private) w =
+    own_answer (published w) account (personal account w) (SetListing block private)
+answer_to_account account (SetAgent agent reads) w =
+    own_answer (published w) account (by_name account w) (SetAgent agent reads)
+answer_to_account account Agents w =
+    own_answer (published w) account (personal account w) Agents
+answer_to_account account Principals w =
+    own_answer (published w) account (personal account w) Principals
+answer_to_account account (PrincipalRows principal) w = do
+  rows ← or_refusal no.Principal (rows_of_principal account principal w)
+  unchanged (Rows rows)
+
+-- what is told of a request that is made, or that is there already
+abbrev pub content_made : RequestName → Ask → Option Request → Content
+content_made name ask None = Made (request_row name (pending ask))
+content_made name ask (Some row) = Row row
+
+-- ---- An expert
+
+abbrev pub answer_to_expert : List ℕ → ExpertCommand → World → Answer
+answer_to_expert expert command w = expert_answer expert (personal expert w) command
+
+-- ---- A clerk
+
+-- on a day; in_use is the digest of the token in use
+abbrev pub answer_to_clerk : List ℕ → ℕ → ClerkCommand → World → Answer
+answer_to_clerk in_use today command w = clerk_answer token_digest w in_use today command
+
+-- where neither the token in use nor the day makes a difference
+abbrev pub answer_at_desk : ClerkCommand → World → Answer
+answer_at_desk command w = answer_to_clerk [] 0 command w

@@ -1,0 +1,57 @@
+//! Who may give a command.
+ghost use Rattle.std.specs.Prelude.{◌≡◌, None, Err};
+ghost use Rattle.std.specs.Option.{option_copied};
+ghost use Rattle.reg_core.specs.Answer.{admitted};
+ghost use Rattle.reg_commands.specs.Caller.{admission, caller_of as caller};
+ghost use Rattle.reg_commands.specs.Performs.{Finds};
+
+use crate::digest::caller_of;
+use crate::stop::Stop;
+use reg_core::capability::{Cap, Kind};
+use reg_core::refusal::Refusal;
+use reg_core::text::Digest;
+use reg_keeper::keeper::Keeper;
+
+/// A caller who is admitted.
+#[derive(Clone, Copy)]
+pub struct Caller {
+    /// The digest of the caller's token.
+    pub digest: Digest,
+    /// The capability at that digest.
+    pub cap: Cap,
+}
+
+/// The caller with this token, where it may give commands of this kind at this moment, or the first
+/// refusal: `Token`, then `Kind`. A caller without a token is answered without a look at the keeper.
+pub fn admit<K: Keeper>(
+    keeper: &mut K,
+    token: Option<&[u8]>,
+    moment: u64,
+    kind: Kind,
+) -> Result<Caller, Stop>
+    ensures caller { Finds K.world K.Holds K.Sound K.FAILS keeper.old keeper.new result
+        (λ w. admission w (caller (option_copied token.entry)) moment kind) }
+    ensures nobody { caller (option_copied token.entry) ≡ None →
+        result ≡ Err (Stop.Refused Refusal.Token) }
+    ensures untouched { caller (option_copied token.entry) ≡ None → keeper.new ≡ keeper.old }
+{
+    let digest = caller_of(token).ok_or(Refusal::Token)?;
+    let existing = keeper.cap(&digest)?;
+    let cap = serving(existing, moment, kind)?;
+    Ok(Caller { digest, cap })
+}
+
+// The capability by which a command of this kind may be given.
+fn serving(existing: Option<Cap>, moment: u64, kind: Kind) -> Result<Cap, Refusal>
+    ensures { result ≡ admitted existing moment kind }
+{
+    let cap = existing.ok_or(Refusal::Token)?;
+    if cap.until.seconds() <= moment {
+        return Err(Refusal::Token);
+    }
+    if cap.kind == kind {
+        Ok(cap)
+    } else {
+        Err(Refusal::Kind)
+    }
+}

@@ -1,0 +1,62 @@
+//! What an applicant may do about its agents and its principals, once admitted.
+ghost use Rattle.reg_core.specs.declared.command.ApplicantCommand.TheVariants as command;
+ghost use Rattle.reg_commands.specs.Answers.{answer_to_account};
+ghost use Rattle.reg_commands.specs.Performs.{Performs};
+
+use crate::carrying::conclude;
+use crate::stop::Stop;
+use reg_core::content::Content;
+use reg_core::decide::decide_agent;
+use reg_core::refusal::Refusal;
+use reg_core::text::Account;
+use reg_keeper::keeper::Keeper;
+use reg_ranges::formed::Formed;
+
+/// Says of an account whether it may read the applicant's requests. Whether there is a capability
+/// of that account is never looked at.
+pub fn set_agent<K: Keeper>(
+    keeper: &mut K,
+    account: &Account,
+    agent: &Account,
+    reads: bool,
+) -> Result<Content, Stop>
+    ensures { Performs K.world K.Holds K.Sound K.FAILS keeper.old keeper.new result
+        (answer_to_account account.now (command.SetAgent agent.now reads)) }
+{
+    let there = keeper.is_agent(account, agent)?;
+    account.formed();
+    agent.formed();
+    let decision = decide_agent(account, agent, reads, there)?;
+    Ok(conclude(keeper, Ok(Content::Agent(*agent, reads)), decision)?)
+}
+
+/// The applicant's agents.
+pub fn list_agents<K: Keeper>(keeper: &mut K, account: &Account) -> Result<Content, Stop>
+    ensures { Performs K.world K.Holds K.Sound K.FAILS keeper.old keeper.new result
+        (answer_to_account account.now command.Agents) }
+{
+    Ok(Content::Accounts(keeper.agents(account)?))
+}
+
+/// The applicant's principals.
+pub fn list_principals<K: Keeper>(keeper: &mut K, account: &Account) -> Result<Content, Stop>
+    ensures { Performs K.world K.Holds K.Sound K.FAILS keeper.old keeper.new result
+        (answer_to_account account.now command.Principals) }
+{
+    Ok(Content::Accounts(keeper.principals(account)?))
+}
+
+/// The requests of one of the applicant's principals.
+pub fn list_principal_rows<K: Keeper>(
+    keeper: &mut K,
+    account: &Account,
+    principal: &Account,
+) -> Result<Content, Stop>
+    ensures { Performs K.world K.Holds K.Sound K.FAILS keeper.old keeper.new result
+        (answer_to_account account.now (command.PrincipalRows principal.now)) }
+{
+    let rows = keeper
+        .principal_rows(principal, account)?
+        .ok_or(Refusal::Principal)?;
+    Ok(Content::Rows(rows))
+}

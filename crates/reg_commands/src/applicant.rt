@@ -1,0 +1,154 @@
+//! What an applicant may do, once admitted.
+ghost use Rattle.std.specs.Prelude.{◌≡◌, true, IfOk, option_map};
+ghost use Rattle.std.specs.Option.{option_copied};
+ghost use Rattle.reg_core.specs.Allowance.{allowed};
+ghost use Rattle.reg_core.specs.Request.{case_of, request_row};
+ghost use Rattle.reg_core.specs.Rules.{submit_rule};
+ghost use Rattle.reg_core.specs.View.{published};
+ghost use Rattle.reg_core.specs.WellKept.{has_request_form};
+ghost use Rattle.reg_core.specs.World.{RequestName, pending as pending_case};
+ghost use Rattle.reg_core.specs.declared.command.ApplicantCommand.TheVariants as command;
+ghost use Rattle.reg_commands.specs.Answers.{answer_to_account, content_made};
+ghost use Rattle.reg_commands.specs.Performs.{Finds, Performs};
+
+use crate::agents::{list_agents, list_principal_rows, list_principals, set_agent};
+use crate::carrying::{conclude, row_after};
+use crate::ground::ground_if;
+use crate::holdings::{list_holdings, set_listing};
+use crate::stop::Stop;
+use reg_core::ask::Ask;
+use reg_core::command::ApplicantCommand;
+use reg_core::content::Content;
+use reg_core::decide::{Decision, decide_submit, decide_withdraw};
+use reg_core::refusal::Refusal;
+use reg_core::request::{Request, State};
+use reg_core::text::{Account, Ref};
+use reg_keeper::keeper::Keeper;
+use reg_ranges::formed::Formed;
+use std::alloc::AllocError;
+
+/// What a command of this account's is answered.
+pub fn perform<K: Keeper>(
+    keeper: &mut K,
+    account: &Account,
+    command: &ApplicantCommand,
+) -> Result<Content, Stop>
+    ensures { Performs K.world K.Holds K.Sound K.FAILS keeper.old keeper.new result
+        (answer_to_account account.now command.now) }
+{
+    match command {
+        ApplicantCommand::Own => list_own(keeper, account),
+        ApplicantCommand::OwnOne(reference) => show_own(keeper, account, reference),
+        ApplicantCommand::Submit(reference, ask) => { submit(keeper, account, reference, ask) }
+        ApplicantCommand::Withdraw(reference) => withdraw(keeper, account, reference),
+        ApplicantCommand::Holdings => list_holdings(keeper, account),
+        ApplicantCommand::SetListing(block, private) => {
+            set_listing(keeper, account, block, *private)
+        }
+        ApplicantCommand::SetAgent(agent, reads) => set_agent(keeper, account, agent, *reads),
+        ApplicantCommand::Agents => list_agents(keeper, account),
+        ApplicantCommand::Principals => list_principals(keeper, account),
+        ApplicantCommand::PrincipalRows(principal) => {
+            list_principal_rows(keeper, account, principal)
+        }
+    }
+}
+
+// The applicant's own requests.
+fn list_own<K: Keeper>(keeper: &mut K, account: &Account) -> Result<Content, Stop>
+    ensures { Performs K.world K.Holds K.Sound K.FAILS keeper.old keeper.new result
+        (answer_to_account account.now command.Own) }
+{
+    Ok(Content::Rows(keeper.own(account)?))
+}
+
+// One of the applicant's own requests.
+fn show_own<K: Keeper>(keeper: &mut K, account: &Account, reference: &Ref) -> Result<Content, Stop>
+    ensures { Performs K.world K.Holds K.Sound K.FAILS keeper.old keeper.new result
+        (answer_to_account account.now (command.OwnOne reference.now)) }
+{
+    let request = keeper.own_one(account, reference)?.ok_or(Refusal::Request)?;
+    Ok(Content::Row(request))
+}
+
+// A request of the applicant's.
+fn submit<K: Keeper>(
+    keeper: &mut K,
+    account: &Account,
+    reference: &Ref,
+    ask: &Ask,
+) -> Result<Content, Stop>
+    ensures { Performs K.world K.Holds K.Sound K.FAILS keeper.old keeper.new result
+        (answer_to_account account.now (command.Submit reference.now ask.now)) }
+{
+    let existing = keeper.own_one(account, reference)?;
+    request_formed(account, reference, ask);
+    let decision = submission(keeper, existing.as_ref(), account, reference, ask)?;
+    let told = told_of(existing, account, reference, ask);
+    Ok(conclude(keeper, told, decision)?)
+}
+
+// What is decided of a request that is asked for, where this one is there already, or none. No
+// registry is looked at for one that is there.
+fn submission<K: Keeper>(
+    keeper: &mut K,
+    existing: Option<&Request>,
+    account: &Account,
+    reference: &Ref,
+    ask: &Ask,
+) -> Result<Decision, Stop>
+    ensures { Finds K.world K.Holds K.Sound K.FAILS keeper.old keeper.new result
+        (λ w. submit_rule (allowed (published w) account.now ask.now)
+        (account.now, reference.now) ask.now (option_map case_of (option_copied existing.entry))) }
+{
+    let rows = ground_if(keeper, existing.is_none(), ask)?;
+    Ok(decide_submit(existing, account, reference, ask, rows.ground())?)
+}
+
+// What is told of a request: as it is there already, or as it is made.
+fn told_of(
+    existing: Option<Request>,
+    account: &Account,
+    reference: &Ref,
+    ask: &Ask,
+) -> Result<Content, AllocError>
+    ensures { IfOk result
+        (λ content. content ≡ content_made (account.now, reference.now) ask.now existing) }
+{
+    match existing {
+        Some(request) => Ok(Content::Row(request)),
+        None => Ok(Content::Made(pending(account, reference, ask)?)),
+    }
+}
+
+// Takes a request of the applicant's back.
+fn withdraw<K: Keeper>(keeper: &mut K, account: &Account, reference: &Ref) -> Result<Content, Stop>
+    ensures { Performs K.world K.Holds K.Sound K.FAILS keeper.old keeper.new result
+        (answer_to_account account.now (command.Withdraw reference.now)) }
+{
+    let request = keeper.own_one(account, reference)?.ok_or(Refusal::Request)?;
+    let decision = decide_withdraw(&request)?;
+    let row = row_after(request, &decision);
+    Ok(Content::Row(conclude(keeper, row, decision)?))
+}
+
+fn pending(account: &Account, reference: &Ref, ask: &Ask) -> Result<Request, AllocError>
+    ensures { let name : RequestName = (account.now, reference.now) in
+        IfOk result (λ row. row ≡ request_row name (pending_case ask.now)) }
+{
+    Ok(Request {
+        account: *account,
+        reference: *reference,
+        ask: ask.copy()?,
+        state: State::Pending,
+    })
+}
+
+// Does nothing: what it ensures is known by the types.
+fn request_formed(account: &Account, reference: &Ref, ask: &Ask)
+    ensures { has_request_form (account.now, reference.now) (pending_case ask.now) ≡ true }
+{
+    account.formed();
+    reference.formed();
+    ask.formed();
+}

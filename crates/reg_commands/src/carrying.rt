@@ -1,0 +1,75 @@
+//! Carrying out what was decided.
+ghost use Rattle.std.specs.Prelude.{◌≡◌, Ok, IfOk, OnOk, IsOk};
+ghost use Rattle.reg_core.specs.Answer.{change_by};
+ghost use Rattle.reg_core.specs.WellKept.{WellKept, CanApply};
+ghost use Rattle.reg_core.specs.World.{applied, applied_if};
+ghost use Rattle.reg_core.specs.declared.decide.Decision.TheVariants.{Same};
+ghost use Rattle.reg_keeper.specs.Keeper.{Makes};
+ghost use Rattle.reg_commands.specs.Decisions.{CanMake, row_by};
+
+use reg_core::change::Change;
+use reg_core::decide::Decision;
+use reg_core::request::Request;
+use reg_keeper::keeper::{Fault, Keeper};
+use std::alloc::AllocError;
+
+/// Makes a change that fits every well kept world with the rows that it was decided over.
+pub fn make<K: Keeper>(keeper: &mut K, change: Change) -> Result<(), Fault>
+    requires { K.Holds keeper.old →
+        WellKept (K.world keeper.old) → CanApply (K.world keeper.old) change }
+    ensures { Makes K.world K.Holds K.Sound K.FAILS keeper.old keeper.new result
+        (λ w. applied w change) }
+{
+    keeper.apply(change)
+}
+
+// Makes the change of a decision, if there is one; where there is none, the keeper is not asked.
+fn carry_out<K: Keeper>(keeper: &mut K, decision: Decision) -> Result<(), Fault>
+    requires { K.Holds keeper.old →
+        WellKept (K.world keeper.old) → CanMake (K.world keeper.old) decision }
+    ensures change { Makes K.world K.Holds K.Sound K.FAILS keeper.old keeper.new result
+        (λ w. applied_if w (change_by decision)) }
+    ensures same { decision ≡ Same → result ≡ Ok tt }
+{
+    match decision {
+        Decision::Make(change) => make(keeper, change),
+        Decision::Same => Ok(()),
+    }
+}
+
+/// Makes the change of a decision, if there is one, where what is told of it is there, and gives
+/// that. A decision to leave all as it is needs no memory.
+pub fn conclude<K: Keeper, T: Drop>(
+    keeper: &mut K,
+    told: Result<T, AllocError>,
+    decision: Decision,
+) -> Result<T, Fault>
+    requires { OnOk told (K.Holds keeper.old →
+        WellKept (K.world keeper.old) → CanMake (K.world keeper.old) decision) }
+    ensures told { IfOk result (λ x. told ≡ Ok x) }
+    ensures change { Makes K.world K.Holds K.Sound K.FAILS keeper.old keeper.new result
+        (λ w. applied_if w (change_by decision)) }
+    ensures same { OnOk told (decision ≡ Same → IsOk result) }
+{
+    let told = told?;
+    carry_out(keeper, decision)?;
+    Ok(told)
+}
+
+/// A request as it is after a decision about it.
+pub fn row_after(request: Request, decision: &Decision) -> Result<Request, AllocError>
+    ensures { IfOk result (λ row. row ≡ row_by decision.now request) }
+{
+    match decision {
+        Decision::Make(change) => {
+            let state = change.state()?.unwrap_or(request.state);
+            Ok(Request {
+                account: request.account,
+                reference: request.reference,
+                ask: request.ask,
+                state,
+            })
+        }
+        Decision::Same => Ok(request),
+    }
+}

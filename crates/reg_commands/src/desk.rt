@@ -1,0 +1,110 @@
+//! What a clerk may do about requests, once admitted.
+ghost use Rattle.std.specs.Prelude.{◌≡◌, []};
+ghost use Rattle.reg_core.specs.Request.{is_pending as pending};
+ghost use Rattle.reg_core.specs.View.{published};
+ghost use Rattle.reg_core.specs.declared.command.ClerkCommand.TheVariants as command;
+ghost use Rattle.reg_commands.specs.Answers.{answer_to_clerk, answer_at_desk};
+ghost use Rattle.reg_commands.specs.Decisions.{approval_of};
+ghost use Rattle.reg_commands.specs.Performs.{Finds, Performs};
+
+use crate::carrying::{conclude, row_after};
+use crate::ground::ground_if;
+use crate::stop::Stop;
+use reg_core::content::Content;
+use reg_core::decide::{Decision, decide_approve, decide_assign, decide_decline};
+use reg_core::file::File;
+use reg_core::refusal::Refusal;
+use reg_core::request::State;
+use reg_core::text::{Account, Ref, Text};
+use reg_early::day::Day;
+use reg_keeper::keeper::Keeper;
+use reg_ranges::formed::Formed;
+
+/// All requests.
+pub fn list_all<K: Keeper>(keeper: &mut K) -> Result<Content, Stop>
+    ensures { Performs K.world K.Holds K.Sound K.FAILS keeper.old keeper.new result
+        (answer_at_desk command.AllRequests) }
+{
+    Ok(Content::Desks(keeper.all()?))
+}
+
+/// A request, with its experts and all advice on it.
+pub fn show_one<K: Keeper>(
+    keeper: &mut K,
+    account: &Account,
+    reference: &Ref,
+) -> Result<Content, Stop>
+    ensures { Performs K.world K.Holds K.Sound K.FAILS keeper.old keeper.new result
+        (answer_at_desk (command.OneRequest account.now reference.now)) }
+{
+    let file = keeper.file(account, reference)?.ok_or(Refusal::Request)?;
+    Ok(Content::Filed(file))
+}
+
+/// Assigns a request to an expert.
+pub fn assign<K: Keeper>(
+    keeper: &mut K,
+    account: &Account,
+    reference: &Ref,
+    expert: &Account,
+) -> Result<Content, Stop>
+    ensures { Performs K.world K.Holds K.Sound K.FAILS keeper.old keeper.new result
+        (answer_at_desk (command.AssignExpert account.now reference.now expert.now)) }
+{
+    let file = keeper.file(account, reference)?.ok_or(Refusal::Request)?;
+    expert.formed();
+    let decision = decide_assign(&file.request, file.experts.as_slice(), expert)?;
+    let row = row_after(file.request, &decision);
+    Ok(Content::Desk(conclude(keeper, row, decision)?))
+}
+
+/// Approves a request on a day, over its experts and all advice on it.
+pub fn approve<K: Keeper>(
+    keeper: &mut K,
+    account: &Account,
+    reference: &Ref,
+    today: Day,
+) -> Result<Content, Stop>
+    ensures { Performs K.world K.Holds K.Sound K.FAILS keeper.old keeper.new result
+        (answer_to_clerk [] today (command.Approve account.now reference.now)) }
+{
+    let file = keeper.file(account, reference)?.ok_or(Refusal::Request)?;
+    today.formed();
+    let decision = approval(keeper, &file, today)?;
+    let row = row_after(file.request, &decision);
+    Ok(Content::Desk(conclude(keeper, row, decision)?))
+}
+
+// What is decided of an approval. No registry is looked at for a request that is not pending.
+fn approval<K: Keeper>(keeper: &mut K, file: &File, today: Day) -> Result<Decision, Stop>
+    ensures { Finds K.world K.Holds K.Sound K.FAILS keeper.old keeper.new result
+        (λ w. approval_of (published w) file.now today) }
+{
+    let request = &file.request;
+    let rows = ground_if(keeper, is_pending(&request.state), &request.ask)?;
+    let (experts, opinions) = (file.experts.as_slice(), file.advice.as_slice());
+    Ok(decide_approve(request, experts, opinions, rows.ground(), today)?)
+}
+
+/// Declines a request, for a reason.
+pub fn decline<K: Keeper>(
+    keeper: &mut K,
+    account: &Account,
+    reference: &Ref,
+    reason: &Text,
+) -> Result<Content, Stop>
+    ensures { Performs K.world K.Holds K.Sound K.FAILS keeper.old keeper.new result
+        (answer_at_desk (command.Decline account.now reference.now reason.now)) }
+{
+    let request = keeper.own_one(account, reference)?.ok_or(Refusal::Request)?;
+    reason.formed();
+    let decision = decide_decline(&request, reason)?;
+    let row = row_after(request, &decision);
+    Ok(Content::Desk(conclude(keeper, row, decision)?))
+}
+
+fn is_pending(state: &State) -> bool
+    ensures { result ≡ pending state.now }
+{
+    matches!(state, State::Pending)
+}

@@ -1,0 +1,73 @@
+//! What an expert may do, once admitted.
+ghost use Rattle.std.specs.Prelude.{◌≡◌, IfOk};
+ghost use Rattle.reg_core.specs.declared.command.ExpertCommand.TheVariants as command;
+ghost use Rattle.reg_commands.specs.Answers.{answer_to_expert};
+ghost use Rattle.reg_commands.specs.Performs.{Performs};
+ghost use Rattle.reg_commands.specs.Rows.{advised_row};
+
+use crate::carrying::conclude;
+use crate::stop::Stop;
+use reg_core::advice::Advice;
+use reg_core::command::ExpertCommand;
+use reg_core::content::Content;
+use reg_core::decide::decide_advise;
+use reg_core::queue::QueueRow;
+use reg_core::refusal::Refusal;
+use reg_core::text::{Account, Ref};
+use reg_keeper::keeper::Keeper;
+use reg_ranges::formed::Formed;
+use std::alloc::AllocError;
+
+/// What a command of this expert's is answered.
+pub fn perform<K: Keeper>(
+    keeper: &mut K,
+    expert: &Account,
+    command: &ExpertCommand,
+) -> Result<Content, Stop>
+    ensures { Performs K.world K.Holds K.Sound K.FAILS keeper.old keeper.new result
+        (answer_to_expert expert.now command.now) }
+{
+    match command {
+        ExpertCommand::Queue => list_queue(keeper, expert),
+        ExpertCommand::Advise(account, reference, advice) => {
+            advise(keeper, expert, account, reference, advice)
+        }
+    }
+}
+
+// The requests that are queued to the expert.
+fn list_queue<K: Keeper>(keeper: &mut K, expert: &Account) -> Result<Content, Stop>
+    ensures { Performs K.world K.Holds K.Sound K.FAILS keeper.old keeper.new result
+        (answer_to_expert expert.now command.Queue) }
+{
+    Ok(Content::Items(keeper.queue(expert)?))
+}
+
+// Advice on a request that is queued to the expert. Whether there is one that is not is never
+// looked at.
+fn advise<K: Keeper>(
+    keeper: &mut K,
+    expert: &Account,
+    account: &Account,
+    reference: &Ref,
+    advice: &Advice,
+) -> Result<Content, Stop>
+    ensures { Performs K.world K.Holds K.Sound K.FAILS keeper.old keeper.new result
+        (answer_to_expert expert.now (command.Advise account.now reference.now advice.now)) }
+{
+    let row = keeper
+        .queue_one(expert, account, reference)?
+        .ok_or(Refusal::Request)?;
+    advice.formed();
+    let decision = decide_advise(&row, expert, advice)?;
+    let advised = with_advice(row, advice);
+    Ok(Content::Item(conclude(keeper, advised, decision)?))
+}
+
+// A queued request after its expert gave this advice.
+fn with_advice(mut row: QueueRow, advice: &Advice) -> Result<QueueRow, AllocError>
+    ensures { IfOk result (λ r. r ≡ advised_row advice.now row) }
+{
+    row.advice = Some(advice.copy()?);
+    Ok(row)
+}

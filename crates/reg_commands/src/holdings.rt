@@ -1,0 +1,53 @@
+//! What an applicant may do about the blocks that it holds, once admitted.
+ghost use Rattle.std.specs.Prelude.{◌≡◌};
+ghost use Rattle.reg_core.specs.declared.command.ApplicantCommand.TheVariants as command;
+ghost use Rattle.reg_commands.specs.Answers.{answer_to_account};
+ghost use Rattle.reg_commands.specs.Performs.{Performs};
+ghost use Rattle.reg_commands.specs.Rows.{marked_row};
+
+use crate::carrying::conclude;
+use crate::stop::Stop;
+use reg_blocks::block::Block;
+use reg_core::content::Content;
+use reg_core::decide::decide_listing;
+use reg_core::holding::Holding;
+use reg_core::refusal::Refusal;
+use reg_core::text::Account;
+use reg_keeper::keeper::Keeper;
+
+/// The applicant's own blocks.
+pub fn list_holdings<K: Keeper>(keeper: &mut K, account: &Account) -> Result<Content, Stop>
+    ensures { Performs K.world K.Holds K.Sound K.FAILS keeper.old keeper.new result
+        (answer_to_account account.now command.Holdings) }
+{
+    Ok(Content::Holdings(keeper.holdings(account)?))
+}
+
+/// Says of one of the applicant's own blocks whether its holder is private.
+pub fn set_listing<K: Keeper>(
+    keeper: &mut K,
+    account: &Account,
+    block: &Block,
+    private: bool,
+) -> Result<Content, Stop>
+    ensures { Performs K.world K.Holds K.Sound K.FAILS keeper.old keeper.new result
+        (answer_to_account account.now (command.SetListing block.now private)) }
+{
+    let held = keeper.holding(account, block)?.ok_or(Refusal::Holding)?;
+    let decision = decide_listing(&held, private);
+    let row = marked(held, private);
+    Ok(Content::Held(conclude(keeper, Ok(row), decision)?))
+}
+
+// A holding with this mark.
+fn marked(holding: Holding, private: bool) -> Holding
+    ensures { result ≡ marked_row private holding }
+{
+    Holding {
+        block: holding.block,
+        holder: holding.holder,
+        organization: holding.organization,
+        address: holding.address,
+        private,
+    }
+}

@@ -1,0 +1,17 @@
+//! What each command does over whatever keeps the content of an office: who may give it, which rows
+//! it needs, what is decided over them, and the change that is made.
+#![tactic(auto)]
+
+pub mod admission;
+mod agents;
+pub mod applicant;
+pub mod carrying;
+pub mod clerk;
+mod desk;
+mod digest;
+pub mod expert;
+mod ground;
+mod holdings;
+pub mod public;
+mod registers;
+pub mod stop;

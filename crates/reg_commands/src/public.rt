@@ -1,0 +1,140 @@
+//! What anybody may ask.
+ghost use Rattle.std.specs.Prelude.{◌≡◌, map, IfOk};
+ghost use Rattle.reg_core.specs.Answer.{public_answer};
+ghost use Rattle.reg_core.specs.Page.{page_entries};
+ghost use Rattle.reg_core.specs.View.{published};
+ghost use Rattle.reg_core.specs.declared.command.PublicCommand.TheVariants.{Registries, Registry, RegistryListing, PoolList, BlockListing};
+ghost use Rattle.reg_keeper.specs.Keeper.{Selects};
+ghost use Rattle.reg_commands.specs.Pages.{page_on, shown_on};
+ghost use Rattle.reg_commands.specs.Performs.{Finds, Performs};
+
+use crate::stop::Stop;
+use reg_core::command::PublicCommand;
+use reg_core::content::Content;
+use reg_core::entry::{Entry, PageEntry};
+use reg_core::page::{Page, PageEntries};
+use reg_core::refusal::Refusal;
+use reg_core::text::Name;
+use reg_early::day::Day;
+use reg_keeper::keeper::{Fault, Keeper};
+use std::alloc::{AllocError, Global};
+
+/// What anybody's command is answered on a day.
+pub fn perform<K: Keeper>(
+    alloc: Global,
+    keeper: &mut K,
+    today: Day,
+    command: &PublicCommand,
+) -> Result<Content, Stop>
+    ensures { Performs K.world K.Holds K.Sound K.FAILS keeper.old keeper.new result
+        (λ w. public_answer (published w) today command.now) }
+{
+    match command {
+        PublicCommand::Registries => list_registries(keeper),
+        PublicCommand::Registry(name) => show_registry(alloc, keeper, today, name),
+        PublicCommand::RegistryListing(name) => show_listing(alloc, keeper, today, name),
+        PublicCommand::PoolList => list_pool(keeper),
+        PublicCommand::BlockListing => list_blocks(keeper),
+    }
+}
+
+// The names of all registries.
+fn list_registries<K: Keeper>(keeper: &mut K) -> Result<Content, Stop>
+    ensures { Performs K.world K.Holds K.Sound K.FAILS keeper.old keeper.new result
+        (λ w. public_answer (published w) 0 Registries) }
+{
+    Ok(Content::Names(keeper.names()?))
+}
+
+// A registry.
+fn show_registry<K: Keeper>(
+    alloc: Global,
+    keeper: &mut K,
+    today: Day,
+    name: &Name,
+) -> Result<Content, Stop>
+    ensures { Performs K.world K.Holds K.Sound K.FAILS keeper.old keeper.new result
+        (λ w. public_answer (published w) today (Registry name.now)) }
+{
+    Ok(Content::Page(page(alloc, keeper, today, name)?))
+}
+
+// A registry as it is listed.
+fn show_listing<K: Keeper>(
+    alloc: Global,
+    keeper: &mut K,
+    today: Day,
+    name: &Name,
+) -> Result<Content, Stop>
+    ensures { Performs K.world K.Holds K.Sound K.FAILS keeper.old keeper.new result
+        (λ w. public_answer (published w) today (RegistryListing name.now)) }
+{
+    Ok(Content::Listing(page(alloc, keeper, today, name)?))
+}
+
+// The prefixes of the pool.
+fn list_pool<K: Keeper>(keeper: &mut K) -> Result<Content, Stop>
+    ensures { Performs K.world K.Holds K.Sound K.FAILS keeper.old keeper.new result
+        (λ w. public_answer (published w) 0 PoolList) }
+{
+    Ok(Content::Pool(keeper.pool()?))
+}
+
+// The blocks that were given, as the public sees them.
+fn list_blocks<K: Keeper>(keeper: &mut K) -> Result<Content, Stop>
+    ensures { Performs K.world K.Holds K.Sound K.FAILS keeper.old keeper.new result
+        (λ w. public_answer (published w) 0 BlockListing) }
+{
+    Ok(Content::Blocks(keeper.blocks()?))
+}
+
+// The registry of this name as it is on a day.
+fn page<K: Keeper>(alloc: Global, keeper: &mut K, today: Day, name: &Name) -> Result<Page, Stop>
+    ensures { Finds K.world K.Holds K.Sound K.FAILS keeper.old keeper.new result
+        (λ w. page_on (published w) name.now today) }
+{
+    let table = keeper.ranges(name)?.ok_or(Refusal::Registry)?;
+    let entries = entries_on(alloc, keeper, today, name)?;
+    Ok(Page {
+        name: *name,
+        table,
+        entries,
+    })
+}
+
+// A registry's entries as they are on a day.
+fn entries_on<K: Keeper>(
+    alloc: Global,
+    keeper: &mut K,
+    today: Day,
+    name: &Name,
+) -> Result<PageEntries, Fault>
+    ensures { Selects K.world K.Holds K.Sound K.FAILS keeper.old keeper.new result
+        (λ w entries. entries ≡ page_entries (published w) name.now today) }
+{
+    let entries = keeper.entries(name)?;
+    Ok(PageEntries::from_vec(shown(alloc, entries.into_vec(), today)?))
+}
+
+fn shown(alloc: Global, entries: Vec<Entry>, today: Day) -> Result<Vec<PageEntry>, AllocError>
+    ensures { IfOk result (λ shown. shown.items ≡ map (shown_on today) entries.items) }
+{
+    entries
+        .into_iter()
+        .map(|entry| show(entry, today))
+        .collect(alloc)
+}
+
+/// An entry as a page shows it on a day.
+pub fn show(entry: Entry, today: Day) -> PageEntry
+    ensures { result ≡ shown_on today entry }
+{
+    let status = entry.term.status(today);
+    PageEntry {
+        value: entry.value,
+        label: entry.label,
+        assignee: entry.assignee,
+        term: entry.term,
+        status,
+    }
+}

@@ -1,0 +1,73 @@
+//! What a clerk does about what is published: registries, marks of entries, and the pool of
+//! prefixes.
+ghost use Rattle.std.specs.Prelude.{◌≡◌, []};
+ghost use Rattle.reg_core.specs.declared.command.ClerkCommand.TheVariants.{Define, AddPool, SetHold};
+ghost use Rattle.reg_commands.specs.Answers.{answer_at_desk, answer_to_clerk};
+ghost use Rattle.reg_commands.specs.Performs.{Performs};
+ghost use Rattle.reg_commands.specs.Rows.{held_row};
+
+use crate::carrying::conclude;
+use crate::public::show;
+use crate::stop::Stop;
+use reg_core::content::Content;
+use reg_core::decide::{decide_define, decide_hold, decide_pool};
+use reg_core::entry::Entry;
+use reg_core::refusal::Refusal;
+use reg_core::text::Name;
+use reg_early::day::Day;
+use reg_keeper::keeper::Keeper;
+use reg_ranges::formed::Formed;
+use reg_ranges::table::RangeTable;
+
+/// Opens a registry.
+pub fn define<K: Keeper>(keeper: &mut K, name: &Name, table: &RangeTable) -> Result<Content, Stop>
+    ensures { Performs K.world K.Holds K.Sound K.FAILS keeper.old keeper.new result
+        (answer_at_desk (Define name.now table.now)) }
+{
+    let existing = keeper.ranges(name)?;
+    let decision = decide_define(existing.as_ref(), name, table)?;
+    name.formed();
+    table.formed();
+    Ok(Content::Defined(conclude(keeper, Ok(*name), decision)?))
+}
+
+/// Adds a prefix to the pool.
+pub fn add_pool<K: Keeper>(keeper: &mut K, prefix: u32) -> Result<Content, Stop>
+    ensures { Performs K.world K.Holds K.Sound K.FAILS keeper.old keeper.new result
+        (answer_at_desk (AddPool prefix)) }
+{
+    let there = keeper.is_pooled(prefix)?;
+    let decision = decide_pool(there, prefix)?;
+    Ok(conclude(keeper, Ok(Content::Pooled(prefix)), decision)?)
+}
+
+/// Says of an entry whether it is held, and tells how it stands then on a day.
+pub fn set_hold<K: Keeper>(
+    keeper: &mut K,
+    name: &Name,
+    value: u32,
+    held: bool,
+    today: Day,
+) -> Result<Content, Stop>
+    ensures { Performs K.world K.Holds K.Sound K.FAILS keeper.old keeper.new result
+        (answer_to_clerk [] today (SetHold name.now value held)) }
+{
+    keeper.ranges(name)?.ok_or(Refusal::Registry)?;
+    let row = keeper.entry(name, value)?.ok_or(Refusal::Entry)?;
+    let decision = decide_hold(&row, held, today)?;
+    let shown = show(marked(row, held), today);
+    Ok(Content::Marked(conclude(keeper, Ok(shown), decision)?))
+}
+
+// An entry with this mark.
+fn marked(entry: Entry, held: bool) -> Entry
+    ensures { result ≡ held_row held entry }
+{
+    Entry {
+        registry: entry.registry,
+        value: entry.value,
+        label: entry.label,
+        assignee: entry.assignee,
+        term: entry.term.with_hold(held),
+    }
+}
