@@ -1,6 +1,6 @@
 //! The jobs over an office that stays open.
-use crate::running::{CLERK, over_lists};
-use reg_carriers::exercise::Exercise;
+use crate::running::CLERK;
+use reg_carriers::exercise::{Exercise, over_lists};
 use reg_jobs::jobs::Definition;
 use reg_keeper::keeper::Keeper;
 use reg_office::Office;

@@ -1,7 +1,7 @@
 //! Jobs whose output nobody takes, whose standard input cannot be read, and whose store fails.
 use crate::failing_keeper::FailingKeeper;
-use crate::running::{InLists, over_lists};
-use reg_carriers::exercise::Exercise;
+use crate::running::InLists;
+use reg_carriers::exercise::{Exercise, over_lists};
 use reg_jobs::command_line::job;
 use reg_jobs::jobs::Job;
 use reg_keeper::keeper::Keeper;

@@ -1,8 +1,10 @@
-//! Tests of the program over offices in lists, to the byte: the jobs that it does, the lines of scripts,
-//! and what is asked over HTTP. They stand in a crate of their own because the gate proves a crate that
-//! has tests a second time, whole, together with them.
+//! Tests of the program over offices in lists, to the byte: the jobs that it does, and the lines of
+//! scripts. They stand in a crate of their own because the gate proves a crate that has tests a second
+//! time, whole, together with them.
 #![tactic(auto)]
 
+#[cfg(test)]
+mod addresses;
 #[cfg(test)]
 mod command_lines;
 #[cfg(test)]
@@ -14,15 +16,11 @@ mod file_jobs;
 #[cfg(test)]
 mod floods;
 #[cfg(test)]
-mod http;
-#[cfg(test)]
 mod job_faults;
 #[cfg(test)]
 mod lines;
 #[cfg(test)]
 mod offices;
-#[cfg(test)]
-mod publishing;
 #[cfg(test)]
 mod running;
 #[cfg(test)]

@@ -1,5 +1,4 @@
 //! Jobs over offices in lists.
-use reg_carriers::exercise::Exercise;
 use reg_jobs::jobs::Job;
 use reg_keeper::keeper::Keeper;
 use reg_office::Office;
@@ -40,11 +39,6 @@ impl Offices for InLists {
         let mut office = Office::new(alloc, ListKeeper::new(alloc));
         check_in(alloc, &mut office, 3, moment(rt), output)
     }
-}
-
-/// Does this over lists.
-pub fn over_lists<E: Exercise>(rt: &HostRuntime, exercise: E) -> Result<E::Outcome, Fail> {
-    exercise.done(rt, ListKeeper::new(rt.alloc()))
 }
 
 /// What a script gave: the exit status, standard output and standard error.

@@ -1,7 +1,7 @@
 //! A store that fails: lines that need it are answered `503`, and the others as ever.
 use crate::failing_keeper::FailingKeeper;
-use crate::running::{answers_over, over_lists};
-use reg_carriers::exercise::Exercise;
+use crate::running::answers_over;
+use reg_carriers::exercise::{Exercise, over_lists};
 use reg_keeper::keeper::Keeper;
 use reg_testing::facts::ensure;
 use reg_transcripts::transcript::{answered, sent};

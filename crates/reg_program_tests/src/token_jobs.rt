@@ -1,7 +1,7 @@
 //! Jobs about the capabilities of an office, and the job that counts what is in one.
 use crate::failing_keeper::FailingKeeper;
-use crate::running::{CLERK, over_lists};
-use reg_carriers::exercise::Exercise;
+use crate::running::CLERK;
+use reg_carriers::exercise::{Exercise, over_lists};
 use reg_core::capability::{Cap, Kind, Until};
 use reg_core::command::{ClerkCommand, Command};
 use reg_core::text::{Account, Token};

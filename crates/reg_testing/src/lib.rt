@@ -4,3 +4,4 @@
 
 pub mod devices;
 pub mod facts;
+pub mod folders;

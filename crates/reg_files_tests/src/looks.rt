@@ -1,5 +1,5 @@
 //! What the jobs print that look at an office in a file or at its capabilities, and what they leave.
-use crate::jobs::steps::{Step, assert_steps};
+use crate::steps::{Step, assert_steps};
 use std::test::Fail;
 
 const INIT: Step = Step::Prints("init @ --clerk clerk-token-00001", "ready\n");

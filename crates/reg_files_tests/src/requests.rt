@@ -1,5 +1,5 @@
 //! What single requests of an office in a file print, each with its faults, and tokens in files.
-use crate::jobs::steps::{Step, assert_steps};
+use crate::steps::{Step, assert_steps};
 use std::test::Fail;
 
 const INIT: Step = Step::Prints("init @ --clerk clerk-token-00001", "ready\n");

@@ -1,6 +1,5 @@
 //! What is asked over HTTP of an office in lists that is new.
-use crate::running::over_lists;
-use reg_carriers::exercise::Exercise;
+use reg_carriers::exercise::{Exercise, over_lists};
 use reg_carriers::served::{Answered, Served};
 use reg_http::wire_fault::WireFault;
 use reg_keeper::keeper::Keeper;

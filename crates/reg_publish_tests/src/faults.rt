@@ -1,9 +1,8 @@
 //! What is published where a source or a folder fails: the first files of the site, and no more.
-use crate::publishing::devices::{Faulty, Kept};
-use crate::publishing::office::{FILES, MOMENT, opened};
-use crate::publishing::sites::site;
-use crate::running::over_lists;
-use reg_carriers::exercise::Exercise;
+use crate::devices::{Faulty, Kept};
+use crate::office::{FILES, MOMENT, opened};
+use crate::sites::site;
+use reg_carriers::exercise::{Exercise, over_lists};
 use reg_keeper::keeper::Keeper;
 use reg_publish::publishing::publish;
 use reg_publish::source::Source;

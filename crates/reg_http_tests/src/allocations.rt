@@ -1,9 +1,8 @@
 //! Each request of an office is answered by its own answer; where an allocation is refused, perhaps
 //! by `503 {"error":"storage"}`, with nothing changed, or not at all. A run refuses none by itself:
 //! `tools/refuse-allocations` refuses each in turn.
-use crate::http::rows::ROWS;
-use crate::running::over_lists;
-use reg_carriers::exercise::Exercise;
+use crate::rows::ROWS;
+use reg_carriers::exercise::{Exercise, over_lists};
 use reg_carriers::messages::{request, with_line_ends};
 use reg_carriers::served::{CLERK, Served};
 use reg_http::wire_fault::WireFault;

@@ -1,7 +1,6 @@
 //! Requests that come in pieces, break off or fail on their way, and answers that do.
-use crate::http::asking::{founded, opened};
-use crate::running::over_lists;
-use reg_carriers::exercise::Exercise;
+use crate::asking::{founded, opened};
+use reg_carriers::exercise::{Exercise, over_lists};
 use reg_carriers::messages::{HEAD, MADE, SHORT, SUBMISSION, SUBMISSION_HEAD, THERE};
 use reg_carriers::served::Served;
 use reg_http::wire_fault::WireFault;

@@ -1,5 +1,5 @@
 //! Heads at their limits and above them, and bytes that begin with none.
-use crate::http::asking::told;
+use crate::asking::told;
 use reg_carriers::messages::{HEAD, NO_REGISTRY};
 use reg_testing::facts::ensure;
 use std::alloc::{AllocError, Global};

@@ -3,7 +3,7 @@ ghost use Rattle.std.specs.Prelude.{None};
 ghost use Rattle.reg_core.specs.View.{published as shown};
 ghost use Rattle.reg_core.specs.World.{empty_world};
 
-use crate::publishing::office::FILES;
+use crate::office::FILES;
 use reg_core::command::PublicCommand;
 use reg_core::content::Content;
 use reg_keeper::keeper::Keeper;

@@ -1,6 +1,6 @@
 //! What the jobs over an office in a file print, and their exit statuses, in the order in which
 //! faults are found.
-use crate::jobs::steps::{Step, assert_steps};
+use crate::steps::{Step, assert_steps};
 use std::test::Fail;
 
 const INIT: Step = Step::Prints("init @ --clerk clerk-token-00001", "ready\n");

@@ -1,5 +1,5 @@
 //! Scripts over offices in files.
-use crate::jobs::steps::{Step, assert_steps};
+use crate::steps::{Step, assert_steps};
 use std::test::Fail;
 
 const SCRIPT: &str = "script --file @ --clerk clerk-token-00001";

@@ -1,8 +1,7 @@
 //! The files of a site, their order and their bytes.
-use crate::publishing::devices::Kept;
-use crate::publishing::office::{FILES, LATER, MOMENT, REGISTRIES, opened};
-use crate::running::over_lists;
-use reg_carriers::exercise::Exercise;
+use crate::devices::Kept;
+use crate::office::{FILES, LATER, MOMENT, REGISTRIES, opened};
+use reg_carriers::exercise::{Exercise, over_lists};
 use reg_core::command::{Command, PublicCommand};
 use reg_core::refusal::Refusal;
 use reg_core::reply::Reply;

@@ -1,9 +1,8 @@
 //! Sites in folders of a file system, and what stands there where a step fails.
-use crate::publishing::devices::{Faulty, Kept, Placed};
-use crate::publishing::office::{FILES, LATER, MOMENT, opened};
-use crate::publishing::sites::site;
-use crate::running::over_lists;
-use reg_carriers::exercise::Exercise;
+use crate::devices::{Faulty, Kept, Placed};
+use crate::office::{FILES, LATER, MOMENT, opened};
+use crate::sites::site;
+use reg_carriers::exercise::{Exercise, over_lists};
 use reg_core::refusal::Refusal;
 use reg_keeper::keeper::Keeper;
 use reg_office::Office;
@@ -12,24 +11,12 @@ use reg_program::publishing::publish_in;
 use reg_publish::source::Source;
 use reg_publish::unpublished::Unpublished;
 use reg_testing::facts::ensure;
+use reg_testing::folders::folder_for;
+use std::fs;
 use std::fs::File;
-use std::path::PathBuf;
 use std::test::Fail;
-use std::{env, fs, process};
 
 const LINE: &[u8] = b"published 3 registries, 3 entries, 3 blocks\n";
-
-/// The path of a folder for a test of this name, where nothing is.
-pub fn folder_for(rt: &HostRuntime, name: &str) -> Result<String, Fail> {
-    let mut path: PathBuf = env::temp_dir(rt)?;
-    let id = process::id(rt.process());
-    let file = format!(in rt.alloc(); "reg_publish_{id}_{name}")?;
-    path.push(file.as_str())?;
-    let text = path.as_path().to_str().ok_or("no text")?;
-    let folder = String::from_str(rt.alloc(), text)?;
-    let _ = fs::remove_dir_all(rt, folder.as_str());
-    Ok(folder)
-}
 
 // What publishing gives: what is printed, or why it was not done.
 fn published<S: Source>(

@@ -1,6 +1,5 @@
 //! A listener on loopback, and its clients.
-use crate::running::over_lists;
-use reg_carriers::exercise::Exercise;
+use reg_carriers::exercise::{Exercise, over_lists};
 use reg_carriers::messages::NO_REGISTRY;
 use reg_carriers::served::Served;
 use reg_http::listener::Connections;

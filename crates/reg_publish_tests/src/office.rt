@@ -1,5 +1,5 @@
 //! The office that is published.
-use crate::running::CLERK;
+use reg_carriers::served::CLERK;
 use reg_keeper::keeper::Keeper;
 use reg_office::Office;
 use reg_program::scripts::found_and_run;

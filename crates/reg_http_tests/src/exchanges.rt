@@ -1,7 +1,6 @@
 //! Requests and their answers over HTTP, to the byte.
-use crate::http::asking::{told, told_when_opened};
-use crate::running::over_lists;
-use reg_carriers::exercise::Exercise;
+use crate::asking::{told, told_when_opened};
+use reg_carriers::exercise::{Exercise, over_lists};
 use reg_carriers::messages::{NO_REGISTRY, json_answer, request, with_line_ends};
 use reg_carriers::served::Served;
 use reg_keeper::keeper::Keeper;

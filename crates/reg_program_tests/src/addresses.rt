@@ -1,10 +1,10 @@
 //! The job `publish` by its words: offices in files, and addresses where nobody answers.
-use crate::publishing::directories::folder_for;
 use crate::running::{Given, InLists};
 use reg_jobs::jobs::Job;
 use reg_program::console::Console;
 use reg_program::performing::perform;
 use reg_testing::facts::ensure;
+use reg_testing::folders::folder_for;
 use std::fs;
 use std::net::{Ipv4Addr, SocketAddr, TcpListener};
 use std::test::Fail;

@@ -1,8 +1,7 @@
 //! The answers of an office that is served, as a job reads them.
-use crate::publishing::office::opened;
-use crate::publishing::sites::answer;
-use crate::running::over_lists;
-use reg_carriers::exercise::Exercise;
+use crate::office::opened;
+use crate::sites::answer;
+use reg_carriers::exercise::{Exercise, over_lists};
 use reg_core::command::PublicCommand;
 use reg_core::text::Name;
 use reg_keeper::keeper::Keeper;

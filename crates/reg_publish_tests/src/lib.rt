@@ -1,0 +1,16 @@
+//! Tests of published sites: their files, to the byte, over offices in lists; what stands in a folder
+//! where a source, a device or a step fails; and the answers of a served office.
+#![tactic(auto)]
+
+#[cfg(test)]
+mod answers;
+#[cfg(test)]
+mod devices;
+#[cfg(test)]
+mod directories;
+#[cfg(test)]
+mod faults;
+#[cfg(test)]
+mod office;
+#[cfg(test)]
+mod sites;
