@@ -6,9 +6,9 @@ ghost use Rattle.reg_commands.specs.Performs.{Performs};
 use crate::carrying::conclude;
 use crate::stop::Stop;
 use reg_core::content::Content;
-use reg_core::decide::decide_agent;
 use reg_core::refusal::Refusal;
 use reg_core::text::Account;
+use reg_decisions::decide_agent;
 use reg_keeper::keeper::Keeper;
 use reg_ranges::formed::Formed;
 

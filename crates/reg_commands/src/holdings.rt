@@ -9,10 +9,10 @@ use crate::carrying::conclude;
 use crate::stop::Stop;
 use reg_blocks::block::Block;
 use reg_core::content::Content;
-use reg_core::decide::decide_listing;
 use reg_core::holding::Holding;
 use reg_core::refusal::Refusal;
 use reg_core::text::Account;
+use reg_decisions::decide_listing;
 use reg_keeper::keeper::Keeper;
 
 /// The applicant's own blocks.

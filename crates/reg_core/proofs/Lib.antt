@@ -5,15 +5,9 @@ pub mod MapLaws
 pub mod KeySets
 pub mod WordsReadBack
 pub mod SamenessIsDecided
-pub mod Stepping
 pub mod Links
-pub mod Blocks
 pub mod Queues
-pub mod Files
 pub mod ValuesIn
 pub mod Terms
 pub mod Checks
-pub mod Allowances
-pub mod Outcomes
-pub mod Fitting
 pub mod Keeping

@@ -3,13 +3,6 @@ use Rattle.std.specs.Prelude.{ℕ, Bool, false, List}
 use Rattle.reg_blocks.specs.Block.{SizedPrefix}
 use Rattle.reg_early.specs.Terms.{permanent_term, early_term, renewed_term, settled_term}
 use Rattle.reg_early.specs.declared.term.Term.{Term}
-use Rattle.reg_core.specs.declared.decide.award.Award.{Award as AwardRow}
-use Rattle.reg_core.specs.declared.decide.award.Award.TheVariants.{Entry as EntryRow, Block as BlockRow}
-use Rattle.reg_core.specs.declared.decide.award.AwardedEntry.{AwardedEntry as AwardedEntryRow}
-use Rattle.reg_core.specs.declared.decide.award.Tenure.{Tenure as TenureRow}
-use Rattle.reg_core.specs.declared.decide.award.Tenure.TheVariants as row
-use Rattle.reg_core.specs.declared.decide.award.NewHolding.{NewHolding as NewHoldingRow}
-use Rattle.reg_core.specs.declared.decide.allowance.Allowance.{Allowance as AllowanceRow}
 use Rattle.reg_core.specs.declared.entry.Entry.{Entry}
 use Rattle.reg_core.specs.declared.holding.Holding.{Holding}
 use Rattle.reg_core.specs.declared.request.Given.{Given}
@@ -85,36 +78,3 @@ holding_from h = record {
   address = h.address;
   private = false;
 }
-
--- ---- As the code has it
-
-abbrev pub tenure_view : TenureRow → Tenure
-tenure_view row.ForGood = for_good
-tenure_view row.Early = early
-tenure_view (row.Renewed term) = renewed term.now
-tenure_view (row.Settled term) = settled term.now
-
-abbrev pub entry_view : AwardedEntryRow → AwardedEntry
-entry_view e =
-    record {
-      registry = e.registry.now;
-      value = e.value;
-      label = e.label.now;
-      assignee = e.assignee.now;
-      tenure = tenure_view e.tenure;
-    }
-
-abbrev pub holding_view : NewHoldingRow → NewHolding
-holding_view h = record {
-  block = h.block.now;
-  holder = h.holder.now;
-  organization = h.organization.now;
-  address = h.address.now;
-}
-
-abbrev pub award_view : AwardRow → Award
-award_view (EntryRow e) = awarded_entry (entry_view e)
-award_view (BlockRow h) = new_holding (holding_view h)
-
-abbrev pub allowance_view : AllowanceRow → Allowance
-allowance_view a = record { award = award_view a.award; needs_advice = a.needs_advice }

@@ -22,7 +22,6 @@ pub mod Lists
 pub mod BlockDue
 pub mod Award
 pub mod Allowance
-pub mod Ground
 pub mod Rules
 pub mod Answer
 pub mod Step

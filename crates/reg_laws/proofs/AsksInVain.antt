@@ -34,7 +34,7 @@ use Rattle.reg_core.specs.declared.refusal.Refusal.TheVariants as no
 use Rattle.reg_core.specs.declared.request.Case.{Case}
 use Rattle.reg_core.specs.declared.request.Given.{Given}
 use Rattle.reg_core.proofs.Cases.{by_test}
-use Rattle.reg_core.proofs.Outcomes.Dues.{changes_due}
+use Rattle.reg_decisions.proofs.Outcomes.Dues.{changes_due}
 
 -- ---- Refusals in turn
 

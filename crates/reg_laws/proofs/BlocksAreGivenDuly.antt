@@ -34,11 +34,11 @@ use Rattle.reg_core.specs.declared.refusal.Refusal.{Refusal}
 use Rattle.reg_core.specs.declared.refusal.Refusal.TheVariants as no
 use Rattle.reg_core.specs.declared.request.Given.{Given}
 use Rattle.reg_core.specs.declared.request.State.{State}
-use Rattle.reg_core.proofs.Allowances.{allowance_of, allows_block}
-use Rattle.reg_core.proofs.Blocks.{due_is_due, holding_found}
-use Rattle.reg_core.proofs.Keeping.RunsKeepWell.{runs_keep}
+use Rattle.reg_decisions.proofs.Allowances.{allowance_of, allows_block}
+use Rattle.reg_decisions.proofs.Blocks.{due_is_due, holding_found}
+use Rattle.reg_decisions.proofs.Keeping.RunsKeepWell.{runs_keep}
 use Rattle.reg_core.proofs.MapLaws.{block_keys, same_at, get-select}
-use Rattle.reg_core.proofs.Outcomes.Dues.{GivesBlock, changes_due}
+use Rattle.reg_decisions.proofs.Outcomes.Dues.{GivesBlock, changes_due}
 use Rattle.reg_core.proofs.SamenessIsDecided.{same_size-is}
 use Rattle.reg_laws.proofs.TwoWorlds.{worlds_alike}
 

@@ -33,12 +33,12 @@ use Rattle.reg_core.specs.declared.request.Case.{Case}
 use Rattle.reg_core.specs.declared.request.Given.TheVariants.{Value, Block}
 use Rattle.reg_core.specs.declared.request.State.{State}
 use Rattle.reg_core.specs.declared.request.State.TheVariants.{Pending, Approved, Declined, Withdrawn}
-use Rattle.reg_core.proofs.Keeping.RunsKeepWell.{step_keeps_well}
+use Rattle.reg_decisions.proofs.Keeping.RunsKeepWell.{step_keeps_well}
 use Rattle.reg_core.proofs.KeySets.{still_in}
 use Rattle.reg_core.proofs.MapLaws.{IsKeyOrder, number_keys, text_keys, name_keys, place_keys, seat_keys, block_keys, tied, get-at_insert, get-update}
 use Rattle.reg_core.specs.declared.change.Change.TheVariants.{Grant, Revoke, Define, AddPool, Submit, Close, Assign, Advise, GiveValue, GiveBlock, SetPrivate, SetHold, SetAgent}
-use Rattle.reg_core.proofs.Blocks.{due_is_new}
-use Rattle.reg_core.proofs.Outcomes.Dues.{WasPending, MarksEntry, Due, each_step}
+use Rattle.reg_decisions.proofs.Blocks.{due_is_new}
+use Rattle.reg_decisions.proofs.Outcomes.Dues.{WasPending, MarksEntry, Due, each_step}
 use Rattle.reg_laws.proofs.TermsStand.{term_stands, marked_stands, term_stands_on, given_duly, still_given}
 
 -- ---- Nothing goes away

@@ -13,7 +13,7 @@ use Rattle.reg_core.specs.declared.command.Command.TheVariants.{Applicant}
 use Rattle.reg_core.specs.declared.command.ApplicantCommand.TheVariants as applicant
 use Rattle.reg_core.proofs.Links.{link_is, link_stays}
 use Rattle.reg_core.proofs.MapLaws.{tied, link_keys}
-use Rattle.reg_core.proofs.Outcomes.Dues.{IsDue, each_step}
+use Rattle.reg_decisions.proofs.Outcomes.Dues.{IsDue, each_step}
 use Rattle.reg_core.proofs.SamenessIsDecided.{same_kind-is}
 
 module _ (digest_of : List ℕ → List ℕ) (w : World) (caller : Option (List ℕ)) (moment : ℕ)

@@ -13,7 +13,7 @@ use Rattle.reg_core.specs.Unseen.{Stage, stage, stages, about_at, reveals_if, is
 use Rattle.reg_core.specs.View.{cap_at}
 use Rattle.reg_core.specs.World.{World, RequestName, applied_if}
 use Rattle.reg_core.specs.declared.change.Change.{Change}
-use Rattle.reg_core.proofs.Outcomes.Dues.{change_about, changes_due}
+use Rattle.reg_decisions.proofs.Outcomes.Dues.{change_about, changes_due}
 use Rattle.reg_laws.proofs.Striking.Answers.{same_answer, answer_at}
 use Rattle.reg_laws.proofs.Striking.Lists.{answer_plain}
 use Rattle.reg_laws.proofs.Striking.Untouched.{kept_apart, left_if}

@@ -22,7 +22,7 @@ use Rattle.reg_core.specs.declared.command.ClerkCommand.TheVariants.{Approve, Se
 use Rattle.reg_core.specs.declared.entry.Entry.{Entry}
 use Rattle.reg_core.specs.declared.entry.Registration.{Registration}
 use Rattle.reg_core.proofs.MapLaws.{place_keys, tied, get-at_insert, get-update}
-use Rattle.reg_core.proofs.Outcomes.Dues.{changes_due}
+use Rattle.reg_decisions.proofs.Outcomes.Dues.{changes_due}
 use Rattle.reg_laws.proofs.TermsStand.{given_duly, given_moves}
 
 module _ (digest_of : List ℕ → List ℕ) (w : World) (caller : Option (List ℕ)) (moment : ℕ)

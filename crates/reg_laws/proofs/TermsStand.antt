@@ -19,8 +19,8 @@ use Rattle.reg_core.specs.declared.ask.Ask.{Ask}
 use Rattle.reg_core.specs.declared.ask.Ask.TheVariants.{Code, Early, Renew, Permanent, Block}
 use Rattle.reg_core.specs.declared.entry.Entry.{Entry}
 use Rattle.reg_core.specs.declared.entry.Registration.{Registration}
-use Rattle.reg_core.proofs.Allowances.{allowed_duly}
-use Rattle.reg_core.proofs.Outcomes.Dues.{Gives}
+use Rattle.reg_decisions.proofs.Allowances.{allowed_duly}
+use Rattle.reg_decisions.proofs.Outcomes.Dues.{Gives}
 use Rattle.reg_core.proofs.Keeping.Entries.{standing_term}
 use Rattle.reg_core.proofs.Terms.{renewal_is, settlement_is, latest_day}
 use Rattle.reg_early.proofs.YearAfter.{no_earlier}

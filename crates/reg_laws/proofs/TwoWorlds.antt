@@ -24,19 +24,19 @@ use Rattle.reg_core.specs.declared.holding.Holder.{Holder}
 use Rattle.reg_core.specs.declared.request.Case.{Case}
 use Rattle.reg_core.specs.declared.request.State.{State}
 use Rattle.reg_core.specs.declared.request.State.TheVariants.{Pending, Approved, Declined, Withdrawn}
-use Rattle.reg_core.proofs.Blocks.{holding_found, own_holding}
+use Rattle.reg_decisions.proofs.Blocks.{holding_found, own_holding}
 use Rattle.reg_core.proofs.MapLaws.{name_keys, block_keys, select-insert_same, select-update_same}
 use Rattle.reg_laws.proofs.Agents.{select-with_link_same, principals_unchanged, principal_rows_unchanged}
 use Rattle.reg_core.proofs.Queues.{SameOthers, others_after_insert, others_after_update, queue_same, principal_rows_same, queue_advised}
-use Rattle.reg_core.proofs.Stepping.{own_request}
+use Rattle.reg_decisions.proofs.Stepping.{own_request}
 use Rattle.std.specs.Prelude.{Option, Some, None, option_map, unwrap_or, nat_lt, if◌then◌else◌}
 use Rattle.std.specs.FinMap.{FinMap, get}
 use Rattle.reg_core.specs.Answer.{reply_of, change_of, answer}
 use Rattle.reg_core.specs.World.{World, RequestName, name_cmp, in_state, applied, applied_if, pending}
 use Rattle.reg_core.specs.declared.capability.Kind.TheVariants as kind
 use Rattle.reg_core.proofs.SamenessIsDecided.{same_kind-is}
-use Rattle.reg_core.proofs.Outcomes.Accepted.{ClerkServes}
-use Rattle.reg_core.proofs.Outcomes.Dues.{Due, each_step}
+use Rattle.reg_decisions.proofs.Outcomes.Accepted.{ClerkServes}
+use Rattle.reg_decisions.proofs.Outcomes.Dues.{Due, each_step}
 
 -- ---- The capability of a view
 

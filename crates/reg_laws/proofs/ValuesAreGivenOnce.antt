@@ -16,11 +16,11 @@ use Rattle.reg_core.specs.declared.ask.Ask.{Ask}
 use Rattle.reg_core.specs.declared.change.Change.TheVariants.{GiveValue}
 use Rattle.reg_core.specs.declared.entry.Entry.{Entry}
 use Rattle.reg_core.specs.declared.entry.Registration.{Registration}
-use Rattle.reg_core.proofs.Allowances.{allowed_asked}
+use Rattle.reg_decisions.proofs.Allowances.{allowed_asked}
 use Rattle.reg_laws.proofs.GivenStays.{runs_stay}
-use Rattle.reg_core.proofs.Keeping.RunsKeepWell.{step_keeps_well, runs_keep}
+use Rattle.reg_decisions.proofs.Keeping.RunsKeepWell.{step_keeps_well, runs_keep}
 use Rattle.reg_core.proofs.MapLaws.{place_keys, get-inserted}
-use Rattle.reg_core.proofs.Outcomes.Dues.{changes_due}
+use Rattle.reg_decisions.proofs.Outcomes.Dues.{changes_due}
 use Rattle.reg_laws.proofs.TermsStand.{given_duly, still_given}
 
 -- an entry of this account is there

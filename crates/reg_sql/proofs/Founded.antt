@@ -11,7 +11,7 @@ use Rattle.reg_core.specs.Minutes.{with_minute}
 use Rattle.sqlite.specs.State.{State}
 use Rattle.reg_core.specs.WellKept.{WellKept}
 use Rattle.reg_core.specs.World.{empty_world, name_cmp, place_cmp}
-use Rattle.reg_core.proofs.Keeping.RunsKeepWell.{first_worlds_kept}
+use Rattle.reg_core.proofs.Keeping.FirstWorlds.{first_worlds_kept}
 use Rattle.reg_core.proofs.MapLaws.{IsKeyOrder, get-select, name_keys, place_keys, same_at, text_keys}
 use Rattle.reg_vacancies.specs.Vacancies.{AreVacancies, AreVacanciesOf}
 use Rattle.reg_vacancies.specs.declared.vacancies.Vacancies.{Vacancies}

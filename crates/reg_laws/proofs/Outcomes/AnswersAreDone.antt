@@ -34,9 +34,9 @@ use Rattle.reg_core.specs.Step.{desk_by, answer_to}
 use Rattle.reg_core.specs.Laws.{IsDone, WasDone, AnswersAreDone, is_refused}
 use Rattle.reg_core.specs.View.{cap_at}
 use Rattle.reg_core.specs.declared.content.Content.{Content}
-use Rattle.reg_core.proofs.Outcomes.Deciding.{Rule, Decides}
+use Rattle.reg_decisions.proofs.Outcomes.Deciding.{Rule, Decides}
 use Rattle.reg_core.specs.declared.change.Change.TheVariants as change
-use Rattle.reg_core.proofs.Outcomes.Accepted.{Comes, CommandSo, accepted}
+use Rattle.reg_decisions.proofs.Outcomes.Accepted.{Comes, CommandSo, accepted}
 use Rattle.reg_laws.proofs.Outcomes.WholeLists.{entry_list, block_list, own_list, holding_list, queue_list}
 
 -- ---- The forms of an outcome

@@ -16,11 +16,11 @@ use Rattle.reg_core.specs.declared.command.Command.TheVariants.{Clerk}
 use Rattle.reg_core.specs.declared.command.ClerkCommand.TheVariants.{Approve}
 use Rattle.reg_core.specs.declared.decide.Decision.TheVariants.{Make}
 use Rattle.reg_core.specs.declared.request.Case.{Case}
-use Rattle.reg_core.proofs.Allowances.{allowed_of_ask}
-use Rattle.reg_core.proofs.Files.{advised_by}
-use Rattle.reg_core.proofs.Outcomes.Accepted.{Row, accepted}
-use Rattle.reg_core.proofs.Outcomes.Deciding.{Decides, Approves}
-use Rattle.reg_core.proofs.Outcomes.Dues.{makes, outcome_of}
+use Rattle.reg_decisions.proofs.Allowances.{allowed_of_ask}
+use Rattle.reg_decisions.proofs.Files.{advised_by}
+use Rattle.reg_decisions.proofs.Outcomes.Accepted.{Row, accepted}
+use Rattle.reg_decisions.proofs.Outcomes.Deciding.{Decides, Approves}
+use Rattle.reg_decisions.proofs.Outcomes.Dues.{makes, outcome_of}
 
 -- the request was there, and the rule decided that the change is made
 approval : (digest_of : List ℕ → List ℕ) (w : World) (caller : Option (List ℕ)) (moment : ℕ)

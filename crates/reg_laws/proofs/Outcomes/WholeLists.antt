@@ -23,10 +23,10 @@ use Rattle.reg_core.specs.declared.queue.QueueRow.{QueueRow}
 use Rattle.reg_core.specs.declared.request.Case.{Case}
 use Rattle.reg_core.specs.declared.request.Request.{Request}
 use Rattle.reg_core.proofs.MapLaws.{name_keys, place_keys, block_keys, get-select, All-entries, Contains-map, Contains-entries, ascending-entries}
-use Rattle.reg_core.proofs.Blocks.{holding_found, own_holding}
+use Rattle.reg_decisions.proofs.Blocks.{holding_found, own_holding}
 use Rattle.reg_core.proofs.ValuesIn.{own_found, found_own, page_ascends}
 use Rattle.reg_core.proofs.Queues.{IsQueued, queued_found, found_queued}
-use Rattle.reg_core.proofs.Stepping.{own_request, own_row_found, own_row_is_own}
+use Rattle.reg_decisions.proofs.Stepping.{own_request, own_row_found, own_row_is_own}
 
 -- ---- Registers
 

@@ -49,12 +49,12 @@ use Rattle.reg_core.specs.declared.request.Given.{Given}
 use Rattle.reg_core.specs.declared.request.Request.{Request}
 use Rattle.reg_core.specs.declared.request.State.TheVariants.{Approved}
 use Rattle.reg_core.proofs.SamenessIsDecided.{same_text-itself, same_advice-itself, same_cap-itself, same_ask-itself, same_table-itself}
-use Rattle.reg_core.proofs.Outcomes.Accepted.{Serves, ClerkServes, CommandSo}
+use Rattle.reg_decisions.proofs.Outcomes.Accepted.{Serves, ClerkServes, CommandSo}
 use Rattle.reg_laws.proofs.Outcomes.AnswersAreDone.{Done, accepted_done}
 use Rattle.reg_core.proofs.Links.{own_agent, own_principal}
-use Rattle.reg_core.proofs.Blocks.{own_holding}
+use Rattle.reg_decisions.proofs.Blocks.{own_holding}
 use Rattle.reg_core.proofs.Queues.{found_queued}
-use Rattle.reg_core.proofs.Stepping.{own_request}
+use Rattle.reg_decisions.proofs.Stepping.{own_request}
 
 -- ---- A caller who may act as before
 

@@ -25,7 +25,7 @@ use Rattle.reg_core.specs.declared.request.Case.{Case}
 use Rattle.reg_core.specs.declared.request.Request.{Request}
 use Rattle.reg_core.specs.declared.request.State.TheVariants.{Approved}
 use Rattle.reg_laws.proofs.Outcomes.AnswersAreDone.{accepted_done}
-use Rattle.reg_core.proofs.Keeping.RunsKeepWell.{step_keeps_well}
+use Rattle.reg_decisions.proofs.Keeping.RunsKeepWell.{step_keeps_well}
 use Rattle.reg_laws.proofs.Repeats.RepeatsActOnce.{acts, clerk_acts, row_at, submit_again, approve_again}
 use Rattle.reg_laws.proofs.GivenStays.{runs_stay}
 

@@ -29,7 +29,7 @@ use Rattle.reg_core.specs.declared.reply.Reply.TheVariants.{Accepted}
 use Rattle.reg_core.specs.declared.request.Case.{Case}
 use Rattle.reg_core.specs.declared.request.Request.{Request}
 use Rattle.reg_core.proofs.MapLaws.{name_keys, get-select, All-entries}
-use Rattle.reg_core.proofs.Outcomes.Accepted.{PublicSo, OwnSo, ExpertSo, ClerkSo, CommandSo, accepted}
+use Rattle.reg_decisions.proofs.Outcomes.Accepted.{PublicSo, OwnSo, ExpertSo, ClerkSo, CommandSo, accepted}
 use Rattle.reg_laws.proofs.Striking.Maps.{AgreeBut, rows_of, same_rows}
 
 module _ (hidden : RequestName → Bool) where

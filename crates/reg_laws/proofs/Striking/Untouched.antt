@@ -19,8 +19,8 @@ use Rattle.reg_core.specs.declared.request.Case.{Case}
 use Rattle.reg_core.specs.declared.request.State.TheVariants.{Pending, Approved, Declined, Withdrawn}
 use Rattle.reg_core.specs.declared.request.Given.TheVariants.{Value, Block}
 use Rattle.reg_core.proofs.MapLaws.{name_keys}
-use Rattle.reg_core.proofs.Outcomes.Accepted.{Serves, ClerkServes}
-use Rattle.reg_core.proofs.Outcomes.Dues.{Due, IsApplicant, IsExpert, change_about, changes_due}
+use Rattle.reg_decisions.proofs.Outcomes.Accepted.{Serves, ClerkServes}
+use Rattle.reg_decisions.proofs.Outcomes.Dues.{Due, IsApplicant, IsExpert, change_about, changes_due}
 use Rattle.reg_core.proofs.SamenessIsDecided.{same_kind-is}
 use Rattle.reg_laws.proofs.Striking.Answers.{Stays, answer_at}
 use Rattle.reg_laws.proofs.Striking.Maps.{one_insert, one_update}

@@ -11,7 +11,7 @@ use Rattle.reg_core.specs.View.{published, personal, requests_of, requests_by, q
 use Rattle.reg_core.specs.World.{World, RequestName, Seat, seat_cmp}
 use Rattle.reg_core.specs.declared.capability.Cap.{Cap}
 use Rattle.reg_core.specs.declared.request.Case.{Case}
-use Rattle.reg_core.proofs.Files.{same_name-is}
+use Rattle.reg_decisions.proofs.Files.{same_name-is}
 use Rattle.reg_core.proofs.MapLaws.{name_keys, seat_keys}
 use Rattle.reg_laws.proofs.Striking.Maps.{AgreeBut, NoneAt, ChooseAlike, both_select, same_select}
 use Rattle.reg_laws.proofs.Striking.Worlds.{at_seat, Agree, Blind, Unaware}

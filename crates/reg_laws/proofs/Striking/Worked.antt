@@ -37,7 +37,7 @@ use Rattle.reg_core.specs.declared.request.Given.TheVariants as given
 use Rattle.reg_core.specs.declared.request.State.TheVariants.{Approved, Declined}
 use Rattle.reg_core.specs.declared.request.State.{State}
 use Rattle.reg_core.proofs.MapLaws.{name_keys, text_keys, get-inserted}
-use Rattle.reg_core.proofs.Stepping.{own_request}
+use Rattle.reg_decisions.proofs.Stepping.{own_request}
 
 abbrev clerk : List ℕ
 clerk = codes "clerk-token-00001"

@@ -20,10 +20,10 @@ use Rattle.reg_core.specs.declared.change.Change.TheVariants.{Submit, Close, Ass
 use Rattle.reg_core.specs.declared.request.Case.{Case}
 use Rattle.reg_core.specs.declared.request.State.TheVariants.{Approved}
 use Rattle.reg_core.specs.declared.request.Given.TheVariants.{Value, Block}
-use Rattle.reg_core.proofs.Files.{same_name-itself}
+use Rattle.reg_decisions.proofs.Files.{same_name-itself}
 use Rattle.reg_laws.proofs.Agents.{there_after}
 use Rattle.reg_core.proofs.MapLaws.{name_keys, seat_keys, link_keys, tied, get-at_insert}
-use Rattle.reg_core.proofs.Outcomes.Dues.{change_about}
+use Rattle.reg_decisions.proofs.Outcomes.Dues.{change_about}
 use Rattle.reg_core.proofs.SamenessIsDecided.{same_text-itself}
 use Rattle.reg_laws.proofs.Striking.Maps.{AgreeBut, both_insert, both_update, one_insert, one_update}
 

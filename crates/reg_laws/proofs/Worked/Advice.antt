@@ -25,7 +25,7 @@ use Rattle.reg_core.specs.declared.refusal.Refusal.{Refusal}
 use Rattle.reg_core.specs.declared.refusal.Refusal.TheVariants as no
 use Rattle.reg_core.specs.declared.content.Content.TheVariants.{Item, Desk}
 use Rattle.reg_core.specs.declared.reply.Reply.TheVariants.{Accepted, Refused}
-use Rattle.reg_core.proofs.Allowances.{allowance_needs}
+use Rattle.reg_decisions.proofs.Allowances.{allowance_needs}
 use Rattle.reg_core.specs.declared.request.State.TheVariants.{Pending, Declined}
 use Rattle.reg_core.specs.declared.request.StateWord.TheVariants as word
 use Rattle.reg_core.specs.Laws.{clerk_cap}

@@ -6,7 +6,7 @@ use Rattle.reg_core.specs.World.{World, RequestName}
 use Rattle.reg_core.specs.declared.command.ApplicantCommand.TheVariants.{Withdraw}
 use Rattle.reg_core.specs.declared.content.Content.TheVariants.{Row}
 use Rattle.reg_core.specs.declared.request.Request.{Request}
-use Rattle.reg_core.proofs.Fitting.{withdraw_fits}
+use Rattle.reg_decisions.proofs.Fitting.{withdraw_fits}
 use Rattle.reg_commands.specs.Answers.{answer_to_account}
 use Rattle.reg_commands.specs.Decisions.{row_by}
 use Rattle.reg_commands.proofs.Decided.{Decides, always, the_value, makes_found, performs_declined, performs_found}

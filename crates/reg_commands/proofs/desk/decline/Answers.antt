@@ -7,7 +7,7 @@ use Rattle.reg_core.specs.World.{World, RequestName}
 use Rattle.reg_core.specs.declared.command.ClerkCommand.TheVariants.{Decline}
 use Rattle.reg_core.specs.declared.content.Content.TheVariants.{Desk}
 use Rattle.reg_core.specs.declared.request.Request.{Request}
-use Rattle.reg_core.proofs.Fitting.{decline_fits}
+use Rattle.reg_decisions.proofs.Fitting.{decline_fits}
 use Rattle.reg_commands.specs.Answers.{answer_at_desk}
 use Rattle.reg_commands.specs.Decisions.{row_by}
 use Rattle.reg_commands.proofs.Decided.{Decides, always, the_value, makes_fitting, performs_denied, performs_decided}

@@ -1,5 +1,5 @@
 use Rattle.std.proofs.Common.{true, refl, Some}
-use Rattle.reg_core.proofs.Keeping.RunsKeepWell.{first_worlds_kept}
+use Rattle.reg_core.proofs.Keeping.FirstWorlds.{first_worlds_kept}
 use Rattle.reg_audit.specs.declared.audit.Audit.{Audit}
 use Rattle.reg_audit.proofs.KeptRows.{keeps_none}
 use Rattle.reg_audit.proofs.audit.Audit.new.Goals as goal

@@ -1,7 +1,7 @@
 use Rattle.std.proofs.Common.{◌≡◌, sym, subst, rules}
 use Rattle.reg_core.specs.WellKept.{WellKept}
 use Rattle.reg_core.specs.World.{empty_world}
-use Rattle.reg_core.proofs.Keeping.RunsKeepWell.{first_worlds_kept}
+use Rattle.reg_core.proofs.Keeping.FirstWorlds.{first_worlds_kept}
 use Rattle.reg_store.specs.Lists.Blocks.{pool_held, blocks_given}
 use Rattle.reg_store.specs.Lists.Content.{content}
 use Rattle.reg_store.specs.Lists.Links.{links_held}

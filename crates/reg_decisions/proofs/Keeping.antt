@@ -1,0 +1,3 @@
+-- Worlds stay well kept.
+pub mod Blocks
+pub mod RunsKeepWell

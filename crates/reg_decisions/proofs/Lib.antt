@@ -1,0 +1,7 @@
+pub mod Stepping
+pub mod Blocks
+pub mod Files
+pub mod Allowances
+pub mod Outcomes
+pub mod Fitting
+pub mod Keeping
