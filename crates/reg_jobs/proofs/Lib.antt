@@ -1,3 +1,5 @@
+mod Adding
+mod Building
 mod ReadNumbers
 mod Stops
 mod Taken

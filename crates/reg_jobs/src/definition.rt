@@ -1,6 +1,6 @@
 //! The commands of the program, as its command line defines them.
-ghost use Rattle.std.specs.Prelude.{◌≡◌, false, IfOk};
-ghost use Rattle.clap.specs.Words.{app_of, new_app, rule_of};
+ghost use Rattle.std.specs.Prelude.{◌≡◌, false, IfOk, IsOkAnd};
+ghost use Rattle.clap.specs.Words.{AddsSubcommand, app_of, new_app, rule_of};
 ghost use Rattle.clap.specs.declared.builder.command.Command.TheViews.{out-Command};
 ghost use Rattle.reg_jobs.specs.CommandLine.{asking_app, check_app, clerk_rule, connections_rule, define_app, file_app, flag_rule, init_app, last_place_rule, listing_app, office_app, option_rule, path_app, place_rule, port_rule, publish_app, registry_app, request_app, revoke_app, script_app, serve_app, serving_app, tokens_app};
 
@@ -130,32 +130,41 @@ an account's:
 pub fn office<'a>(alloc: Global) -> Result<Command<'a>, AllocError>
     ensures { IfOk result (λ c. app_of c ≡ office_app) }
 {
-    asking(alloc)?
-        .subcommand(check(alloc)?)?
-        .subcommand(tokens(alloc)?)?
-        .subcommand(revoke(alloc)?)
+    let program = with_job(asking(alloc), check(alloc));
+    let program = with_job(program, tokens(alloc));
+    with_job(program, revoke(alloc))
 }
 
 // The program with the jobs that begin an office, have it served, and ask it.
 fn asking<'a>(alloc: Global) -> Result<Command<'a>, AllocError>
     ensures { IfOk result (λ c. app_of c ≡ asking_app) }
 {
-    serving(alloc)?
-        .subcommand(request(alloc)?)?
-        .subcommand(define(alloc)?)?
-        .subcommand(listing(alloc)?)?
-        .subcommand(publish(alloc)?)
+    let program = with_job(serving(alloc), request(alloc));
+    let program = with_job(program, define(alloc));
+    let program = with_job(program, listing(alloc));
+    with_job(program, publish(alloc))
 }
 
 // The program with the jobs that begin an office and have it served.
 fn serving<'a>(alloc: Global) -> Result<Command<'a>, AllocError>
     ensures { IfOk result (λ c. app_of c ≡ serving_app) }
 {
-    command(alloc, "reg_cli", ABOUT, EXAMPLE)
-        .subcommand_required(true)
-        .subcommand(script(alloc)?)?
-        .subcommand(init(alloc)?)?
-        .subcommand(serve(alloc)?)
+    let program = command(alloc, "reg_cli", ABOUT, EXAMPLE).subcommand_required(true);
+    let program = with_job(Ok(program), script(alloc));
+    let program = with_job(program, init(alloc));
+    with_job(program, serve(alloc))
+}
+
+// The program with one more job, where there was memory for both. It takes both as they were made,
+// so that no caller has one of them to drop where it may return.
+fn with_job<'a>(
+    program: Result<Command<'a>, AllocError>,
+    job: Result<Command<'a>, AllocError>,
+) -> Result<Command<'a>, AllocError>
+    ensures { IfOk result (λ c. IsOkAnd program.entry (λ p.
+        IsOkAnd job.entry (λ j. AddsSubcommand p j c))) }
+{
+    program?.subcommand(job?)
 }
 
 // A command with its texts, and no argument yet.

@@ -1,6 +1,9 @@
-use Rattle.std.proofs.Common.{◌≡◌, ◌∙◌, Err, IfOk, List, MatchResult, Ok, Option, Result, Some, ap, codes, refl, rules, subst, sym, unwrap_or}
+use Rattle.std.proofs.Common.{◌≡◌, ◌∙◌, Err, IfOk, List, MatchResult, None, Ok, Option, Result, Some, ap, ap₂, codes, option_map, refl, subst, sym, unwrap_or}
+use Rattle.std.specs.Box.{box_value}
 use Rattle.std.proofs.lemmas.Result.{IfOk-weaker}
-use Rattle.clap.specs.Words.{Row, Text, found_of, rows_of, subcommand_rows_of}
+use Rattle.clap.specs.Words.{Row, Text, found_of, rows_of, subcommand_name_of, subcommand_rows_of}
+use Rattle.clap.specs.declared.parser.matches.ArgMatches.{ArgMatches}
+use Rattle.clap.specs.declared.parser.matches.ArgMatches.TheViews.{out-ArgMatches, out-SubCommand}
 use Rattle.reg_jobs.specs.Asking.{HasJob, IsInRange, IsJobOf, IsUnclear, IsUnclearRevoke}
 use Rattle.reg_jobs.specs.declared.jobs.Job.{Job}
 use Rattle.reg_jobs.specs.declared.jobs.JobFault.{JobFault}
@@ -34,67 +37,137 @@ said_at : (o : Option (Text × List Row)) (name literal : Text) (rows : List Row
 said_at o name literal rows r here named said =
     IfOk-weaker r _ _ (λ job h. ((literal, rows), here ∙ ap (λ (n : Text). Some (n, rows)) named, h)) said
 
-pub returns-in-script-clause-given : goal.returns-in-script-clause-given
-returns-in-script-clause-given c =
-    let rows = rows_of (found_of c.in-Some.inner.now) in
-    given_at (subcommand_rows_of c.args.matches.now) c.in-Some.name.now (codes "script") rows c.script_of.result (search rules) (search rules)
-    (λ h. only_memory c.script_of.result (codes "script", rows) (c.script_of.ensures.given h))
+abbrev met_in : {X : Type 0} → (X → Text) → (X → List Row) → X → Text × List Row
+met_in name_in rows_in b = (name_in b, rows_in b)
 
-pub returns-in-init-clause-given : goal.returns-in-init-clause-given
-returns-in-init-clause-given c =
-    let rows = rows_of (found_of c.in-Some.inner.now) in
-    given_at (subcommand_rows_of c.args.matches.now) c.in-Some.name.now (codes "init") rows c.init_of.result (search rules) (search rules)
-    (λ h. only_memory c.init_of.result (codes "init", rows) (c.init_of.ensures.given h.0 h.1))
+-- the name and the rows that were met, where there are both
+both_met : {X : Type 0} (o : Option X) (name_in : X → Text) (rows_in : X → List Row) (name : Text) (rows : List Row) → Some name ≡ option_map name_in o
+    → Some rows ≡ option_map (λ (p : Text × List Row). p.1) (option_map (met_in name_in rows_in) o) → option_map (met_in name_in rows_in) o ≡ Some (name, rows)
+both_met None name_in rows_in name rows named has = absurd (cc)
+both_met (Some b) name_in rows_in name rows named has =
+    ap₂ (λ (o : Option Text) (p : Option (List Row)). Some (unwrap_or o (name_in b), unwrap_or p (rows_in b))) (sym named) (sym has)
 
-pub returns-in-serve-clause-given : goal.returns-in-serve-clause-given
-returns-in-serve-clause-given c =
-    let rows = rows_of (found_of c.in-Some.inner.now) in
-    given_at (subcommand_rows_of c.args.matches.now) c.in-Some.name.now (codes "serve") rows c.serve_of.result (search rules) (search rules)
-    (λ h. only_memory c.serve_of.result (codes "serve", rows) (c.serve_of.ensures.given h.0 h.1 h.2))
+met_at : (m : ArgMatches) (name : Text) (rows : List Row) → Some name ≡ subcommand_name_of m
+    → Some rows ≡ option_map (λ (p : Text × List Row). p.1) (subcommand_rows_of m) → subcommand_rows_of m ≡ Some (name, rows)
+met_at m = both_met (out-ArgMatches m).subcommand (λ b. (out-SubCommand (box_value b)).name.now)
+    (λ b. rows_of (found_of (out-SubCommand (box_value b)).matches))
 
-pub returns-in-request-clause-given : goal.returns-in-request-clause-given
-returns-in-request-clause-given c =
+pub returns-in-script : goal.returns-in-script
+returns-in-script c =
+    let name = c.in-Some.name.now in
     let rows = rows_of (found_of c.in-Some.inner.now) in
-    given_at (subcommand_rows_of c.args.matches.now) c.in-Some.name.now (codes "request") rows c.request_of.result (search rules) (search rules)
-    (λ h. only_memory c.request_of.result (codes "request", rows) (c.request_of.ensures.given h.0 h.1 h.2))
+    let here = met_at c.args.matches.now name rows c.in-Some.ensures.name c.in-Some.ensures.rows in
+    let o = subcommand_rows_of c.args.matches.now in
+    record {
+      said = said_at o name (codes "script") rows c.script_of.result here c.in-script.is c.script_of.ensures.said;
+      given = given_at o name (codes "script") rows c.script_of.result here c.in-script.is
+          (λ h. only_memory c.script_of.result (codes "script", rows) (c.script_of.ensures.given h));
+    }
 
-pub returns-in-define-clause-given : goal.returns-in-define-clause-given
-returns-in-define-clause-given c =
+pub returns-in-init : goal.returns-in-init
+returns-in-init c =
+    let name = c.in-Some.name.now in
     let rows = rows_of (found_of c.in-Some.inner.now) in
-    given_at (subcommand_rows_of c.args.matches.now) c.in-Some.name.now (codes "define") rows c.define_of.result (search rules) (search rules)
-    (λ h. only_memory c.define_of.result (codes "define", rows) (c.define_of.ensures.given h.0 h.1 h.2 h.3 h.4))
+    let here = met_at c.args.matches.now name rows c.in-Some.ensures.name c.in-Some.ensures.rows in
+    let o = subcommand_rows_of c.args.matches.now in
+    record {
+      said = said_at o name (codes "init") rows c.init_of.result here c.in-init.is c.init_of.ensures.said;
+      given = given_at o name (codes "init") rows c.init_of.result here c.in-init.is
+          (λ h. only_memory c.init_of.result (codes "init", rows) (c.init_of.ensures.given h.0 h.1));
+    }
 
-pub returns-in-listing-clause-given : goal.returns-in-listing-clause-given
-returns-in-listing-clause-given c =
+pub returns-in-serve : goal.returns-in-serve
+returns-in-serve c =
+    let name = c.in-Some.name.now in
     let rows = rows_of (found_of c.in-Some.inner.now) in
-    given_at (subcommand_rows_of c.args.matches.now) c.in-Some.name.now (codes "listing") rows c.listing_of.result (search rules) (search rules)
-    (λ h. only_memory c.listing_of.result (codes "listing", rows) (c.listing_of.ensures.given h))
+    let here = met_at c.args.matches.now name rows c.in-Some.ensures.name c.in-Some.ensures.rows in
+    let o = subcommand_rows_of c.args.matches.now in
+    record {
+      said = said_at o name (codes "serve") rows c.serve_of.result here c.in-serve.is c.serve_of.ensures.said;
+      given = given_at o name (codes "serve") rows c.serve_of.result here c.in-serve.is
+          (λ h. only_memory c.serve_of.result (codes "serve", rows) (c.serve_of.ensures.given h.0 h.1 h.2));
+    }
 
-pub returns-in-publish-clause-given : goal.returns-in-publish-clause-given
-returns-in-publish-clause-given c =
+pub returns-in-request : goal.returns-in-request
+returns-in-request c =
+    let name = c.in-Some.name.now in
     let rows = rows_of (found_of c.in-Some.inner.now) in
-    given_at (subcommand_rows_of c.args.matches.now) c.in-Some.name.now (codes "publish") rows c.publish_of.result (search rules) (search rules)
-    (λ h. only_memory c.publish_of.result (codes "publish", rows) (c.publish_of.ensures.given h.0 h.1))
+    let here = met_at c.args.matches.now name rows c.in-Some.ensures.name c.in-Some.ensures.rows in
+    let o = subcommand_rows_of c.args.matches.now in
+    record {
+      said = said_at o name (codes "request") rows c.request_of.result here c.in-request.is c.request_of.ensures.said;
+      given = given_at o name (codes "request") rows c.request_of.result here c.in-request.is
+          (λ h. only_memory c.request_of.result (codes "request", rows) (c.request_of.ensures.given h.0 h.1 h.2));
+    }
 
-pub returns-in-check-clause-given : goal.returns-in-check-clause-given
-returns-in-check-clause-given c =
+pub returns-in-define : goal.returns-in-define
+returns-in-define c =
+    let name = c.in-Some.name.now in
     let rows = rows_of (found_of c.in-Some.inner.now) in
-    given_at (subcommand_rows_of c.args.matches.now) c.in-Some.name.now (codes "check") rows c.check_of.result (search rules) (search rules)
-    (λ h. only_memory c.check_of.result (codes "check", rows) (c.check_of.ensures.given h))
+    let here = met_at c.args.matches.now name rows c.in-Some.ensures.name c.in-Some.ensures.rows in
+    let o = subcommand_rows_of c.args.matches.now in
+    record {
+      said = said_at o name (codes "define") rows c.define_of.result here c.in-define.is c.define_of.ensures.said;
+      given = given_at o name (codes "define") rows c.define_of.result here c.in-define.is
+          (λ h. only_memory c.define_of.result (codes "define", rows) (c.define_of.ensures.given h.0 h.1 h.2 h.3 h.4));
+    }
 
-pub returns-in-tokens-clause-given : goal.returns-in-tokens-clause-given
-returns-in-tokens-clause-given c =
+pub returns-in-listing : goal.returns-in-listing
+returns-in-listing c =
+    let name = c.in-Some.name.now in
     let rows = rows_of (found_of c.in-Some.inner.now) in
-    given_at (subcommand_rows_of c.args.matches.now) c.in-Some.name.now (codes "tokens") rows c.tokens_of.result (search rules) (search rules)
-    (λ h. only_memory c.tokens_of.result (codes "tokens", rows) (c.tokens_of.ensures.given h))
+    let here = met_at c.args.matches.now name rows c.in-Some.ensures.name c.in-Some.ensures.rows in
+    let o = subcommand_rows_of c.args.matches.now in
+    record {
+      said = said_at o name (codes "listing") rows c.listing_of.result here c.in-listing.is c.listing_of.ensures.said;
+      given = given_at o name (codes "listing") rows c.listing_of.result here c.in-listing.is
+          (λ h. only_memory c.listing_of.result (codes "listing", rows) (c.listing_of.ensures.given h));
+    }
 
-pub returns-in-revoke-clause-given : goal.returns-in-revoke-clause-given
-returns-in-revoke-clause-given c =
+pub returns-in-publish : goal.returns-in-publish
+returns-in-publish c =
+    let name = c.in-Some.name.now in
     let rows = rows_of (found_of c.in-Some.inner.now) in
-    given_at (subcommand_rows_of c.args.matches.now) c.in-Some.name.now (codes "revoke") rows c.revoke_of.result (search rules) (search rules)
-    (λ h. or_unclear c.revoke_of.result rows (c.revoke_of.ensures.given h))
+    let here = met_at c.args.matches.now name rows c.in-Some.ensures.name c.in-Some.ensures.rows in
+    let o = subcommand_rows_of c.args.matches.now in
+    record {
+      said = said_at o name (codes "publish") rows c.publish_of.result here c.in-publish.is c.publish_of.ensures.said;
+      given = given_at o name (codes "publish") rows c.publish_of.result here c.in-publish.is
+          (λ h. only_memory c.publish_of.result (codes "publish", rows) (c.publish_of.ensures.given h.0 h.1));
+    }
 
-pub returns-in-serve-clause-said : goal.returns-in-serve-clause-said
-returns-in-serve-clause-said c =
+pub returns-in-check : goal.returns-in-check
+returns-in-check c =
+    let name = c.in-Some.name.now in
     let rows = rows_of (found_of c.in-Some.inner.now) in
-    said_at (subcommand_rows_of c.args.matches.now) c.in-Some.name.now (codes "serve") rows c.serve_of.result (search rules) (search rules) c.serve_of.ensures.said
+    let here = met_at c.args.matches.now name rows c.in-Some.ensures.name c.in-Some.ensures.rows in
+    let o = subcommand_rows_of c.args.matches.now in
+    record {
+      said = said_at o name (codes "check") rows c.check_of.result here c.in-check.is c.check_of.ensures.said;
+      given = given_at o name (codes "check") rows c.check_of.result here c.in-check.is
+          (λ h. only_memory c.check_of.result (codes "check", rows) (c.check_of.ensures.given h));
+    }
+
+pub returns-in-tokens : goal.returns-in-tokens
+returns-in-tokens c =
+    let name = c.in-Some.name.now in
+    let rows = rows_of (found_of c.in-Some.inner.now) in
+    let here = met_at c.args.matches.now name rows c.in-Some.ensures.name c.in-Some.ensures.rows in
+    let o = subcommand_rows_of c.args.matches.now in
+    record {
+      said = said_at o name (codes "tokens") rows c.tokens_of.result here c.in-tokens.is c.tokens_of.ensures.said;
+      given = given_at o name (codes "tokens") rows c.tokens_of.result here c.in-tokens.is
+          (λ h. only_memory c.tokens_of.result (codes "tokens", rows) (c.tokens_of.ensures.given h));
+    }
+
+pub returns-in-revoke : goal.returns-in-revoke
+returns-in-revoke c =
+    let name = c.in-Some.name.now in
+    let rows = rows_of (found_of c.in-Some.inner.now) in
+    let here = met_at c.args.matches.now name rows c.in-Some.ensures.name c.in-Some.ensures.rows in
+    let o = subcommand_rows_of c.args.matches.now in
+    record {
+      said = said_at o name (codes "revoke") rows c.revoke_of.result here c.in-revoke.is c.revoke_of.ensures.said;
+      given = given_at o name (codes "revoke") rows c.revoke_of.result here c.in-revoke.is
+          (λ h. or_unclear c.revoke_of.result rows (c.revoke_of.ensures.given h));
+    }

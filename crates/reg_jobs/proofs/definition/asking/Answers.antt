@@ -1,15 +1,14 @@
-use Rattle.std.proofs.Common.{◌∙◌, ap, ap₂}
-use Rattle.std.proofs.lemmas.Result.{IfOk-weaker}
-use Rattle.clap.specs.Words.{App, with_subcommand}
+use Rattle.reg_jobs.specs.CommandLine.{define_app, listing_app, publish_app, request_app, serving_app}
+use Rattle.reg_jobs.proofs.Adding.{job_added}
 use Rattle.reg_jobs.proofs.definition.asking.Goals as goal
 
 pub returns : goal.returns
 returns c =
-    let one = c.in_ok-subcommand.ensures.shape c.in_ok-request.ensures.local
-    ∙ ap₂ with_subcommand c.in_ok-serving.ensures (ap (λ (a : App). a.top) c.in_ok-request.ensures.shape) in
-    let two = c.in_ok-subcommand-2.ensures.shape c.in_ok-define.ensures.local
-    ∙ ap₂ with_subcommand one (ap (λ (a : App). a.top) c.in_ok-define.ensures.shape) in
-    let three = c.in_ok-subcommand-3.ensures.shape c.in_ok-listing.ensures.local
-    ∙ ap₂ with_subcommand two (ap (λ (a : App). a.top) c.in_ok-listing.ensures.shape) in
-    IfOk-weaker c.subcommand-4.result _ _ (λ x h. h.shape c.in_ok-publish.ensures.local
-    ∙ ap₂ with_subcommand three (ap (λ (a : App). a.top) c.in_ok-publish.ensures.shape)) c.subcommand-4.ensures
+    let one = job_added c.serving.result c.request.result c.with_job-program.result serving_app request_app c.with_job-program.ensures c.serving.ensures
+    c.request.ensures.shape c.request.ensures.local in
+    let two = job_added c.with_job-program.result c.define.result c.with_job-program-2.result _ define_app c.with_job-program-2.ensures one
+    c.define.ensures.shape c.define.ensures.local in
+    let three = job_added c.with_job-program-2.result c.listing.result c.with_job-program-3.result _ listing_app c.with_job-program-3.ensures two
+    c.listing.ensures.shape c.listing.ensures.local in
+    job_added c.with_job-program-3.result c.publish.result c.with_job.result _ publish_app c.with_job.ensures three
+    c.publish.ensures.shape c.publish.ensures.local

@@ -1,13 +1,12 @@
-use Rattle.std.proofs.Common.{◌∙◌, ap, ap₂}
-use Rattle.std.proofs.lemmas.Result.{IfOk-weaker}
-use Rattle.clap.specs.Words.{App, with_subcommand}
+use Rattle.reg_jobs.specs.CommandLine.{asking_app, check_app, revoke_app, tokens_app}
+use Rattle.reg_jobs.proofs.Adding.{job_added}
 use Rattle.reg_jobs.proofs.definition.office.Goals as goal
 
 pub returns : goal.returns
 returns c =
-    let one = c.in_ok-subcommand.ensures.shape c.in_ok-check.ensures.local
-    ∙ ap₂ with_subcommand c.in_ok-asking.ensures (ap (λ (a : App). a.top) c.in_ok-check.ensures.shape) in
-    let two = c.in_ok-subcommand-2.ensures.shape c.in_ok-tokens.ensures.local
-    ∙ ap₂ with_subcommand one (ap (λ (a : App). a.top) c.in_ok-tokens.ensures.shape) in
-    IfOk-weaker c.subcommand-3.result _ _ (λ x h. h.shape c.in_ok-revoke.ensures.local
-    ∙ ap₂ with_subcommand two (ap (λ (a : App). a.top) c.in_ok-revoke.ensures.shape)) c.subcommand-3.ensures
+    let one = job_added c.asking.result c.check.result c.with_job-program.result asking_app check_app c.with_job-program.ensures c.asking.ensures
+    c.check.ensures.shape c.check.ensures.local in
+    let two = job_added c.with_job-program.result c.tokens.result c.with_job-program-2.result _ tokens_app c.with_job-program-2.ensures one
+    c.tokens.ensures.shape c.tokens.ensures.local in
+    job_added c.with_job-program-2.result c.revoke.result c.with_job.result _ revoke_app c.with_job.ensures two
+    c.revoke.ensures.shape c.revoke.ensures.local

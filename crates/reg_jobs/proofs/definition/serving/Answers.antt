@@ -1,15 +1,17 @@
-use Rattle.std.proofs.Common.{rules, ◌≡◌, ◌∙◌, ap, ap₂}
-use Rattle.std.proofs.lemmas.Result.{IfOk-weaker}
-use Rattle.clap.specs.Words.{App, app_of, with_subcommand}
-use Rattle.reg_jobs.specs.CommandLine.{program_app}
+use Rattle.std.proofs.Common.{◌≡◌, ◌∙◌, Ok, ap, true}
+use Rattle.clap.specs.Simple.{app_of_fields}
+use Rattle.clap.specs.Words.{App, app_of}
+use Rattle.reg_jobs.specs.CommandLine.{init_app, program_app, script_app, serve_app}
+use Rattle.reg_jobs.proofs.Adding.{job_added}
 use Rattle.reg_jobs.proofs.definition.serving.Goals as goal
 
 pub returns : goal.returns
 returns c =
-    let start : app_of c.subcommand_required.result ≡ program_app = search rules in
-    let one = c.in_ok-subcommand.ensures.shape c.in_ok-script.ensures.local
-    ∙ ap₂ with_subcommand start (ap (λ (a : App). a.top) c.in_ok-script.ensures.shape) in
-    let two = c.in_ok-subcommand-2.ensures.shape c.in_ok-init.ensures.local
-    ∙ ap₂ with_subcommand one (ap (λ (a : App). a.top) c.in_ok-init.ensures.shape) in
-    IfOk-weaker c.subcommand-3.result _ _ (λ x h. h.shape c.in_ok-serve.ensures.local
-    ∙ ap₂ with_subcommand two (ap (λ (a : App). a.top) c.in_ok-serve.ensures.shape)) c.subcommand-3.ensures
+    let start : app_of c.subcommand_required-program.result ≡ program_app = ap app_of_fields c.subcommand_required-program.ensures
+    ∙ ap (λ (a : App). record a { top = record a.top { subcommand_required = true } }) c.command.ensures.shape in
+    let one = job_added (Ok c.subcommand_required-program.result) c.script.result c.with_job-program.result program_app script_app
+    c.with_job-program.ensures start c.script.ensures.shape c.script.ensures.local in
+    let two = job_added c.with_job-program.result c.init.result c.with_job-program-2.result _ init_app c.with_job-program-2.ensures one
+    c.init.ensures.shape c.init.ensures.local in
+    job_added c.with_job-program-2.result c.serve.result c.with_job.result _ serve_app c.with_job.ensures two
+    c.serve.ensures.shape c.serve.ensures.local
