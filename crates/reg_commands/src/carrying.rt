@@ -9,7 +9,7 @@ ghost use Rattle.reg_commands.specs.Decisions.{CanMake, row_by};
 
 use reg_core::change::Change;
 use reg_core::decide::Decision;
-use reg_core::request::Request;
+use reg_core::request::{Request, State};
 use reg_keeper::keeper::{Fault, Keeper};
 use std::alloc::AllocError;
 
@@ -60,16 +60,23 @@ pub fn conclude<K: Keeper, T: Drop>(
 pub fn row_after(request: Request, decision: &Decision) -> Result<Request, AllocError>
     ensures { IfOk result (λ row. row ≡ row_by decision.now request) }
 {
-    match decision {
-        Decision::Make(change) => {
-            let state = change.state()?.unwrap_or(request.state);
-            Ok(Request {
-                account: request.account,
-                reference: request.reference,
-                ask: request.ask,
-                state,
-            })
+    let Decision::Make(change) = decision else {
+        return Ok(request);
+    };
+    match change.state() {
+        Ok(Some(state)) => Ok(with_state(request, state)),
+        Ok(None) => Ok(request),
+        Err(error) => {
+            drop(request);
+            Err(error)
         }
-        Decision::Same => Ok(request),
     }
+}
+
+// A request in this state.
+fn with_state(mut request: Request, state: State) -> Request
+    ensures { result ≡ record request { state = state } }
+{
+    request.state = state;
+    request
 }

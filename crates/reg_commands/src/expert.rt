@@ -68,6 +68,14 @@ fn advise<K: Keeper>(
 fn with_advice(mut row: QueueRow, advice: &Advice) -> Result<QueueRow, AllocError>
     ensures { IfOk result (λ r. r ≡ advised_row advice.now row) }
 {
-    row.advice = Some(advice.copy()?);
-    Ok(row)
+    match advice.copy() {
+        Ok(advice) => {
+            row.advice = Some(advice);
+            Ok(row)
+        }
+        Err(error) => {
+            drop(row);
+            Err(error)
+        }
+    }
 }

@@ -174,6 +174,21 @@ fn assert_all_refused<K: Keeper>(rt: &HostRuntime, office: &mut Office<K>) -> Re
     ensure(account_of(rt.alloc(), "No account").is_err(), "an account")
 }
 
+/// Those of others are taken away, and the clerk's is left.
+fn assert_all_taken<K: Keeper>(rt: &HostRuntime, office: &mut Office<K>) -> Result<(), Fail> {
+    assert_listed(rt, office, ALL)?;
+    assert_all_refused(rt, office)?;
+    assert_listed(rt, office, ALL)?;
+    let old = "alice,applicant,2000-01-01T00:00:00Z,9f390627313c\n";
+    let older = "alice,applicant,1970-01-01T00:00:00Z,3edb5d9d72eb\n";
+    assert_digits_taken(rt, office, b"9f390627", old)?;
+    assert_account_taken(rt, office, "alice", older)?;
+    assert_account_refused(rt, office, "alice", NONE)?;
+    assert_account_taken(rt, office, "bob", OF_BOB)?;
+    let clerk = "clerk,clerk,3000-01-01T00:00:00Z,ff2676003e48\n";
+    assert_listed(rt, office, clerk)
+}
+
 /// Capabilities that are listed, and taken away.
 #[derive(Drop)]
 struct TokenJobs;
@@ -183,17 +198,9 @@ impl Exercise for TokenJobs {
 
     fn done<K: Keeper + Drop>(self, rt: &HostRuntime, keeper: K) -> Result<(), Fail> {
         let mut office = founded(rt, keeper)?;
-        assert_listed(rt, &mut office, ALL)?;
-        assert_all_refused(rt, &mut office)?;
-        assert_listed(rt, &mut office, ALL)?;
-        let old = "alice,applicant,2000-01-01T00:00:00Z,9f390627313c\n";
-        let older = "alice,applicant,1970-01-01T00:00:00Z,3edb5d9d72eb\n";
-        assert_digits_taken(rt, &mut office, b"9f390627", old)?;
-        assert_account_taken(rt, &mut office, "alice", older)?;
-        assert_account_refused(rt, &mut office, "alice", NONE)?;
-        assert_account_taken(rt, &mut office, "bob", OF_BOB)?;
-        let clerk = "clerk,clerk,3000-01-01T00:00:00Z,ff2676003e48\n";
-        assert_listed(rt, &mut office, clerk)
+        let done = assert_all_taken(rt, &mut office);
+        drop(office);
+        done
     }
 }
 

@@ -84,15 +84,35 @@ impl Exercise for InAFolder {
 
     fn done<K: Keeper + Drop>(self, rt: &HostRuntime, keeper: K) -> Result<(), Fail> {
         let mut office = opened(rt, keeper)?;
-        let folder = folder_for(rt, "whole")?;
-        for moment in [MOMENT, MOMENT, LATER] {
-            let kept = site(rt, &mut office, moment)?;
-            assert_published(rt, &mut office, moment, folder.as_str())?;
-            assert_there(rt, folder.as_str(), kept.files.as_slice())?;
-            assert_tidy(rt, folder.as_str())?;
-        }
-        Ok(fs::remove_dir_all(rt, folder.as_str())?)
+        let done = assert_whole(rt, &mut office);
+        drop(office);
+        done
     }
+}
+
+fn assert_whole<K: Keeper>(rt: &HostRuntime, office: &mut Office<K>) -> Result<(), Fail> {
+    let folder = folder_for(rt, "whole")?;
+    let folder = folder.as_str();
+    for moment in [MOMENT, MOMENT, LATER] {
+        let kept = site(rt, office, moment)?;
+        let done = assert_site(rt, office, moment, folder, &kept);
+        drop(kept);
+        done?;
+    }
+    Ok(fs::remove_dir_all(rt, folder)?)
+}
+
+// The site is published, whole, and nothing else is left.
+fn assert_site<K: Keeper>(
+    rt: &HostRuntime,
+    office: &mut Office<K>,
+    moment: u64,
+    folder: &str,
+    kept: &Kept,
+) -> Result<(), Fail> {
+    assert_published(rt, office, moment, folder)?;
+    assert_there(rt, folder, kept.files.as_slice())?;
+    assert_tidy(rt, folder)
 }
 
 #[test]
@@ -236,14 +256,23 @@ impl Exercise for Locked {
 
     fn done<K: Keeper + Drop>(self, rt: &HostRuntime, keeper: K) -> Result<(), Fail> {
         let mut office = opened(rt, keeper)?;
-        let kept = site(rt, &mut office, MOMENT)?;
-        let folder = folder_for(rt, "locked")?;
-        assert_published(rt, &mut office, MOMENT, folder.as_str())?;
-        assert_locked(rt, &mut office, folder.as_str())?;
-        assert_there(rt, folder.as_str(), kept.files.as_slice())?;
-        assert_published(rt, &mut office, LATER, folder.as_str())?;
-        Ok(fs::remove_dir_all(rt, folder.as_str())?)
+        let done = assert_once_locked(rt, &mut office);
+        drop(office);
+        done
     }
+}
+
+fn assert_once_locked<K: Keeper>(rt: &HostRuntime, office: &mut Office<K>) -> Result<(), Fail> {
+    let folder = folder_for(rt, "locked")?;
+    let folder = folder.as_str();
+    assert_published(rt, office, MOMENT, folder)?;
+    assert_locked(rt, office, folder)?;
+    let kept = site(rt, office, MOMENT)?;
+    let there = assert_there(rt, folder, kept.files.as_slice());
+    drop(kept);
+    there?;
+    assert_published(rt, office, LATER, folder)?;
+    Ok(fs::remove_dir_all(rt, folder)?)
 }
 
 #[test]
@@ -275,16 +304,22 @@ impl Exercise for NoFolders {
 
     fn done<K: Keeper + Drop>(self, rt: &HostRuntime, keeper: K) -> Result<(), Fail> {
         let mut office = opened(rt, keeper)?;
-        let folder = folder_for(rt, "file")?;
-        let folder = folder.as_str();
-        assert_undone(rt, &mut office, "", JobFailure::Write, "an empty path")?;
-        let _ = fs::remove_file(rt, folder);
-        assert_no_folder(rt, &mut office, folder, "")?;
-        fs::remove_file(rt, folder)?;
-        fs::create_dir(rt, folder)?;
-        assert_no_folder(rt, &mut office, folder, "/registries")?;
-        Ok(fs::remove_dir_all(rt, folder)?)
+        let done = assert_no_folders(rt, &mut office);
+        drop(office);
+        done
     }
+}
+
+fn assert_no_folders<K: Keeper>(rt: &HostRuntime, office: &mut Office<K>) -> Result<(), Fail> {
+    let folder = folder_for(rt, "file")?;
+    let folder = folder.as_str();
+    assert_undone(rt, office, "", JobFailure::Write, "an empty path")?;
+    let _ = fs::remove_file(rt, folder);
+    assert_no_folder(rt, office, folder, "")?;
+    fs::remove_file(rt, folder)?;
+    fs::create_dir(rt, folder)?;
+    assert_no_folder(rt, office, folder, "/registries")?;
+    Ok(fs::remove_dir_all(rt, folder)?)
 }
 
 #[test]
@@ -322,24 +357,40 @@ impl Exercise for Named {
     type Outcome = ();
 
     fn done<K: Keeper + Drop>(self, rt: &HostRuntime, keeper: K) -> Result<(), Fail> {
-        let mut office = opened(rt, keeper)?;
-        let kept = site(rt, &mut office, MOMENT)?;
-        let folder = folder_for(rt, "named")?;
-        let folder = folder.as_str();
-        assert_published(rt, &mut office, MOMENT, folder)?;
         let mut source = Faulty {
-            office,
+            office: opened(rt, keeper)?,
             asks: 0,
             why: None,
         };
-        for (why, failure) in NAMED {
-            source.why = Some(why);
-            assert_undone(rt, &mut source, folder, failure, "a fault")?;
-        }
-        assert_refused(rt, &mut source, folder)?;
-        assert_there(rt, folder, kept.files.as_slice())?;
-        Ok(fs::remove_dir_all(rt, folder)?)
+        let done = assert_all_named(rt, &mut source);
+        drop(source);
+        done
     }
+}
+
+fn assert_all_named<K: Keeper>(rt: &HostRuntime, source: &mut Faulty<K>) -> Result<(), Fail> {
+    let folder = folder_for(rt, "named")?;
+    let folder = folder.as_str();
+    assert_published(rt, &mut source.office, MOMENT, folder)?;
+    let kept = site(rt, &mut source.office, MOMENT)?;
+    let done = assert_each_named(rt, source, folder, &kept);
+    drop(kept);
+    done?;
+    Ok(fs::remove_dir_all(rt, folder)?)
+}
+
+fn assert_each_named<K: Keeper>(
+    rt: &HostRuntime,
+    source: &mut Faulty<K>,
+    folder: &str,
+    kept: &Kept,
+) -> Result<(), Fail> {
+    for (why, failure) in NAMED {
+        source.why = Some(why);
+        assert_undone(rt, source, folder, failure, "a fault")?;
+    }
+    assert_refused(rt, source, folder)?;
+    assert_there(rt, folder, kept.files.as_slice())
 }
 
 #[test]
