@@ -1,19 +1,33 @@
 -- What a change that fits has for the rows that it writes.
 use Rattle.std.proofs.Common.{◌≡◌, Bool, true, false, not, ◌||◌, Option, Some, None, IsSome, is_some}
-use Rattle.std.proofs.Common.{option_map, refl, sym, ap, ◌∙◌}
+use Rattle.std.proofs.Common.{option_map, refl, sym, ap, subst, ◌∙◌, Result}
 use Rattle.std.specs.FinMap.{FinMap, get}
 use Rattle.std.specs.Ordering.{eq_by_cmp}
+use Rattle.sqlite.specs.State.{State as Store}
 use Rattle.reg_core.specs.Entry.{with_hold}
 use Rattle.reg_core.specs.Maps.{update}
 use Rattle.reg_core.specs.WellKept.{WellKept}
-use Rattle.reg_core.specs.World.{World, Place, RequestName, in_state, name_cmp, with_state}
+use Rattle.reg_core.specs.World.{World, Place, RequestName, applied, in_state, name_cmp, with_state}
+use Rattle.reg_core.specs.declared.change.Change.{Change}
 use Rattle.reg_core.specs.declared.entry.Registration.{Registration}
 use Rattle.reg_core.specs.declared.request.Case.{Case}
 use Rattle.reg_core.specs.declared.request.State.{State}
 use Rattle.reg_core.proofs.MapLaws.{get-updated, name_keys, place_keys, tied}
 use Rattle.reg_records.specs.Requests.Forms.{gives_its_kind}
+use Rattle.reg_content.specs.Calls.{Steps}
+use Rattle.reg_content.specs.Changing.{Fits}
 use Rattle.reg_content.specs.Marks.{IsHeldSo}
+use Rattle.reg_content.proofs.Joining.{steps_as}
 use Rattle.reg_records.proofs.RequestLaws.Kept.{stands_in-gives_its_kind}
+
+-- a write whose premise the change implies, and that makes what the change does, makes the change
+pub makes : {T E : Type 0} {a b : Store} {result : Result T E} {F : World → Type 0}
+    {f : World → World} {change : Change} (is : Change) → change ≡ is → Steps a b result F f
+    → ((w : World) → Fits is w → F w × (f w ≡ applied w is))
+    → Steps a b result (Fits change) (λ w. applied w change)
+makes {a = a} {b = b} {result = result} is same steps meets =
+    subst (λ change. Steps a b result (Fits change) (λ w. applied w change)) (sym same)
+    (steps_as steps meets)
 
 there : {X : Type 0} (o : Option X) → IsSome o → (x : X) × (o ≡ Some x)
 there None h = absurd (cc)

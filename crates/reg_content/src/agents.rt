@@ -152,20 +152,12 @@ fn take_agent<S: Alter>(
 fn agents_in(alloc: Global, links: &[Link]) -> Result<Vec<Account>, AllocError>
     ensures { IfOk result (λ names. names.items ≡ map (λ l. l.agent) links.now) }
 {
-    let mut names = Vec::new(alloc);
-    for link in links {
-        names.push(link.agent)?;
-    }
-    Ok(names)
+    links.iter().map(|link| link.agent).collect(alloc)
 }
 
 /// The principals of links.
 fn principals_in(alloc: Global, links: &[Link]) -> Result<Vec<Account>, AllocError>
     ensures { IfOk result (λ names. names.items ≡ map (λ l. l.principal) links.now) }
 {
-    let mut names = Vec::new(alloc);
-    for link in links {
-        names.push(link.principal)?;
-    }
-    Ok(names)
+    links.iter().map(|link| link.principal).collect(alloc)
 }

@@ -206,12 +206,18 @@ fn marked_among(
 ) -> Result<Vec<Entry>, AllocError>
     ensures { IfOk result (λ marked. marked.items ≡ map (marked_by values.now) entries.items) }
 {
-    let mut marked = Vec::new(alloc);
-    for entry in entries {
-        let held = expires(&entry) && values.contains(&entry.value);
-        marked.push(with_mark(entry, held))?;
-    }
-    Ok(marked)
+    entries
+        .into_iter()
+        .map(|entry| marked_by(entry, values))
+        .collect(alloc)
+}
+
+/// An entry, with a mark if it expires and its value is among these.
+fn marked_by(entry: Entry, values: &BTreeSet<u32>) -> Entry
+    ensures { result ≡ marked_by values.now entry }
+{
+    let held = expires(&entry) && values.contains(&entry.value);
+    with_mark(entry, held)
 }
 
 /// Whether an entry of these has an expiry.

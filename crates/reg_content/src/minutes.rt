@@ -34,7 +34,10 @@ pub(crate) fn minuted<S: Alter>(
 {
     match minute_if(alloc, conn, &request) {
         Ok(minute) => Ok(with_minute(request, minute)),
-        Err(fault) => Err(fault),
+        Err(fault) => {
+            drop(request);
+            Err(fault)
+        }
     }
 }
 

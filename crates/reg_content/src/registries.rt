@@ -134,20 +134,15 @@ fn ranges_of<S: Alter>(
 fn names_of(alloc: Global, registries: &[Registry]) -> Result<Vec<Name>, AllocError>
     ensures { IfOk result (λ names. names.items ≡ map (λ r. r.name) registries.now) }
 {
-    let mut names = Vec::new(alloc);
-    for registry in registries {
-        names.push(registry.name)?;
-    }
-    Ok(names)
+    registries
+        .iter()
+        .map(|registry| registry.name)
+        .collect(alloc)
 }
 
 /// The ranges without the name of their registry.
 fn without_registry(alloc: Global, rows: Vec<RegistryRange>) -> Result<Vec<Range>, AllocError>
     ensures { IfOk result (λ ranges. ranges.items ≡ map (λ row. row.range) rows.items) }
 {
-    let mut ranges = Vec::new(alloc);
-    for row in rows {
-        ranges.push(row.range)?;
-    }
-    Ok(ranges)
+    rows.into_iter().map(|row| row.range).collect(alloc)
 }

@@ -133,11 +133,7 @@ fn assigned<S: Alter>(
 fn experts_at(alloc: Global, seats: &[AdvisedSeat]) -> Result<Vec<Account>, AllocError>
     ensures { IfOk result (λ experts. experts.items ≡ map (λ s. s.seat.expert) seats.now) }
 {
-    let mut experts = Vec::new(alloc);
-    for row in seats {
-        experts.push(row.seat.expert)?;
-    }
-    Ok(experts)
+    seats.iter().map(|row| row.seat.expert).collect(alloc)
 }
 
 // What the experts of seats say, where they say something.

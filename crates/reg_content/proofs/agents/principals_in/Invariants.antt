@@ -1,5 +1,0 @@
-use Rattle.std.proofs.Common.{◌≡◌, map, take}
-use Rattle.reg_content.proofs.agents.principals_in.Given as goal
-
-abbrev pub invariant-loop-link : goal.invariant-loop-link
-invariant-loop-link l = l.names.items ≡ map (λ l. l.principal) (take l.link-index l.links)
