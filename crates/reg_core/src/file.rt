@@ -8,11 +8,27 @@ use crate::text::Account;
 use std::alloc::AllocError;
 
 /// A request with the experts to whom it is assigned, and with their advice, by expert.
-#[derive(Clone, Drop)]
+#[derive(Drop)]
 pub struct File {
     pub request: Request,
     pub experts: Rows<Account>,
     pub advice: Rows<Opinion>,
+}
+
+impl Clone for File {
+    ghost use Rattle.std.specs.Prelude.{◌≡◌};
+
+    ghost is_clone = { λ file copy. copy ≡ file };
+
+    fn clone(&self) -> Result<Self, AllocError> {
+        let experts = self.experts.clone()?;
+        let advice = self.advice.clone()?;
+        Ok(File {
+            request: self.request.copy()?,
+            experts,
+            advice,
+        })
+    }
 }
 
 impl File {
@@ -20,10 +36,6 @@ impl File {
     pub fn copy(&self) -> Result<Self, AllocError>
         ensures { IfOk result (λ f. f ≡ self.now) }
     {
-        Ok(File {
-            request: self.request.copy()?,
-            experts: self.experts.clone()?,
-            advice: self.advice.clone()?,
-        })
+        self.clone()
     }
 }

@@ -9,7 +9,7 @@ use std::alloc::AllocError;
 
 /// A request as an expert sees it to whom it is assigned: what is asked for, the bare word of
 /// where it stands, and the expert's own advice.
-#[derive(Clone, Drop, PartialEq, Eq)]
+#[derive(Drop, PartialEq, Eq)]
 pub struct QueueRow {
     pub account: Account,
     pub reference: Ref,
@@ -18,17 +18,34 @@ pub struct QueueRow {
     pub advice: Option<Advice>,
 }
 
+impl Clone for QueueRow {
+    ghost use Rattle.std.specs.Prelude.{◌≡◌};
+
+    ghost is_clone = { λ row copy. copy ≡ row };
+
+    fn clone(&self) -> Result<Self, AllocError> {
+        let ask = self.ask.copy()?;
+        match self.advice.clone() {
+            Ok(advice) => Ok(QueueRow {
+                account: self.account,
+                reference: self.reference,
+                ask,
+                word: self.word,
+                advice,
+            }),
+            Err(error) => {
+                drop(ask);
+                Err(error)
+            }
+        }
+    }
+}
+
 impl QueueRow {
     /// An equal row.
     pub fn copy(&self) -> Result<Self, AllocError>
         ensures { IfOk result (λ r. r ≡ self.now) }
     {
-        Ok(QueueRow {
-            account: self.account,
-            reference: self.reference,
-            ask: self.ask.copy()?,
-            word: self.word,
-            advice: self.advice.clone()?,
-        })
+        self.clone()
     }
 }

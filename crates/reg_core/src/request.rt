@@ -72,14 +72,14 @@ impl StateWord {
 }
 
 /// A request without its name: what is asked for, and where it stands.
-#[derive(Clone, Drop, PartialEq, Eq)]
+#[derive(Drop, PartialEq, Eq)]
 pub struct Case {
     pub ask: Ask,
     pub state: State,
 }
 
 /// A request. Its name is its applicant's account and the reference that the applicant chose.
-#[derive(Clone, Drop, PartialEq, Eq)]
+#[derive(Drop, PartialEq, Eq)]
 pub struct Request {
     pub account: Account,
     pub reference: Ref,
@@ -145,6 +145,23 @@ impl State {
     }
 }
 
+impl Clone for Case {
+    ghost use Rattle.std.specs.Prelude.{◌≡◌};
+
+    ghost is_clone = { λ c copy. copy ≡ c };
+
+    fn clone(&self) -> Result<Self, AllocError> {
+        let ask = self.ask.copy()?;
+        match self.state.copy() {
+            Ok(state) => Ok(Case { ask, state }),
+            Err(error) => {
+                drop(ask);
+                Err(error)
+            }
+        }
+    }
+}
+
 impl Case {
     /// An equal case.
     pub fn copy(&self) -> Result<Self, AllocError>
@@ -154,16 +171,33 @@ impl Case {
     }
 }
 
+impl Clone for Request {
+    ghost use Rattle.std.specs.Prelude.{◌≡◌};
+
+    ghost is_clone = { λ request copy. copy ≡ request };
+
+    fn clone(&self) -> Result<Self, AllocError> {
+        let ask = self.ask.copy()?;
+        match self.state.copy() {
+            Ok(state) => Ok(Request {
+                account: self.account,
+                reference: self.reference,
+                ask,
+                state,
+            }),
+            Err(error) => {
+                drop(ask);
+                Err(error)
+            }
+        }
+    }
+}
+
 impl Request {
     /// An equal request.
     pub fn copy(&self) -> Result<Self, AllocError>
         ensures { IfOk result (λ r. r ≡ self.now) }
     {
-        Ok(Request {
-            account: self.account,
-            reference: self.reference,
-            ask: self.ask.copy()?,
-            state: self.state.copy()?,
-        })
+        self.clone()
     }
 }
