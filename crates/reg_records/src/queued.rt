@@ -29,10 +29,17 @@ impl Record for QueuedRequest {
         let Some(request) = Request::read(alloc, row)? else {
             return Ok(None);
         };
-        let Some(advice) = own_advice(alloc, row, VERDICT, TEXT)? else {
-            return Ok(None);
-        };
-        Ok(Some(QueuedRequest { request, advice }))
+        match own_advice(alloc, row, VERDICT, TEXT) {
+            Ok(Some(advice)) => Ok(Some(QueuedRequest { request, advice })),
+            Ok(None) => {
+                drop(request);
+                Ok(None)
+            }
+            Err(error) => {
+                drop(request);
+                Err(error)
+            }
+        }
     }
 }
 

@@ -26,15 +26,22 @@ impl Record for Request {
         let Some(ask) = ask(alloc, row)? else {
             return Ok(None);
         };
-        let Some(state) = state(alloc, row, &ask)? else {
-            return Ok(None);
-        };
-        Ok(Some(Request {
-            account,
-            reference,
-            ask,
-            state,
-        }))
+        match state(alloc, row, &ask) {
+            Ok(Some(state)) => Ok(Some(Request {
+                account,
+                reference,
+                ask,
+                state,
+            })),
+            Ok(None) => {
+                drop(ask);
+                Ok(None)
+            }
+            Err(error) => {
+                drop(ask);
+                Err(error)
+            }
+        }
     }
 }
 
