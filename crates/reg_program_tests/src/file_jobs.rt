@@ -47,10 +47,12 @@ fn defined<R: AllocGlobal, K: Keeper>(
 ) -> Result<Vec<u8>, Undone> {
     let alloc = rt.alloc();
     let order = order(rt)?;
-    let command = definition(alloc, &order, ranges)?;
+    let command = definition(alloc, &order, ranges);
+    drop(order);
+    let command = command?;
     let mut output = Vec::new(alloc);
     let clerk = Some(CLERK.as_bytes());
-    ask_in(
+    let done = ask_in(
         alloc,
         office,
         MOMENT,
@@ -58,7 +60,9 @@ fn defined<R: AllocGlobal, K: Keeper>(
         &command,
         Form::Line,
         &mut output,
-    )?;
+    );
+    drop(command);
+    done?;
     Ok(output)
 }
 
@@ -68,7 +72,7 @@ fn listed<R: AllocGlobal, K: Keeper>(rt: &R, office: &mut Office<K>) -> Result<V
     let name = String::from_str(alloc, "codes")?;
     let command = listing(alloc, &Some(name))?;
     let mut output = Vec::new(alloc);
-    ask_in(
+    let done = ask_in(
         alloc,
         office,
         MOMENT,
@@ -76,7 +80,9 @@ fn listed<R: AllocGlobal, K: Keeper>(rt: &R, office: &mut Office<K>) -> Result<V
         &command,
         Form::Body,
         &mut output,
-    )?;
+    );
+    drop(command);
+    done?;
     Ok(output)
 }
 

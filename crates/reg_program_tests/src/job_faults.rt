@@ -129,6 +129,7 @@ fn assert_not_listed<K: Keeper>(rt: &HostRuntime, office: &mut Office<K>) -> Res
         Form::Body,
         &mut output,
     );
+    drop(command);
     ensure(is_of_store(&done) && output.is_empty(), "a listing")
 }
 

@@ -77,13 +77,27 @@ fn grant(token: &[u8], account: &[u8], kind: Kind, until: u64) -> Option<Command
 fn founded<K: Keeper + Drop>(rt: &HostRuntime, keeper: K) -> Result<Office<K>, Fail> {
     let mut office = Office::new(rt.alloc(), keeper);
     let is_found = office.found(CLERK.as_bytes()).is_ok();
-    for (token, account, kind, until) in GRANTED {
-        let command = grant(token, account, kind, until).ok_or("no command")?;
-        let told = office.handle(MOMENT, Some(CLERK.as_bytes()), &command);
-        ensure(told.is_ok(), "a grant")?;
+    if is_found && are_granted(&mut office) {
+        Ok(office)
+    } else {
+        drop(office);
+        Err("a clerk and four capabilities".into())
     }
-    ensure(is_found, "a clerk")?;
-    Ok(office)
+}
+
+fn are_granted<K: Keeper>(office: &mut Office<K>) -> bool {
+    for (token, account, kind, until) in GRANTED {
+        let Some(command) = grant(token, account, kind, until) else {
+            return false;
+        };
+        let told = office.handle(MOMENT, Some(CLERK.as_bytes()), &command);
+        drop(command);
+        match told {
+            Ok(reply) => drop(reply),
+            Err(_) => return false,
+        }
+    }
+    true
 }
 
 fn assert_listed<K: Keeper>(

@@ -88,7 +88,10 @@ fn heads_of_others(rt: HostRuntime) -> Result<(), Fail> {
 
 fn is_read(alloc: Global, command: &PublicCommand, body: &[u8]) -> Result<bool, Fail> {
     match content_of(alloc, command, body) {
-        Ok(_) => Ok(true),
+        Ok(content) => {
+            drop(content);
+            Ok(true)
+        }
         Err(Unpublished::Read) => Ok(false),
         Err(_) => Err("neither read nor refused".into()),
     }

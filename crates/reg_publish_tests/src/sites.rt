@@ -35,7 +35,10 @@ pub fn site<K: Keeper>(
 
 // What an office answers anybody.
 fn reply<K: Keeper>(office: &mut Office<K>, command: PublicCommand) -> Result<Reply, Fail> {
-    match office.handle(MOMENT, None, &Command::Public(command)) {
+    let command = Command::Public(command);
+    let told = office.handle(MOMENT, None, &command);
+    drop(command);
+    match told {
         Ok(reply) => Ok(reply),
         Err(_) => Err("no reply".into()),
     }
@@ -47,8 +50,10 @@ pub fn answer<K: Keeper>(
     office: &mut Office<K>,
     command: PublicCommand,
 ) -> Result<Vec<u8>, Fail> {
-    let reply = reply(office, command)?;
-    let (_, body) = body_of(rt.alloc(), &Answer::Reply(reply))?;
+    let answer = Answer::Reply(reply(office, command)?);
+    let told = body_of(rt.alloc(), &answer);
+    drop(answer);
+    let (_, body) = told?;
     Ok(body)
 }
 
@@ -90,14 +95,26 @@ impl Exercise for Answers {
 
     fn done<K: Keeper + Drop>(self, rt: &HostRuntime, keeper: K) -> Result<(), Fail> {
         let mut office = opened(rt, keeper)?;
-        let kept = site(rt, &mut office, MOMENT)?;
-        for name in REGISTRIES {
-            assert_registry(rt, &mut office, &kept, name)?;
-        }
-        let (blocks, pool) = (PublicCommand::BlockListing, PublicCommand::PoolList);
-        assert_answered(rt, &mut office, &kept, "blocks.csv", blocks)?;
-        assert_answered(rt, &mut office, &kept, "pool.json", pool)
+        let done = match site(rt, &mut office, MOMENT) {
+            Ok(kept) => assert_all_answered(rt, &mut office, &kept),
+            Err(fail) => Err(fail),
+        };
+        drop(office);
+        done
     }
+}
+
+fn assert_all_answered<K: Keeper>(
+    rt: &HostRuntime,
+    office: &mut Office<K>,
+    kept: &Kept,
+) -> Result<(), Fail> {
+    for name in REGISTRIES {
+        assert_registry(rt, office, kept, name)?;
+    }
+    let (blocks, pool) = (PublicCommand::BlockListing, PublicCommand::PoolList);
+    assert_answered(rt, office, kept, "blocks.csv", blocks)?;
+    assert_answered(rt, office, kept, "pool.json", pool)
 }
 
 #[test]
