@@ -12,7 +12,7 @@ ghost use Rattle.reg_commands.specs.Answers.{answer_to_account, content_made};
 ghost use Rattle.reg_commands.specs.Performs.{Finds, Performs};
 
 use crate::agents::{list_agents, list_principal_rows, list_principals, set_agent};
-use crate::carrying::{conclude, row_after};
+use crate::carrying::{conclude, conclude_on};
 use crate::ground::ground_if;
 use crate::holdings::{list_holdings, set_listing};
 use crate::stop::Stop;
@@ -129,8 +129,7 @@ fn withdraw<K: Keeper>(keeper: &mut K, account: &Account, reference: &Ref) -> Re
 {
     let request = keeper.own_one(account, reference)?.ok_or(Refusal::Request)?;
     let decision = decide_withdraw(&request)?;
-    let row = row_after(request, &decision);
-    Ok(Content::Row(conclude(keeper, row, decision)?))
+    Ok(Content::Row(conclude_on(keeper, request, decision)?))
 }
 
 fn pending(account: &Account, reference: &Ref, ask: &Ask) -> Result<Request, AllocError>

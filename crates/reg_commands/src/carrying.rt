@@ -56,8 +56,25 @@ pub fn conclude<K: Keeper, T: Drop>(
     Ok(told)
 }
 
-/// A request as it is after a decision about it.
-pub fn row_after(request: Request, decision: &Decision) -> Result<Request, AllocError>
+/// Makes the change of a decision about a request, if there is one, and gives the request as it is
+/// after that.
+pub fn conclude_on<K: Keeper>(
+    keeper: &mut K,
+    request: Request,
+    decision: Decision,
+) -> Result<Request, Fault>
+    requires { K.Holds keeper.old →
+        WellKept (K.world keeper.old) → CanMake (K.world keeper.old) decision }
+    ensures row { IfOk result (λ row. row ≡ row_by decision request) }
+    ensures change { Makes K.world K.Holds K.Sound K.FAILS keeper.old keeper.new result
+        (λ w. applied_if w (change_by decision)) }
+{
+    let row = row_after(request, &decision);
+    conclude(keeper, row, decision)
+}
+
+// A request as it is after a decision about it.
+fn row_after(request: Request, decision: &Decision) -> Result<Request, AllocError>
     ensures { IfOk result (λ row. row ≡ row_by decision.now request) }
 {
     let Decision::Make(change) = decision else {

@@ -7,7 +7,7 @@ ghost use Rattle.reg_commands.specs.Answers.{answer_to_clerk, answer_at_desk};
 ghost use Rattle.reg_commands.specs.Decisions.{approval_of};
 ghost use Rattle.reg_commands.specs.Performs.{Finds, Performs};
 
-use crate::carrying::{conclude, row_after};
+use crate::carrying::conclude_on;
 use crate::ground::ground_if;
 use crate::stop::Stop;
 use reg_core::content::Content;
@@ -55,8 +55,7 @@ pub fn assign<K: Keeper>(
     let file = keeper.file(account, reference)?.ok_or(Refusal::Request)?;
     expert.formed();
     let decision = decide_assign(&file.request, file.experts.as_slice(), expert)?;
-    let row = row_after(file.request, &decision);
-    Ok(Content::Desk(conclude(keeper, row, decision)?))
+    Ok(Content::Desk(conclude_on(keeper, file.request, decision)?))
 }
 
 /// Approves a request on a day, over its experts and all advice on it.
@@ -72,8 +71,7 @@ pub fn approve<K: Keeper>(
     let file = keeper.file(account, reference)?.ok_or(Refusal::Request)?;
     today.formed();
     let decision = approval(keeper, &file, today)?;
-    let row = row_after(file.request, &decision);
-    Ok(Content::Desk(conclude(keeper, row, decision)?))
+    Ok(Content::Desk(conclude_on(keeper, file.request, decision)?))
 }
 
 // What is decided of an approval. No registry is looked at for a request that is not pending.
@@ -100,8 +98,7 @@ pub fn decline<K: Keeper>(
     let request = keeper.own_one(account, reference)?.ok_or(Refusal::Request)?;
     reason.formed();
     let decision = decide_decline(&request, reason)?;
-    let row = row_after(request, &decision);
-    Ok(Content::Desk(conclude(keeper, row, decision)?))
+    Ok(Content::Desk(conclude_on(keeper, request, decision)?))
 }
 
 fn is_pending(state: &State) -> bool

@@ -8,8 +8,7 @@ use Rattle.reg_core.specs.declared.content.Content.TheVariants.{Row}
 use Rattle.reg_core.specs.declared.request.Request.{Request}
 use Rattle.reg_decisions.proofs.Fitting.{withdraw_fits}
 use Rattle.reg_commands.specs.Answers.{answer_to_account}
-use Rattle.reg_commands.specs.Decisions.{row_by}
-use Rattle.reg_commands.proofs.Decided.{Decides, always, the_value, makes_found, performs_declined, performs_found}
+use Rattle.reg_commands.proofs.Decided.{Decides, makes_found, performs_declined, performs_found}
 use Rattle.reg_commands.proofs.Rows.{IsRowOf, answer_about, selected_after, there}
 use Rattle.reg_commands.proofs.applicant.withdraw.Given.{Over}
 use Rattle.reg_commands.proofs.applicant.withdraw.Goals.{After-decide_withdraw}
@@ -54,18 +53,16 @@ returns-in_err-decision g c =
     (decides g (goal.at.returns-in_err-decision g c).After-decide_withdraw)
     (sym c.in_err-decision.ensures) c.from_residual-in_err-decision.ensures.1
 
-pub conclude-requires : goal.conclude-requires
-conclude-requires g c =
-    always c.row_after-row.result
+pub conclude_on-requires : goal.conclude_on-requires
+conclude_on-requires g c =
     (makes_found c.in_ok-decision.decision
-    (decides g (goal.at.conclude-requires g c).After-decide_withdraw)
+    (decides g (goal.at.conclude_on-requires g c).After-decide_withdraw)
     (λ h. sym c.in_ok-decision.ensures))
 
 pub returns : goal.returns
 returns g c =
     let d = (goal.at.returns g c).After-decide_withdraw in
-    let concluded = c.in_ok-conclude.ensures in
+    let concluded = c.in_ok-conclude_on.ensures in
     performs_found c.in_ok-decision.decision (decides g d) (λ h. sym c.in_ok-decision.ensures)
-    (ap Row (the_value (row_by c.in_ok-decision.decision (row g d)) concluded.told
-    c.row_after-row.ensures))
+    (ap Row (sym concluded.row))
     concluded.change

@@ -17,8 +17,8 @@ use Rattle.reg_core.specs.declared.request.Case.{Case}
 use Rattle.reg_core.specs.declared.request.Request.{Request}
 use Rattle.reg_decisions.proofs.Fitting.{approve_fits}
 use Rattle.reg_commands.specs.Answers.{answer_to_clerk}
-use Rattle.reg_commands.specs.Decisions.{approval_of, row_by}
-use Rattle.reg_commands.proofs.Decided.{Rules, always, the_value, decides_found, makes_found, performs_found, performs_stopped_at}
+use Rattle.reg_commands.specs.Decisions.{approval_of}
+use Rattle.reg_commands.proofs.Decided.{Rules, decides_found, makes_found, performs_found, performs_stopped_at}
 use Rattle.reg_commands.proofs.Rows.{IsFileOf, answer_about, file_is, selected_after, there}
 use Rattle.reg_commands.proofs.desk.approve.Given.{Over}
 use Rattle.reg_commands.proofs.desk.approve.Goals.{After-approval}
@@ -84,12 +84,11 @@ returns-in_err-decision g c =
     (rules g (goal.at.returns-in_err-decision g c).After-approval) c.in_ok-file.ensures
     c.in_err-decision.ensures c.from_residual-in_err-decision.ensures.1
 
-pub conclude-requires : goal.conclude-requires
-conclude-requires g c =
+pub conclude_on-requires : goal.conclude_on-requires
+conclude_on-requires g c =
     let decision = c.in_ok-decision.decision in
-    always c.row_after-row.result
     (makes_found decision
-    (decides_found decision (rules g (goal.at.conclude-requires g c).After-approval)
+    (decides_found decision (rules g (goal.at.conclude_on-requires g c).After-approval)
     c.in_ok-file.ensures c.in_ok-decision.ensures)
     c.in_ok-decision.ensures.value)
 
@@ -97,9 +96,9 @@ pub returns : goal.returns
 returns g c =
     let d = (goal.at.returns g c).After-approval in
     let decision = c.in_ok-decision.decision in
-    let concluded = c.in_ok-conclude.ensures in
+    let concluded = c.in_ok-conclude_on.ensures in
     performs_found decision
     (decides_found decision (rules g d) c.in_ok-file.ensures c.in_ok-decision.ensures)
     c.in_ok-decision.ensures.value
-    (ap Desk (the_value (row_by decision (row g d)) concluded.told c.row_after-row.ensures))
+    (ap Desk (sym concluded.row))
     concluded.change

@@ -9,8 +9,7 @@ use Rattle.reg_core.specs.declared.content.Content.TheVariants.{Desk}
 use Rattle.reg_core.specs.declared.request.Request.{Request}
 use Rattle.reg_decisions.proofs.Fitting.{decline_fits}
 use Rattle.reg_commands.specs.Answers.{answer_at_desk}
-use Rattle.reg_commands.specs.Decisions.{row_by}
-use Rattle.reg_commands.proofs.Decided.{Decides, always, the_value, makes_fitting, performs_denied, performs_decided}
+use Rattle.reg_commands.proofs.Decided.{Decides, makes_fitting, performs_denied, performs_decided}
 use Rattle.reg_commands.proofs.Rows.{IsRowOf, answer_about, selected_after, there}
 use Rattle.reg_commands.proofs.desk.decline.Given.{Over}
 use Rattle.reg_commands.proofs.desk.decline.Goals.{After-decide_decline}
@@ -55,17 +54,15 @@ returns-in_err-decision g c =
     (decides g (goal.at.returns-in_err-decision g c).After-decide_decline)
     c.in_err-decision.ensures c.from_residual-in_err-decision.ensures.1
 
-pub conclude-requires : goal.conclude-requires
-conclude-requires g c =
-    always c.row_after-row.result
+pub conclude_on-requires : goal.conclude_on-requires
+conclude_on-requires g c =
     (makes_fitting c.in_ok-decision.decision
-    (decides g (goal.at.conclude-requires g c).After-decide_decline) c.in_ok-decision.ensures)
+    (decides g (goal.at.conclude_on-requires g c).After-decide_decline) c.in_ok-decision.ensures)
 
 pub returns : goal.returns
 returns g c =
     let d = (goal.at.returns g c).After-decide_decline in
-    let concluded = c.in_ok-conclude.ensures in
+    let concluded = c.in_ok-conclude_on.ensures in
     performs_decided c.in_ok-decision.decision (decides g d) c.in_ok-decision.ensures
-    (ap Desk (the_value (row_by c.in_ok-decision.decision (row g d)) concluded.told
-    c.row_after-row.ensures))
+    (ap Desk (sym concluded.row))
     concluded.change
