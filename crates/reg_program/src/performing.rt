@@ -12,6 +12,7 @@ use crate::scripts::run_in;
 use crate::tasks::{Offices, Task, moment};
 use crate::tokens::account_of;
 use reg_jobs::jobs::{Definition, Job, JobFault, Request, Which};
+use reg_keeper::keeper::Keeper;
 use reg_office::{Choice, Office};
 use reg_store::lists::ListKeeper;
 use std::alloc::Global;
@@ -95,7 +96,7 @@ fn attempt<O: Offices, R: Read, W: Write, E: Write>(
                 connections: *connections,
                 log: *log,
             };
-            offices.carry_out(rt, file.as_str(), &task, console)
+            carry_out(rt, offices, file.as_str(), task, console)
         }
         Job::Request(order) => request(rt, offices, order, console),
         Job::Define(order) => define(rt, offices, order, console),
@@ -104,10 +105,23 @@ fn attempt<O: Offices, R: Read, W: Write, E: Write>(
             publish_at(rt, offices, source.as_str(), folder.as_str(), console)
         }
         Job::Check { file } => offices.check(rt, file.as_str(), console.output),
-        Job::Tokens { file } => offices.carry_out(rt, file.as_str(), &Task::Tokens, console),
+        Job::Tokens { file } => carry_out(rt, offices, file.as_str(), Task::Tokens, console),
         Job::Revoke { file, which } => revoke(rt, offices, file.as_str(), which, console),
         Job::Help { text } => print(console.output, text.as_bytes()),
     }
+}
+
+// Carries a task out with the office in the file at a path, and lets the task go.
+fn carry_out<O: Offices, R: Read, W: Write, E: Write>(
+    rt: &HostRuntime,
+    offices: &O,
+    path: &str,
+    task: Task<'_>,
+    console: &mut Console<'_, R, W, E>,
+) -> Result<(), Undone>
+    ensures { O.Carried offices.now path.now task.entry result }
+{
+    offices.carry_out(rt, path, &task, console)
 }
 
 fn script<O: Offices, R: Read, W: Write, E: Write>(
@@ -124,14 +138,20 @@ fn script<O: Offices, R: Read, W: Write, E: Write>(
     let token = token_of(rt, alloc, clerk)?;
     let clerk = token.as_slice();
     match file {
-        Some(file) => offices.carry_out(rt, file.as_str(), &Task::Run { clerk }, console),
-        None => {
-            let mut office = Office::new(alloc, ListKeeper::new(alloc));
-            let done = run_in(rt, &mut office, clerk, console);
-            drop(office);
-            done
-        }
+        Some(file) => carry_out(rt, offices, file.as_str(), Task::Run { clerk }, console),
+        None => run_over(rt, ListKeeper::new(alloc), clerk, console),
     }
+}
+
+// Founds an office over a keeper that is new, has it answer the lines, and lets both go.
+fn run_over<K: Keeper + Drop, R: Read, W: Write, E: Write>(
+    rt: &HostRuntime,
+    keeper: K,
+    clerk: &[u8],
+    console: &mut Console<'_, R, W, E>,
+) -> Result<(), Undone> {
+    let mut office = Office::new(rt.alloc(), keeper);
+    run_in(rt, &mut office, clerk, console)
 }
 
 fn init<O: Offices, R: Read, W: Write, E: Write>(
@@ -145,7 +165,7 @@ fn init<O: Offices, R: Read, W: Write, E: Write>(
 {
     let token = token_of(rt, rt.alloc(), clerk)?;
     let clerk = token.as_slice();
-    offices.carry_out(rt, file, &Task::Found { clerk }, console)
+    carry_out(rt, offices, file, Task::Found { clerk }, console)
 }
 
 fn request<O: Offices, R: Read, W: Write, E: Write>(
@@ -166,7 +186,7 @@ fn request<O: Offices, R: Read, W: Write, E: Write>(
         command,
         form: Form::Body,
     };
-    offices.carry_out(rt, order.file.as_str(), &task, console)
+    carry_out(rt, offices, order.file.as_str(), task, console)
 }
 
 // The body that a word says: its bytes, or what stands on standard input for `-`; without a word,
@@ -201,7 +221,7 @@ fn define<O: Offices, R: Read, W: Write, E: Write>(
         command,
         form: Form::Line,
     };
-    offices.carry_out(rt, order.file.as_str(), &task, console)
+    carry_out(rt, offices, order.file.as_str(), task, console)
 }
 
 fn list<O: Offices, R: Read, W: Write, E: Write>(
@@ -219,7 +239,7 @@ fn list<O: Offices, R: Read, W: Write, E: Write>(
         command: listing(rt.alloc(), registry)?,
         form: Form::Body,
     };
-    offices.carry_out(rt, file, &task, console)
+    carry_out(rt, offices, file, task, console)
 }
 
 // Publishes the office that is served at an address, or the one in a file.
@@ -232,7 +252,7 @@ fn publish_at<O: Offices, R: Read, W: Write, E: Write>(
 ) -> Result<(), Undone> {
     match port_of(source)? {
         Some(port) => publish_served(rt, port, moment(rt), folder, console.output),
-        None => offices.carry_out(rt, source, &Task::Publish { folder }, console),
+        None => carry_out(rt, offices, source, Task::Publish { folder }, console),
     }
 }
 
@@ -249,12 +269,12 @@ fn revoke<O: Offices, R: Read, W: Write, E: Write>(
     match which {
         Which::Digest(digits) => {
             let choice = Choice::Digits(digits.as_bytes());
-            offices.carry_out(rt, file, &Task::Revoke { choice }, console)
+            carry_out(rt, offices, file, Task::Revoke { choice }, console)
         }
         Which::Account(name) => {
             let account = account_of(rt.alloc(), name.as_str())?;
             let choice = Choice::Account(&account);
-            offices.carry_out(rt, file, &Task::Revoke { choice }, console)
+            carry_out(rt, offices, file, Task::Revoke { choice }, console)
         }
     }
 }
