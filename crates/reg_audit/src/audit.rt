@@ -78,6 +78,7 @@ impl Audit {
     {
         if !self.accepts(&row) {
             self.well_kept = false;
+            drop(row);
             return Ok(false);
         }
         self.keep(row)?;
