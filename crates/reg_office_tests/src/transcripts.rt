@@ -1,28 +1,36 @@
 //! Transcripts of whole offices in tables.
+use reg_keeper::keeper::Keeper;
 use reg_office::Office;
 use reg_sql::open::in_memory;
 use reg_testing::facts::ensure;
 use reg_transcripts::offices::{
-    OF_AGENTS, OF_BLOCKS, OF_BODIES, OF_MARKS, OF_REFUSALS, OF_VALUES, OF_YEARS,
+    Trial, of_agents, of_blocks, of_bodies, of_lines, of_marks, of_refusals, of_values, of_years,
 };
 use reg_transcripts::transcript::{answered, sent};
 use reg_wire::script::run;
 use std::alloc::Global;
 use std::test::Fail;
 
-// Sends these transcripts to a new office, and compares its answers, to the byte.
-fn assert_answered(alloc: Global, of: &str, transcripts: &[&str]) -> Result<(), Fail> {
-    let input = sent(alloc, transcripts)?;
-    let wanted = answered(alloc, transcripts)?;
-    let output = answers(alloc, input.as_bytes())?;
-    ensure(output.as_slice() == wanted.as_bytes(), of)
+/// Offices over tables in memory.
+#[derive(Drop)]
+struct OverTables {
+    alloc: Global,
 }
 
-// What a new office answers to these lines.
-fn answers(alloc: Global, input: &[u8]) -> Result<Vec<u8>, Fail> {
-    let Ok(keeper) = in_memory(alloc) else {
-        return Err("no office in tables".into());
-    };
+impl Trial for OverTables {
+    fn send(&self, of: &str, transcripts: &[&str]) -> Result<(), Fail> {
+        let input = sent(self.alloc, transcripts)?;
+        let wanted = answered(self.alloc, transcripts)?;
+        let output = match in_memory(self.alloc) {
+            Ok(keeper) => answers(self.alloc, keeper, input.as_bytes())?,
+            Err(_) => return Err("no office in tables".into()),
+        };
+        ensure(output.as_slice() == wanted.as_bytes(), of)
+    }
+}
+
+// What a new office over this keeper answers to these lines.
+fn answers<K: Keeper + Drop>(alloc: Global, keeper: K, input: &[u8]) -> Result<Vec<u8>, Fail> {
     let mut office = Office::new(alloc, keeper);
     let mut output = Vec::new(alloc);
     let mut reader = input;
@@ -36,45 +44,42 @@ fn answers(alloc: Global, input: &[u8]) -> Result<Vec<u8>, Fail> {
     }
 }
 
-// Sends the transcripts of each office to a new one.
-fn assert_all_answered(alloc: Global, offices: &[(&str, &[&str])]) -> Result<(), Fail> {
-    for (of, transcripts) in offices {
-        assert_answered(alloc, of, transcripts)?;
-    }
-    Ok(())
-}
-
 #[test]
 fn offices_that_give_values(rt: HostRuntime) -> Result<(), Fail> {
-    assert_all_answered(rt.alloc(), OF_VALUES)
+    of_values(&OverTables { alloc: rt.alloc() })
 }
 
 #[test]
 fn offices_that_give_blocks(rt: HostRuntime) -> Result<(), Fail> {
-    assert_all_answered(rt.alloc(), OF_BLOCKS)
+    of_blocks(&OverTables { alloc: rt.alloc() })
 }
 
 #[test]
 fn offices_that_give_for_a_year(rt: HostRuntime) -> Result<(), Fail> {
-    assert_all_answered(rt.alloc(), OF_YEARS)
+    of_years(&OverTables { alloc: rt.alloc() })
 }
 
 #[test]
 fn offices_that_hold_entries(rt: HostRuntime) -> Result<(), Fail> {
-    assert_all_answered(rt.alloc(), OF_MARKS)
+    of_marks(&OverTables { alloc: rt.alloc() })
 }
 
 #[test]
 fn offices_with_agents(rt: HostRuntime) -> Result<(), Fail> {
-    assert_all_answered(rt.alloc(), OF_AGENTS)
+    of_agents(&OverTables { alloc: rt.alloc() })
 }
 
 #[test]
 fn offices_that_refuse(rt: HostRuntime) -> Result<(), Fail> {
-    assert_all_answered(rt.alloc(), OF_REFUSALS)
+    of_refusals(&OverTables { alloc: rt.alloc() })
+}
+
+#[test]
+fn offices_that_read_lines(rt: HostRuntime) -> Result<(), Fail> {
+    of_lines(&OverTables { alloc: rt.alloc() })
 }
 
 #[test]
 fn offices_that_read_bodies(rt: HostRuntime) -> Result<(), Fail> {
-    assert_all_answered(rt.alloc(), OF_BODIES)
+    of_bodies(&OverTables { alloc: rt.alloc() })
 }

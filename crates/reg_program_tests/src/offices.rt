@@ -2,59 +2,63 @@
 use crate::running::{CLERK, script};
 use reg_testing::facts::ensure;
 use reg_transcripts::offices::{
-    OF_AGENTS, OF_BLOCKS, OF_BODIES, OF_MARKS, OF_REFUSALS, OF_VALUES, OF_YEARS,
+    Trial, of_agents, of_blocks, of_bodies, of_lines, of_marks, of_refusals, of_values, of_years,
 };
 use reg_transcripts::transcript::{answered, sent};
 use std::test::Fail;
 
-// Sends transcripts to a new office, and compares its answers, to the byte.
-fn assert_answered(rt: &HostRuntime, of: &str, transcripts: &[&str]) -> Result<(), Fail> {
-    let input = sent(rt.alloc(), transcripts)?;
-    let wanted = answered(rt.alloc(), transcripts)?;
-    let given = script(rt, CLERK, input.as_bytes())?;
-    ensure(given.output.as_slice() == wanted.as_bytes(), of)?;
-    ensure(given.status == 0 && given.errors.is_empty(), of)
+/// Offices over lists, as `script` founds them.
+#[derive(Drop)]
+struct OverLists<'a> {
+    rt: &'a HostRuntime,
 }
 
-// Sends the transcripts of each office to a new one.
-fn assert_all_answered(rt: &HostRuntime, offices: &[(&str, &[&str])]) -> Result<(), Fail> {
-    for (of, transcripts) in offices {
-        assert_answered(rt, of, transcripts)?;
+impl Trial for OverLists<'_> {
+    fn send(&self, of: &str, transcripts: &[&str]) -> Result<(), Fail> {
+        let input = sent(self.rt.alloc(), transcripts)?;
+        let wanted = answered(self.rt.alloc(), transcripts)?;
+        let given = script(self.rt, CLERK, input.as_bytes())?;
+        ensure(given.output.as_slice() == wanted.as_bytes(), of)?;
+        ensure(given.status == 0 && given.errors.is_empty(), of)
     }
-    Ok(())
 }
 
 #[test]
 fn offices_that_give_values(rt: HostRuntime) -> Result<(), Fail> {
-    assert_all_answered(&rt, OF_VALUES)
+    of_values(&OverLists { rt: &rt })
 }
 
 #[test]
 fn offices_that_give_blocks(rt: HostRuntime) -> Result<(), Fail> {
-    assert_all_answered(&rt, OF_BLOCKS)
+    of_blocks(&OverLists { rt: &rt })
 }
 
 #[test]
 fn offices_that_give_for_a_year(rt: HostRuntime) -> Result<(), Fail> {
-    assert_all_answered(&rt, OF_YEARS)
+    of_years(&OverLists { rt: &rt })
 }
 
 #[test]
 fn offices_that_hold_entries(rt: HostRuntime) -> Result<(), Fail> {
-    assert_all_answered(&rt, OF_MARKS)
+    of_marks(&OverLists { rt: &rt })
 }
 
 #[test]
 fn offices_with_agents(rt: HostRuntime) -> Result<(), Fail> {
-    assert_all_answered(&rt, OF_AGENTS)
+    of_agents(&OverLists { rt: &rt })
 }
 
 #[test]
 fn offices_that_refuse(rt: HostRuntime) -> Result<(), Fail> {
-    assert_all_answered(&rt, OF_REFUSALS)
+    of_refusals(&OverLists { rt: &rt })
+}
+
+#[test]
+fn offices_that_read_lines(rt: HostRuntime) -> Result<(), Fail> {
+    of_lines(&OverLists { rt: &rt })
 }
 
 #[test]
 fn offices_that_read_bodies(rt: HostRuntime) -> Result<(), Fail> {
-    assert_all_answered(&rt, OF_BODIES)
+    of_bodies(&OverLists { rt: &rt })
 }

@@ -14,86 +14,102 @@ use crate::refusals::{REFUSALS, REVOCATIONS};
 use crate::registers::{GRANTS, LIMITS, REGISTRIES};
 use crate::routes::{LINES, NAMES, PATHS};
 use crate::{day, pool};
+use std::test::Fail;
 
-/// Offices that give values: what each is of, and its transcripts.
-pub const OF_VALUES: &[(&str, &[&str])] = &[
-    ("a whole day", &[day::DAY]),
-    (
+/// What is sent transcripts: an office over lists, over tables, or another.
+pub trait Trial {
+    /// Sends these transcripts to a new office, in order, and fails, with what they are of, where it
+    /// answers otherwise than they say, in any byte.
+    fn send(&self, of: &str, transcripts: &[&str]) -> Result<(), Fail>;
+}
+
+/// Offices that give values.
+pub fn of_values<T: Trial>(trial: &T) -> Result<(), Fail> {
+    trial.send("a whole day", &[day::DAY])?;
+    trial.send(
         "values that are asked for, reviewed, and fixed on approval",
         &[GRANTS, LIMITS, REGISTRIES, APPROVALS, EXPERTS, DECISIONS],
-    ),
-    ("the evidence that policies ask for", &[GRANTS, EVIDENCE]),
-    ("least values", &[GRANTS, LEAST]),
-];
+    )?;
+    trial.send("the evidence that policies ask for", &[GRANTS, EVIDENCE])?;
+    trial.send("least values", &[GRANTS, LEAST])
+}
 
 /// Offices that give blocks.
-pub const OF_BLOCKS: &[(&str, &[&str])] = &[
-    ("prefixes of the pool", &[GRANTS, pool::POOL]),
-    ("blocks", &[GRANTS, GIVEN, LISTED, AGAIN]),
-    (
+pub fn of_blocks<T: Trial>(trial: &T) -> Result<(), Fail> {
+    trial.send("prefixes of the pool", &[GRANTS, pool::POOL])?;
+    trial.send("blocks", &[GRANTS, GIVEN, LISTED, AGAIN])?;
+    trial.send(
         "asks and prefixes without the form of their part",
         &[GRANTS, BLOCK_FORMS],
-    ),
-];
+    )
+}
 
 /// Offices that give early.
-pub const OF_YEARS: &[(&str, &[&str])] = &[
-    (
+pub fn of_years<T: Trial>(trial: &T) -> Result<(), Fail> {
+    trial.send(
         "early allocations that are given, renewed and settled",
         &[GRANTS, DEFINED, LIFE],
-    ),
-    (
+    )?;
+    trial.send(
         "the day on which an early allocation ends",
         &[GRANTS, DEFINED, DAYS],
-    ),
-    (
+    )?;
+    trial.send(
         "what asks for early allocations lack, and who reviews them",
         &[GRANTS, DEFINED, POLICIES, REVIEWED],
-    ),
-    (
+    )?;
+    trial.send(
         "the forms of asks for early allocations",
         &[GRANTS, DEFINED, EARLY_FORMS],
-    ),
-];
+    )
+}
 
 /// Offices that hold entries, and renew them by a minute of the IESG.
-pub const OF_MARKS: &[(&str, &[&str])] = &[(
-    "entries that are held, and renewals by a minute",
-    &[
-        GRANTS,
-        REGISTRIES,
-        APPROVALS,
-        MARKED,
-        RENEWED,
-        MINUTES,
-        MINUTE_ASKS,
-    ],
-)];
+pub fn of_marks<T: Trial>(trial: &T) -> Result<(), Fail> {
+    trial.send(
+        "entries that are held, and renewals by a minute",
+        &[
+            GRANTS,
+            REGISTRIES,
+            APPROVALS,
+            MARKED,
+            RENEWED,
+            MINUTES,
+            MINUTE_ASKS,
+        ],
+    )
+}
 
 /// Offices in which applicants name agents.
-pub const OF_AGENTS: &[(&str, &[&str])] = &[(
-    "agents, and what they are shown",
-    &[GRANTS, REGISTRIES, APPROVALS, EXPERTS, NAMED, READ],
-)];
+pub fn of_agents<T: Trial>(trial: &T) -> Result<(), Fail> {
+    trial.send(
+        "agents, and what they are shown",
+        &[GRANTS, REGISTRIES, APPROVALS, EXPERTS, NAMED, READ],
+    )
+}
 
 /// Offices that refuse what they are asked.
-pub const OF_REFUSALS: &[(&str, &[&str])] = &[
-    ("lines that are refused", &[GRANTS, REFUSALS]),
-    ("capabilities that are taken away", &[GRANTS, REVOCATIONS]),
-    ("lines of each form", &[LINES]),
-    (
+pub fn of_refusals<T: Trial>(trial: &T) -> Result<(), Fail> {
+    trial.send("lines that are refused", &[GRANTS, REFUSALS])?;
+    trial.send("capabilities that are taken away", &[GRANTS, REVOCATIONS])?;
+    trial.send("marks and agents without their forms", &[GRANTS, FORMS])
+}
+
+/// Offices that are sent lines of all forms.
+pub fn of_lines<T: Trial>(trial: &T) -> Result<(), Fail> {
+    trial.send("lines of each form", &[LINES])?;
+    trial.send(
         "paths, methods and names that no command has",
         &[GRANTS, PATHS, NAMES],
-    ),
-    ("marks and agents without their forms", &[GRANTS, FORMS]),
-];
+    )
+}
 
 /// Offices that are given bodies of all forms.
-pub const OF_BODIES: &[(&str, &[&str])] = &[
-    (
+pub fn of_bodies<T: Trial>(trial: &T) -> Result<(), Fail> {
+    trial.send(
         "bodies that are none",
         &[GRANTS, ASKS, CAPABILITIES, DEPTHS],
-    ),
-    ("one body in many spellings", &[GRANTS, OPEN, SPELLINGS]),
-    ("range files", &[GRANTS, FILES]),
-];
+    )?;
+    trial.send("one body in many spellings", &[GRANTS, OPEN, SPELLINGS])?;
+    trial.send("range files", &[GRANTS, FILES])
+}
