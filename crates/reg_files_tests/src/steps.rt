@@ -5,7 +5,7 @@ use reg_jobs::jobs::Job;
 use reg_program::console::Console;
 use reg_program::performing::perform;
 use reg_testing::facts::ensure;
-use sqlite::Connection;
+use sqlite::{Alter, Connection};
 use std::alloc::Global;
 use std::io::ErrorKind;
 use std::os::unix::fs::PermissionsExt;
@@ -262,12 +262,15 @@ fn assert_private(rt: &HostRuntime, path: &str) -> Result<(), Fail> {
 }
 
 fn execute(rt: &HostRuntime, path: &str, sql: &str) -> Result<(), Fail> {
-    let Ok(mut conn) = Connection::open(rt, path) else {
-        return Err("not opened".into());
-    };
-    let done = conn.execute(sql, &[]);
-    drop(conn);
-    ensure(done.is_ok(), sql)
+    match Connection::open(rt, path) {
+        Ok(conn) => ensure(is_done(conn, sql), sql),
+        Err(_) => Err("not opened".into()),
+    }
+}
+
+// A statement is carried out in this store, of whatever kind, which is closed then.
+fn is_done<S: Alter + Drop>(mut conn: Connection<S>, sql: &str) -> bool {
+    conn.execute(sql, &[]).is_ok()
 }
 
 fn assert_has(rt: &HostRuntime, path: &str, text: &str) -> Result<(), Fail> {

@@ -51,14 +51,21 @@ impl Exercise for FirstRequest {
         keeper: K,
     ) -> Result<(Connections, Vec<u8>), Fail> {
         let mut served = Served::founded(rt.alloc(), keeper)?;
-        let (listener, address) = listening(rt)?;
-        let mut peer = client(rt, address, b"GET /registries HTTP/1.1\r\nHost: x\r\n\r\n")?;
-        let done = served.listen(rt, &listener, 1, Duration::from_secs(10));
-        drop(listener);
-        let answer = all_of(rt, &mut peer);
-        drop(peer);
-        Ok((done, answer?))
+        answer_one(rt, &mut served)
     }
+}
+
+fn answer_one<K: Keeper + Drop>(
+    rt: &HostRuntime,
+    served: &mut Served<K>,
+) -> Result<(Connections, Vec<u8>), Fail> {
+    let (listener, address) = listening(rt)?;
+    let mut peer = client(rt, address, b"GET /registries HTTP/1.1\r\nHost: x\r\n\r\n")?;
+    let done = served.listen(rt, &listener, 1, Duration::from_secs(10));
+    drop(listener);
+    let answer = all_of(rt, &mut peer);
+    drop(peer);
+    Ok((done, answer?))
 }
 
 // So many connections were answered, and so many dropped.
@@ -139,14 +146,21 @@ impl Exercise for FourPeers {
         keeper: K,
     ) -> Result<(Connections, Heard), Fail> {
         let mut served = Served::founded(rt.alloc(), keeper)?;
-        let (listener, address) = listening(rt)?;
-        let mut peers = Peers::connected(rt, address)?;
-        let done = served.listen(rt, &listener, 4, Duration::from_millis(200));
-        drop(listener);
-        let heard = peers.heard(rt);
-        drop(peers);
-        Ok((done, heard?))
+        answer_four(rt, &mut served)
     }
+}
+
+fn answer_four<K: Keeper + Drop>(
+    rt: &HostRuntime,
+    served: &mut Served<K>,
+) -> Result<(Connections, Heard), Fail> {
+    let (listener, address) = listening(rt)?;
+    let mut peers = Peers::connected(rt, address)?;
+    let done = served.listen(rt, &listener, 4, Duration::from_millis(200));
+    drop(listener);
+    let heard = peers.heard(rt);
+    drop(peers);
+    Ok((done, heard?))
 }
 
 #[test]

@@ -4,7 +4,7 @@ use reg_carriers::alike::{Alike, Both};
 use reg_carriers::asked::Asked;
 use reg_carriers::generating::assert_all;
 use reg_keeper::keeper::Keeper;
-use reg_sql::open::in_memory;
+use reg_sql::open::{OpenFault, in_memory};
 use reg_store::lists::ListKeeper;
 use reg_testing::facts::ensure;
 use std::alloc::Global;
@@ -28,25 +28,41 @@ impl<L: Keeper + Drop, T: Keeper + Drop> Alike for Offices<L, T> {
     }
 }
 
-// Offices over these keepers are founded, and answer alike.
+// Offices over two keepers of each kind are founded, and answer alike.
 fn assert_over<L: Keeper + Drop, T: Keeper + Drop>(
     alloc: Global,
-    first_lists: L,
-    second_lists: L,
-    first_tables: T,
-    second_tables: T,
+    lists: (L, L),
+    tables: (T, T),
 ) -> Result<(), Fail> {
-    let lists = Both::founded(alloc, first_lists, second_lists)?;
-    let tables = Both::founded(alloc, first_tables, second_tables)?;
+    let lists = Both::founded(alloc, lists.0, lists.1)?;
+    assert_beside(alloc, lists, tables)
+}
+
+fn assert_beside<L: Keeper + Drop, T: Keeper + Drop>(
+    alloc: Global,
+    lists: Both<L>,
+    tables: (T, T),
+) -> Result<(), Fail> {
+    let tables = Both::founded(alloc, tables.0, tables.1)?;
     assert_all(alloc, &mut Offices { lists, tables })
+}
+
+// Both, where they are there.
+fn both<K: Drop>(
+    first: Result<K, OpenFault>,
+    second: Result<K, OpenFault>,
+) -> Result<(K, K), OpenFault> {
+    Ok((first?, second?))
 }
 
 #[test]
 fn all_are_answered_alike(rt: HostRuntime) -> Result<(), Fail> {
     let alloc = rt.alloc();
-    let (first, second) = (ListKeeper::new(alloc), ListKeeper::new(alloc));
-    match (in_memory(alloc), in_memory(alloc)) {
-        (Ok(third), Ok(fourth)) => assert_over(alloc, first, second, third, fourth),
-        _ => Err("no offices in tables".into()),
+    match both(in_memory(alloc), in_memory(alloc)) {
+        Ok(tables) => {
+            let lists = (ListKeeper::new(alloc), ListKeeper::new(alloc));
+            assert_over(alloc, lists, tables)
+        }
+        Err(_) => Err("no offices in tables".into()),
     }
 }

@@ -1,12 +1,10 @@
 //! The job `publish` by its words: offices in files, and addresses where nobody answers.
-use crate::running::{Given, InLists};
+use crate::file_jobs::free_port;
+use crate::running::{Given, performed};
 use reg_jobs::jobs::Job;
-use reg_program::console::Console;
-use reg_program::performing::perform;
 use reg_testing::facts::ensure;
 use reg_testing::folders::folder_for;
 use std::fs;
-use std::net::{Ipv4Addr, SocketAddr, TcpListener};
 use std::test::Fail;
 
 // The job for these words.
@@ -19,27 +17,13 @@ fn job(rt: &HostRuntime, source: &str, folder: &str) -> Result<Job, Fail> {
 
 // What the job gives for these words.
 fn published(rt: &HostRuntime, source: &str, folder: &str) -> Result<Given, Fail> {
-    given(rt, job(rt, source, folder)?, b"")
+    Ok(performed(rt, job(rt, source, folder)?, b""))
 }
 
-// What a job gives for this on standard input.
-fn given(rt: &HostRuntime, job: Job, input: &[u8]) -> Result<Given, Fail> {
-    let alloc = rt.alloc();
-    let mut output = Vec::new(alloc);
-    let mut errors = Vec::new(alloc);
-    let mut reader = input;
-    let mut console = Console {
-        input: &mut reader,
-        output: &mut output,
-        errors: &mut errors,
-        is_watched: false,
-    };
-    let status = perform(rt, &InLists, job, &mut console);
-    Ok(Given {
-        status,
-        output,
-        errors,
-    })
+// Nothing is read from this source, and nothing is written.
+fn assert_unread(rt: &HostRuntime, source: &str, folder: &str) -> Result<(), Fail> {
+    let given = published(rt, source, folder)?;
+    given.assert_is(1, b"", b"fault: read\n")
 }
 
 // Words that are the address of no office.
@@ -56,21 +40,17 @@ const NOBODY: [&str; 6] = [
 fn addresses_of_nobody(rt: HostRuntime) -> Result<(), Fail> {
     let folder = folder_for(&rt, "nobody")?;
     for source in NOBODY {
-        let given = published(&rt, source, folder.as_str())?;
-        given.assert_is(1, b"", b"fault: read\n")?;
+        assert_unread(&rt, source, folder.as_str())?;
     }
     ensure(!fs::exists(&rt, folder.as_str())?, "no folder")
 }
 
 #[test]
 fn a_port_where_nobody_listens(rt: HostRuntime) -> Result<(), Fail> {
+    let port = free_port(&rt)?;
     let folder = folder_for(&rt, "unheard")?;
-    let listener = TcpListener::bind(&rt, SocketAddr::from((Ipv4Addr::LOCALHOST, 0)))?;
-    let port = listener.local_addr()?.port();
-    drop(listener);
     let source = format!(in rt.alloc(); "http://127.0.0.1:{port}")?;
-    let given = published(&rt, source.as_str(), folder.as_str())?;
-    given.assert_is(1, b"", b"fault: read\n")?;
+    assert_unread(&rt, source.as_str(), folder.as_str())?;
     Ok(fs::remove_dir_all(&rt, folder.as_str())?)
 }
 

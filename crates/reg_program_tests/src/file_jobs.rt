@@ -172,8 +172,8 @@ impl<R: Net<Listener = TcpListener, Stream = TcpStream>> Write for Asking<'_, R>
     }
 }
 
-// A port of loopback that nobody listens on.
-fn free_port<R: Net<Listener = TcpListener, Stream = TcpStream>>(rt: &R) -> Result<u16, Fail> {
+/// A port of loopback that nobody listens on.
+pub fn free_port<R: Net<Listener = TcpListener, Stream = TcpStream>>(rt: &R) -> Result<u16, Fail> {
     let listener = TcpListener::bind(rt, SocketAddr::from((Ipv4Addr::LOCALHOST, 0)))?;
     let port = listener.local_addr()?.port();
     drop(listener);
@@ -185,6 +185,7 @@ where
     R: AllocGlobal + Clock + Net<Listener = TcpListener, Stream = TcpStream>,
 {
     let port = free_port(rt)?;
+    let line = format!(in rt.alloc(); "listening on 127.0.0.1:{port}\n")?;
     let mut output = Asking {
         rt,
         alloc: rt.alloc(),
@@ -200,16 +201,18 @@ where
         errors: &mut errors,
         is_watched: false,
     };
-    let done = serve_in(rt, office, port, 1, true, &mut console);
+    let is_served = serve_in(rt, office, port, 1, true, &mut console).is_ok();
     drop(console);
-    ensure(errors.ends_with(LOGGED), "the log")?;
-    let line = format!(in rt.alloc(); "listening on 127.0.0.1:{port}\n")?;
-    ensure(done.is_ok(), "an office that is served")?;
-    ensure(
-        output.printed.as_slice() == line.as_bytes(),
-        "the line printed",
-    )?;
-    ensure(output.heard()?.ends_with(b"\r\n\r\n[]"), "the answer")
+    let is_logged = errors.ends_with(LOGGED);
+    drop(errors);
+    let is_printed = output.printed.as_slice() == line.as_bytes();
+    drop(line);
+    let is_answered = output.heard()?.ends_with(b"\r\n\r\n[]");
+    drop(output);
+    ensure(is_served, "an office that is served")?;
+    ensure(is_logged, "the log")?;
+    ensure(is_printed, "the line printed")?;
+    ensure(is_answered, "the answer")
 }
 
 /// An office that is served to one client.

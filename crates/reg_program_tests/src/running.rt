@@ -28,20 +28,35 @@ impl Offices for InLists {
         task: &Task<'_>,
         console: &mut Console<'_, R, W, E>,
     ) -> Result<(), Undone> {
-        let mut office = Office::new(rt.alloc(), ListKeeper::new(rt.alloc()));
-        let done = task.carry_out(rt, &mut office, console);
-        drop(office);
-        done
+        carry_out_over(rt, ListKeeper::new(rt.alloc()), task, console)
     }
 
     fn check<W: Write>(&self, rt: &HostRuntime, _path: &str, output: &mut W) -> Result<(), Undone> {
-        let alloc = rt.alloc();
-        let mut office = Office::new(alloc, ListKeeper::new(alloc));
-        check_in(alloc, &mut office, 3, moment(rt), output)
+        check_over(rt, ListKeeper::new(rt.alloc()), output)
     }
 }
 
-/// What a script gave: the exit status, standard output and standard error.
+// Over any keeper, whose parts the proof need not unfold.
+fn carry_out_over<K: Keeper + Drop, R: Read, W: Write, E: Write>(
+    rt: &HostRuntime,
+    keeper: K,
+    task: &Task<'_>,
+    console: &mut Console<'_, R, W, E>,
+) -> Result<(), Undone> {
+    let mut office = Office::new(rt.alloc(), keeper);
+    task.carry_out(rt, &mut office, console)
+}
+
+fn check_over<K: Keeper + Drop, W: Write>(
+    rt: &HostRuntime,
+    keeper: K,
+    output: &mut W,
+) -> Result<(), Undone> {
+    let mut office = Office::new(rt.alloc(), keeper);
+    check_in(rt.alloc(), &mut office, 3, moment(rt), output)
+}
+
+/// What a job gave: the exit status, standard output and standard error.
 #[derive(Drop)]
 pub struct Given {
     pub status: u8,
@@ -50,7 +65,7 @@ pub struct Given {
 }
 
 impl Given {
-    /// The test fails at this, unless this is what the script gave.
+    /// The test fails at this, unless this is what the job gave.
     pub fn assert_is(&self, status: u8, output: &[u8], errors: &[u8]) -> Result<(), Fail> {
         ensure(self.status == status, "the status")?;
         ensure(self.output.as_slice() == output, "the answers")?;
@@ -60,12 +75,15 @@ impl Given {
 
 /// What the job `script` gives for these lines.
 pub fn script(rt: &HostRuntime, clerk: &str, input: &[u8]) -> Result<Given, Fail> {
-    let alloc = rt.alloc();
-    let clerk = String::from_str(alloc, clerk)?;
-    let mut output = Vec::new(alloc);
-    let mut errors = Vec::new(alloc);
+    let clerk = String::from_str(rt.alloc(), clerk)?;
+    Ok(performed(rt, Job::Script { clerk, file: None }, input))
+}
+
+/// What a job gives for this on standard input.
+pub fn performed(rt: &HostRuntime, job: Job, input: &[u8]) -> Given {
+    let mut output = Vec::new(rt.alloc());
+    let mut errors = Vec::new(rt.alloc());
     let mut reader = input;
-    let job = Job::Script { clerk, file: None };
     let mut console = Console {
         input: &mut reader,
         output: &mut output,
@@ -73,11 +91,11 @@ pub fn script(rt: &HostRuntime, clerk: &str, input: &[u8]) -> Result<Given, Fail
         is_watched: false,
     };
     let status = perform(rt, &InLists, job, &mut console);
-    Ok(Given {
+    Given {
         status,
         output,
         errors,
-    })
+    }
 }
 
 /// What the lines of a script are answered by an office over this keeper, once it is founded.

@@ -1,5 +1,6 @@
 //! Lines that an office is asked, and their answers.
 use crate::disks::rows::ROWS;
+use reg_transcripts::transcript::{answered, sent};
 use std::alloc::{AllocError, Global};
 
 /// The token of the first clerk.
@@ -16,6 +17,13 @@ pub struct Row {
 }
 
 impl Row {
+    fn new(alloc: Global, line: &str, answer: &str) -> Result<Row, AllocError> {
+        Ok(Row {
+            line: with_end(alloc, line)?,
+            answer: with_end(alloc, answer)?,
+        })
+    }
+
     /// It is answered as when it was carried out before: by 200, and the same body.
     pub fn is_repeated(&self, answer: &[u8]) -> bool {
         answer.starts_with(b"200 ") && answer.get(4..) == self.answer.get(4..)
@@ -24,56 +32,51 @@ impl Row {
 
 /// The rows of the transcript.
 pub fn rows(alloc: Global) -> Result<Vec<Row>, AllocError> {
+    let (lines, answers) = (all_lines(alloc)?, answered(alloc, &[ROWS])?);
     let mut rows = Vec::new(alloc);
-    for row in &ROWS {
-        rows.push(Row {
-            line: as_line(alloc, row.0)?,
-            answer: as_line(alloc, row.1)?,
-        })?;
+    for (line, answer) in lines.lines().zip(answers.lines()) {
+        rows.push(Row::new(alloc, line, answer)?)?;
     }
     Ok(rows)
 }
 
+// A line with its line feed.
+fn with_end(alloc: Global, line: &str) -> Result<Vec<u8>, AllocError> {
+    let mut bytes = Vec::new(alloc);
+    bytes.extend_from_slice(line.as_bytes())?;
+    bytes.push(b'\n')?;
+    Ok(bytes)
+}
+
 /// The lines of the transcript, in one text.
-pub fn all_lines(alloc: Global) -> Result<Vec<u8>, AllocError> {
-    first_lines(alloc, ROWS.len())
+pub fn all_lines(alloc: Global) -> Result<String, AllocError> {
+    sent(alloc, &[ROWS])
 }
 
 /// The first so many lines of the transcript, in one text.
-pub fn first_lines(alloc: Global, count: usize) -> Result<Vec<u8>, AllocError> {
-    let mut lines = Vec::new(alloc);
-    for row in ROWS.iter().take(count) {
-        lines.extend_from_slice(as_line(alloc, row.0)?.as_slice())?;
-    }
-    Ok(lines)
-}
-
-/// The answers to the lines after these, in one text.
-pub fn last_answers(alloc: Global, count: usize) -> Result<Vec<u8>, AllocError> {
-    let mut answers = Vec::new(alloc);
-    for row in ROWS.iter().skip(count) {
-        answers.extend_from_slice(as_line(alloc, row.1)?.as_slice())?;
-    }
-    Ok(answers)
+pub fn first_lines(alloc: Global, count: usize) -> Result<String, AllocError> {
+    some_lines(alloc, all_lines(alloc)?.as_str(), 0, count)
 }
 
 /// The lines after these, in one text.
-pub fn last_lines(alloc: Global, count: usize) -> Result<Vec<u8>, AllocError> {
-    let mut lines = Vec::new(alloc);
-    for row in ROWS.iter().skip(count) {
-        lines.extend_from_slice(as_line(alloc, row.0)?.as_slice())?;
-    }
-    Ok(lines)
+pub fn last_lines(alloc: Global, count: usize) -> Result<String, AllocError> {
+    some_lines(alloc, all_lines(alloc)?.as_str(), count, usize::MAX)
 }
 
-// A text as a line, with a TAB for each `|`.
-fn as_line(alloc: Global, text: &str) -> Result<Vec<u8>, AllocError> {
-    let mut line = Vec::new(alloc);
-    for byte in text.as_bytes() {
-        line.push(if *byte == b'|' { b'\t' } else { *byte })?;
+/// The answers to the lines after these, in one text.
+pub fn last_answers(alloc: Global, count: usize) -> Result<String, AllocError> {
+    let answers = answered(alloc, &[ROWS])?;
+    some_lines(alloc, answers.as_str(), count, usize::MAX)
+}
+
+// So many lines of a text, after these.
+fn some_lines(alloc: Global, text: &str, after: usize, count: usize) -> Result<String, AllocError> {
+    let mut lines = String::new(alloc);
+    for line in text.lines().skip(after).take(count) {
+        lines.push_str(line)?;
+        lines.push('\n')?;
     }
-    line.push(b'\n')?;
-    Ok(line)
+    Ok(lines)
 }
 
 /// What shows an office's content.

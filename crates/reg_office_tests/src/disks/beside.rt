@@ -1,41 +1,41 @@
 //! An office beside other tables: it is the same office, and its rows are judged as ever.
 use crate::disks::image::Image;
 use crate::disks::making::{blank, filled, prepared, refused};
-use crate::disks::openings::{
-    CAR, CARS, assert_after, assert_car, assert_fault, assert_same, changed,
-};
+use crate::disks::openings::{CAR, assert_after, assert_car, assert_fault, assert_same, changed};
 use reg_opening::open::Verdict;
 use std::alloc::Global;
 use std::test::Fail;
 
 // What makes of an office without rows one of the first version, with another table after its ten.
-const AGED: [&str; 6] = [
-    "DROP TABLE agents",
-    "DROP TABLE minutes",
-    "DROP TABLE holds",
-    "UPDATE office SET version = 1",
-    CARS,
-    CAR,
-];
+const AGED: &str = "\
+DROP TABLE agents
+DROP TABLE minutes
+DROP TABLE holds
+UPDATE office SET version = 1
+CREATE TABLE cars (plate TEXT PRIMARY KEY)
+INSERT INTO cars (plate) VALUES ('a')
+";
 
-// A view of a table of the office.
-const NAMES: &str = "CREATE VIEW names AS SELECT name FROM registries";
+// A view of a table of the office, before another table.
+const NAMES: &str = "\
+CREATE VIEW names AS SELECT name FROM registries
+CREATE TABLE cars (plate TEXT PRIMARY KEY)
+INSERT INTO cars (plate) VALUES ('a')
+";
 
 // A table that refers to one of the office.
-const REFERRING: &str = "CREATE TABLE cars (plate TEXT PRIMARY KEY, \
-     registry TEXT REFERENCES registries (name))";
+const REFERRING: &str = "\
+CREATE TABLE cars (plate TEXT PRIMARY KEY, registry TEXT REFERENCES registries (name))
+INSERT INTO cars (plate) VALUES ('a')
+";
 
-// What makes rows that are no office's, or another version.
-const JUDGED: [(&str, Verdict); 5] = [
-    ("UPDATE registries SET max = 4294967296", Verdict::NotOurs),
-    (
-        "UPDATE requests SET given = '8' WHERE reference = 'a-1'",
-        Verdict::NotOurs,
-    ),
-    ("UPDATE blocks SET first = 0", Verdict::NotOurs),
-    ("UPDATE agents SET principal = ''", Verdict::NotOurs),
-    ("UPDATE office SET version = 9", Verdict::OtherVersion(9)),
-];
+// What makes rows that are no office's.
+const JUDGED: &str = "\
+UPDATE registries SET max = 4294967296
+UPDATE requests SET given = '8' WHERE reference = 'a-1'
+UPDATE blocks SET first = 0
+UPDATE agents SET principal = ''
+";
 
 // These files, once an office was opened in them.
 fn opened(alloc: Global, image: &Image, fresh: bool) -> Result<Image, Fail> {
@@ -45,16 +45,17 @@ fn opened(alloc: Global, image: &Image, fresh: bool) -> Result<Image, Fail> {
 }
 
 // An office without rows, and what these statements make beside it.
-fn beside(alloc: Global, statements: &[&str]) -> Result<Image, Fail> {
+fn beside(alloc: Global, statements: &str) -> Result<Image, Fail> {
     changed(alloc, &blank(alloc)?, statements)
 }
 
-// The rows of an office that is filled here are judged as ever.
+// The rows of an office that is filled here are judged as ever, and so is its version.
 fn assert_judged(alloc: Global, made: &Image) -> Result<(), Fail> {
-    for (sql, verdict) in JUDGED {
-        assert_after(alloc, made, sql, Some(verdict))?;
+    for sql in JUDGED.lines() {
+        assert_after(alloc, made, sql, Some(Verdict::NotOurs))?;
     }
-    Ok(())
+    let other = Some(Verdict::OtherVersion(9));
+    assert_after(alloc, made, "UPDATE office SET version = 9", other)
 }
 
 // An office that is filled here is the same as one that stands alone, also when it is opened again,
@@ -70,31 +71,31 @@ fn assert_shared(alloc: Global, image: &Image) -> Result<(), Fail> {
 #[test]
 fn a_table_before(rt: HostRuntime) -> Result<(), Fail> {
     let alloc = rt.alloc();
-    let image = changed(alloc, &Image::empty(alloc), &[CARS, CAR])?;
+    let image = changed(alloc, &Image::empty(alloc), CAR)?;
     assert_shared(alloc, &opened(alloc, &image, true)?)
 }
 
 #[test]
 fn a_table_after(rt: HostRuntime) -> Result<(), Fail> {
     let alloc = rt.alloc();
-    assert_shared(alloc, &beside(alloc, &[CARS, CAR])?)
+    assert_shared(alloc, &beside(alloc, CAR)?)
 }
 
 #[test]
 fn a_table_between(rt: HostRuntime) -> Result<(), Fail> {
     let alloc = rt.alloc();
-    let image = beside(alloc, &AGED)?;
+    let image = beside(alloc, AGED)?;
     assert_shared(alloc, &opened(alloc, &image, false)?)
 }
 
 #[test]
 fn a_view(rt: HostRuntime) -> Result<(), Fail> {
     let alloc = rt.alloc();
-    assert_shared(alloc, &beside(alloc, &[NAMES, CARS, CAR])?)
+    assert_shared(alloc, &beside(alloc, NAMES)?)
 }
 
 #[test]
 fn a_table_that_refers_to_the_office(rt: HostRuntime) -> Result<(), Fail> {
     let alloc = rt.alloc();
-    assert_shared(alloc, &beside(alloc, &[REFERRING, CAR])?)
+    assert_shared(alloc, &beside(alloc, REFERRING)?)
 }

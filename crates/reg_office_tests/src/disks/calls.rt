@@ -37,9 +37,9 @@ fn changed_by<S: Alter>(conn: &mut Connection<S>, statement: Statement<'_>) -> O
 }
 
 // How many rows the last of these changed, if all were done.
-fn executed<S: Alter>(conn: &mut Connection<S>, statements: &[&str]) -> Option<usize> {
+fn executed<S: Alter>(conn: &mut Connection<S>, statements: &str) -> Option<usize> {
     let mut changed = 0;
-    for sql in statements {
+    for sql in statements.lines() {
         changed = conn.execute(sql, &[]).ok()?;
     }
     Some(changed)
@@ -70,15 +70,21 @@ pub fn asked<S: Alter>(
 ) -> (Result<Vec<u8>, Fail>, Option<OpenFault>, Connection<S>) {
     match SqlKeeper::adopt(alloc, conn, asking.fresh) {
         Ok(keeper) => {
-            let mut office = Office::new(alloc, keeper);
-            let answers = answers(alloc, &mut office, asking);
-            (answers, None, office.into_keeper().into_connection())
+            let (answers, keeper) = answers(alloc, keeper, asking);
+            (answers, None, keeper.into_connection())
         }
         Err((fault, conn)) => (Ok(Vec::new(alloc)), Some(fault), conn),
     }
 }
 
-fn answers<K: Keeper>(
+// What an office over this keeper answers.
+fn answers<K: Keeper>(alloc: Global, keeper: K, asking: Asking<'_>) -> (Result<Vec<u8>, Fail>, K) {
+    let mut office = Office::new(alloc, keeper);
+    let answers = answers_of(alloc, &mut office, asking);
+    (answers, office.into_keeper())
+}
+
+fn answers_of<K: Keeper>(
     alloc: Global,
     office: &mut Office<K>,
     asking: Asking<'_>,

@@ -4,6 +4,7 @@ use crate::disks::image::{Image, copied};
 use sqlite::Files;
 use sqlite_disk::{Crash, Disk, Fuse, Memory};
 use std::alloc::{AllocError, Global};
+use std::io;
 use std::test::Fail;
 
 /// A disk in memory that stops.
@@ -103,7 +104,7 @@ fn left_of_file(alloc: Global, disk: Stopping) -> Result<LeftOfFile, AllocError>
 }
 
 /// A disk that holds these bytes and stops after these calls.
-pub(crate) fn disk_with(alloc: Global, bytes: &[u8], calls: u64) -> Result<Stopping, Fail> {
+pub(crate) fn disk_with(alloc: Global, bytes: &[u8], calls: u64) -> io::Result<Stopping> {
     let mut disk = Memory::new(alloc);
     disk.write_at(0, bytes)?;
     disk.sync()?;

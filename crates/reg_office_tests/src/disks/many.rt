@@ -20,39 +20,39 @@ const FIRST: &[u8] = b"\
 
 // As many entries again, and so on up to 8,192; then 10,000 entries, each tenth of which is held, and
 // 1,000 accounts that name bob.
-const MANY: [&str; 16] = [
-    "INSERT INTO entries (registry, value, label, assignee, first, expires, renewed) \
-     SELECT registry, value + 1, label, assignee, first, expires, renewed FROM entries",
-    "INSERT INTO entries (registry, value, label, assignee, first, expires, renewed) \
-     SELECT registry, value + 2, label, assignee, first, expires, renewed FROM entries",
-    "INSERT INTO entries (registry, value, label, assignee, first, expires, renewed) \
-     SELECT registry, value + 4, label, assignee, first, expires, renewed FROM entries",
-    "INSERT INTO entries (registry, value, label, assignee, first, expires, renewed) \
-     SELECT registry, value + 8, label, assignee, first, expires, renewed FROM entries",
-    "INSERT INTO entries (registry, value, label, assignee, first, expires, renewed) \
-     SELECT registry, value + 16, label, assignee, first, expires, renewed FROM entries",
-    "INSERT INTO entries (registry, value, label, assignee, first, expires, renewed) \
-     SELECT registry, value + 32, label, assignee, first, expires, renewed FROM entries",
-    "INSERT INTO entries (registry, value, label, assignee, first, expires, renewed) \
-     SELECT registry, value + 64, label, assignee, first, expires, renewed FROM entries",
-    "INSERT INTO entries (registry, value, label, assignee, first, expires, renewed) \
-     SELECT registry, value + 128, label, assignee, first, expires, renewed FROM entries",
-    "INSERT INTO entries (registry, value, label, assignee, first, expires, renewed) \
-     SELECT registry, value + 256, label, assignee, first, expires, renewed FROM entries",
-    "INSERT INTO entries (registry, value, label, assignee, first, expires, renewed) \
-     SELECT registry, value + 512, label, assignee, first, expires, renewed FROM entries",
-    "INSERT INTO entries (registry, value, label, assignee, first, expires, renewed) \
-     SELECT registry, value + 1024, label, assignee, first, expires, renewed FROM entries",
-    "INSERT INTO entries (registry, value, label, assignee, first, expires, renewed) \
-     SELECT registry, value + 2048, label, assignee, first, expires, renewed FROM entries",
-    "INSERT INTO entries (registry, value, label, assignee, first, expires, renewed) \
-     SELECT registry, value + 4096, label, assignee, first, expires, renewed FROM entries",
-    "INSERT INTO entries (registry, value, label, assignee, first, expires, renewed) \
-     SELECT registry, value + 8192, label, assignee, first, expires, renewed FROM entries \
-     WHERE value < 1808",
-    "INSERT INTO holds (registry, value) SELECT registry, value FROM entries WHERE value % 10 = 0",
-    "INSERT INTO agents (principal, agent) SELECT 'p-' || value, 'bob' FROM entries WHERE value < 1000",
-];
+const MANY: &str = "\
+INSERT INTO entries (registry, value, label, assignee, first, expires, renewed) \
+SELECT registry, value + 1, label, assignee, first, expires, renewed FROM entries
+INSERT INTO entries (registry, value, label, assignee, first, expires, renewed) \
+SELECT registry, value + 2, label, assignee, first, expires, renewed FROM entries
+INSERT INTO entries (registry, value, label, assignee, first, expires, renewed) \
+SELECT registry, value + 4, label, assignee, first, expires, renewed FROM entries
+INSERT INTO entries (registry, value, label, assignee, first, expires, renewed) \
+SELECT registry, value + 8, label, assignee, first, expires, renewed FROM entries
+INSERT INTO entries (registry, value, label, assignee, first, expires, renewed) \
+SELECT registry, value + 16, label, assignee, first, expires, renewed FROM entries
+INSERT INTO entries (registry, value, label, assignee, first, expires, renewed) \
+SELECT registry, value + 32, label, assignee, first, expires, renewed FROM entries
+INSERT INTO entries (registry, value, label, assignee, first, expires, renewed) \
+SELECT registry, value + 64, label, assignee, first, expires, renewed FROM entries
+INSERT INTO entries (registry, value, label, assignee, first, expires, renewed) \
+SELECT registry, value + 128, label, assignee, first, expires, renewed FROM entries
+INSERT INTO entries (registry, value, label, assignee, first, expires, renewed) \
+SELECT registry, value + 256, label, assignee, first, expires, renewed FROM entries
+INSERT INTO entries (registry, value, label, assignee, first, expires, renewed) \
+SELECT registry, value + 512, label, assignee, first, expires, renewed FROM entries
+INSERT INTO entries (registry, value, label, assignee, first, expires, renewed) \
+SELECT registry, value + 1024, label, assignee, first, expires, renewed FROM entries
+INSERT INTO entries (registry, value, label, assignee, first, expires, renewed) \
+SELECT registry, value + 2048, label, assignee, first, expires, renewed FROM entries
+INSERT INTO entries (registry, value, label, assignee, first, expires, renewed) \
+SELECT registry, value + 4096, label, assignee, first, expires, renewed FROM entries
+INSERT INTO entries (registry, value, label, assignee, first, expires, renewed) \
+SELECT registry, value + 8192, label, assignee, first, expires, renewed FROM entries \
+WHERE value < 1808
+INSERT INTO holds (registry, value) SELECT registry, value FROM entries WHERE value % 10 = 0
+INSERT INTO agents (principal, agent) SELECT 'p-' || value, 'bob' FROM entries WHERE value < 1000
+";
 
 // What is asked of it: the page on the day of expiry, a mark that is taken away and one that is set, and
 // what bob is shown of his principals.
@@ -104,7 +104,7 @@ fn assert_answers(answers: &str) -> Result<(), Fail> {
 fn many_marks_and_principals(rt: HostRuntime) -> Result<(), Fail> {
     let alloc = rt.alloc();
     let image: Image = filled_by(alloc, &blank(alloc)?, FIRST)?;
-    let (outcome, left) = carry_out(alloc, &image, NEVER, Statement::Sql(&MANY), true)?;
+    let (outcome, left) = carry_out(alloc, &image, NEVER, Statement::Sql(MANY), true)?;
     let outcome = outcome.ok_or("a store")?;
     ensure(outcome.changed == Some(1_000), "rows that are added")?;
     ensure(outcome.verdict? == Some(Verdict::Ours(NEWEST)), "an office")?;

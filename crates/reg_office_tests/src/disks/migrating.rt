@@ -15,57 +15,58 @@ use std::test::Fail;
 
 /// An older version, what leaves a store of it of one of the newest, and how many lines of the
 /// transcript it can hold.
-type Older = (Version, &'static [&'static str], usize);
+type Older = (Version, &'static str, usize);
 
-const FIRST: Older = (
-    Version::First,
-    &[
-        "DROP TABLE agents",
-        "DROP TABLE minutes",
-        "DROP TABLE holds",
-        "UPDATE office SET version = 1",
-    ],
-    OF_THE_FIRST,
-);
+const FIRST: Older = (Version::First, TO_THE_FIRST, OF_THE_FIRST);
 
-const SECOND: Older = (
-    Version::Second,
-    &["DROP TABLE agents", "UPDATE office SET version = 2"],
-    OF_THE_SECOND,
-);
+const TO_THE_FIRST: &str = "\
+DROP TABLE agents
+DROP TABLE minutes
+DROP TABLE holds
+UPDATE office SET version = 1
+";
 
-// What takes a name of a table that an older version lacks.
-const TAKEN: [(Older, &str); 7] = [
-    (FIRST, "CREATE TABLE holds (weight INTEGER)"),
-    (
-        FIRST,
-        "CREATE TABLE Minutes (day INTEGER PRIMARY KEY) STRICT",
-    ),
-    (FIRST, "CREATE TABLE agents (name TEXT)"),
-    (FIRST, "CREATE VIEW agents AS SELECT 1 AS name"),
-    (SECOND, "CREATE TABLE agents (name TEXT)"),
-    (
-        SECOND,
-        "CREATE TABLE AGENTS (principal TEXT, agent TEXT) STRICT",
-    ),
-    (SECOND, "CREATE VIEW agents AS SELECT account FROM caps"),
-];
+const SECOND: Older = (Version::Second, TO_THE_SECOND, OF_THE_SECOND);
 
-// What makes no office of an older store.
-const SPOILT: [(Older, &str); 6] = [
-    (FIRST, "UPDATE office SET version = 2"),
-    (FIRST, "UPDATE office SET version = 3"),
-    (FIRST, "DELETE FROM office"),
-    (FIRST, "UPDATE caps SET kind = 'king'"),
-    (SECOND, "UPDATE office SET version = 1"),
-    (SECOND, "UPDATE minutes SET minute = ''"),
-];
+const TO_THE_SECOND: &str = "\
+DROP TABLE agents
+UPDATE office SET version = 2
+";
+
+// What takes a name of a table that the first version lacks.
+const TAKEN_OF_THE_FIRST: &str = "\
+CREATE TABLE holds (weight INTEGER)
+CREATE TABLE Minutes (day INTEGER PRIMARY KEY) STRICT
+CREATE TABLE agents (name TEXT)
+CREATE VIEW agents AS SELECT 1 AS name
+";
+
+// What takes the name of the one that the second lacks.
+const TAKEN_OF_THE_SECOND: &str = "\
+CREATE TABLE agents (name TEXT)
+CREATE TABLE AGENTS (principal TEXT, agent TEXT) STRICT
+CREATE VIEW agents AS SELECT account FROM caps
+";
+
+// What makes no office of a store of the first version.
+const SPOILT_OF_THE_FIRST: &str = "\
+UPDATE office SET version = 2
+UPDATE office SET version = 3
+DELETE FROM office
+UPDATE caps SET kind = 'king'
+";
+
+// What makes none of a store of the second.
+const SPOILT_OF_THE_SECOND: &str = "\
+UPDATE office SET version = 1
+UPDATE minutes SET minute = ''
+";
 
 // What the store in these files is, if it has tables, and the files after these statements.
 fn judged(
     alloc: Global,
     image: &Image,
-    statements: &[&str],
+    statements: &str,
 ) -> Result<(Option<Verdict>, Image), Fail> {
     let sql = Statement::Sql(statements);
     let (outcome, left) = carry_out(alloc, image, NEVER, sql, true)?;
@@ -117,8 +118,9 @@ fn assert_opened(alloc: Global, older: Older) -> Result<(), Fail> {
 fn assert_going_on(alloc: Global, image: &Image, older: Older) -> Result<(), Fail> {
     let (_, _, lines) = older;
     let more = last_lines(alloc, lines)?;
-    let (answers, _) = answered(alloc, image, asking(more.as_slice()))?;
-    ensure(answers == last_answers(alloc, lines)?, "the next answers")
+    let wanted = last_answers(alloc, lines)?;
+    let (answers, _) = answered(alloc, image, asking(more.as_bytes()))?;
+    ensure(answers.as_slice() == wanted.as_bytes(), "the next answers")
 }
 
 #[test]
@@ -156,12 +158,12 @@ fn an_older_office_beside_other_tables(rt: HostRuntime) -> Result<(), Fail> {
     for older in [FIRST, SECOND] {
         let (newest, image) = both(alloc, older)?;
         let (version, _, _) = older;
-        let (verdict, beside) = judged(alloc, &image, &[cars])?;
+        let (verdict, beside) = judged(alloc, &image, cars)?;
         ensure(verdict == Some(Verdict::Ours(version)), "an older office")?;
         let migrated = migrated(alloc, &beside)?;
         let (one, other) = (seen(alloc, &migrated)?, seen(alloc, &newest)?);
         ensure(one == other, "the same office")?;
-        judged(alloc, &migrated, &["INSERT INTO cars (plate) VALUES ('a')"])?;
+        judged(alloc, &migrated, "INSERT INTO cars (plate) VALUES ('a')")?;
     }
     Ok(())
 }
@@ -176,10 +178,11 @@ fn assert_refused(alloc: Global, image: &Image, wanted: OpenFault, what: &str) -
     Ok(())
 }
 
-fn assert_not_ours(alloc: Global, cases: &[(Older, &str)]) -> Result<(), Fail> {
-    for (older, sql) in cases {
-        let (_, image) = both(alloc, *older)?;
-        let (verdict, image) = judged(alloc, &image, &[*sql])?;
+// Each of these statements, a line each, makes of an older office a store that is none.
+fn assert_not_ours(alloc: Global, older: Older, statements: &str) -> Result<(), Fail> {
+    let (_, image) = both(alloc, older)?;
+    for sql in statements.lines() {
+        let (verdict, image) = judged(alloc, &image, sql)?;
         ensure(verdict == Some(Verdict::NotOurs), sql)?;
         assert_refused(alloc, &image, OpenFault::NotOurs, sql)?;
     }
@@ -188,12 +191,21 @@ fn assert_not_ours(alloc: Global, cases: &[(Older, &str)]) -> Result<(), Fail> {
 
 #[test]
 fn names_of_later_tables_that_are_taken(rt: HostRuntime) -> Result<(), Fail> {
-    assert_not_ours(rt.alloc(), &TAKEN)
+    assert_not_ours(rt.alloc(), FIRST, TAKEN_OF_THE_FIRST)?;
+    assert_not_ours(rt.alloc(), SECOND, TAKEN_OF_THE_SECOND)
 }
 
 #[test]
 fn older_stores_that_are_none(rt: HostRuntime) -> Result<(), Fail> {
-    assert_not_ours(rt.alloc(), &SPOILT)
+    assert_not_ours(rt.alloc(), FIRST, SPOILT_OF_THE_FIRST)?;
+    assert_not_ours(rt.alloc(), SECOND, SPOILT_OF_THE_SECOND)
+}
+
+// A store of this version, a later one, is told of by it.
+fn assert_later(alloc: Global, image: &Image, version: i64) -> Result<(), Fail> {
+    let sql = format!(in alloc; "UPDATE office SET version = {version}")?;
+    let (_, later) = judged(alloc, image, sql.as_str())?;
+    assert_refused(alloc, &later, OpenFault::Version(version), sql.as_str())
 }
 
 // Whatever the tables are, the version decides.
@@ -202,14 +214,9 @@ fn later_versions(rt: HostRuntime) -> Result<(), Fail> {
     let alloc = rt.alloc();
     for older in [FIRST, SECOND] {
         let (newest, image) = both(alloc, older)?;
-        for (sql, version) in [
-            ("UPDATE office SET version = 4", 4),
-            ("UPDATE office SET version = 9", 9),
-        ] {
-            let (_, later) = judged(alloc, &image, &[sql])?;
-            assert_refused(alloc, &later, OpenFault::Version(version), sql)?;
-            let (_, later) = judged(alloc, &newest, &[sql])?;
-            assert_refused(alloc, &later, OpenFault::Version(version), sql)?;
+        for version in [4, 9] {
+            assert_later(alloc, &image, version)?;
+            assert_later(alloc, &newest, version)?;
         }
     }
     Ok(())

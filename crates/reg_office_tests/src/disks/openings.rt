@@ -10,122 +10,120 @@ use reg_testing::facts::ensure;
 use std::alloc::Global;
 use std::test::Fail;
 
-// What leaves no row of a version, or several; another version, or one that has other tables.
-const VERSIONS: [(&str, Verdict); 9] = [
-    ("UPDATE office SET version = 3", Verdict::Ours(NEWEST)),
-    ("DELETE FROM office", Verdict::NotOurs),
-    ("INSERT INTO office (version) VALUES (3)", Verdict::NotOurs),
-    ("UPDATE office SET version = 1", Verdict::NotOurs),
-    ("UPDATE office SET version = 2", Verdict::NotOurs),
-    ("UPDATE office SET version = 0", Verdict::OtherVersion(0)),
-    ("UPDATE office SET version = 4", Verdict::OtherVersion(4)),
-    ("UPDATE office SET version = 9", Verdict::OtherVersion(9)),
-    ("UPDATE office SET version = -1", Verdict::OtherVersion(-1)),
-];
+// What leaves no row of a version, or several, or a version that has other tables.
+const VERSIONS: &str = "\
+DELETE FROM office
+INSERT INTO office (version) VALUES (3)
+UPDATE office SET version = 1
+UPDATE office SET version = 2
+";
 
 // What leaves other tables in the place of the office's.
-const TABLES: [&str; 7] = [
-    "CREATE INDEX by_account ON caps (account)",
-    "CREATE UNIQUE INDEX by_kind ON blocks (organization, first)",
-    "CREATE INDEX by_agent ON agents (agent)",
-    "DROP TABLE advice",
-    "DROP TABLE holds",
-    "DROP TABLE minutes",
-    "DROP TABLE agents",
-];
+const TABLES: &str = "\
+CREATE INDEX by_account ON caps (account)
+CREATE UNIQUE INDEX by_kind ON blocks (organization, first)
+CREATE INDEX by_agent ON agents (agent)
+DROP TABLE advice
+DROP TABLE holds
+DROP TABLE minutes
+DROP TABLE agents
+";
 
 // What leaves of the office's tables the version alone, which is another one.
-const GONE: [&str; 13] = [
-    "DROP TABLE agents",
-    "DROP TABLE minutes",
-    "DROP TABLE holds",
-    "DROP TABLE advice",
-    "DROP TABLE queue",
-    "DROP TABLE requests",
-    "DROP TABLE entries",
-    "DROP TABLE ranges",
-    "DROP TABLE registries",
-    "DROP TABLE caps",
-    "DROP TABLE pool",
-    "DROP TABLE blocks",
-    "UPDATE office SET version = 9",
-];
+const GONE: &str = "\
+DROP TABLE agents
+DROP TABLE minutes
+DROP TABLE holds
+DROP TABLE advice
+DROP TABLE queue
+DROP TABLE requests
+DROP TABLE entries
+DROP TABLE ranges
+DROP TABLE registries
+DROP TABLE caps
+DROP TABLE pool
+DROP TABLE blocks
+UPDATE office SET version = 9
+";
 
 // What takes names of the office's tables.
-const TAKEN: [&str; 7] = [
-    "CREATE TABLE agents (name TEXT)",
-    "CREATE TABLE Minutes (day INTEGER)",
-    "CREATE VIEW holds AS SELECT 1 AS value",
-    "CREATE TABLE caps (digest TEXT)",
-    "CREATE TABLE Pool (prefix INT NOT NULL PRIMARY KEY) STRICT",
-    "CREATE VIEW office AS SELECT 1 AS version",
-    "CREATE TABLE blocks (first INT NOT NULL PRIMARY KEY, size TEXT NOT NULL, \
-     holder TEXT NOT NULL, organization TEXT NOT NULL, address TEXT NOT NULL, \
-     private INTEGER, UNIQUE (holder, first)) STRICT",
-];
+const TAKEN: &str = "\
+CREATE TABLE agents (name TEXT)
+CREATE TABLE Minutes (day INTEGER)
+CREATE VIEW holds AS SELECT 1 AS value
+CREATE TABLE caps (digest TEXT)
+CREATE TABLE Pool (prefix INT NOT NULL PRIMARY KEY) STRICT
+CREATE VIEW office AS SELECT 1 AS version
+CREATE TABLE blocks (first INT NOT NULL PRIMARY KEY, size TEXT NOT NULL, \
+holder TEXT NOT NULL, organization TEXT NOT NULL, address TEXT NOT NULL, \
+private INTEGER, UNIQUE (holder, first)) STRICT
+";
 
 /// A table of another program's.
 pub const CARS: &str = "CREATE TABLE cars (plate TEXT PRIMARY KEY)";
 
-/// A row of it.
-pub const CAR: &str = "INSERT INTO cars (plate) VALUES ('a')";
+/// That table, with a row.
+pub const CAR: &str = "\
+CREATE TABLE cars (plate TEXT PRIMARY KEY)
+INSERT INTO cars (plate) VALUES ('a')
+";
 
 // What touches that row.
 const TOUCH: &str = "UPDATE cars SET plate = plate WHERE plate = 'a'";
 
 // What leaves rows that are no office's.
-const ROWS: [&str; 28] = [
-    "UPDATE caps SET account = 'Clerk'",
-    "UPDATE caps SET digest = 'abc' WHERE account = 'alice'",
-    "UPDATE caps SET kind = 'king'",
-    "UPDATE caps SET until = -1",
-    "UPDATE registries SET max = 4294967296",
-    "UPDATE ranges SET lo = 63 WHERE lo = 64",
-    "UPDATE ranges SET lo = 65 WHERE lo = 64",
-    "DELETE FROM ranges WHERE lo = 192",
-    "UPDATE ranges SET treatment = 'mine' WHERE lo = 0",
-    "UPDATE entries SET value = 230 WHERE value = 200",
-    "UPDATE entries SET first = 1",
-    "UPDATE entries SET renewed = 2",
-    "DELETE FROM entries WHERE value = 200",
-    "UPDATE entries SET expires = NULL WHERE value = 5",
-    "INSERT INTO holds (registry, value) VALUES ('flags', 200)",
-    "UPDATE requests SET label = NULL WHERE reference = 'a-1'",
-    "UPDATE requests SET size = 'MA-M' WHERE reference = 'a-1'",
-    "UPDATE requests SET given = '8' WHERE reference = 'a-1'",
-    "INSERT INTO queue (account, reference, expert) VALUES ('bob', 'b-1', 'bob')",
-    "INSERT INTO minutes (account, reference, minute) VALUES ('alice', 'a-1', 'M-1')",
-    "INSERT INTO minutes (account, reference, minute) VALUES ('alice', 'e-1', 'M-1')",
-    "UPDATE minutes SET minute = ''",
-    "INSERT INTO agents (principal, agent) VALUES ('alice', 'alice')",
-    "INSERT INTO agents (principal, agent) VALUES ('alice', 'Bob')",
-    "UPDATE agents SET principal = ''",
-    "UPDATE pool SET prefix = 65536",
-    "UPDATE blocks SET first = 0",
-    "INSERT INTO blocks (first, size, holder, organization, address, private) \
-     SELECT first + 4096, 'MA-S', holder, organization, address, private FROM blocks",
-];
+const ROWS: &str = "\
+UPDATE caps SET account = 'Clerk'
+UPDATE caps SET digest = 'abc' WHERE account = 'alice'
+UPDATE caps SET kind = 'king'
+UPDATE caps SET until = -1
+UPDATE registries SET max = 4294967296
+UPDATE ranges SET lo = 63 WHERE lo = 64
+UPDATE ranges SET lo = 65 WHERE lo = 64
+DELETE FROM ranges WHERE lo = 192
+UPDATE ranges SET treatment = 'mine' WHERE lo = 0
+UPDATE entries SET value = 230 WHERE value = 200
+UPDATE entries SET first = 1
+UPDATE entries SET renewed = 2
+DELETE FROM entries WHERE value = 200
+UPDATE entries SET expires = NULL WHERE value = 5
+INSERT INTO holds (registry, value) VALUES ('flags', 200)
+UPDATE requests SET label = NULL WHERE reference = 'a-1'
+UPDATE requests SET size = 'MA-M' WHERE reference = 'a-1'
+UPDATE requests SET given = '8' WHERE reference = 'a-1'
+INSERT INTO queue (account, reference, expert) VALUES ('bob', 'b-1', 'bob')
+INSERT INTO minutes (account, reference, minute) VALUES ('alice', 'a-1', 'M-1')
+INSERT INTO minutes (account, reference, minute) VALUES ('alice', 'e-1', 'M-1')
+UPDATE minutes SET minute = ''
+INSERT INTO agents (principal, agent) VALUES ('alice', 'alice')
+INSERT INTO agents (principal, agent) VALUES ('alice', 'Bob')
+UPDATE agents SET principal = ''
+UPDATE pool SET prefix = 65536
+UPDATE blocks SET first = 0
+INSERT INTO blocks (first, size, holder, organization, address, private) \
+SELECT first + 4096, 'MA-S', holder, organization, address, private FROM blocks
+";
 
 // What the tables do not take.
-const REFUSED: [&str; 13] = [
-    "DELETE FROM entries WHERE value = 5",
-    "INSERT INTO holds (registry, value) VALUES ('flags', 5)",
-    "INSERT INTO holds (registry, value) VALUES ('flags', 7)",
-    "INSERT INTO minutes (account, reference, minute) VALUES ('alice', 'n-9', 'M-1')",
-    "UPDATE minutes SET minute = NULL",
-    "INSERT INTO agents (principal, agent) VALUES ('alice', 'bob')",
-    "UPDATE caps SET account = NULL",
-    "UPDATE caps SET account = x'00'",
-    "UPDATE caps SET until = 1.5",
-    "UPDATE pool SET prefix = 'abc'",
-    "UPDATE entries SET registry = 'none'",
-    "DELETE FROM registries",
-    "DELETE FROM queue WHERE expert = 'xan'",
-];
+const REFUSED: &str = "\
+DELETE FROM entries WHERE value = 5
+INSERT INTO holds (registry, value) VALUES ('flags', 5)
+INSERT INTO holds (registry, value) VALUES ('flags', 7)
+INSERT INTO minutes (account, reference, minute) VALUES ('alice', 'n-9', 'M-1')
+UPDATE minutes SET minute = NULL
+INSERT INTO agents (principal, agent) VALUES ('alice', 'bob')
+UPDATE caps SET account = NULL
+UPDATE caps SET account = x'00'
+UPDATE caps SET until = 1.5
+UPDATE pool SET prefix = 'abc'
+UPDATE entries SET registry = 'none'
+DELETE FROM registries
+DELETE FROM queue WHERE expert = 'xan'
+";
 
 // What a store is after a statement, if it goes through.
 fn after(alloc: Global, image: &Image, sql: &str) -> Result<Option<Verdict>, Fail> {
-    let (outcome, _) = done(alloc, image, &[sql])?;
+    let (outcome, _) = done(alloc, image, sql)?;
     if outcome.changed.is_none() {
         return Ok(None);
     }
@@ -133,7 +131,7 @@ fn after(alloc: Global, image: &Image, sql: &str) -> Result<Option<Verdict>, Fai
 }
 
 // What comes of statements, and the files after them.
-fn done(alloc: Global, image: &Image, statements: &[&str]) -> Result<(Outcome, Image), Fail> {
+fn done(alloc: Global, image: &Image, statements: &str) -> Result<(Outcome, Image), Fail> {
     let (outcome, left) = carry_out(alloc, image, NEVER, Statement::Sql(statements), true)?;
     Ok((outcome.ok_or("a store")?, left.written))
 }
@@ -148,10 +146,11 @@ pub fn assert_after(
     ensure(after(alloc, image, sql)? == wanted, sql)
 }
 
-fn assert_not_ours(alloc: Global, statements: &[&str]) -> Result<(), Fail> {
+// After each of these statements, a line each, the store is this.
+fn assert_after_each(alloc: Global, statements: &str, wanted: Option<Verdict>) -> Result<(), Fail> {
     let image = prepared(alloc)?;
-    for sql in statements {
-        assert_after(alloc, &image, sql, Some(Verdict::NotOurs))?;
+    for sql in statements.lines() {
+        assert_after(alloc, &image, sql, wanted)?;
     }
     Ok(())
 }
@@ -166,20 +165,30 @@ pub fn assert_fault(found: Option<OpenFault>, wanted: Option<OpenFault>) -> Resu
     ensure(found == wanted, "what opening says")
 }
 
+// The store is of this version, another one.
+fn assert_other(alloc: Global, image: &Image, version: i64) -> Result<(), Fail> {
+    let sql = format!(in alloc; "UPDATE office SET version = {version}")?;
+    let wanted = Some(Verdict::OtherVersion(version));
+    assert_after(alloc, image, sql.as_str(), wanted)
+}
+
 #[test]
 fn versions(rt: HostRuntime) -> Result<(), Fail> {
-    let image = prepared(rt.alloc())?;
-    for (sql, verdict) in VERSIONS {
-        assert_after(rt.alloc(), &image, sql, Some(verdict))?;
+    let alloc = rt.alloc();
+    assert_after_each(alloc, VERSIONS, Some(Verdict::NotOurs))?;
+    let image = prepared(alloc)?;
+    for version in [-1, 0, 4, 9] {
+        assert_other(alloc, &image, version)?;
     }
-    Ok(())
+    let ours = Some(Verdict::Ours(NEWEST));
+    assert_after(alloc, &image, "UPDATE office SET version = 3", ours)
 }
 
 // After these statements the store is of this version.
 fn assert_version(
     alloc: Global,
     image: &Image,
-    statements: &[&str],
+    statements: &str,
     version: i64,
 ) -> Result<Image, Fail> {
     let (outcome, after) = done(alloc, image, statements)?;
@@ -192,18 +201,18 @@ fn assert_version(
 #[test]
 fn a_version_alone(rt: HostRuntime) -> Result<(), Fail> {
     let alloc = rt.alloc();
-    let alone = assert_version(alloc, &prepared(alloc)?, &GONE, 9)?;
-    assert_version(alloc, &alone, &[CARS], 9)?;
+    let alone = assert_version(alloc, &prepared(alloc)?, GONE, 9)?;
+    assert_version(alloc, &alone, CARS, 9)?;
     Ok(())
 }
 
 #[test]
 fn other_tables(rt: HostRuntime) -> Result<(), Fail> {
-    assert_not_ours(rt.alloc(), &TABLES)
+    assert_after_each(rt.alloc(), TABLES, Some(Verdict::NotOurs))
 }
 
 /// These files after some statements.
-pub fn changed(alloc: Global, image: &Image, statements: &[&str]) -> Result<Image, Fail> {
+pub fn changed(alloc: Global, image: &Image, statements: &str) -> Result<Image, Fail> {
     let (outcome, after) = done(alloc, image, statements)?;
     outcome.changed.ok_or("statements that are done")?;
     Ok(after)
@@ -211,14 +220,14 @@ pub fn changed(alloc: Global, image: &Image, statements: &[&str]) -> Result<Imag
 
 /// The one row of another program's table is there.
 pub fn assert_car(alloc: Global, image: &Image) -> Result<(), Fail> {
-    let (outcome, _) = done(alloc, image, &[TOUCH])?;
+    let (outcome, _) = done(alloc, image, TOUCH)?;
     ensure(outcome.changed == Some(1), "a table with a car")
 }
 
 #[test]
 fn other_tables_alone(rt: HostRuntime) -> Result<(), Fail> {
     let alloc = rt.alloc();
-    let image = changed(alloc, &Image::empty(alloc), &[CARS, CAR])?;
+    let image = changed(alloc, &Image::empty(alloc), CAR)?;
     let (fault, left) = refused(alloc, &image, false)?;
     assert_fault(fault, Some(OpenFault::NotOurs))?;
     ensure(left == image, "the files as they were")?;
@@ -231,8 +240,8 @@ fn other_tables_alone(rt: HostRuntime) -> Result<(), Fail> {
 #[test]
 fn names_that_are_taken(rt: HostRuntime) -> Result<(), Fail> {
     let alloc = rt.alloc();
-    for sql in TAKEN {
-        let image = changed(alloc, &Image::empty(alloc), &[sql])?;
+    for sql in TAKEN.lines() {
+        let image = changed(alloc, &Image::empty(alloc), sql)?;
         for fresh in [false, true] {
             let (fault, left) = refused(alloc, &image, fresh)?;
             assert_fault(fault, Some(OpenFault::NotOurs))?;
@@ -244,16 +253,12 @@ fn names_that_are_taken(rt: HostRuntime) -> Result<(), Fail> {
 
 #[test]
 fn other_rows(rt: HostRuntime) -> Result<(), Fail> {
-    assert_not_ours(rt.alloc(), &ROWS)
+    assert_after_each(rt.alloc(), ROWS, Some(Verdict::NotOurs))
 }
 
 #[test]
 fn refused_rows(rt: HostRuntime) -> Result<(), Fail> {
-    let image = prepared(rt.alloc())?;
-    for sql in REFUSED {
-        assert_after(rt.alloc(), &image, sql, None)?;
-    }
-    Ok(())
+    assert_after_each(rt.alloc(), REFUSED, None)
 }
 
 // A label of 200 characters, and one more.

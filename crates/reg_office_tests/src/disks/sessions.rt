@@ -1,14 +1,17 @@
 //! Sessions over the files of a store, on disks that stop: it is opened, something is done, and it
 //! ends.
+ghost use Rattle.std.specs.Prelude.{IfOk, IsTrue};
+
 use crate::disks::calls::{asked, carried_out, ended};
 use crate::disks::image::Image;
 use crate::disks::left::{Left, Stop, Stopping, disk_with, left_of};
 use reg_keeper::keeper::Fault;
 use reg_opening::open::Verdict;
 use reg_sql::open::OpenFault;
-use sqlite::{Connection, FileStore, Files, Options};
+use sqlite::{Connection, Error, FileStore, Files, Options};
 use sqlite_disk::Disk;
 use std::alloc::Global;
+use std::io;
 use std::test::Fail;
 
 // A store on disks that stop.
@@ -20,8 +23,8 @@ pub enum Statement<'a> {
     Nothing,
     /// The tables of an office are made.
     MakeTables,
-    /// Statements in their order, up to the first that is refused.
-    Sql(&'a [&'a str]),
+    /// Statements, each on a line of its own, in their order, up to the first that is refused.
+    Sql(&'a str),
 }
 
 /// What came of a statement.
@@ -68,8 +71,7 @@ pub fn carry_out(
     match opened(alloc, image, stop)? {
         Ok(conn) => {
             let (outcome, conn) = carried_out(alloc, conn, statement);
-            let left = left_of(alloc, ended(conn, closes)?)?;
-            Ok((Some(outcome), left))
+            Ok((Some(outcome), left_by(alloc, conn, closes)?))
         }
         Err(left) => Ok((None, left)),
     }
@@ -89,14 +91,19 @@ pub fn ask(alloc: Global, image: &Image, stop: Stop, asking: Asking<'_>) -> Resu
 
 fn ask_in(alloc: Global, conn: Connection<Store>, asking: Asking<'_>) -> Result<Asked, Fail> {
     let (answers, fault, conn) = asked(alloc, conn, asking);
-    let files = ended(conn, asking.closes);
+    let left = left_by(alloc, conn, asking.closes);
     let answers = answers?;
-    let left = left_of(alloc, files?)?;
+    let left = left?;
     Ok(Asked {
         answers: if fault.is_none() { Some(answers) } else { None },
         fault,
         left,
     })
+}
+
+// What is left of a store that is closed, or ends without that.
+fn left_by(alloc: Global, conn: Connection<Store>, closes: bool) -> Result<Left, Error> {
+    Ok(left_of(alloc, ended(conn, closes)?)?)
 }
 
 // A connection to files that hold this on disks that stop; or what is left of them.
@@ -105,13 +112,23 @@ fn opened(
     image: &Image,
     stop: Stop,
 ) -> Result<Result<Connection<Store>, Left>, Fail> {
-    let log = disk_with(alloc, image.log.as_slice(), stop.log)?;
-    let db = disk_with(alloc, image.db.as_slice(), stop.db)?;
-    if !log.may_be_used() || !db.may_be_used() {
-        return Err("disks that may be used".into());
-    }
-    match Connection::open_files(alloc, Files { log, db }, Options::new(1)) {
+    let log = disk_with(alloc, image.log.as_slice(), stop.log);
+    let db = disk_with(alloc, image.db.as_slice(), stop.db);
+    match Connection::open_files(alloc, usable(log, db)?, Options::new(1)) {
         Ok(conn) => Ok(Ok(conn)),
         Err((_, left)) => Ok(Err(left_of(alloc, left.into_files())?)),
+    }
+}
+
+// Files on these disks, which may be used.
+fn usable<D: Disk + Drop>(log: io::Result<D>, db: io::Result<D>) -> Result<Files<D>, Fail>
+    ensures log { IfOk result (λ files. IsTrue (D.Disk.is_usable files.log)) }
+    ensures db { IfOk result (λ files. IsTrue (D.Disk.is_usable files.db)) }
+{
+    let (log, db) = (log?, db?);
+    if log.may_be_used() && db.may_be_used() {
+        Ok(Files { log, db })
+    } else {
+        Err("disks that may be used".into())
     }
 }
