@@ -1,4 +1,5 @@
 -- Worlds stay well kept.
 pub mod Entries
+pub mod OtherMaps
 pub mod Changes
 pub mod FirstWorlds

@@ -4,11 +4,9 @@ use Rattle.std.specs.Prelude.{Option, Some, None, IsSome, is_some, not}
 use Rattle.std.specs.Cmp.{first_so, second_so}
 use Rattle.std.specs.Cmp.Derive.{both_true}
 use Rattle.std.specs.FinMap.{FinMap, get, insert, remove, contains_key}
-use Rattle.std.specs.FinSet.{FinSet}
 use Rattle.std.specs.Ordering.{eq_by_cmp}
 use Rattle.reg_blocks.specs.Block.{SizedPrefix, block_cmp, leading_24}
 use Rattle.reg_blocks.specs.Pool.{is_pool_prefix}
-use Rattle.reg_early.specs.Terms.{may_be_held}
 use Rattle.reg_ranges.specs.Tables.{Table}
 use Rattle.reg_core.specs.Advice.{has_advice_form}
 use Rattle.reg_core.specs.Ask.{has_ask_form, registry_of}
@@ -18,8 +16,8 @@ use Rattle.reg_core.specs.Maps.{text_cmp, same_text, update}
 use Rattle.reg_core.specs.MayBeGiven.{IsDuly, place_of}
 use Rattle.reg_core.specs.Names.{is_name}
 use Rattle.reg_core.specs.Request.{has_state_form}
-use Rattle.reg_core.specs.WellKept.{WellKept, CanApply, has_grant_form, has_registry_form, has_entry_form, has_request_form, has_seat_form, is_open_at, is_registered_to, is_registered_at, is_size_asked, is_held_by, stands_in}
-use Rattle.reg_core.specs.World.{World, RequestName, Place, Link, place_cmp, link_cmp, in_state, pending}
+use Rattle.reg_core.specs.WellKept.{WellKept, CanApply, has_grant_form, has_registry_form, has_request_form, has_seat_form, is_open_at, is_registered_to, is_registered_at, is_size_asked, is_held_by, stands_in}
+use Rattle.reg_core.specs.World.{World, RequestName, Place, Link, place_cmp, in_state, pending, with_state}
 use Rattle.reg_core.specs.declared.advice.Advice.{Advice}
 use Rattle.reg_core.specs.declared.ask.Ask.{Ask}
 use Rattle.reg_core.specs.declared.capability.Cap.{Cap}
@@ -32,10 +30,11 @@ use Rattle.reg_core.specs.declared.request.Given.TheVariants as given
 use Rattle.reg_core.specs.declared.request.State.{State}
 use Rattle.reg_core.specs.declared.request.State.TheVariants.{Pending, Approved, Declined, Withdrawn}
 use Rattle.reg_core.proofs.Keeping.Entries.{duly_fits, value_form, entry_form, entry_open, entry_own}
-use Rattle.reg_core.proofs.KeySets.{each_key, still_in, still_at, insert_passes, update_passes}
+use Rattle.reg_core.proofs.Keeping.OtherMaps.{AllStand, with_caps, with_registries, with_queue, with_advice, with_pool, with_agents, with_entry, with_hold_set, with_request, with_change, with_link}
+use Rattle.reg_core.proofs.KeySets.{each_key, still_in, insert_passes, update_passes}
 use Rattle.reg_core.proofs.Links.{was_left}
 use Rattle.reg_core.proofs.Terms.{held_form}
-use Rattle.reg_core.proofs.MapLaws.{number_keys, text_keys, name_keys, place_keys, seat_keys, tied, get-at_insert, get-inserted, insert_keeps, remove_keeps, update_keeps, link_keys}
+use Rattle.reg_core.proofs.MapLaws.{number_keys, text_keys, place_keys, seat_keys, tied, get-at_insert, get-inserted, insert_keeps, remove_keeps, link_keys}
 
 -- ---- Capabilities and registries
 
@@ -43,49 +42,17 @@ pub can_grant : (w : World) (digest : List ℕ) (cap : Cap) → WellKept w
     → has_grant_form digest cap ≡ true → get w.caps digest ≡ None → CanApply w (Grant digest cap)
 can_grant w digest cap kept form free = (
   free,
-  record {
-    caps = insert_keeps text_keys
-        (λ digest cap. has_grant_form digest cap ≡ true) w.caps digest cap kept.caps form;
-    registries = kept.registries;
-    entries = kept.entries;
-    open_values = kept.open_values;
-    requests = kept.requests;
-    given = kept.given;
-    queue = kept.queue;
-    queued = kept.queued;
-    advice = kept.advice;
-    advised = kept.advised;
-    pool = kept.pool;
-    blocks = kept.blocks;
-    in_pool = kept.in_pool;
-    apart = kept.apart;
-    held = kept.held;
-    agents = kept.agents;
-  },
+  with_caps w kept (insert w.caps digest cap)
+      (insert_keeps text_keys (λ digest cap. has_grant_form digest cap ≡ true) w.caps digest cap
+      kept.caps form),
 )
 
 pub can_revoke : (w : World) (digest : List ℕ) → WellKept w → CanApply w (Revoke digest)
 can_revoke w digest kept = (
   tt,
-  record {
-    caps = remove_keeps text_keys
-        (λ digest cap. has_grant_form digest cap ≡ true) w.caps digest kept.caps;
-    registries = kept.registries;
-    entries = kept.entries;
-    open_values = kept.open_values;
-    requests = kept.requests;
-    given = kept.given;
-    queue = kept.queue;
-    queued = kept.queued;
-    advice = kept.advice;
-    advised = kept.advised;
-    pool = kept.pool;
-    blocks = kept.blocks;
-    in_pool = kept.in_pool;
-    apart = kept.apart;
-    held = kept.held;
-    agents = kept.agents;
-  },
+  with_caps w kept (remove w.caps digest)
+      (remove_keeps text_keys (λ digest cap. has_grant_form digest cap ≡ true) w.caps digest
+      kept.caps),
 )
 
 pub can_define : (w : World) (name : List ℕ) (table : Table) → WellKept w
@@ -93,28 +60,10 @@ pub can_define : (w : World) (name : List ℕ) (table : Table) → WellKept w
     → CanApply w (Define name table)
 can_define w name table kept form free = (
   free,
-  record {
-    caps = kept.caps;
-    registries =
-        insert_keeps text_keys
-        (λ name table.
-        has_registry_form name table ≡ true) w.registries name table kept.registries form;
-    entries = kept.entries;
-    open_values =
-        λ place a is_there. opened place a is_there (eq_by_cmp text_cmp place.0 name) refl;
-    requests = kept.requests;
-    given = kept.given;
-    queue = kept.queue;
-    queued = kept.queued;
-    advice = kept.advice;
-    advised = kept.advised;
-    pool = kept.pool;
-    blocks = kept.blocks;
-    in_pool = kept.in_pool;
-    apart = kept.apart;
-    held = kept.held;
-    agents = kept.agents;
-  },
+  with_registries w kept (insert w.registries name table)
+      (insert_keeps text_keys (λ name table. has_registry_form name table ≡ true) w.registries
+      name table kept.registries form)
+      (λ place a is_there. opened place a is_there (eq_by_cmp text_cmp place.0 name) refl),
 )
   where
     -- each entry's registry is there, and so not the one that is new
@@ -140,26 +89,11 @@ pub can_add_pool : (w : World) (prefix : ℕ) → WellKept w → is_pool_prefix 
     → contains_key w.pool prefix ≡ false → CanApply w (AddPool prefix)
 can_add_pool w prefix kept form free = (
   free,
-  record {
-    caps = kept.caps;
-    registries = kept.registries;
-    entries = kept.entries;
-    open_values = kept.open_values;
-    requests = kept.requests;
-    given = kept.given;
-    queue = kept.queue;
-    queued = kept.queued;
-    advice = kept.advice;
-    advised = kept.advised;
-    pool = each_key number_keys w.pool prefix
-        (λ prefix. is_pool_prefix prefix ≡ true) tt kept.pool form;
-    blocks = kept.blocks;
-    in_pool = λ block h is.
-        still_in number_keys w.pool prefix tt (leading_24 block) (kept.in_pool block h is);
-    apart = kept.apart;
-    held = kept.held;
-    agents = kept.agents;
-  },
+  with_pool w kept (insert w.pool prefix tt)
+      (each_key number_keys w.pool prefix (λ prefix. is_pool_prefix prefix ≡ true) tt kept.pool
+      form)
+      (λ block h is.
+      still_in number_keys w.pool prefix tt (leading_24 block) (kept.in_pool block h is)),
 )
 
 -- ---- Requests
@@ -167,40 +101,31 @@ can_add_pool w prefix kept form free = (
 pub can_submit : (w : World) (name : RequestName) (ask : Ask) → WellKept w
     → has_request_form name (pending ask) ≡ true → get w.requests name ≡ None
     → CanApply w (Submit name.0 name.1 ask)
-can_submit w name ask kept form free = (
-  free,
-  record {
-    caps = kept.caps;
-    registries = kept.registries;
-    entries = kept.entries;
-    open_values = kept.open_values;
-    requests = insert_keeps name_keys
-        (λ name case. has_request_form name case ≡ true) w.requests name
-        (pending ask) kept.requests form;
-    given = insert_keeps name_keys
-        (λ name case. stands_in w.entries w.blocks name.0 case.ask case.state ≡ true) w.requests
-        name (pending ask) kept.given refl;
-    queue = kept.queue;
-    queued = λ seat there.
-        still_in name_keys w.requests name (pending ask) seat.0 (kept.queued seat there);
-    advice = kept.advice;
-    advised = kept.advised;
-    pool = kept.pool;
-    blocks = kept.blocks;
-    in_pool = kept.in_pool;
-    apart = kept.apart;
-    held = kept.held;
-    agents = kept.agents;
-  },
-)
+can_submit w name ask kept form free = (free, with_request w kept name (pending ask) form refl)
 
--- a request keeps its form in a state that has its own
-pub new_state : (name : RequestName) (case : Case) (state : State) → has_request_form name case ≡ true
-    → has_state_form state ≡ true
-    → has_request_form name (in_state state case) ≡ true
-new_state name case state form state_form =
-    both_true (first_so (is_name name.0 && is_name name.1 && has_ask_form case.ask)
-    (has_state_form case.state) form) state_form
+module _ (w : World) (kept : WellKept w) (name : RequestName) where
+  -- a request that is there has the forms of an applicant's name and of what it asks for
+  pub forms_of : (case : Case) (ask : Ask) → get w.requests name ≡ Some case → case.ask ≡ ask
+      → (is_name name.0 ≡ true) × (has_ask_form ask ≡ true)
+  forms_of case ask is_there asks =
+      let parts = first_so (is_name name.0 && is_name name.1 && has_ask_form case.ask)
+      (has_state_form case.state) (kept.requests name case is_there) in (
+        first_so (is_name name.0) (is_name name.1)
+            (first_so (is_name name.0 && is_name name.1) (has_ask_form case.ask) parts),
+        subst (λ x. has_ask_form x ≡ true) asks
+            (second_so (is_name name.0 && is_name name.1) (has_ask_form case.ask) parts),
+      )
+
+  -- a request comes to a state in which it stands
+  pub with_its_state : (state : State) → has_state_form state ≡ true
+      → ((old : Case) → get w.requests name ≡ Some old
+      → stands_in w.entries w.blocks name.0 old.ask state ≡ true)
+      → WellKept (with_state w name state)
+  with_its_state state form stands =
+      with_change w kept name (in_state state)
+      (λ old is.
+      both_true (first_so (is_name name.0 && is_name name.1 && has_ask_form old.ask)
+      (has_state_form old.state) (kept.requests name old is)) form) stands
 
 -- a request is closed in a state in which it was given nothing
 abbrev pub GivesNothing : State → Type 0
@@ -222,31 +147,8 @@ pub can_close : (w : World) (name : RequestName) (case : Case) (state : State) �
     → GivesNothing state → has_state_form state ≡ true → CanApply w (Close name.0 name.1 state)
 can_close w name case state kept is_there nothing form = (
   ap is_some is_there,
-  record {
-    caps = kept.caps;
-    registries = kept.registries;
-    entries = kept.entries;
-    open_values = kept.open_values;
-    requests = update_keeps name_keys
-        (λ name case. has_request_form name case ≡ true) w.requests name
-        (in_state state) kept.requests
-        (λ old is. new_state name old state (kept.requests name old is) form);
-    given = update_keeps name_keys
-        (λ name case. stands_in w.entries w.blocks name.0 case.ask case.state ≡ true) w.requests
-        name (in_state state) kept.given
-        (λ old is. nothing_stands w.entries w.blocks name.0 old.ask state nothing);
-    queue = kept.queue;
-    queued = λ seat there.
-        still_at name_keys w.requests name (in_state state) seat.0 (kept.queued seat there);
-    advice = kept.advice;
-    advised = kept.advised;
-    pool = kept.pool;
-    blocks = kept.blocks;
-    in_pool = kept.in_pool;
-    apart = kept.apart;
-    held = kept.held;
-    agents = kept.agents;
-  },
+  with_its_state w kept name state form
+      (λ old is. nothing_stands w.entries w.blocks name.0 old.ask state nothing),
 )
 
 -- ---- Experts
@@ -257,27 +159,13 @@ pub can_assign : (w : World) (name : RequestName) (case : Case) (expert : List �
     → contains_key w.queue (name, expert) ≡ false → CanApply w (Assign name.0 name.1 expert)
 can_assign w name case expert kept is_there form other free = (
   free,
-  record {
-    caps = kept.caps;
-    registries = kept.registries;
-    entries = kept.entries;
-    open_values = kept.open_values;
-    requests = kept.requests;
-    given = kept.given;
-    queue = each_key seat_keys w.queue (name, expert)
-        (λ seat. has_seat_form seat ≡ true) tt kept.queue (both_true form (ap not other));
-    queued = each_key seat_keys w.queue (name, expert)
-        (λ seat. IsSome (get w.requests seat.0)) tt kept.queued (ap is_some is_there);
-    advice = kept.advice;
-    advised = λ seat advice is.
-        still_in seat_keys w.queue (name, expert) tt seat (kept.advised seat advice is);
-    pool = kept.pool;
-    blocks = kept.blocks;
-    in_pool = kept.in_pool;
-    apart = kept.apart;
-    held = kept.held;
-    agents = kept.agents;
-  },
+  with_queue w kept (insert w.queue (name, expert) tt)
+      (each_key seat_keys w.queue (name, expert) (λ seat. has_seat_form seat ≡ true) tt kept.queue
+      (both_true form (ap not other)))
+      (each_key seat_keys w.queue (name, expert) (λ seat. IsSome (get w.requests seat.0)) tt
+      kept.queued (ap is_some is_there))
+      (λ seat advice is.
+      still_in seat_keys w.queue (name, expert) tt seat (kept.advised seat advice is)),
 )
 
 pub can_advise : (w : World) (name : RequestName) (expert : List ℕ) (advice : Advice) → WellKept w
@@ -285,26 +173,11 @@ pub can_advise : (w : World) (name : RequestName) (expert : List ℕ) (advice : 
     → has_advice_form advice ≡ true → CanApply w (Advise name.0 name.1 expert advice)
 can_advise w name expert advice kept assigned form = (
   tt,
-  record {
-    caps = kept.caps;
-    registries = kept.registries;
-    entries = kept.entries;
-    open_values = kept.open_values;
-    requests = kept.requests;
-    given = kept.given;
-    queue = kept.queue;
-    queued = kept.queued;
-    advice = insert_keeps seat_keys (λ seat advice. has_advice_form advice ≡ true) w.advice
-        (name, expert) advice kept.advice form;
-    advised = insert_keeps seat_keys (λ seat advice. contains_key w.queue seat ≡ true) w.advice
-        (name, expert) advice kept.advised assigned;
-    pool = kept.pool;
-    blocks = kept.blocks;
-    in_pool = kept.in_pool;
-    apart = kept.apart;
-    held = kept.held;
-    agents = kept.agents;
-  },
+  with_advice w kept (insert w.advice (name, expert) advice)
+      (insert_keeps seat_keys (λ seat advice. has_advice_form advice ≡ true) w.advice
+      (name, expert) advice kept.advice form)
+      (insert_keeps seat_keys (λ seat advice. contains_key w.queue seat ≡ true) w.advice
+      (name, expert) advice kept.advised assigned),
 )
 
 -- ---- What was given
@@ -323,7 +196,7 @@ module _ (entries others : FinMap place_cmp Registration) (blocks holdings : Fin
   registered_still account None v h = absurd (cc)
   registered_still account (Some registry) v h = each_entry account (registry, v) h
 
-  pub stands_still : (account : List ℕ) (ask : Ask) (state : State)
+  stands_still : (account : List ℕ) (ask : Ask) (state : State)
       → stands_in entries blocks account ask state ≡ true
       → stands_in others holdings account ask state ≡ true
   stands_still account ask Pending h = refl
@@ -335,6 +208,26 @@ module _ (entries others : FinMap place_cmp Registration) (blocks holdings : Fin
       (second_so (is_size_asked ask block.size) (is_held_by account (get blocks block)) h))
   stands_still account ask (Declined reason) h = refl
   stands_still account ask Withdrawn h = refl
+
+-- so each request stands by other entries, or other blocks, that leave what accounts have
+module _ (w : World) (kept : WellKept w) where
+  entries_stand : (entries : FinMap place_cmp Registration)
+      → ((account : List ℕ) (place : Place)
+      → is_registered_to account (get w.entries place) ≡ true
+      → is_registered_to account (get entries place) ≡ true)
+      → AllStand entries w.blocks w.requests
+  entries_stand entries each name case is =
+      stands_still w.entries entries w.blocks w.blocks each (λ account block h. h) name.0 case.ask
+      case.state (kept.given name case is)
+
+  pub blocks_stand : (blocks : FinMap block_cmp Holder)
+      → ((account : List ℕ) (block : SizedPrefix)
+      → is_held_by account (get w.blocks block) ≡ true
+      → is_held_by account (get blocks block) ≡ true)
+      → AllStand w.entries blocks w.requests
+  blocks_stand blocks each name case is =
+      stands_still w.entries w.entries w.blocks blocks (λ account place h. h) each name.0 case.ask
+      case.state (kept.given name case is)
 
 -- the request is the one that is there
 pub asks_this : (w : World) (name : RequestName) (case old : Case) (ask : Ask)
@@ -354,65 +247,23 @@ pub can_give : (w : World) (name : RequestName) (case : Case) (ask : Ask) (today
 can_give w name case ask today entry kept is_there asks duly day =
     let place = place_of entry in
     let a = registration_in entry in
-    let state = Approved (given.Value entry.value) in
-    let form = kept.requests name case is_there in
-    let names = first_so (is_name name.0 && is_name name.1) (has_ask_form case.ask)
-    (first_so (is_name name.0 && is_name name.1 && has_ask_form case.ask)
-    (has_state_form case.state) form) in
-    let account_form = first_so (is_name name.0) (is_name name.1) names in
-    let ask_form : has_ask_form ask ≡ true =
-    subst (λ x. has_ask_form x ≡ true) asks
-    (second_so (is_name name.0 && is_name name.1) (has_ask_form case.ask)
-    (first_so (is_name name.0 && is_name name.1 && has_ask_form case.ask)
-    (has_state_form case.state) form)) in
-    let fit = duly_fits w kept name.0 entry ask today ask_form day duly in (
+    let after = insert w.entries place a in
+    let forms = forms_of w kept name case ask is_there asks in
+    let fit = duly_fits w kept name.0 entry ask today forms.1 day duly in (
       ap is_some is_there,
-      record {
-        caps = kept.caps;
-        registries = kept.registries;
-        entries = insert_keeps place_keys
-            (λ place a. has_entry_form place a ≡ true) w.entries place a kept.entries
-            (entry_form w kept name.0 entry ask fit account_form);
-        open_values =
-            insert_keeps place_keys
-            (λ place a. is_open_at (get w.registries place.0) place.1
-            ≡ true) w.entries place a kept.open_values (entry_open w kept name.0 entry ask fit);
-        requests = update_keeps name_keys
-            (λ name case. has_request_form name case ≡ true) w.requests name
-            (in_state state) kept.requests
-            (λ old is.
-            new_state name old state (kept.requests name old is)
-            (value_form w kept name.0 entry ask fit));
-        given = update_keeps name_keys
-            (λ name case.
-            stands_in (insert w.entries place a) w.blocks name.0 case.ask case.state
-            ≡ true) w.requests name (in_state state)
-            (λ other old is.
-            stands_still w.entries (insert w.entries place a) w.blocks w.blocks
-            (λ account there h.
-            insert_passes place_keys w.entries place (is_registered_to account) a
-            (fit.replaces account) there h)
-            (λ account block h. h) other.0 old.ask old.state (kept.given other old is))
-            (λ old is.
-            subst (λ x. is_registered_at (insert w.entries place a) name.0 x entry.value ≡ true)
-            (sym (ap registry_of (asks_this w name case old ask is_there asks is)
-            ∙ fit.of_registry))
-            (ap (is_registered_to name.0) (get-inserted place_keys w.entries place a)
-            ∙ entry_own w kept name.0 entry ask fit));
-        queue = kept.queue;
-        queued = λ seat there.
-            still_at name_keys w.requests name (in_state state) seat.0 (kept.queued seat there);
-        advice = kept.advice;
-        advised = kept.advised;
-        pool = kept.pool;
-        blocks = kept.blocks;
-        in_pool = kept.in_pool;
-        apart = kept.apart;
-        held =
-            insert_keeps place_keys (λ place a. may_be_held a.term ≡ true) w.entries place a
-            kept.held fit.held;
-        agents = kept.agents;
-      },
+      with_its_state (record w { entries = after })
+          (with_entry w kept place a (entry_form w kept name.0 entry ask fit forms.0)
+          (entry_open w kept name.0 entry ask fit) fit.held
+          (entries_stand w kept after (λ account.
+          insert_passes place_keys w.entries place (is_registered_to account) a
+          (fit.replaces account))))
+          name (Approved (given.Value entry.value)) (value_form w kept name.0 entry ask fit)
+          (λ old is.
+          subst (λ x. is_registered_at after name.0 x entry.value ≡ true)
+          (sym (ap registry_of (asks_this w name case old ask is_there asks is)
+          ∙ fit.of_registry))
+          (ap (is_registered_to name.0) (get-inserted place_keys w.entries place a)
+          ∙ entry_own w kept name.0 entry ask fit)),
     )
 
 -- an entry that expires is marked
@@ -421,73 +272,24 @@ pub can_hold : (w : World) (place : Place) (held : Bool) (a : Registration) → 
     → CanApply w (SetHold place.0 place.1 held)
 can_hold w place held a kept is_there expires turned = (
   (a, is_there, turned),
-  record {
-    caps = kept.caps;
-    registries = kept.registries;
-    entries = update_keeps place_keys (λ place a. has_entry_form place a ≡ true) w.entries place
-        (with_hold held) kept.entries (λ old is. kept.entries place old is);
-    open_values = update_keeps place_keys
-        (λ place a. is_open_at (get w.registries place.0) place.1 ≡ true) w.entries place
-        (with_hold held) kept.open_values (λ old is. kept.open_values place old is);
-    requests = kept.requests;
-    given = λ name case is.
-        stands_still w.entries (update w.entries place (with_hold held)) w.blocks w.blocks
-        (λ account there h.
-        update_passes place_keys w.entries place (is_registered_to account) (with_hold held)
-        (λ old its. its) there h)
-        (λ account block h. h) name.0 case.ask case.state (kept.given name case is);
-    queue = kept.queue;
-    queued = kept.queued;
-    advice = kept.advice;
-    advised = kept.advised;
-    pool = kept.pool;
-    blocks = kept.blocks;
-    in_pool = kept.in_pool;
-    apart = kept.apart;
-    held = update_keeps place_keys (λ place a. may_be_held a.term ≡ true) w.entries place
-        (with_hold held) kept.held (λ old is.
-        let same : Some old ≡ Some a = sym is ∙ is_there in
-        let itself : old ≡ a = cc in
-        held_form old.term held
-        (ap (λ (a : Registration). is_some a.term.expires) itself ∙ expires));
-    agents = kept.agents;
-  },
+  with_hold_set w kept place held
+      (λ old is.
+      let same : Some old ≡ Some a = sym is ∙ is_there in
+      let itself : old ≡ a = cc in
+      held_form old.term held
+      (ap (λ (a : Registration). is_some a.term.expires) itself ∙ expires))
+      (entries_stand w kept (update w.entries place (with_hold held)) (λ account.
+      update_passes place_keys w.entries place (is_registered_to account) (with_hold held)
+      (λ old its. its))),
 )
 
 -- ---- Agents
 
--- the world with other links, each of which has its form
-relinked : (w : World) (links : FinSet link_cmp) → WellKept w
-    → ((link : Link) → contains_key links link ≡ true → has_link_form link ≡ true)
-    → WellKept (record w { agents = links })
-relinked w links kept forms = record {
-  caps = kept.caps;
-  registries = kept.registries;
-  entries = kept.entries;
-  open_values = kept.open_values;
-  requests = kept.requests;
-  given = kept.given;
-  queue = kept.queue;
-  queued = kept.queued;
-  advice = kept.advice;
-  advised = kept.advised;
-  pool = kept.pool;
-  blocks = kept.blocks;
-  in_pool = kept.in_pool;
-  apart = kept.apart;
-  held = kept.held;
-  agents = forms;
-}
-
 pub can_link : (w : World) (link : Link) (reads : Bool) → WellKept w → has_link_form link ≡ true
     → contains_key w.agents link ≡ not reads → CanApply w (SetAgent link.0 link.1 reads)
-can_link w link true kept form free = (
-  free,
-  relinked w (insert w.agents link tt) kept
-      (each_key link_keys w.agents link (λ link. has_link_form link ≡ true) tt kept.agents form),
-)
+can_link w link true kept form free = (free, with_link w kept link form)
 can_link w link false kept form there = (
   there,
-  relinked w (remove w.agents link) kept
+  with_agents w kept (remove w.agents link)
       (λ other left. kept.agents other (was_left link_keys w.agents link other left)),
 )
