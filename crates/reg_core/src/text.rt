@@ -145,11 +145,13 @@ impl<F: Form> Ord for Word<F> {
     }
 }
 
-/// 1 to 32 of `a` to `z`, `0` to `9` and `-`: whose capability, request or entry it is.
+/// 1 to 32 of `a` to `z`, `0` to `9` and `-`: what things of the kind `T` are called.
 #[derive(Clone, Copy)]
-pub struct AccountForm;
+pub struct NameForm<T> {
+    kind: PhantomData<T>,
+}
 
-impl Form for AccountForm {
+impl<T: Copy> Form for NameForm<T> {
     ghost fits = { name };
 
     ghost ascii = { ascii_name };
@@ -161,37 +163,17 @@ impl Form for AccountForm {
     }
 }
 
-/// 1 to 32 of `a` to `z`, `0` to `9` and `-`: the applicant's own word for a request.
+/// Whose capability, request or entry it is.
 #[derive(Clone, Copy)]
-pub struct RefForm;
+pub struct AccountKind;
 
-impl Form for RefForm {
-    ghost fits = { name };
-
-    ghost ascii = { ascii_name };
-
-    ghost short = { short_name };
-
-    fn accepts(bytes: &[u8]) -> bool {
-        is_name(bytes)
-    }
-}
-
-/// 1 to 32 of `a` to `z`, `0` to `9` and `-`: what a registry is called.
+/// The applicant's own word for a request.
 #[derive(Clone, Copy)]
-pub struct NameForm;
+pub struct RefKind;
 
-impl Form for NameForm {
-    ghost fits = { name };
-
-    ghost ascii = { ascii_name };
-
-    ghost short = { short_name };
-
-    fn accepts(bytes: &[u8]) -> bool {
-        is_name(bytes)
-    }
-}
+/// What a registry is called.
+#[derive(Clone, Copy)]
+pub struct RegistryKind;
 
 /// 16 to 64 of letters, digits, `-`, `.`, `_` and `~`: a bearer token (RFC 6750 section 2.1,
 /// narrowed).
@@ -227,13 +209,13 @@ impl Form for DigestForm {
 }
 
 /// An applicant's, an expert's or a clerk's account.
-pub type Account = Word<AccountForm>;
+pub type Account = Word<NameForm<AccountKind>>;
 
 /// The reference under which an applicant files a request.
-pub type Ref = Word<RefForm>;
+pub type Ref = Word<NameForm<RefKind>>;
 
 /// The name of a registry.
-pub type Name = Word<NameForm>;
+pub type Name = Word<NameForm<RegistryKind>>;
 
 /// A bearer token.
 pub type Token = Word<TokenForm>;
