@@ -1,8 +1,8 @@
 -- The tests of sameness decide equality.
-use Rattle.std.proofs.Common.{◌≡◌, ℕ, Bool, true, ◌&&◌, ◌==◌, List, refl, subst, ap, rules}
-use Rattle.std.proofs.lemmas.Bool.{eqb-true, eq-eqb}
+use Rattle.std.proofs.Common.{◌≡◌, ℕ, Bool, true, ◌&&◌, List, refl, subst, ap, rules}
+use Rattle.std.proofs.lemmas.Bool.{and_parts, eqb-true, eq-eqb}
 use Rattle.std.specs.Bool.{Decides, beq}
-use Rattle.std.specs.Cmp.{booleans_Decides, unsigned_Decides}
+use Rattle.std.specs.Cmp.{booleans_Decides}
 use Rattle.std.specs.Option.{option_eq}
 use Rattle.std.specs.Str.{bytes_eq}
 use Rattle.std.proofs.lemmas.Slice.Eq.{bytes_eq-Decides}
@@ -16,7 +16,8 @@ use Rattle.reg_core.specs.Laws.{DecidesSame}
 use Rattle.reg_core.specs.Maps.{same_text}
 use Rattle.reg_ranges.specs.Sameness.{same_evidence, same_table}
 use Rattle.reg_ranges.specs.Tables.{Table}
-use Rattle.reg_ranges.proofs.SamenessDecides.{policy_decided, option_decided, both_decided, evidence_decided, table_decided}
+use Rattle.reg_ranges.specs.declared.evidence.Evidence.{Evidence}
+use Rattle.reg_ranges.proofs.SamenessDecides.{policy_decided, option_decided, evidence_decided, table_decided}
 use Rattle.reg_core.specs.declared.advice.Advice.{Advice}
 use Rattle.reg_core.specs.declared.ask.Ask.{Ask}
 use Rattle.reg_core.specs.declared.ask.Ask.TheVariants.{Code, Early, Renew, Permanent, Block}
@@ -87,150 +88,84 @@ want_decided (Least p) (Least q) =
 want_decided (Value v) (Least q) = (λ h. absurd (cc), λ e. absurd (cc))
 want_decided (Least p) (Value u) = (λ h. absurd (cc), λ e. absurd (cc))
 
-code_decided : (a b : CodeAsk) → Decides (same_code a b) (a ≡ b)
-code_decided a b =
-    let registry = bytes_eq-Decides a.registry b.registry in
-    let want = want_decided a.want b.want in
-    let label = bytes_eq-Decides a.label b.label in
-    let evidence = evidence_decided a.evidence b.evidence in
-    let parts = both_decided (bytes_eq a.registry b.registry)
-    (same_want a.want b.want
-    && (bytes_eq a.label b.label && same_evidence a.evidence b.evidence)) registry
-    (both_decided (same_want a.want b.want)
-    (bytes_eq a.label b.label && same_evidence a.evidence b.evidence) want
-    (both_decided (bytes_eq a.label b.label)
-    (same_evidence a.evidence b.evidence) label evidence)) in (
-      λ h. let e = parts.0 h in
-          λ i. record {
-            registry = e.0 i;
-            want = e.1.0 i;
-            label = e.1.1.0 i;
-            evidence =
-                e.1.1.1 i;
-          },
-      λ e. parts.1 (
-        ap (λ (x : CodeAsk). x.registry) e,
-        (
-          ap (λ (x : CodeAsk). x.want) e,
-          (ap (λ (x : CodeAsk). x.label) e, ap (λ (x : CodeAsk). x.evidence) e),
-        ),
-      ),
-    )
+want_is : (a b : Want) → same_want a b ≡ true → a ≡ b
+want_is a b = (want_decided a b).0
 
-text_decided : (o p : Option (List ℕ)) → Decides (option_eq bytes_eq o p) (o ≡ p)
-text_decided = option_decided bytes_eq bytes_eq-Decides
+want_itself : (want : Want) → same_want want want ≡ true
+want_itself want = (want_decided want want).1 refl
 
-early_evidence_decided : (a b : EarlyEvidence) → Decides (same_early_evidence a b) (a ≡ b)
-early_evidence_decided a b =
-    let director = option_eq bytes_eq a.director b.director in
-    let will_be = beq a.will_be_rfc b.will_be_rfc in
-    let chair = option_eq bytes_eq a.chair b.chair in
-    let interest = beq a.interest b.interest in
-    let stable = beq a.stable b.stable in
-    let parts =
-    both_decided (option_eq bytes_eq a.draft b.draft)
-    (stable && (interest && (chair && (director && will_be))))
-    (text_decided a.draft b.draft)
-    (both_decided stable (interest && (chair && (director && will_be)))
-    (booleans_Decides a.stable b.stable)
-    (both_decided interest (chair && (director && will_be))
-    (booleans_Decides a.interest b.interest)
-    (both_decided chair (director && will_be) (text_decided a.chair b.chair)
-    (both_decided director will_be (text_decided a.director b.director)
-    (booleans_Decides a.will_be_rfc b.will_be_rfc))))) in (
-      λ h. let e = parts.0 h in
-          λ i. record {
-            draft = e.0 i;
-            stable = e.1.0 i;
-            interest = e.1.1.0 i;
-            chair = e.1.1.1.0 i;
-            director = e.1.1.1.1.0 i;
-            will_be_rfc = e.1.1.1.1.1 i;
-          },
-      λ e. parts.1 (
-        ap (λ (x : EarlyEvidence). x.draft) e,
-        (
-          ap (λ (x : EarlyEvidence). x.stable) e,
-          (
-            ap (λ (x : EarlyEvidence). x.interest) e,
-            (
-              ap (λ (x : EarlyEvidence). x.chair) e,
-              (
-                ap (λ (x : EarlyEvidence). x.director) e,
-                ap (λ (x : EarlyEvidence). x.will_be_rfc) e,
-              ),
-            ),
-          ),
-        ),
-      ),
-    )
+evidence_is : (a b : Evidence) → same_evidence a b ≡ true → a ≡ b
+evidence_is a b = (evidence_decided a b).0
 
-early_decided : (a b : EarlyAsk) → Decides (same_early a b) (a ≡ b)
-early_decided a b =
-    let label = bytes_eq a.label b.label in
-    let evidence = same_early_evidence a.evidence b.evidence in
-    let parts = both_decided (bytes_eq a.registry b.registry)
-    (same_want a.want b.want && (label && evidence)) (bytes_eq-Decides a.registry b.registry)
-    (both_decided (same_want a.want b.want) (label && evidence) (want_decided a.want b.want)
-    (both_decided label evidence (bytes_eq-Decides a.label b.label)
-    (early_evidence_decided a.evidence b.evidence))) in (
-      λ h. let e = parts.0 h in
-          λ i. record {
-            registry = e.0 i;
-            want = e.1.0 i;
-            label = e.1.1.0 i;
-            evidence =
-                e.1.1.1 i;
-          },
-      λ e. parts.1 (
-        ap (λ (x : EarlyAsk). x.registry) e,
-        (
-          ap (λ (x : EarlyAsk). x.want) e,
-          (ap (λ (x : EarlyAsk). x.label) e, ap (λ (x : EarlyAsk). x.evidence) e),
-        ),
-      ),
-    )
+evidence_itself : (evidence : Evidence) → same_evidence evidence evidence ≡ true
+evidence_itself evidence = (evidence_decided evidence evidence).1 refl
 
-renewal_decided : (a b : RenewalAsk) → Decides (same_renewal a b) (a ≡ b)
-renewal_decided a b =
-    let iesg = option_eq bytes_eq a.iesg b.iesg in
-    let evidence = same_early_evidence a.evidence b.evidence in
-    let parts = both_decided (bytes_eq a.registry b.registry)
-    ((a.value == b.value) && (evidence && iesg)) (bytes_eq-Decides a.registry b.registry)
-    (both_decided (a.value == b.value) (evidence && iesg) (unsigned_Decides a.value b.value)
-    (both_decided evidence iesg (early_evidence_decided a.evidence b.evidence)
-    (text_decided a.iesg b.iesg))) in (
-      λ h. let e = parts.0 h in
-          λ i. record {
-            registry = e.0 i;
-            value = e.1.0 i;
-            evidence = e.1.1.0 i;
-            iesg =
-                e.1.1.1 i;
-          },
-      λ e. parts.1 (
-        ap (λ (x : RenewalAsk). x.registry) e,
-        (
-          ap (λ (x : RenewalAsk). x.value) e,
-          (ap (λ (x : RenewalAsk). x.evidence) e, ap (λ (x : RenewalAsk). x.iesg) e),
-        ),
-      ),
-    )
+text_is : (a b : List ℕ) → bytes_eq a b ≡ true → a ≡ b
+text_is a b = (bytes_eq-Decides a b).0
 
-permanence_decided : (a b : PermanenceAsk) → Decides (same_permanence a b) (a ≡ b)
-permanence_decided a b =
-    let evidence = same_evidence a.evidence b.evidence in
-    let parts = both_decided (bytes_eq a.registry b.registry) ((a.value == b.value) && evidence)
-    (bytes_eq-Decides a.registry b.registry)
-    (both_decided (a.value == b.value) evidence (unsigned_Decides a.value b.value)
-    (evidence_decided a.evidence b.evidence)) in (
-      λ h. let e = parts.0 h in
-          λ i. record { registry = e.0 i; value = e.1.0 i; evidence = e.1.1 i },
-      λ e. parts.1 (
-        ap (λ (x : PermanenceAsk). x.registry) e,
-        (ap (λ (x : PermanenceAsk). x.value) e, ap (λ (x : PermanenceAsk). x.evidence) e),
-      ),
-    )
+note_is : (a b : Option (List ℕ)) → option_eq bytes_eq a b ≡ true → a ≡ b
+note_is a b = (option_decided bytes_eq bytes_eq-Decides a b).0
+
+flag_is : (a b : Bool) → beq a b ≡ true → a ≡ b
+flag_is a b = (booleans_Decides a b).0
+
+-- what two tests say
+both : {A B : Type 0} {a b : Bool} → (a ≡ true → A) → (b ≡ true → B) → (a && b) ≡ true → A × B
+both {a = a} {b = b} first second h =
+    let parts = and_parts a b h in (first parts.0, second parts.1)
+
+same_code-is : (a b : CodeAsk) → same_code a b ≡ true → a ≡ b
+same_code-is a b h =
+    let e = both (text_is a.registry b.registry) (both (want_is a.want b.want)
+    (both (text_is a.label b.label) (evidence_is a.evidence b.evidence))) h in
+    λ i. record { registry = e.0 i; want = e.1.0 i; label = e.1.1.0 i; evidence = e.1.1.1 i }
+
+same_code-itself : (ask : CodeAsk) → same_code ask ask ≡ true
+same_code-itself ask = search (rules, want_itself, evidence_itself)
+
+early_evidence_is : (a b : EarlyEvidence) → same_early_evidence a b ≡ true → a ≡ b
+early_evidence_is a b h =
+    let e = both (note_is a.draft b.draft) (both (flag_is a.stable b.stable)
+    (both (flag_is a.interest b.interest) (both (note_is a.chair b.chair)
+    (both (note_is a.director b.director) (flag_is a.will_be_rfc b.will_be_rfc))))) h in
+    λ i. record {
+      draft = e.0 i;
+      stable = e.1.0 i;
+      interest = e.1.1.0 i;
+      chair = e.1.1.1.0 i;
+      director = e.1.1.1.1.0 i;
+      will_be_rfc = e.1.1.1.1.1 i;
+    }
+
+early_evidence_itself : (evidence : EarlyEvidence) → same_early_evidence evidence evidence ≡ true
+early_evidence_itself evidence = search rules
+
+same_early-is : (a b : EarlyAsk) → same_early a b ≡ true → a ≡ b
+same_early-is a b h =
+    let e = both (text_is a.registry b.registry) (both (want_is a.want b.want)
+    (both (text_is a.label b.label) (early_evidence_is a.evidence b.evidence))) h in
+    λ i. record { registry = e.0 i; want = e.1.0 i; label = e.1.1.0 i; evidence = e.1.1.1 i }
+
+same_early-itself : (ask : EarlyAsk) → same_early ask ask ≡ true
+same_early-itself ask = search (rules, want_itself, early_evidence_itself)
+
+same_renewal-is : (a b : RenewalAsk) → same_renewal a b ≡ true → a ≡ b
+same_renewal-is a b h =
+    let e = both (text_is a.registry b.registry) (both (eqb-true a.value b.value)
+    (both (early_evidence_is a.evidence b.evidence) (note_is a.iesg b.iesg))) h in
+    λ i. record { registry = e.0 i; value = e.1.0 i; evidence = e.1.1.0 i; iesg = e.1.1.1 i }
+
+same_renewal-itself : (ask : RenewalAsk) → same_renewal ask ask ≡ true
+same_renewal-itself ask = search (rules, early_evidence_itself)
+
+same_permanence-is : (a b : PermanenceAsk) → same_permanence a b ≡ true → a ≡ b
+same_permanence-is a b h =
+    let e = both (text_is a.registry b.registry) (both (eqb-true a.value b.value)
+    (evidence_is a.evidence b.evidence)) h in
+    λ i. record { registry = e.0 i; value = e.1.0 i; evidence = e.1.1 i }
+
+same_permanence-itself : (ask : PermanenceAsk) → same_permanence ask ask ≡ true
+same_permanence-itself ask = search (rules, evidence_itself)
 
 pub same_size-is : (a b : Size) → same_size a b ≡ true → a ≡ b
 same_size-is a b = search rules
@@ -244,23 +179,20 @@ same_block-is a b = search rules
 same_block-itself : (ask : BlockAsk) → same_block ask ask ≡ true
 same_block-itself ask = search rules
 
-block_decided : (a b : BlockAsk) → Decides (same_block a b) (a ≡ b)
-block_decided = from_both same_block same_block-is same_block-itself
-
 pub same_ask-is : (a b : Ask) → same_ask a b ≡ true → a ≡ b
-same_ask-is (Code a) (Code b) h = ap Code ((code_decided a b).0 h)
-same_ask-is (Early a) (Early b) h = ap Early ((early_decided a b).0 h)
-same_ask-is (Renew a) (Renew b) h = ap Renew ((renewal_decided a b).0 h)
-same_ask-is (Permanent a) (Permanent b) h = ap Permanent ((permanence_decided a b).0 h)
-same_ask-is (Block a) (Block b) h = ap Block ((block_decided a b).0 h)
+same_ask-is (Code a) (Code b) h = ap Code (same_code-is a b h)
+same_ask-is (Early a) (Early b) h = ap Early (same_early-is a b h)
+same_ask-is (Renew a) (Renew b) h = ap Renew (same_renewal-is a b h)
+same_ask-is (Permanent a) (Permanent b) h = ap Permanent (same_permanence-is a b h)
+same_ask-is (Block a) (Block b) h = ap Block (same_block-is a b h)
 same_ask-is a b h = absurd (cc)
 
 pub same_ask-itself : (ask : Ask) → same_ask ask ask ≡ true
-same_ask-itself (Code ask) = (code_decided ask ask).1 refl
-same_ask-itself (Early ask) = (early_decided ask ask).1 refl
-same_ask-itself (Renew ask) = (renewal_decided ask ask).1 refl
-same_ask-itself (Permanent ask) = (permanence_decided ask ask).1 refl
-same_ask-itself (Block ask) = (block_decided ask ask).1 refl
+same_ask-itself (Code ask) = same_code-itself ask
+same_ask-itself (Early ask) = same_early-itself ask
+same_ask-itself (Renew ask) = same_renewal-itself ask
+same_ask-itself (Permanent ask) = same_permanence-itself ask
+same_ask-itself (Block ask) = same_block-itself ask
 
 pub same_ask-decides : DecidesSame same_ask
 same_ask-decides = from_both same_ask same_ask-is same_ask-itself
