@@ -7,6 +7,7 @@ use Rattle.std.specs.Cmp.{first_so, second_so}
 use Rattle.std.proofs.Common.{arith}
 use Rattle.std.proofs.lemmas.Bool.Decides.{nat_tests}
 use Rattle.reg_ranges.specs.Texts.{is_within, is_run, ascii_run}
+use Rattle.reg_core.specs.declared.text.TheConstants.{MOST_NAME_BYTES, LEAST_TOKEN_BYTES, MOST_TOKEN_BYTES, DIGEST_BYTES}
 
 abbrev pub is_lower : ℕ → Bool
 is_lower b = is_within 97 122 b
@@ -32,42 +33,42 @@ is_digest_byte b = is_digit b || is_within 97 102 b
 
 -- an account, a reference, a registry's name
 abbrev pub is_name : List ℕ → Bool
-is_name s = is_run is_name_byte 1 32 s
+is_name s = is_run is_name_byte 1 MOST_NAME_BYTES s
 
 abbrev pub is_token : List ℕ → Bool
-is_token s = is_run is_token_byte 16 64 s
+is_token s = is_run is_token_byte LEAST_TOKEN_BYTES MOST_TOKEN_BYTES s
 
 abbrev pub is_digest : List ℕ → Bool
-is_digest s = is_run is_digest_byte 64 64 s
+is_digest s = is_run is_digest_byte DIGEST_BYTES DIGEST_BYTES s
 
--- a name in 64 bytes, with zeros after it
-abbrev pub in_place : List ℕ → List ℕ
-in_place s = s ++ replicate (64 - length s) 0
+-- a name in so many bytes, with zeros after it
+abbrev pub in_place : ℕ → List ℕ → List ℕ
+in_place room s = s ++ replicate (room - length s) 0
 
 -- each form is of ASCII texts
 pub ascii_name : (s : List ℕ) → is_name s ≡ true → IsAscii s
-ascii_name s h = ascii_run is_name_byte 1 32 (λ b h. grind (arith, nat_tests)) s h
+ascii_name s h = ascii_run is_name_byte 1 MOST_NAME_BYTES (λ b h. grind (arith, nat_tests)) s h
 
 pub ascii_token : (s : List ℕ) → is_token s ≡ true → IsAscii s
-ascii_token s h = ascii_run is_token_byte 16 64 (λ b h. grind (arith, nat_tests)) s h
+ascii_token s h = ascii_run is_token_byte LEAST_TOKEN_BYTES MOST_TOKEN_BYTES (λ b h. grind (arith, nat_tests)) s h
 
 pub ascii_digest : (s : List ℕ) → is_digest s ≡ true → IsAscii s
-ascii_digest s h = ascii_run is_digest_byte 64 64 (λ b h. grind (arith, nat_tests)) s h
+ascii_digest s h = ascii_run is_digest_byte DIGEST_BYTES DIGEST_BYTES (λ b h. grind (arith, nat_tests)) s h
 
--- each form is of at most 64 bytes
-short_run : (kind : ℕ → Bool) (low high : ℕ) → high ≤ 64 → (s : List ℕ)
-    → is_run kind low high s ≡ true → length s ≤ 64
-short_run kind low high below s h =
+-- each form is of no more bytes than it says
+short_run : (kind : ℕ → Bool) (low high : ℕ) (s : List ℕ)
+    → is_run kind low high s ≡ true → length s ≤ high
+short_run kind low high s h =
     let within : _ = first_so (is_within low high (length s)) (list_all kind s) h in
     let most : nat_le (length s) high ≡ true =
     second_so (nat_le low (length s)) (nat_le (length s) high) within in
     grind (arith, nat_tests)
 
-pub short_name : (s : List ℕ) → is_name s ≡ true → length s ≤ 64
-short_name s h = short_run is_name_byte 1 32 (omega arith) s h
+pub short_name : (s : List ℕ) → is_name s ≡ true → length s ≤ MOST_NAME_BYTES
+short_name s h = short_run is_name_byte 1 MOST_NAME_BYTES s h
 
-pub short_token : (s : List ℕ) → is_token s ≡ true → length s ≤ 64
-short_token s h = short_run is_token_byte 16 64 (omega arith) s h
+pub short_token : (s : List ℕ) → is_token s ≡ true → length s ≤ MOST_TOKEN_BYTES
+short_token s h = short_run is_token_byte LEAST_TOKEN_BYTES MOST_TOKEN_BYTES s h
 
-pub short_digest : (s : List ℕ) → is_digest s ≡ true → length s ≤ 64
-short_digest s h = short_run is_digest_byte 64 64 (omega arith) s h
+pub short_digest : (s : List ℕ) → is_digest s ≡ true → length s ≤ DIGEST_BYTES
+short_digest s h = short_run is_digest_byte DIGEST_BYTES DIGEST_BYTES s h

@@ -1,5 +1,6 @@
 //! The names that the office goes by: accounts, references, registry names, tokens and their
-//! digests. A name is kept in place, in 64 bytes: it is copied without memory.
+//! digests. A name is kept in place, in as many bytes as the longest of its form: it is copied without
+//! memory.
 ghost use Rattle.std.specs.Prelude.{◌≡◌, ◌≤◌, ℕ, Bool, true, nat_eq, List, Some, length, refl};
 ghost use Rattle.std.specs.Cmp.{partial_equiv_from_equiv};
 ghost use Rattle.std.specs.Cmp.Lexicographic.{slice_cmp, pointwise, nat_list_cmp_total, nat_list_eq_equiv, texts_po, texts_ties};
@@ -15,8 +16,20 @@ use std::cmp::Ordering;
 use std::marker::{Model, PhantomData};
 use std::str;
 
-/// Which bytes a kind of name may have.
-pub trait Form: Copy {
+/// The most bytes of an account, a reference or a registry's name; the least is one.
+pub const MOST_NAME_BYTES: usize = 32;
+
+/// The least bytes of a token.
+pub const LEAST_TOKEN_BYTES: usize = 16;
+
+/// The most bytes of a token.
+pub const MOST_TOKEN_BYTES: usize = 64;
+
+/// The bytes of a digest.
+pub const DIGEST_BYTES: usize = 64;
+
+/// Which bytes a kind of name may have, which are at most `N`.
+pub trait Form<const N: usize>: Copy {
     /// The names of this form.
     ghost fits: { List ℕ → Bool };
 
@@ -27,20 +40,20 @@ pub trait Form: Copy {
     /// They are ASCII.
     ghost ascii: { (s : List ℕ) → fits s ≡ true → IsAscii s };
 
-    /// They have at most 64 bytes.
-    ghost short: { (s : List ℕ) → fits s ≡ true → length s ≤ 64 };
+    /// They are at most `N` bytes.
+    ghost short: { (s : List ℕ) → fits s ≡ true → length s ≤ N };
 }
 
 /// A name of the form `F`, kept in place.
 #[derive(Clone, Copy)]
-pub struct Word<F: Form> {
+pub struct Word<F: Form<N>, const N: usize> {
     // The bytes, and zeros after them.
-    place: [u8; 64],
+    place: [u8; N],
     len: usize,
     form: PhantomData<F>,
 }
 
-impl<F: Form> Model for Word<F> {
+impl<F: Form<N>, const N: usize> Model for Word<F, N> {
     ghost use Rattle.std.specs.Prelude.{◌≡◌, List, ℕ, true, length, take};
     ghost use Rattle.reg_core.specs.Names.{in_place};
 
@@ -48,16 +61,16 @@ impl<F: Form> Model for Word<F> {
 
     ghost view = { λ w. take w.len w.place };
 
-    ghost invariant = { λ w. (in_place (take w.len w.place) ≡ w.place)
+    ghost invariant = { λ w. (in_place N (take w.len w.place) ≡ w.place)
         × (length (take w.len w.place) ≡ w.len)
         × (F.fits (take w.len w.place) ≡ true) };
 
-    ghost inverse = { λ s. record { place = in_place s; len = length s; form = record {} } };
+    ghost inverse = { λ s. record { place = in_place N s; len = length s; form = record {} } };
 
     ghost inverse_ok = { λ w h i. record { place = h.0 i; len = h.1 i; form = record {} } };
 }
 
-impl<F: Form> Word<F> {
+impl<F: Form<N>, const N: usize> Word<F, N> {
     /// The name of these bytes; none where they have not the form.
     pub fn read(bytes: &[u8]) -> Option<Self>
         ensures { result ≡ read_text F.fits bytes.now }
@@ -89,7 +102,7 @@ impl<F: Form> Word<F> {
     }
 }
 
-impl<F: Form> Formed for Word<F> {
+impl<F: Form<N>, const N: usize> Formed for Word<F, N> {
     ghost has_form = { F.fits };
 
     fn formed(&self) {
@@ -97,17 +110,17 @@ impl<F: Form> Formed for Word<F> {
     }
 }
 
-// The bytes in 64, with zeros after them.
-fn in_place(bytes: &[u8]) -> [u8; 64]
-    requires { length bytes.now ≤ 64 }
-    ensures { result ≡ in_place bytes.now }
+// The bytes in `N`, with zeros after them.
+fn in_place<const N: usize>(bytes: &[u8]) -> [u8; N]
+    requires { length bytes.now ≤ N }
+    ensures { result ≡ in_place N bytes.now }
 {
-    let mut place = [0; 64];
+    let mut place = [0; N];
     place[..bytes.len()].copy_from_slice(bytes);
     place
 }
 
-impl<F: Form> PartialEq for Word<F> {
+impl<F: Form<N>, const N: usize> PartialEq for Word<F, N> {
     ghost eq = { pointwise nat_eq };
 
     ghost laws = { partial_equiv_from_equiv nat_list_eq_equiv };
@@ -117,11 +130,11 @@ impl<F: Form> PartialEq for Word<F> {
     }
 }
 
-impl<F: Form> Eq for Word<F> {
+impl<F: Form<N>, const N: usize> Eq for Word<F, N> {
     ghost laws = { nat_list_eq_equiv };
 }
 
-impl<F: Form> PartialOrd for Word<F> {
+impl<F: Form<N>, const N: usize> PartialOrd for Word<F, N> {
     ghost partial_cmp = { λ x y. Some (slice_cmp nat_cmp x y) };
 
     ghost laws = { texts_po };
@@ -131,7 +144,7 @@ impl<F: Form> PartialOrd for Word<F> {
     }
 }
 
-impl<F: Form> Ord for Word<F> {
+impl<F: Form<N>, const N: usize> Ord for Word<F, N> {
     ghost cmp = { slice_cmp nat_cmp };
 
     ghost total = { nat_list_cmp_total };
@@ -151,7 +164,7 @@ pub struct NameForm<T> {
     kind: PhantomData<T>,
 }
 
-impl<T: Copy> Form for NameForm<T> {
+impl<T: Copy> Form<MOST_NAME_BYTES> for NameForm<T> {
     ghost fits = { name };
 
     ghost ascii = { ascii_name };
@@ -180,7 +193,7 @@ pub struct RegistryKind;
 #[derive(Clone, Copy)]
 pub struct TokenForm;
 
-impl Form for TokenForm {
+impl Form<MOST_TOKEN_BYTES> for TokenForm {
     ghost fits = { is_token };
 
     ghost ascii = { ascii_token };
@@ -188,7 +201,7 @@ impl Form for TokenForm {
     ghost short = { short_token };
 
     fn accepts(bytes: &[u8]) -> bool {
-        (16..=64).contains(&bytes.len()) && all_token_bytes(bytes)
+        (LEAST_TOKEN_BYTES..=MOST_TOKEN_BYTES).contains(&bytes.len()) && all_token_bytes(bytes)
     }
 }
 
@@ -196,7 +209,7 @@ impl Form for TokenForm {
 #[derive(Clone, Copy)]
 pub struct DigestForm;
 
-impl Form for DigestForm {
+impl Form<DIGEST_BYTES> for DigestForm {
     ghost fits = { is_digest };
 
     ghost ascii = { ascii_digest };
@@ -204,29 +217,29 @@ impl Form for DigestForm {
     ghost short = { short_digest };
 
     fn accepts(bytes: &[u8]) -> bool {
-        bytes.len() == 64 && all_digest_bytes(bytes)
+        bytes.len() == DIGEST_BYTES && all_digest_bytes(bytes)
     }
 }
 
 /// An applicant's, an expert's or a clerk's account.
-pub type Account = Word<NameForm<AccountKind>>;
+pub type Account = Word<NameForm<AccountKind>, MOST_NAME_BYTES>;
 
 /// The reference under which an applicant files a request.
-pub type Ref = Word<NameForm<RefKind>>;
+pub type Ref = Word<NameForm<RefKind>, MOST_NAME_BYTES>;
 
 /// The name of a registry.
-pub type Name = Word<NameForm<RegistryKind>>;
+pub type Name = Word<NameForm<RegistryKind>, MOST_NAME_BYTES>;
 
 /// A bearer token.
-pub type Token = Word<TokenForm>;
+pub type Token = Word<TokenForm, MOST_TOKEN_BYTES>;
 
 /// The digest of a token.
-pub type Digest = Word<DigestForm>;
+pub type Digest = Word<DigestForm, DIGEST_BYTES>;
 
 fn is_name(bytes: &[u8]) -> bool
     ensures { result ≡ name bytes.now }
 {
-    (1..=32).contains(&bytes.len()) && all_name_bytes(bytes)
+    (1..=MOST_NAME_BYTES).contains(&bytes.len()) && all_name_bytes(bytes)
 }
 
 fn all_name_bytes(bytes: &[u8]) -> bool

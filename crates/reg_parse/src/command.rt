@@ -315,7 +315,11 @@ fn empty(body: &[u8]) -> Result<(), ReadFault>
 }
 
 // The segment where the pattern names this part, in its form.
-fn word_at<F: Form>(pattern: &str, path: &str, part: Item) -> Result<Word<F>, ReadFault>
+fn word_at<F: Form<N>, const N: usize>(
+    pattern: &str,
+    path: &str,
+    part: Item,
+) -> Result<Word<F, N>, ReadFault>
     ensures { Gives result (segment part (read_text F.fits) pattern.now path.now) }
 {
     match path::segment(pattern, path, part) {

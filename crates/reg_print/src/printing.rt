@@ -51,7 +51,7 @@ pub(crate) fn printed<As, T: Print<As>>(alloc: Global, value: &T) -> Result<Vec<
     Ok(json.into_inner())
 }
 
-impl<F: Form> Print<Itself> for Word<F> {
+impl<F: Form<N>, const N: usize> Print<Itself> for Word<F, N> {
     ghost tree = { string };
 
     ghost levels = { 0 };

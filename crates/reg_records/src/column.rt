@@ -65,7 +65,7 @@ pub fn word<W: Worded>(row: &Row, at: usize) -> Option<W>
 }
 
 /// The name in a column.
-pub fn name<F: Form>(row: &Row, at: usize) -> Option<Word<F>>
+pub fn name<F: Form<N>, const N: usize>(row: &Row, at: usize) -> Option<Word<F, N>>
     ensures { result ≡ formed_in F.fits (column row.now at) }
 {
     Word::read(text(row, at)?)
@@ -152,7 +152,7 @@ pub fn word_value<W: Worded>(value: &W) -> ValueRef<'static>
 }
 
 /// What is written for a name.
-pub fn name_value<F: Form>(name: &Word<F>) -> ValueRef<'_>
+pub fn name_value<F: Form<N>, const N: usize>(name: &Word<F, N>) -> ValueRef<'_>
     ensures { owned result ≡ TextValue name.now }
 {
     ValueRef::Text(name.as_str().as_bytes())

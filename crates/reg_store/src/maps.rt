@@ -22,7 +22,7 @@ impl Key for u32 {
     ghost order = { number_keys };
 }
 
-impl<F: Form> Key for Word<F> {
+impl<F: Form<N>, const N: usize> Key for Word<F, N> {
     ghost order = { text_keys };
 }
 
