@@ -7,7 +7,7 @@ use Rattle.std.proofs.lemmas.List.Elements.{All-nil, All-cons, All-head, All-tai
 use Rattle.reg_ranges.specs.declared.range.Range.{Range}
 use Rattle.reg_ranges.specs.declared.table.RangeFault.{RangeFault}
 use Rattle.reg_ranges.specs.declared.table.RangeFault.TheVariants as fault
-use Rattle.reg_ranges.specs.Tables.{Table, IsPartition, lies_in}
+use Rattle.reg_ranges.specs.Tables.{most_ranges, Table, IsPartition, lies_in}
 use Rattle.reg_ranges.specs.Faults.{fault_at, fault_from, first_fault, or_else}
 use Rattle.reg_ranges.proofs.Increasing.{Rises, Rises-lower, increasing_from_Rises, rises_any}
 
@@ -121,7 +121,7 @@ none_empty next max [] h = All-nil (λ r. r.lo ≤ r.hi)
 none_empty next max (r ∷ rs) h =
     All-cons (λ r. r.lo ≤ r.hi) r rs h.1 (none_empty (r.hi + 1) max rs h.2)
 
-partition_from_chain : (max : ℕ) (rs : List Range) → 1 ≤ length rs → length rs ≤ 64 → Chain 0 max rs
+partition_from_chain : (max : ℕ) (rs : List Range) → 1 ≤ length rs → length rs ≤ most_ranges → Chain 0 max rs
     → IsPartition (record {
       max = max;
       ranges = rs;
@@ -138,12 +138,12 @@ partition_from_chain max rs some few h =
     }
 
 not_too_many : (n : ℕ) (f : RangeFault) (o : Option RangeFault)
-    → cond (nat_lt 64 n) (Some f) o ≡ None → (n ≤ 64) × (o ≡ None)
+    → cond (nat_lt most_ranges n) (Some f) o ≡ None → (n ≤ most_ranges) × (o ≡ None)
 not_too_many n f o h =
-    elim (nat_lt 64 n) as
-    (λ t. nat_lt 64 n ≡ t → cond t (Some f) o ≡ None → (n ≤ 64) × (o ≡ None)) [
+    elim (nat_lt most_ranges n) as
+    (λ t. nat_lt most_ranges n ≡ t → cond t (Some f) o ≡ None → (n ≤ most_ranges) × (o ≡ None)) [
       | true ↦ λ e h. absurd (cc)
-      | false ↦ λ e h. (ltb-false 64 n e, h)
+      | false ↦ λ e h. (ltb-false most_ranges n e, h)
     ] refl h
 
 pub partition_from_none : (max : ℕ) (rs : List Range) → first_fault max rs ≡ None
@@ -233,6 +233,6 @@ pub none_from_partition : (max : ℕ) (rs : List Range)
     → IsPartition (record { max = max; ranges = rs }) → first_fault max rs ≡ None
 none_from_partition max [] p = absurd (let some = p.some in omega arith)
 none_from_partition max (r ∷ rs) p =
-    rw (le-ltb 64 (length (r ∷ rs)) p.few)
+    rw (le-ltb most_ranges (length (r ∷ rs)) p.few)
     (none_from_chain 0 0 max (r ∷ rs)
     (chain_from_partition (record { max = max; ranges = r ∷ rs }) p))

@@ -1,5 +1,6 @@
 -- Why ranges are no partition.
 use Rattle.std.specs.Prelude.{ℕ, ◌+◌, ◌==◌, nat_lt, List, [], ◌∷◌, length, Option, Some, None, if◌then◌else◌}
+use Rattle.reg_ranges.specs.Tables.{most_ranges}
 use Rattle.reg_ranges.specs.declared.range.Range.{Range}
 use Rattle.reg_ranges.specs.declared.table.RangeFault.{RangeFault}
 use Rattle.reg_ranges.specs.declared.table.RangeFault.TheVariants as fault
@@ -28,5 +29,5 @@ fault_from i next max (range ∷ rest) =
 abbrev pub first_fault : ℕ → List Range → Option RangeFault
 first_fault max [] = Some fault.Empty
 first_fault max (range ∷ rest) =
-    (if nat_lt 64 (length (range ∷ rest)) then Some fault.TooMany else fault_from 0 0 max
+    (if nat_lt most_ranges (length (range ∷ rest)) then Some fault.TooMany else fault_from 0 0 max
     (range ∷ rest))

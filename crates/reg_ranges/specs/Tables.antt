@@ -3,20 +3,26 @@ use Rattle.std.specs.Prelude.{◌≡◌, ℕ, ◌<◌, ◌≤◌, Bool, ◌&&◌
 use Rattle.std.specs.List.Sorted.{IsStrictlyIncreasing}
 use Rattle.reg_ranges.specs.declared.range.Range.{Range}
 use Rattle.reg_ranges.specs.declared.policy.Treatment.{Treatment}
+use Rattle.reg_ranges.specs.declared.table.TheConstants.RangeTable.{MOST}
 
 -- the largest value of a registry, and its ranges
 pub record Table : Type 0 where
   pub max : ℕ
   pub ranges : List Range
 
+-- the value lies in the range
 abbrev pub lies_in : ℕ → Range → Bool
 lies_in v range = nat_le range.lo v && nat_le v range.hi
+
+-- the most ranges of a registry
+abbrev pub most_ranges : ℕ
+most_ranges = MOST
 
 -- there are 1 to 64 ranges, in ascending order, none is empty, and each number from 0 to the
 -- largest value, and no other, lies in exactly one of them
 pub record IsPartition (table : Table) : Type 0 where
   pub some : 1 ≤ length table.ranges
-  pub few : length table.ranges ≤ 64
+  pub few : length table.ranges ≤ most_ranges
   pub ascending : IsStrictlyIncreasing (map (λ range. range.lo) table.ranges)
   pub none_empty : All (λ range. range.lo ≤ range.hi) table.ranges
   pub covered : (v : ℕ) → v ≤ table.max → count_by (lies_in v) table.ranges ≡ 1

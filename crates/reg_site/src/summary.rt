@@ -1,5 +1,6 @@
 //! What the values of a registry are counted as.
 ghost use Rattle.std.specs.Prelude.{◌≡◌, ◌≤◌, length, map, IfOk};
+ghost use Rattle.reg_ranges.specs.Tables.{most_ranges};
 ghost use Rattle.reg_site.specs.Summary.{all_left, left, left_as, rest_of, same_rest, same_status, share, shares, summary, with_status};
 
 use reg_core::entry::PageEntry;
@@ -78,7 +79,7 @@ impl Summary {
 // The ranges with their counts, at most 64.
 fn shares(alloc: Global, page: &Page) -> Result<Vec<Share>, AllocError>
     ensures shares { IfOk result (λ v. v.items ≡ shares page.now) }
-    ensures few { IfOk result (λ v. length v.items ≤ 64) }
+    ensures few { IfOk result (λ v. length v.items ≤ most_ranges) }
 {
     let mut shares = Vec::new(alloc);
     for range in page.table.ranges() {
@@ -124,7 +125,7 @@ fn same_status(a: Status, b: Status) -> bool
 
 // How many values of these ranges have no entry and stand so.
 fn all_left(shares: &[Share], rest: Rest) -> u64
-    requires { length shares.now ≤ 64 }
+    requires { length shares.now ≤ most_ranges }
     ensures { result ≡ all_left rest shares.now }
 {
     let mut all = 0;
