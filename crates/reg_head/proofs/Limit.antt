@@ -3,9 +3,9 @@ use Rattle.std.proofs.Common.{◌≡◌, ℕ, ◌≤◌, List, ◌++◌, length,
 use Rattle.std.proofs.lemmas.List.{take-append-le}
 use Rattle.std.proofs.Math.Seq.{take-append_seam}
 use Rattle.httparse.specs.Grammar.{RequestHead, print_request, HasNoRequest}
-use Rattle.reg_head.specs.Head.{HasHead}
+use Rattle.reg_head.specs.Head.{HasHead, most_bytes}
 
-pub past_limit : (buf more : List ℕ) (head : RequestHead) (rest : List ℕ) → length buf ≡ 8192 → HasNoRequest buf → HasHead (buf ++ more) head rest → ⊥
+pub past_limit : (buf more : List ℕ) (head : RequestHead) (rest : List ℕ) → length buf ≡ most_bytes → HasNoRequest buf → HasHead (buf ++ more) head rest → ⊥
 past_limit buf more head rest full none h =
     let n = length (print_request head) in
     let within : n ≤ length buf = omega (arith, h.short) in

@@ -2,6 +2,7 @@
 ghost use Rattle.std.specs.Prelude.{◌≡◌, ◌≤◌, IfOk, IfErr, length, vec_len};
 ghost use Rattle.httparse.specs.Grammar.{RequestHead};
 ghost use Rattle.std.specs.Io.KnownBytes.{Consumes};
+ghost use Rattle.reg_head.specs.Head.{most_bytes, most_fields};
 ghost use Rattle.reg_head.specs.Looks.{IsHeadAt, IsWhole, IsRefused, IsPartial, IsHeadless};
 ghost use Rattle.reg_head.specs.Watched.{IsWatched};
 
@@ -30,8 +31,8 @@ enum Look {
 }
 
 fn look_at(buf: &[u8], headers: &mut [HeaderSpan]) -> Look
-    requires room { length headers.old ≡ 32 }
-    requires short { length buf.now ≤ 8192 }
+    requires room { length headers.old ≡ most_fields }
+    requires short { length buf.now ≤ most_bytes }
     ensures whole { IsWhole buf.now headers.new result }
     ensures refused { IsRefused buf.now result }
     ensures partial { IsPartial buf.now result }
@@ -54,13 +55,13 @@ pub(crate) fn read_head<R: Read>(
     headers: &mut [HeaderSpan],
     watch: &mut Watch,
 ) -> Result<RequestSpans, Unread>
-    requires room { length headers.old ≡ 32 }
+    requires room { length headers.old ≡ most_fields }
     requires empty { vec_len bytes.old ≡ 0 }
     ensures read { IfOk result
         (λ _. Consumes (R.remaining reader.old) (R.remaining reader.new) bytes.new.items) }
     ensures found { IfOk result
         (λ spans. (head : RequestHead) × IsHeadAt bytes.new.items headers.new spans head) }
-    ensures short { IfOk result (λ _. length bytes.new.items ≤ 8192) }
+    ensures short { IfOk result (λ _. length bytes.new.items ≤ most_bytes) }
     ensures err { IfErr result
         (λ why. IsHeadless (R.remaining reader.old) (R.remaining reader.new) why) }
     ensures watched { IsWatched watch.old watch.new result }
