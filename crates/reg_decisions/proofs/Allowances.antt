@@ -45,34 +45,35 @@ use Rattle.reg_core.proofs.Checks.{went_on, was_some, not_some, own_is, opened, 
 
 -- ---- What is allowed
 
--- the checks of an allowance of a new entry, each of which was met
-record Chooses (rows : Ground) (want : Want) (Met : Policy → Type 0) (entry : ℕ → AwardedEntry)
-    (allowance : Allowance) : Type 0 where
+-- the checks of what is wanted of a registry, each of which was met: it is there, and nothing is
+-- missing of what the policy asks for that decides
+record IsDecided (rows : Ground) (want : Want) (Met : Policy → Type 0) : Type 0 where
   table : Table
   is_there : rows.table ≡ Some table
   policy : Policy
   decides : policy_for table want ≡ Ok policy
   met : Met policy
-  value : ℕ
-  chosen : value_for rows table want ≡ Ok value
-  awards : awarded_entry (entry value) ≡ allowance.award
-  needs : is_expert_policy policy ≡ allowance.needs_advice
 
--- the checks of an allowance of the account's own entry at a value
+-- those of an allowance of a new entry
+record Chooses (rows : Ground) (want : Want) (Met : Policy → Type 0) (entry : ℕ → AwardedEntry)
+    (allowance : Allowance) : Type 0 where
+  by : IsDecided rows want Met
+  value : ℕ
+  chosen : value_for rows by.table want ≡ Ok value
+  awards : awarded_entry (entry value) ≡ allowance.award
+  needs : is_expert_policy by.policy ≡ allowance.needs_advice
+
+-- those of an allowance of the account's own entry at a value
 record Keeps (rows : Ground) (account : List ℕ) (v : ℕ) (Met : Policy → Type 0)
     (check : Term → Result (Unit {0}) Refusal) (entry : Registration → AwardedEntry)
     (needed : Policy → Bool) (allowance : Allowance) : Type 0 where
-  table : Table
-  is_there : rows.table ≡ Some table
-  policy : Policy
-  decides : policy_for table (Value v) ≡ Ok policy
-  met : Met policy
+  by : IsDecided rows (Value v) Met
   own : Registration
   stands : rows.entry ≡ Some own
   owns : own.assignee ≡ account
   may : (moves : Unit {0}) × (check own.term ≡ Ok moves)
   awards : awarded_entry (entry own) ≡ allowance.award
-  needs : needed policy ≡ allowance.needs_advice
+  needs : needed by.policy ≡ allowance.needs_advice
 
 abbrev unwrap_ok : Result Allowance Refusal → Allowance → Allowance
 unwrap_ok (Ok a) other = a
@@ -81,7 +82,29 @@ unwrap_ok (Err refusal) other = other
 module _ (rows : Ground) (account : List ℕ) (allowance : Allowance)
     (check : Policy → Result (Unit {0}) Refusal) (Met : Policy → Type 0)
     (is : (policy : Policy) (met : Unit {0}) → check policy ≡ Ok met → Met policy) where
-  -- what is so where the checks of a new entry were met
+  -- what is so where the first checks were met, and went on to others
+  decided : (want : Want) (rest : Table → Policy → Result Allowance Refusal)
+      → (do
+        table ← or_refusal no.Registry rows.table
+        policy ← policy_for table want
+        nothing ← check policy
+        rest table policy) ≡ Ok allowance
+      → (by : IsDecided rows want Met) × (rest by.table by.policy ≡ Ok allowance)
+  decided want rest h =
+      let there = went_on (or_refusal no.Registry rows.table) _ allowance h in
+      let policy = went_on (policy_for there.0 want) _ allowance there.2 in
+      let met = went_on (check policy.0) _ allowance policy.2 in (
+        record {
+          table = there.0;
+          is_there = was_some rows.table no.Registry there.0 there.1;
+          policy = policy.0;
+          decides = policy.1;
+          met = is policy.0 met.0 met.1;
+        },
+        met.2,
+      )
+
+  -- where those of a new entry were met
   chooses : (want : Want) (entry : ℕ → AwardedEntry)
       → (do
         table ← or_refusal no.Registry rows.table
@@ -94,16 +117,10 @@ module _ (rows : Ground) (account : List ℕ) (allowance : Allowance)
         })) ≡ Ok allowance
       → Chooses rows want Met entry allowance
   chooses want entry h =
-      let there = went_on (or_refusal no.Registry rows.table) _ allowance h in
-      let policy = went_on (policy_for there.0 want) _ allowance there.2 in
-      let met = went_on (check policy.0) _ allowance policy.2 in
-      let last = went_on (value_for rows there.0 want) _ allowance met.2 in
+      let by = decided want _ h in
+      let last = went_on (value_for rows by.0.table want) _ allowance by.1 in
       record {
-        table = there.0;
-        is_there = was_some rows.table no.Registry there.0 there.1;
-        policy = policy.0;
-        decides = policy.1;
-        met = is policy.0 met.0 met.1;
+        by = by.0;
         value = last.0;
         chosen = last.1;
         awards = ap (λ r. (unwrap_ok r allowance).award) last.2;
@@ -123,18 +140,12 @@ module _ (rows : Ground) (account : List ℕ) (allowance : Allowance)
       ≡ Ok allowance
       → Keeps rows account v Met may entry needed allowance
   keeps v may entry needed h =
-      let there = went_on (or_refusal no.Registry rows.table) _ allowance h in
-      let policy = went_on (policy_for there.0 (Value v)) _ allowance there.2 in
-      let met = went_on (check policy.0) _ allowance policy.2 in
-      let own = went_on (own_entry account rows.entry) _ allowance met.2 in
+      let by = decided (Value v) _ h in
+      let own = went_on (own_entry account rows.entry) _ allowance by.1 in
       let last = went_on (may own.0.term) _ allowance own.2 in
       let its = own_is account rows.entry own.0 own.1 in
       record {
-        table = there.0;
-        is_there = was_some rows.table no.Registry there.0 there.1;
-        policy = policy.0;
-        decides = policy.1;
-        met = is policy.0 met.0 met.1;
+        by = by.0;
         own = own.0;
         stands = its.0;
         owns = its.1;
@@ -260,15 +271,15 @@ pub allowance_needs : (rows : Ground) (account : List ℕ) (ask : Ask) (allowanc
     → needs_advice rows ask ≡ allowance.needs_advice
 allowance_needs rows account (Code ask) allowance h =
     let is = code_allows rows account ask allowance h in
-    ap is_reviewed (ap (λ o. policy_wanted o ask.want) is.is_there ∙ is.decides) ∙ is.needs
+    ap is_reviewed (ap (λ o. policy_wanted o ask.want) is.by.is_there ∙ is.by.decides) ∙ is.needs
 allowance_needs rows account (Early ask) allowance h =
     let is = early_allows rows account ask allowance h in
-    ap is_reviewed (ap (λ o. policy_wanted o ask.want) is.is_there ∙ is.decides) ∙ is.needs
+    ap is_reviewed (ap (λ o. policy_wanted o ask.want) is.by.is_there ∙ is.by.decides) ∙ is.needs
 allowance_needs rows account (Renew ask) allowance h =
     (renewal_allows rows account ask allowance h).needs
 allowance_needs rows account (Permanent ask) allowance h =
     let is = permanence_allows rows account ask allowance h in
-    ap is_reviewed (ap (λ o. policy_wanted o (Value ask.value)) is.is_there ∙ is.decides)
+    ap is_reviewed (ap (λ o. policy_wanted o (Value ask.value)) is.by.is_there ∙ is.by.decides)
     ∙ is.needs
 allowance_needs rows account (Block ask) allowance h =
     (allows_block rows account ask allowance h).needs
@@ -348,33 +359,37 @@ module _ (w : World) (kept : WellKept w) (account : List ℕ) (allowance : Allow
       (is : CodeAllows (ground_of (published w) (Code ask)) account ask allowance)
       → MayBeGiven w ask is.value
   code_may ask is =
-      let chosen = chosen_under w kept ask.registry is.table is.is_there ask.want is.policy is.value
-      is.decides is.chosen in
-      search (chosen, is.met)
+      let by = is.by in
+      let chosen = chosen_under w kept ask.registry by.table by.is_there ask.want by.policy is.value
+      by.decides is.chosen in
+      search (chosen, by.met)
 
   early_may : (ask : EarlyAsk)
       (is : EarlyAllows (ground_of (published w) (Early ask)) account ask allowance)
       → MayBeGivenEarly w ask is.value
   early_may ask is =
-      let chosen = chosen_under w kept ask.registry is.table is.is_there ask.want is.policy is.value
-      is.decides is.chosen in
-      search (chosen, is.met)
+      let by = is.by in
+      let chosen = chosen_under w kept ask.registry by.table by.is_there ask.want by.policy is.value
+      by.decides is.chosen in
+      search (chosen, by.met)
 
   renewal_may : (ask : RenewalAsk)
       (is : RenewalAllows (ground_of (published w) (Renew ask)) account ask allowance)
       → MayBeRenewed w account ask is.own
   renewal_may ask is =
-      let under = named_under w kept ask.registry is.table is.is_there ask.value is.policy
-      is.decides in
-      search (under, is)
+      let by = is.by in
+      let under = named_under w kept ask.registry by.table by.is_there ask.value by.policy
+      by.decides in
+      search (under, by.met, is)
 
   permanence_may : (ask : PermanenceAsk)
       (is : PermanenceAllows (ground_of (published w) (Permanent ask)) account ask allowance)
       → MayBeSettled w account ask is.own
   permanence_may ask is =
-      let under = named_under w kept ask.registry is.table is.is_there ask.value is.policy
-      is.decides in
-      search (under, is)
+      let by = is.by in
+      let under = named_under w kept ask.registry by.table by.is_there ask.value by.policy
+      by.decides in
+      search (under, by.met, is)
 
 -- what an ask is allowed it is given duly, on whatever day that is
 pub allowed_duly : (w : World) → WellKept w → (account : List ℕ) (ask : Ask) (today : ℕ)
