@@ -13,7 +13,7 @@ use Rattle.reg_ranges.specs.declared.policy.Treatment.TheVariants.{Under}
 use Rattle.reg_early.specs.EarlyRequirements.{early_unmet}
 use Rattle.reg_early.specs.Terms.{renewable, renewed_term, settleable, settled_term}
 use Rattle.reg_early.specs.declared.term.Term.{Term}
-use Rattle.reg_core.specs.Allowance.{Ground, or_refusal, policy_for, is_met, is_met_early, value_for, own_entry, may_renew, may_settle, allowance_on, allowed_on, allowed, value_ground, ground_of, least_wanted, is_reviewed, policy_wanted, needs_advice, entry_asked, entry_asked_early, entry_kept, holding_asked}
+use Rattle.reg_core.specs.Allowance.{◌>>=◌, Ground, or_refusal, policy_for, is_met, is_met_early, value_for, own_entry, may_renew, may_settle, allowance_on, allowed_on, allowed, value_ground, ground_of, least_wanted, is_reviewed, policy_wanted, needs_advice, entry_asked, entry_asked_early, entry_kept, holding_asked}
 use Rattle.reg_core.specs.Award.{Allowance, AwardedEntry, renewed, settled, awarded_entry, new_holding, given_in, entry_on}
 use Rattle.reg_core.specs.LeastFree.{values_in}
 use Rattle.reg_core.specs.Laws.{IsOfAsk}
@@ -45,38 +45,114 @@ use Rattle.reg_core.proofs.Checks.{went_on, was_some, not_some, own_is, opened, 
 
 -- ---- What is allowed
 
--- the checks of an allowance of a new entry, each of which was met
-record Chooses (rows : Ground) (want : Want) (Met : Policy → Type 0) (entry : ℕ → AwardedEntry)
-    (allowance : Allowance) : Type 0 where
+-- the checks of what is wanted of a registry, each of which was met: it is there, and nothing is
+-- missing of what the policy asks for that decides
+record IsDecided (rows : Ground) (want : Want) (Met : Policy → Type 0) : Type 0 where
   table : Table
   is_there : rows.table ≡ Some table
   policy : Policy
   decides : policy_for table want ≡ Ok policy
   met : Met policy
-  value : ℕ
-  chosen : value_for rows table want ≡ Ok value
-  awards : awarded_entry (entry value) ≡ allowance.award
-  needs : is_expert_policy policy ≡ allowance.needs_advice
 
--- the checks of an allowance of the account's own entry at a value
-record Keeps (rows : Ground) (account : List ℕ) (v : ℕ) (Met : Policy → Type 0)
-    (May : Term → Type 0) (entry : Registration → AwardedEntry) (needed : Policy → Bool)
+-- those of an allowance of a new entry
+record Chooses (rows : Ground) (want : Want) (Met : Policy → Type 0) (entry : ℕ → AwardedEntry)
     (allowance : Allowance) : Type 0 where
-  table : Table
-  is_there : rows.table ≡ Some table
-  policy : Policy
-  decides : policy_for table (Value v) ≡ Ok policy
-  met : Met policy
+  by : IsDecided rows want Met
+  value : ℕ
+  chosen : value_for rows by.table want ≡ Ok value
+  awards : awarded_entry (entry value) ≡ allowance.award
+  needs : is_expert_policy by.policy ≡ allowance.needs_advice
+
+-- those of an allowance of the account's own entry at a value
+record Keeps (rows : Ground) (account : List ℕ) (v : ℕ) (Met : Policy → Type 0)
+    (check : Term → Result (Unit {0}) Refusal) (entry : Registration → AwardedEntry)
+    (needed : Policy → Bool) (allowance : Allowance) : Type 0 where
+  by : IsDecided rows (Value v) Met
   own : Registration
   stands : rows.entry ≡ Some own
   owns : own.assignee ≡ account
-  may : May own.term
+  may : (moves : Unit {0}) × (check own.term ≡ Ok moves)
   awards : awarded_entry (entry own) ≡ allowance.award
-  needs : needed policy ≡ allowance.needs_advice
+  needs : needed by.policy ≡ allowance.needs_advice
 
 abbrev unwrap_ok : Result Allowance Refusal → Allowance → Allowance
 unwrap_ok (Ok a) other = a
 unwrap_ok (Err refusal) other = other
+
+module _ (rows : Ground) (account : List ℕ) (allowance : Allowance)
+    (check : Policy → Result (Unit {0}) Refusal) (Met : Policy → Type 0)
+    (is : (policy : Policy) (met : Unit {0}) → check policy ≡ Ok met → Met policy) where
+  -- what is so where the first checks were met, and went on to others
+  decided : (want : Want) (rest : Table → Policy → Result Allowance Refusal)
+      → (do
+        table ← or_refusal no.Registry rows.table
+        policy ← policy_for table want
+        nothing ← check policy
+        rest table policy) ≡ Ok allowance
+      → (by : IsDecided rows want Met) × (rest by.table by.policy ≡ Ok allowance)
+  decided want rest h =
+      let there = went_on (or_refusal no.Registry rows.table) _ allowance h in
+      let policy = went_on (policy_for there.0 want) _ allowance there.2 in
+      let met = went_on (check policy.0) _ allowance policy.2 in (
+        record {
+          table = there.0;
+          is_there = was_some rows.table no.Registry there.0 there.1;
+          policy = policy.0;
+          decides = policy.1;
+          met = is policy.0 met.0 met.1;
+        },
+        met.2,
+      )
+
+  -- where those of a new entry were met
+  chooses : (want : Want) (entry : ℕ → AwardedEntry)
+      → (do
+        table ← or_refusal no.Registry rows.table
+        policy ← policy_for table want
+        nothing ← check policy
+        value ← value_for rows table want
+        Ok (record {
+          award = awarded_entry (entry value);
+          needs_advice = is_expert_policy policy;
+        })) ≡ Ok allowance
+      → Chooses rows want Met entry allowance
+  chooses want entry h =
+      let by = decided want _ h in
+      let last = went_on (value_for rows by.0.table want) _ allowance by.1 in
+      record {
+        by = by.0;
+        value = last.0;
+        chosen = last.1;
+        awards = ap (λ r. (unwrap_ok r allowance).award) last.2;
+        needs = ap (λ r. (unwrap_ok r allowance).needs_advice) last.2;
+      }
+
+  -- and where those of the account's own entry were
+  keeps : (v : ℕ) (may : Term → Result (Unit {0}) Refusal) (entry : Registration → AwardedEntry)
+      (needed : Policy → Bool)
+      → (do
+        table ← or_refusal no.Registry rows.table
+        policy ← policy_for table (Value v)
+        nothing ← check policy
+        own ← own_entry account rows.entry
+        moves ← may own.term
+        Ok (record { award = awarded_entry (entry own); needs_advice = needed policy }))
+      ≡ Ok allowance
+      → Keeps rows account v Met may entry needed allowance
+  keeps v may entry needed h =
+      let by = decided (Value v) _ h in
+      let own = went_on (own_entry account rows.entry) _ allowance by.1 in
+      let last = went_on (may own.0.term) _ allowance own.2 in
+      let its = own_is account rows.entry own.0 own.1 in
+      record {
+        by = by.0;
+        own = own.0;
+        stands = its.0;
+        owns = its.1;
+        may = (last.0, last.1);
+        awards = ap (λ r. (unwrap_ok r allowance).award) last.2;
+        needs = ap (λ r. (unwrap_ok r allowance).needs_advice) last.2;
+      }
 
 abbrev CodeAllows : Ground → List ℕ → CodeAsk → Allowance → Type 0
 CodeAllows rows account ask =
@@ -84,22 +160,10 @@ CodeAllows rows account ask =
 
 code_allows : (rows : Ground) (account : List ℕ) (ask : CodeAsk) (allowance : Allowance)
     → allowance_on rows account (Code ask) ≡ Ok allowance → CodeAllows rows account ask allowance
-code_allows rows account ask allowance h =
-    let there = went_on (or_refusal no.Registry rows.table) _ allowance h in
-    let policy = went_on (policy_for there.0 ask.want) _ allowance there.2 in
-    let met = went_on (is_met (first_item (unmet policy.0 ask.evidence))) _ allowance policy.2 in
-    let last = went_on (value_for rows there.0 ask.want) _ allowance met.2 in
-    record {
-      table = there.0;
-      is_there = was_some rows.table no.Registry there.0 there.1;
-      policy = policy.0;
-      decides = policy.1;
-      met = all_met (unmet policy.0 ask.evidence) met.0 met.1;
-      value = last.0;
-      chosen = last.1;
-      awards = ap (λ r. (unwrap_ok r allowance).award) last.2;
-      needs = ap (λ r. (unwrap_ok r allowance).needs_advice) last.2;
-    }
+code_allows rows account ask allowance =
+    chooses rows account allowance (λ policy. is_met (first_item (unmet policy ask.evidence)))
+    (λ policy. unmet policy ask.evidence ≡ [])
+    (λ policy. all_met (unmet policy ask.evidence)) ask.want (entry_asked account ask)
 
 abbrev EarlyAllows : Ground → List ℕ → EarlyAsk → Allowance → Type 0
 EarlyAllows rows account ask =
@@ -109,84 +173,45 @@ EarlyAllows rows account ask =
 early_allows : (rows : Ground) (account : List ℕ) (ask : EarlyAsk) (allowance : Allowance)
     → allowance_on rows account (Early ask) ≡ Ok allowance
     → EarlyAllows rows account ask allowance
-early_allows rows account ask allowance h =
-    let there = went_on (or_refusal no.Registry rows.table) _ allowance h in
-    let policy = went_on (policy_for there.0 ask.want) _ allowance there.2 in
-    let met = went_on (is_met_early (first_item (early_unmet policy.0 ask.evidence))) _ allowance
-    policy.2 in
-    let last = went_on (value_for rows there.0 ask.want) _ allowance met.2 in
-    record {
-      table = there.0;
-      is_there = was_some rows.table no.Registry there.0 there.1;
-      policy = policy.0;
-      decides = policy.1;
-      met = all_met_early (early_unmet policy.0 ask.evidence) met.0 met.1;
-      value = last.0;
-      chosen = last.1;
-      awards = ap (λ r. (unwrap_ok r allowance).award) last.2;
-      needs = ap (λ r. (unwrap_ok r allowance).needs_advice) last.2;
-    }
+early_allows rows account ask allowance =
+    chooses rows account allowance
+    (λ policy. is_met_early (first_item (early_unmet policy ask.evidence)))
+    (λ policy. early_unmet policy ask.evidence ≡ [])
+    (λ policy. all_met_early (early_unmet policy ask.evidence)) ask.want
+    (entry_asked_early account ask)
 
 abbrev RenewalAllows : Ground → List ℕ → RenewalAsk → Allowance → Type 0
 RenewalAllows rows account ask =
     Keeps rows account ask.value (λ policy. early_unmet policy ask.evidence ≡ [])
-    (λ term. (u : Unit {0}) × (may_renew (renewable term (is_some ask.iesg)) ≡ Ok u))
+    (λ term. may_renew (renewable term (is_some ask.iesg)))
     (λ own. entry_kept ask.registry ask.value own (renewed own.term)) (λ policy. false)
 
 renewal_allows : (rows : Ground) (account : List ℕ) (ask : RenewalAsk) (allowance : Allowance)
     → allowance_on rows account (Renew ask) ≡ Ok allowance
     → RenewalAllows rows account ask allowance
-renewal_allows rows account ask allowance h =
-    let there = went_on (or_refusal no.Registry rows.table) _ allowance h in
-    let policy = went_on (policy_for there.0 (Value ask.value)) _ allowance there.2 in
-    let met = went_on (is_met_early (first_item (early_unmet policy.0 ask.evidence))) _ allowance
-    policy.2 in
-    let own = went_on (own_entry account rows.entry) _ allowance met.2 in
-    let last = went_on (may_renew (renewable own.0.term (is_some ask.iesg))) _ allowance own.2 in
-    let is = own_is account rows.entry own.0 own.1 in
-    record {
-      table = there.0;
-      is_there = was_some rows.table no.Registry there.0 there.1;
-      policy = policy.0;
-      decides = policy.1;
-      met = all_met_early (early_unmet policy.0 ask.evidence) met.0 met.1;
-      own = own.0;
-      stands = is.0;
-      owns = is.1;
-      may = (last.0, last.1);
-      awards = ap (λ r. (unwrap_ok r allowance).award) last.2;
-      needs = ap (λ r. (unwrap_ok r allowance).needs_advice) last.2;
-    }
+renewal_allows rows account ask allowance =
+    keeps rows account allowance
+    (λ policy. is_met_early (first_item (early_unmet policy ask.evidence)))
+    (λ policy. early_unmet policy ask.evidence ≡ [])
+    (λ policy. all_met_early (early_unmet policy ask.evidence)) ask.value
+    (λ term. may_renew (renewable term (is_some ask.iesg)))
+    (λ own. entry_kept ask.registry ask.value own (renewed own.term)) (λ policy. false)
 
 abbrev PermanenceAllows : Ground → List ℕ → PermanenceAsk → Allowance → Type 0
 PermanenceAllows rows account ask =
     Keeps rows account ask.value (λ policy. unmet policy ask.evidence ≡ [])
-    (λ term. (u : Unit {0}) × (may_settle (settleable term) ≡ Ok u))
+    (λ term. may_settle (settleable term))
     (λ own. entry_kept ask.registry ask.value own (settled own.term)) is_expert_policy
 
 permanence_allows : (rows : Ground) (account : List ℕ) (ask : PermanenceAsk)
     (allowance : Allowance) → allowance_on rows account (Permanent ask) ≡ Ok allowance
     → PermanenceAllows rows account ask allowance
-permanence_allows rows account ask allowance h =
-    let there = went_on (or_refusal no.Registry rows.table) _ allowance h in
-    let policy = went_on (policy_for there.0 (Value ask.value)) _ allowance there.2 in
-    let met = went_on (is_met (first_item (unmet policy.0 ask.evidence))) _ allowance policy.2 in
-    let own = went_on (own_entry account rows.entry) _ allowance met.2 in
-    let last = went_on (may_settle (settleable own.0.term)) _ allowance own.2 in
-    let is = own_is account rows.entry own.0 own.1 in
-    record {
-      table = there.0;
-      is_there = was_some rows.table no.Registry there.0 there.1;
-      policy = policy.0;
-      decides = policy.1;
-      met = all_met (unmet policy.0 ask.evidence) met.0 met.1;
-      own = own.0;
-      stands = is.0;
-      owns = is.1;
-      may = (last.0, last.1);
-      awards = ap (λ r. (unwrap_ok r allowance).award) last.2;
-      needs = ap (λ r. (unwrap_ok r allowance).needs_advice) last.2;
-    }
+permanence_allows rows account ask allowance =
+    keeps rows account allowance (λ policy. is_met (first_item (unmet policy ask.evidence)))
+    (λ policy. unmet policy ask.evidence ≡ [])
+    (λ policy. all_met (unmet policy ask.evidence)) ask.value
+    (λ term. may_settle (settleable term))
+    (λ own. entry_kept ask.registry ask.value own (settled own.term)) is_expert_policy
 
 -- the checks of an allowance for a block: one was due
 pub record AllowsBlock (rows : Ground) (account : List ℕ) (ask : BlockAsk)
@@ -246,15 +271,15 @@ pub allowance_needs : (rows : Ground) (account : List ℕ) (ask : Ask) (allowanc
     → needs_advice rows ask ≡ allowance.needs_advice
 allowance_needs rows account (Code ask) allowance h =
     let is = code_allows rows account ask allowance h in
-    ap is_reviewed (ap (λ o. policy_wanted o ask.want) is.is_there ∙ is.decides) ∙ is.needs
+    ap is_reviewed (ap (λ o. policy_wanted o ask.want) is.by.is_there ∙ is.by.decides) ∙ is.needs
 allowance_needs rows account (Early ask) allowance h =
     let is = early_allows rows account ask allowance h in
-    ap is_reviewed (ap (λ o. policy_wanted o ask.want) is.is_there ∙ is.decides) ∙ is.needs
+    ap is_reviewed (ap (λ o. policy_wanted o ask.want) is.by.is_there ∙ is.by.decides) ∙ is.needs
 allowance_needs rows account (Renew ask) allowance h =
     (renewal_allows rows account ask allowance h).needs
 allowance_needs rows account (Permanent ask) allowance h =
     let is = permanence_allows rows account ask allowance h in
-    ap is_reviewed (ap (λ o. policy_wanted o (Value ask.value)) is.is_there ∙ is.decides)
+    ap is_reviewed (ap (λ o. policy_wanted o (Value ask.value)) is.by.is_there ∙ is.by.decides)
     ∙ is.needs
 allowance_needs rows account (Block ask) allowance h =
     (allows_block rows account ask allowance h).needs
@@ -334,49 +359,37 @@ module _ (w : World) (kept : WellKept w) (account : List ℕ) (allowance : Allow
       (is : CodeAllows (ground_of (published w) (Code ask)) account ask allowance)
       → MayBeGiven w ask is.value
   code_may ask is =
-      let chosen = chosen_under w kept ask.registry is.table is.is_there ask.want is.policy is.value
-      is.decides is.chosen in
-      record {
-        policy = is.policy;
-        under = chosen.0;
-        wanted = chosen.1;
-        evidence = is.met;
-        free = chosen.2;
-      }
+      let by = is.by in
+      let chosen = chosen_under w kept ask.registry by.table by.is_there ask.want by.policy is.value
+      by.decides is.chosen in
+      search (chosen, by.met)
 
   early_may : (ask : EarlyAsk)
       (is : EarlyAllows (ground_of (published w) (Early ask)) account ask allowance)
       → MayBeGivenEarly w ask is.value
   early_may ask is =
-      let chosen = chosen_under w kept ask.registry is.table is.is_there ask.want is.policy is.value
-      is.decides is.chosen in
-      record {
-        policy = is.policy;
-        under = chosen.0;
-        wanted = chosen.1;
-        evidence = is.met;
-        free = chosen.2;
-      }
+      let by = is.by in
+      let chosen = chosen_under w kept ask.registry by.table by.is_there ask.want by.policy is.value
+      by.decides is.chosen in
+      search (chosen, by.met)
 
   renewal_may : (ask : RenewalAsk)
       (is : RenewalAllows (ground_of (published w) (Renew ask)) account ask allowance)
       → MayBeRenewed w account ask is.own
-  renewal_may ask is = record {
-    policy = is.policy;
-    under = named_under w kept ask.registry is.table is.is_there ask.value is.policy is.decides;
-    evidence = is.met;
-    entry = record { stands = is.stands; own = is.owns };
-  }
+  renewal_may ask is =
+      let by = is.by in
+      let under = named_under w kept ask.registry by.table by.is_there ask.value by.policy
+      by.decides in
+      search (under, by.met, is)
 
   permanence_may : (ask : PermanenceAsk)
       (is : PermanenceAllows (ground_of (published w) (Permanent ask)) account ask allowance)
       → MayBeSettled w account ask is.own
-  permanence_may ask is = record {
-    policy = is.policy;
-    under = named_under w kept ask.registry is.table is.is_there ask.value is.policy is.decides;
-    evidence = is.met;
-    entry = record { stands = is.stands; own = is.owns };
-  }
+  permanence_may ask is =
+      let by = is.by in
+      let under = named_under w kept ask.registry by.table by.is_there ask.value by.policy
+      by.decides in
+      search (under, by.met, is)
 
 -- what an ask is allowed it is given duly, on whatever day that is
 pub allowed_duly : (w : World) → WellKept w → (account : List ℕ) (ask : Ask) (today : ℕ)

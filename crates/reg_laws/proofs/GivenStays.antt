@@ -161,14 +161,7 @@ registers_stay : (w : World) (caps : FinMap text_cmp Cap) (queue : FinSet seat_c
     → is_pending case.state ≡ false
     → SameReview w (record w { caps = caps; queue = queue; advice = advice; agents = agents }) name)
     → Stays w (record w { caps = caps; queue = queue; advice = advice; agents = agents })
-registers_stay w caps queue advice agents reviewed = record {
-  registries = λ name table is. is;
-  entries = λ place a is. given_itself a (get w.entries place) is;
-  requests = λ name case is. asks_itself case (get w.requests name) is;
-  reviews = reviewed;
-  pool = λ prefix there. there;
-  blocks = λ block h is. held_itself h (get w.blocks block) is;
-}
+registers_stay w caps queue advice agents reviewed = assumption (reviewed, stays_itself w)
 
 -- a row for a pending request is none of one that is decided
 of_another : (w : World) (name other : RequestName) (case : Case) → WasPending w name
@@ -212,36 +205,20 @@ module _ (w : World) (name : RequestName) (was : WasPending w name) (reviewer : 
 
 define_stays : (w : World) (name : List ℕ) (table : Table) → get w.registries name ≡ None
     → Stays w (applied w (Define name table))
-define_stays w name table free = record {
-  registries = stays_there text_keys w.registries name table free;
-  entries = λ place a is. given_itself a (get w.entries place) is;
-  requests = λ name case is. asks_itself case (get w.requests name) is;
-  reviews = λ name case is decided expert. (refl, refl);
-  pool = λ prefix there. there;
-  blocks = λ block h is. held_itself h (get w.blocks block) is;
-}
+define_stays w name table free =
+    assumption (stays_there text_keys w.registries name table free, stays_itself w)
 
 pool_stays : (w : World) (prefix : ℕ) → Stays w (applied w (AddPool prefix))
-pool_stays w prefix = record {
-  registries = λ name table is. is;
-  entries = λ place a is. given_itself a (get w.entries place) is;
-  requests = λ name case is. asks_itself case (get w.requests name) is;
-  reviews = λ name case is decided expert. (refl, refl);
-  pool = still_in number_keys w.pool prefix tt;
-  blocks = λ block h is. held_itself h (get w.blocks block) is;
-}
+pool_stays w prefix = assumption (still_in number_keys w.pool prefix tt, stays_itself w)
 
 submit_stays : (w : World) (name : RequestName) (ask : Ask) → get w.requests name ≡ None
     → Stays w (applied w (Submit name.0 name.1 ask))
-submit_stays w name ask free = record {
-  registries = λ name table is. is;
-  entries = λ place a is. given_itself a (get w.entries place) is;
-  requests = λ other case is.
-      asks_itself case _ (stays_there name_keys w.requests name (pending ask) free other case is);
-  reviews = λ name case is decided expert. (refl, refl);
-  pool = λ prefix there. there;
-  blocks = λ block h is. held_itself h (get w.blocks block) is;
-}
+submit_stays w name ask free = assumption (asked, stays_itself w)
+  where
+    asked : (other : RequestName) (case : Case) → get w.requests other ≡ Some case
+        → StillAsks case (get (insert w.requests name (pending ask)) other)
+    asked other case is =
+        asks_itself case _ (stays_there name_keys w.requests name (pending ask) free other case is)
 
 -- a pending request may go into any state
 state_stays : (w : World) (name : RequestName) (state : State) → WasPending w name
@@ -269,107 +246,93 @@ state_stays w name state was other old is =
 
 close_stays : (w : World) (name : RequestName) (state : State) → WasPending w name
     → Stays w (applied w (Close name.0 name.1 state))
-close_stays w name state was = record {
-  registries = λ name table is. is;
-  entries = λ place a is. given_itself a (get w.entries place) is;
-  requests = state_stays w name state was;
-  reviews = λ name case is decided expert. (refl, refl);
-  pool = λ prefix there. there;
-  blocks = λ block h is. held_itself h (get w.blocks block) is;
-}
+close_stays w name state was = assumption (state_stays w name state was, stays_itself w)
 
 -- an entry is given at a place that has none, or in place of the same entry in another term
 give_stays : (w : World) → WellKept w → (name : RequestName) (today : ℕ) → IsDay today → (ask : Ask)
     (entry : Entry) → WasPending w name → IsDuly w today name.0 ask entry
     → Stays w (applied w (GiveValue name.0 name.1 entry))
-give_stays w kept name today day ask entry was duly = record {
-  registries = λ name table is. is;
-  entries = λ place a is.
-      subst (StillGiven a)
-      (sym (get-at_insert place_keys w.entries (place_of entry) (registration_in entry) place))
-      (by place a is (eq_by_cmp place_cmp place (place_of entry)) refl);
-  requests = state_stays w name (Approved (Value entry.value)) was;
-  reviews = λ name case is decided expert. (refl, refl);
-  pool = λ prefix there. there;
-  blocks = λ block h is. held_itself h (get w.blocks block) is;
-}
+give_stays w kept name today day ask entry was duly =
+    assumption (given, state_stays w name (Approved (Value entry.value)) was, stays_itself w)
   where
-    by : (place : Place) (a : Registration) → get w.entries place ≡ Some a → (b : Bool)
-        → eq_by_cmp place_cmp place (place_of entry) ≡ b
-        → StillGiven a (cond b (Some (registration_in entry)) (get w.entries place))
-    by place a is true t =
-        still_given w today name.0 entry kept day ask duly a
-        (ap (get w.entries) (sym (tied place_keys place (place_of entry) t)) ∙ is)
-    by place a is false t = given_itself a (get w.entries place) is
+    a : Registration
+    a = registration_in entry
+
+    given : (place : Place) (old : Registration) → get w.entries place ≡ Some old
+        → StillGiven old (get (insert w.entries (place_of entry) a) place)
+    given place old is =
+        subst (StillGiven old) (sym (get-at_insert place_keys w.entries (place_of entry) a place))
+        (by (eq_by_cmp place_cmp place (place_of entry)) refl)
+      where
+        by : (b : Bool) → eq_by_cmp place_cmp place (place_of entry) ≡ b
+            → StillGiven old (cond b (Some a) (get w.entries place))
+        by true t =
+            still_given w today name.0 entry kept day ask duly old
+            (ap (get w.entries) (sym (tied place_keys place (place_of entry) t)) ∙ is)
+        by false t = given_itself old (get w.entries place) is
 
 give_block_stays : (w : World) (name : RequestName) (holding : Holding) → WasPending w name
     → get w.blocks holding.block ≡ None
     → Stays w (applied w (GiveBlock name.0 name.1 holding))
-give_block_stays w name holding was free = record {
-  registries = λ name table is. is;
-  entries = λ place a is. given_itself a (get w.entries place) is;
-  requests = state_stays w name (Approved (Block holding.block)) was;
-  reviews = λ name case is decided expert. (refl, refl);
-  pool = λ prefix there. there;
-  blocks = λ block h is.
-      held_itself h _
-      (stays_there block_keys w.blocks holding.block (holder_in holding) free block h is);
-}
+give_block_stays w name holding was free =
+    assumption (held, state_stays w name (Approved (Block holding.block)) was, stays_itself w)
+  where
+    h : Holder
+    h = holder_in holding
+
+    held : (block : SizedPrefix) (old : Holder) → get w.blocks block ≡ Some old
+        → StillHeld old (get (insert w.blocks holding.block h) block)
+    held block old is =
+        held_itself old _ (stays_there block_keys w.blocks holding.block h free block old is)
 
 -- the mark of a block may change
 mark_stays : (w : World) (block : SizedPrefix) (private : Bool)
     → Stays w (applied w (SetPrivate block private))
-mark_stays w block private = record {
-  registries = λ name table is. is;
-  entries = λ place a is. given_itself a (get w.entries place) is;
-  requests = λ name case is. asks_itself case (get w.requests name) is;
-  reviews = λ name case is decided expert. (refl, refl);
-  pool = λ prefix there. there;
-  blocks = λ other h is.
-      subst (StillHeld h) (sym (get-update block_keys w.blocks block (with_mark private) other))
-      (by other h is (eq_by_cmp block_cmp other block) refl);
-}
+mark_stays w block private = assumption (held, stays_itself w)
   where
-    by : (other : SizedPrefix) (h : Holder) → get w.blocks other ≡ Some h → (b : Bool)
-        → eq_by_cmp block_cmp other block ≡ b
-        → StillHeld h
-        (cond b (option_map (with_mark private) (get w.blocks block)) (get w.blocks other))
-    by other h is true t =
-        let there = ap (get w.blocks) (sym (tied block_keys other block t)) ∙ is in
-        subst (λ o. StillHeld h (option_map (with_mark private) o)) (sym there) (refl, refl, refl)
-    by other h is false t = held_itself h (get w.blocks other) is
+    held : (other : SizedPrefix) (h : Holder) → get w.blocks other ≡ Some h
+        → StillHeld h (get (update w.blocks block (with_mark private)) other)
+    held other h is =
+        subst (StillHeld h)
+        (sym (get-update block_keys w.blocks block (with_mark private) other))
+        (by (eq_by_cmp block_cmp other block) refl)
+      where
+        by : (b : Bool) → eq_by_cmp block_cmp other block ≡ b
+            → StillHeld h
+            (cond b (option_map (with_mark private) (get w.blocks block)) (get w.blocks other))
+        by true t =
+            let there = ap (get w.blocks) (sym (tied block_keys other block t)) ∙ is in
+            subst (λ o. StillHeld h (option_map (with_mark private) o)) (sym there)
+            (refl, refl, refl)
+        by false t = held_itself h (get w.blocks other) is
 
 -- so may the mark of an entry that expires
 hold_stays : (w : World) (place : Place) (held : Bool) {today : ℕ} → MarksEntry w today place held
     → Stays w (applied w (SetHold place.0 place.1 held))
-hold_stays w place held marks = record {
-  registries = λ name table is. is;
-  entries = λ other a is.
-      subst (StillGiven a)
-      (sym (get-update place_keys w.entries place (with_hold held) other))
-      (by other a is (eq_by_cmp place_cmp other place) refl);
-  requests = λ name case is. asks_itself case (get w.requests name) is;
-  reviews = λ name case is decided expert. (refl, refl);
-  pool = λ prefix there. there;
-  blocks = λ block h is. held_itself h (get w.blocks block) is;
-}
+hold_stays w place held marks = assumption (given, stays_itself w)
   where
-    by : (other : Place) (a : Registration) → get w.entries other ≡ Some a → (b : Bool)
-        → eq_by_cmp place_cmp other place ≡ b
-        → StillGiven a
-        (cond b (option_map (with_hold held) (get w.entries place)) (get w.entries other))
-    by other a is true t =
-        let there : get w.entries place ≡ Some a =
-        ap (get w.entries) (sym (tied place_keys other place t)) ∙ is in
-        let both : Some marks.entry ≡ Some a = sym marks.is_there ∙ there in
-        let same : marks.entry ≡ a = cc in
-        subst (λ o. StillGiven a (option_map (with_hold held) o)) (sym there) (
-          refl,
-          refl,
-          marked_stands a.term held
-              (subst (λ (r : Registration). IsSome r.term.expires) same marks.expires),
-        )
-    by other a is false t = given_itself a (get w.entries other) is
+    given : (other : Place) (a : Registration) → get w.entries other ≡ Some a
+        → StillGiven a (get (update w.entries place (with_hold held)) other)
+    given other a is =
+        subst (StillGiven a)
+        (sym (get-update place_keys w.entries place (with_hold held) other))
+        (by (eq_by_cmp place_cmp other place) refl)
+      where
+        by : (b : Bool) → eq_by_cmp place_cmp other place ≡ b
+            → StillGiven a
+            (cond b (option_map (with_hold held) (get w.entries place)) (get w.entries other))
+        by true t =
+            let there : get w.entries place ≡ Some a =
+            ap (get w.entries) (sym (tied place_keys other place t)) ∙ is in
+            let both : Some marks.entry ≡ Some a = sym marks.is_there ∙ there in
+            let same : marks.entry ≡ a = cc in
+            subst (λ o. StillGiven a (option_map (with_hold held) o)) (sym there) (
+              refl,
+              refl,
+              marked_stands a.term held
+                  (subst (λ (r : Registration). IsSome r.term.expires) same marks.expires),
+            )
+        by false t = given_itself a (get w.entries other) is
 
 -- ---- Each change of a step
 

@@ -230,16 +230,25 @@ module _ (w : World) (today : ℕ) (account : List ℕ) (entry : Entry) where
   not_new registry a same free is =
       let gone = (λ i. get w.entries (same i, entry.value)) ∙ free in absurd (cc)
 
-  -- the entry that is kept is the one that stands
-  kept_one : (registry : List ℕ) (v : ℕ) (own a : Registration) (term : Term)
+  -- the entry that is kept is the one that stands, in the term to which it is moved
+  kept_one : (ask : Ask) (registry : List ℕ) (v : ℕ) (own a : Registration) (term : Term)
       → IsEntry account registry own.label term entry → entry.value ≡ v
       → IsOwnEntry w account registry v own → get w.entries (place_of entry) ≡ Some a
-      → (own ≡ a) × ((registry, v) ≡ place_of entry)
-  kept_one registry v own a term entry_is at_v stands is =
+      → ((registry, v) ≡ place_of entry → own ≡ a
+      → MovesTerm (place_of entry) today ask a.term entry.term)
+      → Moves today account ask a entry
+  kept_one ask registry v own a term entry_is at_v stands is moves =
       let place : (registry, v) ≡ place_of entry =
       sym (λ i. (entry_is.registry_is i, at_v i)) in
       let both : Some own ≡ Some a = sym stands.stands ∙ ap (get w.entries) place ∙ is in
-      (cc, place)
+      let same : own ≡ a = cc in
+      let mine = ap (λ (r : Registration). r.assignee) (sym same) ∙ stands.own in
+      record {
+        label = entry_is.label_is ∙ ap (λ (r : Registration). r.label) same;
+        assignee = entry_is.assignee_is ∙ sym mine;
+        own = mine;
+        term = moves place same;
+      }
 
   -- where an entry stands, it is this one that is given
   pub given_moves : (ask : Ask) → IsDuly w today account ask entry → (a : Registration)
@@ -247,32 +256,19 @@ module _ (w : World) (today : ℕ) (account : List ℕ) (entry : Entry) where
   given_moves (Code ask) duly a is = not_new ask.registry a duly.0.registry_is duly.1.free is
   given_moves (Early ask) duly a is = not_new ask.registry a duly.0.registry_is duly.1.free is
   given_moves (Renew ask) duly a is =
-      let one = kept_one ask.registry ask.value duly.1 a duly.2 duly.3 duly.0 duly.4.entry is in
-      let own = ap (λ (r : Registration). r.assignee) (sym one.0) ∙ duly.4.entry.own in
-      record {
-        label = duly.3.label_is ∙ ap (λ (r : Registration). r.label) one.0;
-        assignee = duly.3.assignee_is ∙ sym own;
-        own = own;
-        term = (
-          one.1,
-          ap (λ (r : Registration). renewal r.term today (is_some ask.iesg)) (sym one.0)
-              ∙ duly.5
-              ∙ ap Ok (sym duly.3.term_is),
-        );
-      }
+      kept_one (Renew ask) ask.registry ask.value duly.1 a duly.2 duly.3 duly.0 duly.4.entry is
+      (λ place same. (
+        place,
+        ap (λ (r : Registration). renewal r.term today (is_some ask.iesg)) (sym same) ∙ duly.5
+            ∙ ap Ok (sym duly.3.term_is),
+      ))
   given_moves (Permanent ask) duly a is =
-      let one = kept_one ask.registry ask.value duly.1 a duly.2 duly.3 duly.0 duly.4.entry is in
-      let own = ap (λ (r : Registration). r.assignee) (sym one.0) ∙ duly.4.entry.own in
-      record {
-        label = duly.3.label_is ∙ ap (λ (r : Registration). r.label) one.0;
-        assignee = duly.3.assignee_is ∙ sym own;
-        own = own;
-        term = (
-          one.1,
-          ap (λ (r : Registration). settlement r.term) (sym one.0) ∙ duly.5
-              ∙ ap Ok (sym duly.3.term_is),
-        );
-      }
+      kept_one (Permanent ask) ask.registry ask.value duly.1 a duly.2 duly.3 duly.0 duly.4.entry is
+      (λ place same. (
+        place,
+        ap (λ (r : Registration). settlement r.term) (sym same) ∙ duly.5
+            ∙ ap Ok (sym duly.3.term_is),
+      ))
   given_moves (Block ask) duly a is = absurd duly
 
   -- so what stood there is still given

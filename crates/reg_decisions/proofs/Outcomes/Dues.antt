@@ -248,15 +248,23 @@ module _ (digest_of : List ℕ → List ℕ) (w : World) (caller : Option (List 
   own_about reference cap is_there name is =
       ap Some is ∙ sym (ap (λ existing. own_name existing reference) is_there)
 
-  -- what is so where a rule makes a change is so of the change that was made
+  -- a change of an accepted command is due where, by what is so where the rule makes it, it is due,
+  -- made by the command and about what that is about, and has its forms from the command
   due_by : {rule : Rule} {told : Decision → Content} {o : Outcome} {change : Change}
-      {command : Command} → Comes rule told o → o.change ≡ Some change
-      → ((facts : rule.made) → IsDue digest_of w caller moment command (rule.change facts))
+      {command : Command} → is_in_clock moment ≡ true → Comes rule told o
+      → o.change ≡ Some change
+      → ((facts : rule.made) → Due w caller moment (rule.change facts)
+      × IsMadeBy command (rule.change facts)
+      × (change_about (rule.change facts) ≡ about (cap_at w caller) command)
+      × (GivesDigests digest_of → has_command_form command ≡ true
+      → has_change_form (rule.change facts) ≡ true))
       → IsDue digest_of w caller moment command change
   due_by {rule = rule} {told = told} {o = o} {change = change}
-      {command = command} comes made each =
+      {command = command} is_open comes made each =
       let is = makes rule told o change comes made in
-      subst (IsDue digest_of w caller moment command) is.1 (each is.0)
+      let so = each is.0 in
+      subst (IsDue digest_of w caller moment command) is.1
+      (record { is_open = is_open; due = so.0; by = so.1; about = so.2; form = so.3 })
 
   abbrev was_pending : {name : RequestName} {So : Case → Type 0}
       (row : Row (get w.requests name) So)
@@ -346,44 +354,32 @@ module _ (digest_of : List ℕ → List ℕ) (w : World) (caller : Option (List 
   due_so (Applicant (applicant.OwnOne reference)) o change a made =
       absurd (nothing_made a.so.1.so made)
   due_so (Applicant (applicant.Submit reference ask)) o change a made =
-      due_by a.so.1 made (λ facts. record {
-        is_open = a.is_open;
-        due = (record { serves = a.so.0; own = refl }, facts.0, facts.1, facts.2);
-        by = tt;
-        about = own_about reference a.so.0.cap a.so.0.is_there _ refl;
-        form = λ digests form. form;
-      })
+      due_by a.is_open a.so.1 made (λ facts. (
+        (record { serves = a.so.0; own = refl }, facts.0, facts.1, facts.2),
+        tt,
+        own_about reference a.so.0.cap a.so.0.is_there _ refl,
+        λ digests form. form,
+      ))
   due_so (Applicant (applicant.Withdraw reference)) o change a made =
-      due_by a.so.1.so made (λ pending. record {
-        is_open = a.is_open;
-        due = (was_pending a.so.1 pending, record { serves = a.so.0; own = refl });
-        by = tt;
-        about = own_about reference a.so.0.cap a.so.0.is_there _ refl;
-        form = λ digests form. refl;
-      })
+      due_by a.is_open a.so.1.so made (λ pending. (
+        (was_pending a.so.1 pending, record { serves = a.so.0; own = refl }),
+        tt,
+        own_about reference a.so.0.cap a.so.0.is_there _ refl,
+        λ digests form. refl,
+      ))
   due_so (Applicant applicant.Holdings) o change a made = absurd (nothing_made a.so.1 made)
   due_so (Applicant (applicant.SetListing block private)) o change a made =
       let is = a.so.1 in
-      due_by is.so made (λ other. record {
-        is_open = a.is_open;
-        due = record {
-          serves = a.so.0;
-          holder = is.holder;
-          is_there = is.is_there;
-          own = is.own;
-        };
-        by = tt;
-        about = refl;
-        form = λ digests form. refl;
-      })
+      let marks : Marks w caller moment block =
+      record { serves = a.so.0; holder = is.holder; is_there = is.is_there; own = is.own } in
+      due_by a.is_open is.so made (λ other. (marks, tt, refl, λ digests form. refl))
   due_so (Applicant (applicant.SetAgent agent reads)) o change a made =
-      due_by a.so.1 made (λ facts. record {
-        is_open = a.is_open;
-        due = (record { serves = a.so.0; own = refl }, facts.0, facts.1);
-        by = refl;
-        about = refl;
-        form = λ digests form. form;
-      })
+      due_by a.is_open a.so.1 made (λ facts. (
+        (record { serves = a.so.0; own = refl }, facts.0, facts.1),
+        refl,
+        refl,
+        λ digests form. form,
+      ))
   due_so (Applicant applicant.Agents) o change a made = absurd (nothing_made a.so.1 made)
   due_so (Applicant applicant.Principals) o change a made = absurd (nothing_made a.so.1 made)
   due_so (Applicant (applicant.PrincipalRows principal)) o change a made =
@@ -391,59 +387,47 @@ module _ (digest_of : List ℕ → List ℕ) (w : World) (caller : Option (List 
   due_so (Expert expert.Queue) o change a made = absurd (nothing_made a.so.1 made)
   due_so (Expert (expert.Advise account reference advice)) o change a made =
       let is = a.so.1 in
-      due_by is.so made (λ pending. record {
-        is_open = a.is_open;
-        due = (
+      due_by a.is_open is.so made (λ word. (
+        (
           record { serves = a.so.0; own = refl },
-          record {
-            case = is.case;
-            is_there = is.is_there;
-            state =
-                pending_word is.case.state pending;
-          },
+          record { case = is.case; is_there = is.is_there; state = pending_word is.case.state word },
           is.assigned,
-        );
-        by = tt;
-        about = refl;
-        form = λ digests form.
-            second_so (is_name account && is_name reference) (has_advice_form advice) form;
-      })
+        ),
+        tt,
+        refl,
+        λ digests form.
+            second_so (is_name account && is_name reference) (has_advice_form advice) form,
+      ))
   due_so (Clerk clerk.AllRequests) o change a made = absurd (nothing_made a.so.1 made)
   due_so (Clerk (clerk.OneRequest account reference)) o change a made =
       absurd (nothing_made a.so.1.so made)
   due_so (Clerk (clerk.AssignExpert account reference expert)) o change a made =
-      due_by a.so.1.so made (λ facts. record {
-        is_open = a.is_open;
-        due = (a.so.0, was_pending a.so.1 facts.0, facts.2, facts.1);
-        by = tt;
-        about = refl;
-        form = λ digests form.
-            second_so (is_name account && is_name reference) (is_name expert) form;
-      })
+      due_by a.is_open a.so.1.so made (λ facts. (
+        (a.so.0, was_pending a.so.1 facts.0, facts.2, facts.1),
+        tt,
+        refl,
+        λ digests form. second_so (is_name account && is_name reference) (is_name expert) form,
+      ))
   due_so (Clerk (clerk.Approve account reference)) o change a made =
-      due_by a.so.1.so made (λ facts. record {
-        is_open = a.is_open;
-        due = gives_due a.so.0 (was_pending a.so.1 facts.0) facts.2.award facts.2.needs_advice
-            facts.3 facts.1;
-        by = award_by (account, reference) (utc_day moment) facts.2.award;
-        about = award_about (account, reference) (utc_day moment) facts.2.award;
-        form = λ digests form.
-            award_form (account, reference) (utc_day moment) facts.2.award;
-      })
+      let name : RequestName = (account, reference) in
+      due_by a.is_open a.so.1.so made (λ facts. (
+        gives_due a.so.0 (was_pending a.so.1 facts.0) facts.2.award facts.2.needs_advice facts.3
+            facts.1,
+        award_by name (utc_day moment) facts.2.award,
+        award_about name (utc_day moment) facts.2.award,
+        λ digests form. award_form name (utc_day moment) facts.2.award,
+      ))
   due_so (Clerk (clerk.Decline account reference reason)) o change a made =
-      due_by a.so.1.so made (λ pending. record {
-        is_open = a.is_open;
-        due = (was_pending a.so.1 pending, a.so.0);
-        by = tt;
-        about = refl;
-        form = λ digests form.
-            second_so (is_name account && is_name reference) (is_text reason) form;
-      })
+      due_by a.is_open a.so.1.so made (λ pending. (
+        (was_pending a.so.1 pending, a.so.0),
+        tt,
+        refl,
+        λ digests form. second_so (is_name account && is_name reference) (is_text reason) form,
+      ))
   due_so (Clerk (clerk.SetHold name value held)) o change a made =
       let is = a.so.1.so in
-      due_by is.so made (λ facts. record {
-        is_open = a.is_open;
-        due = (
+      due_by a.is_open is.so made (λ facts. (
+        (
           a.so.0,
           record {
             entry = is.row;
@@ -452,46 +436,36 @@ module _ (digest_of : List ℕ → List ℕ) (w : World) (caller : Option (List 
             turned = facts.1;
             stood = facts.2;
           },
-        );
-        by = refl;
-        about = refl;
-        form = λ digests form. refl;
-      })
+        ),
+        refl,
+        refl,
+        λ digests form. refl,
+      ))
   due_so (Clerk (clerk.Define name table)) o change a made =
-      due_by a.so.1 made (λ free. record {
-        is_open = a.is_open;
-        due = (a.so.0, free);
-        by = tt;
-        about = refl;
-        form = λ digests form. form;
-      })
+      due_by a.is_open a.so.1 made (λ free. ((a.so.0, free), tt, refl, λ digests form. form))
   due_so (Clerk (clerk.AddPool prefix)) o change a made =
-      due_by a.so.1 made (λ facts. record {
-        is_open = a.is_open;
-        due = (a.so.0, facts.0, facts.1);
-        by = tt;
-        about = refl;
-        form = λ digests form. refl;
-      })
+      due_by a.is_open a.so.1 made (λ facts. (
+        (a.so.0, facts.0, facts.1),
+        tt,
+        refl,
+        λ digests form. refl,
+      ))
   due_so (Clerk (clerk.Grant token cap)) o change a made =
-      due_by a.so.1 made (λ free. record {
-        is_open = a.is_open;
-        due = (a.so.0, free);
-        by = tt;
-        about = refl;
-        form = λ digests form.
-            let its_token = first_so (is_token token) (has_cap_form cap) form in
-            both_true (digests token its_token)
-            (second_so (is_token token) (has_cap_form cap) form);
-      })
+      due_by a.is_open a.so.1 made (λ free. (
+        (a.so.0, free),
+        tt,
+        refl,
+        λ digests form.
+            both_true (digests token (first_so (is_token token) (has_cap_form cap) form))
+            (second_so (is_token token) (has_cap_form cap) form),
+      ))
   due_so (Clerk (clerk.Revoke token)) o change a made =
-      due_by a.so.1 made (λ facts. record {
-        is_open = a.is_open;
-        due = (a.so.0, facts.0, facts.1);
-        by = tt;
-        about = refl;
-        form = λ digests form. refl;
-      })
+      due_by a.is_open a.so.1 made (λ facts. (
+        (a.so.0, facts.0, facts.1),
+        tt,
+        refl,
+        λ digests form. refl,
+      ))
 
   -- each change that a step makes is due
   pub changes_due : (command : Command) (change : Change)

@@ -13,7 +13,7 @@ use Rattle.reg_core.specs.Link.{agent_rows, principal_names}
 use Rattle.reg_core.specs.Holding.{holder_in, holding_row, holding_rows, listed_rows, with_mark}
 use Rattle.reg_core.specs.Page.{page}
 use Rattle.reg_core.specs.Ask.{same_ask}
-use Rattle.reg_core.specs.Answer.{Answer, Outcome, reply_of, change_of, unchanged, own_row, desk_row, item}
+use Rattle.reg_core.specs.Answer.{Answer, Outcome, reply_of, change_of, unchanged, own_answer, own_row, desk_row, item}
 use Rattle.reg_core.specs.Capability.{same_kind}
 use Rattle.reg_core.specs.Command.{kind_of}
 use Rattle.reg_core.specs.File.{file}
@@ -25,7 +25,7 @@ use Rattle.reg_blocks.specs.Block.{SizedPrefix}
 use Rattle.reg_core.specs.Request.{case_of, request_rows}
 use Rattle.reg_core.specs.Rules.{listing_rule, link_rule, mark_rule}
 use Rattle.reg_core.specs.Step.{answer_to, step}
-use Rattle.reg_core.specs.View.{Queued, as_queued, published, requests_by, requests_of, holdings_of, queue_of, agents_of, principals_of, principal_rows_of, cap_at}
+use Rattle.reg_core.specs.View.{Queued, as_queued, published, personal, requests_by, requests_of, holdings_of, queue_of, agents_of, principals_of, principal_rows_of, cap_at}
 use Rattle.reg_core.specs.World.{World, RequestName, Place, Link, in_state, applied_if}
 use Rattle.reg_core.specs.declared.ask.Ask.{Ask}
 use Rattle.reg_core.specs.declared.capability.Cap.{Cap}
@@ -169,6 +169,12 @@ module _ (digest_of : List ℕ → List ℕ) (v : World) (moment : ℕ) (now : i
           subst (λ a. get v.requests (a, reference) ≡ Some (case_of row)) (may.account own.0 own.1)
           (row_at v own.0.account reference row own.2)
 
+      -- who may act is answered by its own rows
+      acting : (command : ApplicantCommand)
+          → answer_to digest_of v caller moment (Applicant command)
+          ≡ own_answer (published v) may.cap.account (personal may.cap.account v) command
+      acting command = rw (now, may.is_there, may.late, may.of_kind) refl
+
       -- a request that is there with this ask is accepted again
       pub submit_again : (reference : List ℕ) (ask : Ask) (case : Case)
           → get v.requests (may.cap.account, reference) ≡ Some case → case.ask ≡ ask
@@ -177,33 +183,20 @@ module _ (digest_of : List ℕ → List ℕ) (v : World) (moment : ℕ) (now : i
       submit_again reference ask case is asks =
           let same : same_ask case.ask ask ≡ true =
           subst (λ a. same_ask case.ask a ≡ true) asks (same_ask-itself case.ask) in
-          rw (
-            now,
-            may.is_there,
-            may.late,
-            may.of_kind,
-            own_request may.cap.account reference v,
-            is,
-            same,
-          ) refl
+          acting (Submit reference ask)
+          ∙ rw (own_request may.cap.account reference v, is, same) refl
 
       own_again : (command : ApplicantCommand) (content : Content)
           → IsDone digest_of v by day (Applicant command) content
           → OnlyTells (answer_to digest_of v caller moment (Applicant command))
       own_again Own (content.Rows rows) so = (
         content.Rows (request_rows (requests_of may.cap.account v)),
-        rw (now, may.is_there, may.late, may.of_kind) refl,
+        acting Own,
       )
       own_again (OwnOne reference) (content.Row row) so = (
         own_row (may.cap.account, reference) (case_of row),
-        rw (
-          now,
-          may.is_there,
-          may.late,
-          may.of_kind,
-          own_request may.cap.account reference v,
-          mine reference row so,
-        ) refl,
+        acting (OwnOne reference)
+            ∙ rw (own_request may.cap.account reference v, mine reference row so) refl,
       )
       own_again (Submit reference ask) (content.Made row) so = (
         own_row (may.cap.account, reference) (case_of row),
@@ -215,19 +208,12 @@ module _ (digest_of : List ℕ → List ℕ) (v : World) (moment : ℕ) (now : i
       )
       own_again (Withdraw reference) (content.Row row) so = (
         own_row (may.cap.account, reference) (case_of row),
-        rw (
-          now,
-          may.is_there,
-          may.late,
-          may.of_kind,
-          own_request may.cap.account reference v,
-          mine reference row so.1,
-          so.0,
-        ) refl,
+        acting (Withdraw reference)
+            ∙ rw (own_request may.cap.account reference v, mine reference row so.1, so.0) refl,
       )
       own_again Holdings (content.Holdings rows) so = (
         content.Holdings (holding_rows (holdings_of may.cap.account v)),
-        rw (now, may.is_there, may.late, may.of_kind) refl,
+        acting Holdings,
       )
       own_again (SetListing block private) (content.Held row) so =
           let h = holder_in row in
@@ -235,14 +221,8 @@ module _ (digest_of : List ℕ → List ℕ) (v : World) (moment : ℕ) (now : i
           let mine = so.4.0 ∙ may.account so.2 so.3 in
           let there = own_holding may.cap.account v block h at mine in (
             content.Held (holding_row block (with_mark private h)),
-            rw (
-              now,
-              may.is_there,
-              may.late,
-              may.of_kind,
-              there,
-              marked_already block private row.private so.1,
-            ) refl,
+            acting (SetListing block private)
+                ∙ rw (there, marked_already block private row.private so.1) refl,
           )
       own_again (SetAgent agent reads) (content.Agent given is) so =
           let said = so.2 in
@@ -251,23 +231,20 @@ module _ (digest_of : List ℕ → List ℕ) (v : World) (moment : ℕ) (now : i
           let there = own_agent may.cap.account agent v
           ∙ ap (λ a. contains_key v.agents (a, agent)) (sym mine) ∙ said.is in (
             content.Agent agent reads,
-            rw (
-              now,
-              may.is_there,
-              may.late,
-              may.of_kind,
-              other,
-              said_already (may.cap.account, agent) reads
-                  (contains_key (agents_of may.cap.account v) (may.cap.account, agent)) there,
-            ) refl,
+            acting (SetAgent agent reads)
+                ∙ rw (
+                  other,
+                  said_already (may.cap.account, agent) reads
+                      (contains_key (agents_of may.cap.account v) (may.cap.account, agent)) there,
+                ) refl,
           )
       own_again Agents (content.Accounts names) so = (
         content.Accounts (agent_rows (agents_of may.cap.account v)),
-        rw (now, may.is_there, may.late, may.of_kind) refl,
+        acting Agents,
       )
       own_again Principals (content.Accounts names) so = (
         content.Accounts (principal_names (principals_of may.cap.account v)),
-        rw (now, may.is_there, may.late, may.of_kind) refl,
+        acting Principals,
       )
       own_again (PrincipalRows principal) (content.Rows rows) so =
           let there =
@@ -277,7 +254,7 @@ module _ (digest_of : List ℕ → List ℕ) (v : World) (moment : ℕ) (now : i
           (ap is_some (own_principal may.cap.account principal v) ∙ there) in (
             content.Rows
                 (request_rows (requests_by principal (principal_rows_of may.cap.account v))),
-            rw (now, may.is_there, may.late, may.of_kind, link.1) refl,
+            acting (PrincipalRows principal) ∙ rw link.1 refl,
           )
       own_again command content so = absurd so
 

@@ -23,10 +23,12 @@ use Rattle.reg_core.specs.declared.command.ClerkCommand.TheVariants.{AssignExper
 use Rattle.reg_core.specs.declared.command.ExpertCommand.TheVariants.{Advise}
 use Rattle.reg_core.specs.declared.refusal.Refusal.{Refusal}
 use Rattle.reg_core.specs.declared.refusal.Refusal.TheVariants as no
+use Rattle.reg_core.specs.declared.content.Content.{Content}
 use Rattle.reg_core.specs.declared.content.Content.TheVariants.{Item, Desk}
 use Rattle.reg_core.specs.declared.reply.Reply.TheVariants.{Accepted, Refused}
 use Rattle.reg_decisions.proofs.Allowances.{allowance_needs}
 use Rattle.reg_core.specs.declared.request.State.TheVariants.{Pending, Declined}
+use Rattle.reg_core.specs.declared.request.StateWord.{StateWord}
 use Rattle.reg_core.specs.declared.request.StateWord.TheVariants as word
 use Rattle.reg_core.specs.Laws.{clerk_cap}
 use Rattle.reg_core.proofs.Queues.{get-queue_of, found_queued}
@@ -61,6 +63,23 @@ given command w caller = step (λ token. token) w caller 1700000000 command
 abbrev stays : World → Refusal → Stepped
 stays w refusal = record { reply = Refused refusal; world = w }
 
+abbrev tells : World → Content → Stepped
+tells w content = record { reply = Accepted content; world = w }
+
+abbrev on_desk : Ask → Content
+on_desk ask =
+    Desk (record { account = alice; reference = reference; ask = ask; state = Pending })
+
+abbrev with_fine : Ask → StateWord → Content
+with_fine ask word =
+    Item (record {
+      account = alice;
+      reference = reference;
+      ask = ask;
+      word = word;
+      advice = Some fine;
+    })
+
 -- ---- What counts
 
 one_is_for : is_advised (xan ∷ yve ∷ [])
@@ -91,24 +110,12 @@ module _ (w : World) (clerk expert : List ℕ) (ask : Ask)
 
   assigned_now : get w.queue (name, xan) ≡ None
       → given (Clerk (AssignExpert alice reference xan)) w (Some clerk)
-      ≡ record {
-        reply =
-            Accepted (Desk
-            (record { account = alice; reference = reference; ask = ask; state = Pending }));
-        world =
-            applied w (change.Assign alice reference xan);
-      }
+      ≡ tells (applied w (change.Assign alice reference xan)) (on_desk ask)
   assigned_now free = rw (has_clerk, filed, free) refl
 
   assigned_before : get w.queue (name, xan) ≡ Some tt
       → given (Clerk (AssignExpert alice reference xan)) w (Some clerk)
-      ≡ record {
-        reply =
-            Accepted (Desk
-            (record { account = alice; reference = reference; ask = ask; state = Pending }));
-        world =
-            w;
-      }
+      ≡ tells w (on_desk ask)
   assigned_before there = rw (has_clerk, filed, there) refl
 
   -- a request that is not assigned to the expert is as one that is not there
@@ -130,18 +137,7 @@ module _ (w : World) (clerk expert : List ℕ) (ask : Ask)
 
   advised_now : get w.queue (name, xan) ≡ Some tt → get w.advice (name, xan) ≡ None
       → given (Expert (Advise alice reference fine)) w (Some expert)
-      ≡ record {
-        reply =
-            Accepted (Item
-            (record {
-              account = alice;
-              reference = reference;
-              ask = ask;
-              word = word.Pending;
-              advice = Some fine;
-            }));
-        world = applied w (change.Advise alice reference xan fine);
-      }
+      ≡ tells (applied w (change.Advise alice reference xan fine)) (with_fine ask word.Pending)
   advised_now there first =
       let queued : get (queue_of xan w) name ≡ Some (as_queued None (pending ask)) =
       found_queued xan w name (pending ask) filed (ap is_some there)
@@ -160,18 +156,7 @@ module _ (w : World) (expert : List ℕ) (ask : Ask) (has_expert : get w.caps ex
       Some (as_queued old (record { ask = ask; state = Declined (codes "late") }))) said
 
   same_advice_again : given (Expert (Advise alice reference fine)) w (Some expert)
-      ≡ record {
-        reply =
-            Accepted (Item
-            (record {
-              account = alice;
-              reference = reference;
-              ask = ask;
-              word = word.Declined;
-              advice = Some fine;
-            }));
-        world = w;
-      }
+      ≡ tells w (with_fine ask word.Declined)
   same_advice_again = rw (has_expert, queued) refl
 
   other_advice : given (Expert (Advise alice reference bad)) w (Some expert) ≡ stays w no.Closed
