@@ -6,6 +6,9 @@ use Rattle.std.specs.Cmp.Derive.{both_true}
 use Rattle.std.specs.FinMap.{FinMap, get, insert, remove, contains_key}
 use Rattle.std.specs.FinSet.{FinSet}
 use Rattle.std.specs.Ordering.{eq_by_cmp}
+use Rattle.reg_maps.specs.Maps.{text_cmp, same_text, update}
+use Rattle.reg_maps.proofs.KeySets.{each_key, still_in, still_at, insert_passes, update_passes, was_left}
+use Rattle.reg_maps.proofs.MapLaws.{number_keys, text_keys, tied, get-at_insert, get-inserted, insert_keeps, remove_keeps, update_keeps}
 use Rattle.reg_blocks.specs.Block.{SizedPrefix, block_cmp, leading_24}
 use Rattle.reg_blocks.specs.Pool.{is_pool_prefix}
 use Rattle.reg_early.specs.Terms.{may_be_held}
@@ -14,7 +17,6 @@ use Rattle.reg_core.specs.Advice.{has_advice_form}
 use Rattle.reg_core.specs.Ask.{has_ask_form, registry_of}
 use Rattle.reg_core.specs.Entry.{registration_in, with_hold, has_day_form}
 use Rattle.reg_core.specs.Link.{has_link_form}
-use Rattle.reg_core.specs.Maps.{text_cmp, same_text, update}
 use Rattle.reg_core.specs.MayBeGiven.{IsDuly, place_of}
 use Rattle.reg_core.specs.Names.{is_name}
 use Rattle.reg_core.specs.Request.{has_state_form}
@@ -32,10 +34,8 @@ use Rattle.reg_core.specs.declared.request.Given.TheVariants as given
 use Rattle.reg_core.specs.declared.request.State.{State}
 use Rattle.reg_core.specs.declared.request.State.TheVariants.{Pending, Approved, Declined, Withdrawn}
 use Rattle.reg_core.proofs.Keeping.Entries.{duly_fits, value_form, entry_form, entry_open, entry_own}
-use Rattle.reg_core.proofs.KeySets.{each_key, still_in, still_at, insert_passes, update_passes}
-use Rattle.reg_core.proofs.Links.{was_left}
 use Rattle.reg_core.proofs.Terms.{held_form}
-use Rattle.reg_core.proofs.MapLaws.{number_keys, text_keys, name_keys, place_keys, seat_keys, tied, get-at_insert, get-inserted, insert_keeps, remove_keeps, update_keeps, link_keys}
+use Rattle.reg_core.proofs.KeyOrders.{name_keys, place_keys, seat_keys, link_keys}
 
 -- ---- Capabilities and registries
 

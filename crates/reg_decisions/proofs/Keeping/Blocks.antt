@@ -4,6 +4,9 @@ use Rattle.std.specs.Prelude.{Some, IsSome, is_some}
 use Rattle.std.specs.Cmp.{first_so, second_so}
 use Rattle.std.specs.Cmp.Derive.{both_true}
 use Rattle.std.specs.FinMap.{get, insert, contains_key}
+use Rattle.reg_maps.specs.Maps.{update}
+use Rattle.reg_maps.proofs.KeySets.{each_key, still_at, was_at, insert_passes, update_passes}
+use Rattle.reg_maps.proofs.MapLaws.{get-inserted, insert_keeps, update_keeps}
 use Rattle.reg_blocks.specs.Block.{SizedPrefix, Clash, is_block, leading_24}
 use Rattle.reg_ranges.specs.Texts.{is_text}
 use Rattle.reg_core.specs.Ask.{has_block_form, has_ask_form, same_size}
@@ -11,7 +14,6 @@ use Rattle.reg_core.specs.Allowance.{holding_asked}
 use Rattle.reg_core.specs.Award.{holding_from}
 use Rattle.reg_core.specs.BlocksGiven.{IsDueIn}
 use Rattle.reg_core.specs.Holding.{holder_in, with_mark}
-use Rattle.reg_core.specs.Maps.{update}
 use Rattle.reg_core.specs.Names.{is_name}
 use Rattle.reg_core.specs.Request.{has_state_form}
 use Rattle.reg_core.specs.WellKept.{WellKept, CanApply, has_request_form, has_holding_form, is_held_by, stands_in}
@@ -24,10 +26,9 @@ use Rattle.reg_core.specs.declared.holding.Holder.{Holder}
 use Rattle.reg_core.specs.declared.request.Given.TheVariants as given
 use Rattle.reg_core.specs.declared.request.State.TheVariants.{Approved}
 use Rattle.reg_decisions.proofs.Blocks.{due_in_pool, due_apart, due_is_new}
-use Rattle.reg_core.proofs.KeySets.{each_key, still_at, was_at, insert_passes, update_passes}
-use Rattle.reg_core.proofs.MapLaws.{name_keys, block_keys, get-inserted, insert_keeps, update_keeps}
 use Rattle.reg_core.proofs.SamenessIsDecided.{same_text-itself, same_size-itself}
 use Rattle.reg_core.proofs.Keeping.Changes.{new_state, stands_still, asks_this}
+use Rattle.reg_core.proofs.KeyOrders.{name_keys, block_keys}
 
 pub can_give_block : (w : World) (name : RequestName) (case : Case) (ask : BlockAsk)
     (block : SizedPrefix) → WellKept w → get w.requests name ≡ Some case → case.ask ≡ Block ask
