@@ -5,10 +5,10 @@ use Rattle.std.specs.BTreeMap as tree
 use Rattle.std.specs.BTreeSet.{contains}
 use Rattle.std.specs.FinMap.{get, contains_key}
 use Rattle.std.specs.Ordering.{nat_cmp}
+use Rattle.reg_maps.specs.Maps.{text_cmp}
 use Rattle.reg_blocks.specs.Block.{SizedPrefix, Clash, block_cmp, leading_24}
 use Rattle.reg_ranges.specs.Tables.{Table}
 use Rattle.reg_core.specs.Ask.{registry_of}
-use Rattle.reg_core.specs.Maps.{text_cmp}
 use Rattle.reg_core.specs.MayBeGiven.{place_of}
 use Rattle.reg_core.specs.WellKept.{WellKept, is_registered_to, is_registered_at, is_held_by, is_size_asked, stands_in}
 use Rattle.reg_core.specs.World.{World, RequestName, Seat, link_cmp, name_cmp, place_cmp, seat_cmp}

@@ -12,11 +12,13 @@ use Rattle.std.specs.List.{list_any}
 use Rattle.std.specs.Map.{lookup}
 use Rattle.std.specs.Ordering.{nat_cmp, eq_by_cmp}
 use Rattle.std.specs.declared.cmp.Ordering.{Ordering}
+use Rattle.reg_maps.specs.Maps.{text_cmp, replaced, update}
+use Rattle.reg_maps.proofs.MapLaws.{IsKeyOrder, text_keys, number_keys, tied, get-at_insert}
+use Rattle.reg_maps.proofs.KeySets.{contains-changed}
 use Rattle.reg_blocks.specs.Block.{SizedPrefix, block_cmp}
 use Rattle.reg_ranges.specs.Tables.{Table}
 use Rattle.reg_core.specs.Entry.{registration_in, with_hold}
 use Rattle.reg_core.specs.Holding.{holder_in}
-use Rattle.reg_core.specs.Maps.{text_cmp, replaced, update}
 use Rattle.reg_core.specs.MayBeGiven.{place_of}
 use Rattle.reg_core.specs.Minutes.{ask_with, with_minute}
 use Rattle.reg_core.specs.Request.{case_of}
@@ -30,10 +32,10 @@ use Rattle.reg_core.specs.declared.entry.Registration.{Registration}
 use Rattle.reg_core.specs.declared.holding.Holding.{Holding}
 use Rattle.reg_core.specs.declared.request.Case.{Case}
 use Rattle.reg_core.specs.declared.request.Request.{Request}
-use Rattle.reg_core.proofs.MapLaws.{IsKeyOrder, text_keys, number_keys, name_keys, place_keys, seat_keys, block_keys, link_keys, tied, get-at_insert}
+use Rattle.reg_core.proofs.KeyOrders.{name_keys, place_keys, seat_keys, block_keys, link_keys}
 use Rattle.reg_vacancies.specs.Vacancies.{MayBeOf}
 use Rattle.reg_vacancies.specs.declared.vacancies.Vacancies.{Vacancies}
-use Rattle.reg_vacancies.proofs.Carrying.{contains-changed, keys_decide}
+use Rattle.reg_vacancies.proofs.Carrying.{keys_decide}
 use Rattle.reg_audit.specs.Audits.{Keeps, account_of, awaits_minute, standing_of}
 use Rattle.reg_audit.specs.Rows.{is_unminuted, lacks_minute, with_row, name_of, seat_of, IsInTurn, IsNew, Fits}
 use Rattle.reg_audit.specs.declared.requests.Standing.{Standing}

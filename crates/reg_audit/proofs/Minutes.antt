@@ -5,11 +5,12 @@ use Rattle.std.specs.Cmp.{first_so}
 use Rattle.std.specs.FinMap.{FinMap, get}
 use Rattle.std.specs.Ordering.{eq_by_cmp}
 use Rattle.std.specs.declared.cmp.Ordering.{Ordering}
+use Rattle.reg_maps.specs.Maps.{update}
+use Rattle.reg_maps.proofs.MapLaws.{IsKeyOrder, get-update, tied}
 use Rattle.reg_ranges.specs.Texts.{is_text}
 use Rattle.reg_blocks.specs.Block.{block_cmp}
 use Rattle.reg_blocks.specs.declared.size.Size.{Size}
 use Rattle.reg_core.specs.Ask.{has_ask_form, has_note_form, has_renewal_form, registry_of}
-use Rattle.reg_core.specs.Maps.{update}
 use Rattle.reg_core.specs.Minutes.{ask_with, with_minute}
 use Rattle.reg_core.specs.Names.{is_name}
 use Rattle.reg_core.specs.Request.{has_state_form}
@@ -24,7 +25,6 @@ use Rattle.reg_core.specs.declared.request.Case.{Case}
 use Rattle.reg_core.specs.declared.request.Given.TheVariants as given
 use Rattle.reg_core.specs.declared.request.State.{State}
 use Rattle.reg_core.specs.declared.request.State.TheVariants.{Pending, Approved, Declined, Withdrawn}
-use Rattle.reg_core.proofs.MapLaws.{IsKeyOrder, get-update, tied}
 use Rattle.reg_audit.specs.Rows.{lacks_minute}
 
 -- a row that is there is so after a change at a key, or is changed

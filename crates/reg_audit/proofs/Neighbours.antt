@@ -12,8 +12,8 @@ use Rattle.std.proofs.lemmas.Bool.Decides.{nat_tests}
 use Rattle.reg_blocks.specs.Block.{SizedPrefix, Clash, block_cmp, first_address, last_address}
 use Rattle.reg_blocks.proofs.BlocksAscend.{block_cmp-total}
 use Rattle.reg_blocks.proofs.EndsDecideClash.{apart_before, clash_by_ends}
-use Rattle.reg_core.proofs.MapLaws.{block_keys}
 use Rattle.reg_audit.specs.Blocks.{Holders, IsHeld, AreApart, IsBefore, IsFrom, IsBeside}
+use Rattle.reg_core.proofs.KeyOrders.{block_keys}
 
 -- ---- The order
 

@@ -5,13 +5,15 @@ use Rattle.std.specs.Cmp.{second_so}
 use Rattle.std.specs.FinMap.{FinMap, get, insert, contains_key}
 use Rattle.std.specs.Ordering.{eq_by_cmp}
 use Rattle.std.specs.declared.cmp.Ordering.{Ordering}
+use Rattle.reg_maps.specs.Maps.{same_text}
+use Rattle.reg_maps.proofs.KeySets.{each_key, is_inserted, still_at, still_in}
+use Rattle.reg_maps.proofs.MapLaws.{IsKeyOrder, text_keys, number_keys, tied, get-at_insert, get-inserted, insert_keeps, update_keeps}
 use Rattle.reg_blocks.specs.Block.{SizedPrefix, Clash, leading_24}
 use Rattle.reg_ranges.specs.Texts.{is_text}
 use Rattle.reg_early.specs.Terms.{may_be_held}
 use Rattle.reg_core.specs.Entry.{registration_in, with_hold}
 use Rattle.reg_core.specs.Holding.{holder_in}
 use Rattle.reg_core.specs.Link.{has_link_form}
-use Rattle.reg_core.specs.Maps.{same_text}
 use Rattle.reg_core.specs.MayBeGiven.{place_of}
 use Rattle.reg_core.specs.Minutes.{with_minute}
 use Rattle.reg_core.specs.Names.{is_name}
@@ -24,8 +26,7 @@ use Rattle.reg_core.specs.declared.holding.Holding.{Holding}
 use Rattle.reg_core.specs.declared.request.Case.{Case}
 use Rattle.reg_core.specs.declared.request.Request.{Request}
 use Rattle.reg_core.proofs.Keeping.Changes.{can_grant, can_define, can_add_pool, can_assign, can_advise}
-use Rattle.reg_core.proofs.KeySets.{each_key, is_inserted, still_at, still_in}
-use Rattle.reg_core.proofs.MapLaws.{IsKeyOrder, text_keys, number_keys, name_keys, place_keys, seat_keys, block_keys, link_keys, tied, get-at_insert, get-inserted, insert_keeps, update_keeps}
+use Rattle.reg_core.proofs.KeyOrders.{name_keys, place_keys, seat_keys, block_keys, link_keys}
 use Rattle.reg_audit.specs.Laws.{IsPart, RowsDecide}
 use Rattle.reg_audit.specs.Rows.{with_row, has_row_form, is_markable, is_unminuted, lacks_minute, IsNew, IsInTurn, Fits, IsApart, name_of, seat_of}
 use Rattle.reg_audit.specs.declared.row.Row.{Row}

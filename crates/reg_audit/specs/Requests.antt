@@ -1,9 +1,9 @@
 -- Whether a request stands by the accounts to whom values and blocks were given.
 use Rattle.std.specs.Prelude.{ℕ, Bool, true, false, ◌&&◌, List, Option, Some, None}
 use Rattle.std.specs.BTreeMap.{BTreeMap, get}
+use Rattle.reg_maps.specs.Maps.{same_text}
 use Rattle.reg_blocks.specs.Block.{block_cmp}
 use Rattle.reg_core.specs.Ask.{registry_of}
-use Rattle.reg_core.specs.Maps.{same_text}
 use Rattle.reg_core.specs.WellKept.{is_size_asked}
 use Rattle.reg_core.specs.World.{Place, place_cmp}
 use Rattle.reg_core.specs.declared.ask.Ask.{Ask}

@@ -2,12 +2,12 @@
 use Rattle.std.specs.Prelude.{◌≡◌, ℕ, Bool, true, false, ◌&&◌, ◌^◌, nat_lt, not, List, Option, Some, None, IsSome, IsTrue, is_some}
 use Rattle.std.specs.FinMap as map
 use Rattle.std.specs.FinMap.{FinMap, get, contains_key, insert}
+use Rattle.reg_maps.specs.Maps.{same_text, update}
 use Rattle.reg_blocks.specs.Block.{SizedPrefix, Clash, block_cmp, leading_24}
 use Rattle.reg_blocks.specs.Pool.{is_pool_prefix}
 use Rattle.reg_core.specs.Advice.{has_advice_form}
 use Rattle.reg_core.specs.Entry.{registration_in, with_hold}
 use Rattle.reg_core.specs.Holding.{holder_in}
-use Rattle.reg_core.specs.Maps.{same_text, update}
 use Rattle.reg_core.specs.MayBeGiven.{place_of}
 use Rattle.reg_core.specs.Minutes.{is_bare, is_renewal, with_minute}
 use Rattle.reg_core.specs.Names.{is_name}

@@ -1,9 +1,9 @@
 //! Which values of registries may have entries.
 ghost use Rattle.std.specs.Prelude.{◌≡◌, is_ok};
 ghost use Rattle.std.specs.BTreeMap.{get};
+ghost use Rattle.reg_maps.specs.Maps.{text_cmp};
 ghost use Rattle.reg_ranges.specs.Requirements.{is_closed_policy};
 ghost use Rattle.reg_core.specs.Allowance.{open_policy};
-ghost use Rattle.reg_core.specs.Maps.{text_cmp};
 ghost use Rattle.reg_core.specs.WellKept.{is_open_at};
 
 use reg_core::text::Name;

@@ -1,5 +1,5 @@
 -- Numbers are read and written digit by digit, the first one first.
-use Rattle.std.proofs.Common.{◌≡◌, ℕ, suc, ◌+◌, ◌-◌, ◌*◌, ◌/◌, ◌%◌, ◌^◌, ◌<◌, ◌≤◌, true, ◌&&◌, List, [], ◌∷◌, ◌++◌, length, get_or, take, refl, sym, ap, ◌∙◌, add-one, lit<, arith}
+use Rattle.std.proofs.Common.{◌≡◌, ℕ, suc, ◌+◌, ◌-◌, ◌*◌, ◌/◌, ◌%◌, ◌^◌, ◌<◌, ◌≤◌, true, List, [], ◌∷◌, ◌++◌, length, get_or, take, refl, sym, ap, ◌∙◌, add-one, lit<, arith}
 use Rattle.std.specs.List.{list_all}
 use Rattle.std.specs.Char.{digit_value, is_digit}
 use Rattle.std.specs.Fmt.{digit_glyph}
@@ -9,6 +9,7 @@ use Rattle.std.proofs.lemmas.Bool.Decides.{nat_tests}
 use Rattle.std.proofs.lemmas.Nat.{shr-shr}
 use Rattle.std.proofs.lemmas.List.Folds.{list_all_more}
 use Rattle.std.proofs.lemmas.Int.Digits.{digits_value_more}
+use Rattle.std.proofs.lemmas.Bool.{and_from}
 use Rattle.reg_blocks.specs.Digits.{hex_digits}
 
 -- value is what the first i digits write
@@ -27,9 +28,6 @@ fits_more i value digit h small = rw (add-one, pow-suc) (omega arith)
 passes : (byte : ℕ) → digit_value byte < 16 → is_digit byte 16 ≡ true
 passes byte h = grind (arith, nat_tests)
 
-both : (a b : _) → a ≡ true → b ≡ true → (a && b) ≡ true
-both a b p q = rw (p, q) refl
-
 pub IsRead-more : (digits : List ℕ) (i value digit : ℕ) → i < length digits → IsRead digits i value
     → digit ≡ digit_value (get_or digits i 0) → digit < 16
     → IsRead digits (i + 1) (value * 16 + digit)
@@ -37,7 +35,7 @@ IsRead-more digits i value digit within before e small =
     record {
       digits_only =
           list_all_more (λ d. is_digit d 16) digits i 0 within
-          ∙ both _ _ before.digits_only (passes (get_or digits i 0) (omega arith));
+          ∙ and_from _ _ before.digits_only (passes (get_or digits i 0) (omega arith));
       value_is = rw (before.value_is, e) (sym (digits_value_more 16 digits i within));
       fits = fits_more i value digit before.fits small;
     }

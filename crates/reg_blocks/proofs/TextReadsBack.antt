@@ -1,5 +1,5 @@
 -- The texts of prefixes and of blocks read as these.
-use Rattle.std.proofs.Common.{◌≡◌, ℕ, zero, suc, ◌/◌, ◌%◌, ◌^◌, ◌<◌, Bool, true, ◌&&◌, [], ◌∷◌, length, refl, ◌∙◌, length-append, arith}
+use Rattle.std.proofs.Common.{◌≡◌, ℕ, zero, suc, ◌/◌, ◌%◌, ◌^◌, ◌<◌, true, [], ◌∷◌, length, refl, ◌∙◌, length-append, arith}
 use Rattle.std.specs.Prelude.{Some, IsTrue}
 use Rattle.std.specs.List.{list_all}
 use Rattle.std.specs.Char.{digit_value, is_digit}
@@ -9,6 +9,7 @@ use Rattle.std.proofs.Math.Nat.{pow-suc}
 use Rattle.std.proofs.lemmas.Bool.Decides.{nat_tests}
 use Rattle.std.proofs.lemmas.List.Folds.{list_all-append}
 use Rattle.std.proofs.lemmas.Int.Digits.{digits_value_push}
+use Rattle.std.proofs.lemmas.Bool.{and_from}
 use Rattle.reg_blocks.specs.declared.size.Size.{Size}
 use Rattle.reg_blocks.specs.declared.size.Size.TheVariants.{MaL, MaM, MaS}
 use Rattle.reg_blocks.specs.Size.{digit_count, size_of_digits}
@@ -32,16 +33,13 @@ digits_length (suc count) n =
       digits_length count (n / 16),
     )
 
-both : (a b : Bool) → a ≡ true → b ≡ true → (a && b) ≡ true
-both a b p q = rw (p, q) refl
-
 digits_only : (count n : ℕ) → list_all (λ digit. is_digit digit 16) (hex_digits count n) ≡ true
 unfolding hex_digits
 digits_only zero n = refl
 digits_only (suc count) n =
     list_all-append (λ digit. is_digit digit 16) (hex_digits count (n / 16))
     (digit_glyph true (n % 16) ∷ [])
-    ∙ both _ _ (digits_only count (n / 16)) (both _ true (glyph_digit (n % 16) (omega arith)) refl)
+    ∙ and_from _ _ (digits_only count (n / 16)) (and_from _ true (glyph_digit (n % 16) (omega arith)) refl)
 
 value_back : (count n : ℕ) → n < 16 ^ count → digits_value 16 (hex_digits count n) ≡ n
 unfolding hex_digits

@@ -1,5 +1,5 @@
 -- A command that comes to what a rule decides.
-use Rattle.std.proofs.Common.{◌≡◌, Bool, true, false, ◌&&◌, Result, Ok, Err, refl, sym, ap, subst, ◌∙◌}
+use Rattle.std.proofs.Common.{◌≡◌, Bool, false, Result, Ok, Err, refl, sym, ap, subst, ◌∙◌}
 use Rattle.std.specs.Prelude.{IsErrAnd, IfOk, OnOk}
 use Rattle.std.proofs.lemmas.Result.{IfOk-at_ok, err_from_is_err_and}
 use Rattle.reg_core.specs.Answer.{Answer, Outcome, reply_of, change_of, change_by, by_rule}
@@ -22,9 +22,6 @@ use Rattle.reg_commands.specs.Performs.{Finds, Performs}
 use Rattle.reg_commands.specs.Stops.{MayStop, Refuses, stop_of}
 use Rattle.reg_commands.specs.declared.stop.Stop.{Stop}
 use Rattle.reg_commands.specs.declared.stop.Stop.TheVariants.{Refused, Fault}
-
-pub both : (a b : Bool) → a ≡ true → b ≡ true → (a && b) ≡ true
-both a b p q = rw (p, q) refl
 
 -- what holds anyway holds where there is a value
 pub always : {T E P : Type 0} (r : Result T E) → P → OnOk r P

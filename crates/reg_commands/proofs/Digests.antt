@@ -1,8 +1,9 @@
 -- The SHA-256 of a token, in lower-case hexadecimal, has a digest's form.
-use Rattle.std.proofs.Common.{◌≡◌, ℕ, zero, suc, List, [], ◌∷◌, ◌++◌, length, Bool, true, ◌&&◌, ◌<◌, ◌/◌, ◌%◌, slice_index, arith, refl}
+use Rattle.std.proofs.Common.{◌≡◌, ℕ, zero, suc, List, [], ◌∷◌, ◌++◌, length, Bool, true, ◌<◌, ◌/◌, ◌%◌, slice_index, arith, refl}
 use Rattle.std.specs.List.{list_all}
 use Rattle.std.specs.Cmp.{first_so, second_so}
 use Rattle.std.specs.Int.{byte_at, bytes_high_first, to_be_bytes, w32}
+use Rattle.std.proofs.lemmas.Bool.{and_from}
 use Rattle.sha2.specs.Sha256.{digest_bytes, final_hash, initial_hash_256, sha256}
 use Rattle.sha2.proofs.Facts256.{length-sha256}
 use Rattle.hex.specs.Hex.{encode_lower, encode_with, lower_digits}
@@ -47,9 +48,6 @@ passes_at p (x ∷ xs) zero h lt = first_so (p x) (list_all p xs) h
 passes_at p (x ∷ xs) (suc i) h lt =
     passes_at p xs i (second_so (p x) (list_all p xs) h) (omega arith)
 
-both : (a b : Bool) → a ≡ true → b ≡ true → (a && b) ≡ true
-both a b p q = rw (p, q) refl
-
 digits_pass : (xs : List ℕ) → AllBytes xs → list_all is_digest_byte (encode_lower xs) ≡ true
 unfolding encode_with
 digits_pass [] h = refl
@@ -57,14 +55,14 @@ digits_pass (b ∷ rest) h =
     let fits : b < 256 = h.0 in
     let high = passes_at is_digest_byte lower_digits (b / 16) refl (omega arith) in
     let low = passes_at is_digest_byte lower_digits (b % 16) refl (omega arith) in
-    both _ _ high (both _ _ low (digits_pass rest h.1))
+    and_from _ _ high (and_from _ _ low (digits_pass rest h.1))
 
 is_digest-encode_lower : (xs : List ℕ) → AllBytes xs → length xs ≡ 32
     → is_digest (encode_lower xs) ≡ true
 is_digest-encode_lower xs h len =
     let long : length (encode_lower xs) ≡ 64 =
     omega (arith, length-encode_with lower_digits xs, len) in
-    both (is_within 64 64 (length (encode_lower xs))) _ (rw long refl) (digits_pass xs h)
+    and_from (is_within 64 64 (length (encode_lower xs))) _ (rw long refl) (digits_pass xs h)
 
 -- whatever the token
 pub is_digest-token_digest : (token : List ℕ) → is_digest (token_digest token) ≡ true

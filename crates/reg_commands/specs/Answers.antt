@@ -1,9 +1,9 @@
 -- What a caller who is admitted is answered over the content.
 use Rattle.std.specs.Prelude.{ℕ, List, [], Option, Some, None}
 use Rattle.std.specs.FinMap.{contains_key}
+use Rattle.reg_maps.specs.Maps.{only_if}
 use Rattle.reg_core.specs.Allowance.{◌>>=◌, or_refusal}
 use Rattle.reg_core.specs.Answer.{Answer, own_answer, expert_answer, unchanged}
-use Rattle.reg_core.specs.Maps.{only_if}
 use Rattle.reg_core.specs.Request.{request_row, request_rows}
 use Rattle.reg_core.specs.Step.{clerk_answer}
 use Rattle.reg_core.specs.View.{Personal, published, personal, requests_of}

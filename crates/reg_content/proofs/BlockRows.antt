@@ -5,12 +5,12 @@ use Rattle.std.proofs.Math.Bool.{and-true}
 use Rattle.std.specs.Bool.{Decides}
 use Rattle.std.specs.Cmp.{eq_by_cmp_equiv}
 use Rattle.std.specs.declared.cmp.Ordering.{Ordering}
-use Rattle.reg_core.proofs.MapLaws.{IsKeyOrder, tied}
 use Rattle.std.specs.Ordering.{eq_by_cmp, nat_cmp}
 use Rattle.sqlite.specs.Order.{Row, column}
 use Rattle.sqlite.specs.declared.types.Value.TheVariants.{Text}
+use Rattle.reg_maps.specs.Maps.{same_text}
+use Rattle.reg_maps.proofs.MapLaws.{IsKeyOrder, tied}
 use Rattle.reg_blocks.specs.Block.{first_address}
-use Rattle.reg_core.specs.Maps.{same_text}
 use Rattle.reg_core.specs.declared.holding.Holding.{Holding}
 use Rattle.reg_records.specs.Blocks.{holding_in, holding_values}
 use Rattle.reg_records.specs.Columns.{flag_value, whole_value}

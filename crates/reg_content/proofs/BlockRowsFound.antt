@@ -3,12 +3,13 @@ use Rattle.std.proofs.Common.{◌≡◌, List, ℕ, Bool, true, false, cond, ◌
 use Rattle.std.proofs.Common.{Option, Some, None, option_map, option_and_then, option_to_list}
 use Rattle.std.specs.FinMap.{FinMap, entries, find, get, get-entries}
 use Rattle.std.specs.Ordering.{eq_by_cmp, nat_cmp}
+use Rattle.reg_maps.specs.Maps.{only_if, same_text, select}
+use Rattle.reg_maps.proofs.MapLaws.{get-select, number_keys, tied}
 use Rattle.reg_blocks.specs.Block.{SizedPrefix, block_cmp, first_address}
-use Rattle.reg_core.proofs.MapLaws.{block_keys, get-select, number_keys, tied}
 use Rattle.reg_core.specs.Holding.{holder_in, holding_row}
-use Rattle.reg_core.specs.Maps.{only_if, same_text, select}
 use Rattle.reg_core.specs.declared.holding.Holder.{Holder}
 use Rattle.reg_core.specs.declared.holding.Holding.{Holding}
+use Rattle.reg_core.proofs.KeyOrders.{block_keys}
 use Rattle.reg_content.proofs.BlockRowsListed.{pair}
 use Rattle.reg_content.proofs.BlockRows.{tie_decides}
 use Rattle.reg_content.proofs.Found.{pairs_again}

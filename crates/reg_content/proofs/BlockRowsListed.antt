@@ -2,14 +2,15 @@
 use Rattle.std.proofs.Common.{◌≡◌, List, [], ◌∷◌, map, true, refl, sym, ap, ◌∙◌, Some}
 use Rattle.std.specs.Prelude.{filter_map}
 use Rattle.std.specs.FinMap.{FinMap, entries}
+use Rattle.reg_maps.specs.Maps.{keyed, only_if, select}
+use Rattle.reg_maps.proofs.MapLaws.{entries-select}
 use Rattle.reg_blocks.specs.Block.{SizedPrefix, block_cmp}
-use Rattle.reg_core.proofs.MapLaws.{block_keys, entries-select}
 use Rattle.reg_core.specs.Holding.{holder_in, listed_row, listed_rows, masked}
 use Rattle.reg_core.specs.Holding.{masked_blocks}
-use Rattle.reg_core.specs.Maps.{keyed, only_if, select}
 use Rattle.reg_core.specs.declared.holding.Holder.{Holder}
 use Rattle.reg_core.specs.declared.holding.Holding.{Holding}
 use Rattle.reg_core.specs.declared.holding.Listed.{Listed}
+use Rattle.reg_core.proofs.KeyOrders.{block_keys}
 use Rattle.reg_content.proofs.PoolRowsListed.{entries_all}
 
 -- a holding as an entry

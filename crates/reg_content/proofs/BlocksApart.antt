@@ -3,12 +3,13 @@ use Rattle.std.proofs.Common.{◌≡◌, ℕ, ◌*◌, ◌/◌, IsSome, Some, is
 use Rattle.std.specs.FinMap.{FinMap, get}
 use Rattle.std.specs.Ordering.{eq_by_cmp, nat_cmp}
 use Rattle.std.proofs.lemmas.Bool.Decides.{Decides-like, same_from_decides}
+use Rattle.reg_maps.proofs.MapLaws.{number_keys}
 use Rattle.reg_blocks.specs.Block.{Clash, SizedPrefix, block_cmp, first_address}
 use Rattle.reg_blocks.specs.Size.{address_count}
 use Rattle.reg_blocks.specs.declared.size.Size.{Size}
 use Rattle.reg_blocks.specs.declared.size.Size.TheVariants.{MaL, MaM, MaS}
-use Rattle.reg_core.proofs.MapLaws.{block_keys, number_keys}
 use Rattle.reg_core.specs.declared.holding.Holder.{Holder}
+use Rattle.reg_core.proofs.KeyOrders.{block_keys}
 use Rattle.reg_content.proofs.BlockRows.{tie_decides}
 
 first_over : (size : Size) (prefix : ℕ)

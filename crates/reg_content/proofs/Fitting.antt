@@ -4,15 +4,16 @@ use Rattle.std.proofs.Common.{option_map, refl, sym, ap, subst, ◌∙◌, Resul
 use Rattle.std.specs.FinMap.{FinMap, get}
 use Rattle.std.specs.Ordering.{eq_by_cmp}
 use Rattle.sqlite.specs.State.{State as Store}
+use Rattle.reg_maps.specs.Maps.{update}
+use Rattle.reg_maps.proofs.MapLaws.{get-updated, tied}
 use Rattle.reg_core.specs.Entry.{with_hold}
-use Rattle.reg_core.specs.Maps.{update}
 use Rattle.reg_core.specs.WellKept.{WellKept}
 use Rattle.reg_core.specs.World.{World, Place, RequestName, applied, in_state, name_cmp, with_state}
 use Rattle.reg_core.specs.declared.change.Change.{Change}
 use Rattle.reg_core.specs.declared.entry.Registration.{Registration}
 use Rattle.reg_core.specs.declared.request.Case.{Case}
 use Rattle.reg_core.specs.declared.request.State.{State}
-use Rattle.reg_core.proofs.MapLaws.{get-updated, name_keys, place_keys, tied}
+use Rattle.reg_core.proofs.KeyOrders.{name_keys, place_keys}
 use Rattle.reg_records.specs.Requests.Forms.{gives_its_kind}
 use Rattle.reg_content.specs.Calls.{Steps}
 use Rattle.reg_content.specs.Changing.{Fits}

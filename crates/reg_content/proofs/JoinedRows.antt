@@ -10,8 +10,13 @@ use Rattle.std.proofs.lemmas.List.Sorted.{IsPermutation-sym}
 use Rattle.std.proofs.lemmas.Simd.{map-map}
 use Rattle.std.specs.FinMap.{find}
 use Rattle.sqlite.specs.Order.{Row, column}
+use Rattle.reg_maps.specs.RowMaps.{AreAscending, PassesAt}
+use Rattle.reg_maps.proofs.MapLaws.{IsKeyOrder}
+use Rattle.reg_maps.proofs.Ascending.{apart_from_ascending}
+use Rattle.reg_maps.proofs.RowMaps.Entries.{find_permuted}
+use Rattle.reg_maps.proofs.RowMaps.Items.{read_pairs}
+use Rattle.reg_maps.proofs.RowMaps.Lists.{IsPermutation-filter_map, filter_map-loaded}
 use Rattle.reg_core.specs.World.{Seat, seat_cmp}
-use Rattle.reg_core.proofs.MapLaws.{IsKeyOrder}
 use Rattle.reg_records.specs.Queue.{seat_in}
 use Rattle.reg_records.specs.declared.queue.Seat as held
 use Rattle.reg_tables.specs.Editing.{has_all}
@@ -20,14 +25,9 @@ use Rattle.reg_tables.specs.Selecting.{stored}
 use Rattle.reg_statements.specs.Content.{advice_at, seat_at}
 use Rattle.reg_statements.specs.Loading.{IsAscending, ReadAs}
 use Rattle.reg_statements.specs.Office as office
-use Rattle.reg_statements.specs.RowMaps.{AreAscending, PassesAt}
 use Rattle.reg_statements.proofs.Defined.{key_passes}
 use Rattle.reg_statements.proofs.Neighbours.{strict}
 use Rattle.reg_statements.proofs.Office as laws
-use Rattle.reg_statements.proofs.RowMaps.Ascending.{apart_from_ascending}
-use Rattle.reg_statements.proofs.RowMaps.Entries.{find_permuted}
-use Rattle.reg_statements.proofs.RowMaps.Items.{read_pairs}
-use Rattle.reg_statements.proofs.RowMaps.Lists.{IsPermutation-filter_map, filter_map-loaded}
 
 -- what a pair was made of
 pub record WasMade {T E : Type 0} (pair : T → E) (o : Option T) (e : E) : Type 0 where

@@ -3,7 +3,7 @@ use Rattle.std.proofs.Common.{◌≡◌, ℕ, List, [], ◌∷◌, Some, ap, ◌
 use Rattle.std.proofs.Math.Bool.{and-true}
 use Rattle.sqlite.specs.Order.{Row, column}
 use Rattle.sqlite.specs.declared.types.Value.TheVariants.{Text}
-use Rattle.reg_core.specs.Maps.{same_text}
+use Rattle.reg_maps.specs.Maps.{same_text}
 use Rattle.reg_records.specs.Agents.{link_in}
 use Rattle.reg_records.specs.declared.agents.Link.{Link}
 use Rattle.reg_records.proofs.LinkLaws.{link_exact}

@@ -4,9 +4,9 @@ use Rattle.std.proofs.Common.{refl, sym, ap, ◌∙◌}
 use Rattle.std.specs.FinMap.{FinMap, entries}
 use Rattle.std.specs.List.{cons_option}
 use Rattle.std.specs.declared.cmp.Ordering.{Ordering}
-use Rattle.reg_core.specs.Maps.{keyed, select}
-use Rattle.reg_core.proofs.MapLaws.{IsKeyOrder, entries-select}
-use Rattle.reg_statements.proofs.Mapped.{mapped, select-mapped}
+use Rattle.reg_maps.specs.Maps.{keyed, select}
+use Rattle.reg_maps.proofs.MapLaws.{IsKeyOrder, entries-select}
+use Rattle.reg_maps.proofs.Mapped.{mapped, select-mapped}
 
 module _ {K X Y T : Type 0} (f : K → X → Option Y) (g : K → X → X) (item : K → Y → T) (h : T → T)
     (same : (k : K) (x : X)

@@ -10,22 +10,22 @@ use Rattle.std.specs.BTreeSet.{BTreeSet, contains}
 use Rattle.std.specs.FinMap.{FinMap, contains_key, entries, get}
 use Rattle.std.specs.List.{All, Contains, list_any}
 use Rattle.std.specs.Ordering.{eq_by_cmp, nat_cmp}
+use Rattle.reg_maps.specs.Maps.{only_if, same_text, select}
+use Rattle.reg_maps.proofs.MapLaws.{All-entries, Contains-entries, Contains-map, get-select, number_keys, same_at, text_keys, tied}
+use Rattle.reg_maps.proofs.KeyTests.{text_test}
+use Rattle.reg_maps.proofs.Mapped.{get-mapped, mapped}
 use Rattle.reg_core.specs.Entry.{entry_row, with_hold}
-use Rattle.reg_core.specs.Maps.{only_if, same_text, select}
 use Rattle.reg_core.specs.Page.{entry_rows}
 use Rattle.reg_core.specs.View.{entries_of}
 use Rattle.reg_core.specs.World.{Place, place_cmp}
 use Rattle.reg_core.specs.declared.entry.Entry.{Entry}
 use Rattle.reg_core.specs.declared.entry.Registration.{Registration}
-use Rattle.reg_core.proofs.MapLaws.{All-entries, Contains-entries, Contains-map, get-select, number_keys}
-use Rattle.reg_core.proofs.MapLaws.{place_keys, same_at, text_keys, tied}
+use Rattle.reg_core.proofs.KeyOrders.{place_keys}
 use Rattle.reg_records.specs.declared.holds.Hold.{Hold}
 use Rattle.reg_statements.specs.Content.{AreTied, assembled, marked}
 use Rattle.reg_statements.specs.Defined.{rows_where}
 use Rattle.reg_statements.specs.Office as office
 use Rattle.reg_statements.specs.Parts.{Parts}
-use Rattle.reg_statements.proofs.Mapped.{get-mapped, mapped}
-use Rattle.reg_statements.proofs.RowMaps.KeyTests.{text_test}
 use Rattle.reg_content.specs.Marks.{entry_held, entry_marked, held_among, is_among, marked_by}
 use Rattle.reg_content.proofs.MappedRows.{rows_mapped}
 

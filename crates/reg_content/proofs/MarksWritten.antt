@@ -4,13 +4,13 @@ use Rattle.std.proofs.Common.{is_some, option_map, refl, sym, ap, ◌∙◌}
 use Rattle.std.specs.FinMap.{FinMap, contains_key, get, get-remove, insert}
 use Rattle.std.specs.Ordering.{eq_by_cmp}
 use Rattle.std.specs.declared.cmp.Ordering.{Ordering}
+use Rattle.reg_maps.specs.Maps.{replaced, update}
+use Rattle.reg_maps.proofs.MapLaws.{IsKeyOrder, get-at_insert, get-inserted, get-update, get-updated, same_at, tied}
 use Rattle.reg_core.specs.Entry.{registration_in, with_hold}
-use Rattle.reg_core.specs.Maps.{replaced, update}
 use Rattle.reg_core.specs.World.{Place, World, place_cmp}
 use Rattle.reg_core.specs.declared.entry.Entry.{Entry}
 use Rattle.reg_core.specs.declared.entry.Registration.{Registration}
-use Rattle.reg_core.proofs.MapLaws.{IsKeyOrder, get-at_insert, get-inserted, get-update, get-updated}
-use Rattle.reg_core.proofs.MapLaws.{place_keys, same_at, tied}
+use Rattle.reg_core.proofs.KeyOrders.{place_keys}
 use Rattle.reg_records.specs.Entries.{unheld}
 use Rattle.reg_records.specs.declared.holds.Hold.{Hold}
 use Rattle.reg_statements.specs.Content.{AreTied, assembled}

@@ -4,7 +4,7 @@ use Rattle.std.proofs.Common.{Option, Some, None, option_map, refl, sym, ap, ◌
 use Rattle.std.proofs.lemmas.Simd.{map-map}
 use Rattle.std.specs.FinMap.{contains_key, get}
 use Rattle.std.specs.List.{list_any}
-use Rattle.reg_core.specs.Maps.{only_if, same_text}
+use Rattle.reg_maps.specs.Maps.{only_if, same_text}
 use Rattle.reg_core.specs.Queue.{queue_row, queue_rows}
 use Rattle.reg_core.specs.Request.{request_row, request_rows}
 use Rattle.reg_core.specs.View.{as_queued, queue_of, queued_to, requests_of}
@@ -14,8 +14,8 @@ use Rattle.reg_core.specs.declared.ask.Ask.TheVariants.{Code, Early, Renew, Perm
 use Rattle.reg_core.specs.declared.queue.QueueRow.{QueueRow}
 use Rattle.reg_core.specs.declared.request.Case.{Case}
 use Rattle.reg_core.specs.declared.request.Request.{Request}
-use Rattle.reg_core.proofs.MapLaws.{name_keys}
 use Rattle.reg_core.specs.Minutes.{ask_with, is_renewal, with_minute}
+use Rattle.reg_core.proofs.KeyOrders.{name_keys}
 use Rattle.reg_records.specs.declared.queued.QueuedRequest.{QueuedRequest}
 use Rattle.reg_statements.specs.Content.{assembled}
 use Rattle.reg_statements.specs.Defined.{rows_where}

@@ -3,7 +3,10 @@ use Rattle.std.proofs.Common.{◌≡◌, ℕ, Bool, true, false, cond, if◌then
 use Rattle.std.proofs.Common.{is_some, option_and_then, option_map, refl, sym, ap, ◌∙◌}
 use Rattle.std.specs.FinMap.{FinMap, get, insert}
 use Rattle.std.specs.Ordering.{eq_by_cmp}
-use Rattle.reg_core.specs.Maps.{update}
+use Rattle.reg_maps.specs.Maps.{update}
+use Rattle.reg_maps.specs.RowMaps.{changed_where}
+use Rattle.reg_maps.proofs.MapLaws.{get-at_insert, get-inserted, get-select, tied}
+use Rattle.reg_maps.proofs.RowMaps.Tables.{changed_alone}
 use Rattle.reg_core.specs.Request.{case_of}
 use Rattle.reg_core.specs.World.{RequestName, World, in_state, name_cmp, pending, with_state}
 use Rattle.reg_core.specs.declared.ask.Ask.{Ask}
@@ -11,18 +14,16 @@ use Rattle.reg_core.specs.declared.ask.Ask.TheVariants.{Code, Early, Renew, Perm
 use Rattle.reg_core.specs.declared.request.Case.{Case}
 use Rattle.reg_core.specs.declared.request.Request.{Request}
 use Rattle.reg_core.specs.declared.request.State.{State}
-use Rattle.reg_core.proofs.MapLaws.{get-at_insert, get-inserted, get-select, name_keys, tied}
 use Rattle.reg_records.specs.Requests.Forms.{gives_its_kind}
 use Rattle.reg_core.specs.Minutes.{ask_with, bare, bare_ask, is_renewal, minute_of, with_minute}
+use Rattle.reg_core.proofs.KeyOrders.{name_keys}
 use Rattle.reg_records.specs.declared.minutes.Minute.{Minute}
 use Rattle.reg_records.proofs.RequestLaws.Rows.{gives_its_kind-bare_ask}
 use Rattle.reg_statements.specs.Content.{AreTied, assembled, minuted}
 use Rattle.reg_statements.specs.Defined.{AllCan, IsFree, KeepsTies, with_changed, with_row}
 use Rattle.reg_statements.specs.Office as office
 use Rattle.reg_statements.specs.Parts.{Parts}
-use Rattle.reg_statements.specs.RowMaps.{changed_where}
 use Rattle.reg_statements.proofs.Minutes.{get-minuted, minuted-add, minuted-insert, minuted-state}
-use Rattle.reg_statements.proofs.RowMaps.Tables.{changed_alone}
 use Rattle.reg_content.specs.Marks.{CanName}
 use Rattle.reg_content.proofs.Fitting.{can_have}
 use Rattle.reg_content.proofs.JoinedRows.{was_made}

@@ -11,10 +11,10 @@ use Rattle.std.proofs.lemmas.List.Elements.{Contains-append_cases, Contains-appe
 use Rattle.std.proofs.lemmas.List.Elements.{Contains-append_right, Contains-push}
 use Rattle.std.proofs.lemmas.List.Elements.{Contains-push_cases}
 use Rattle.std.proofs.lemmas.Map.Keys.{IsStrictlyIncreasing-from_sorted}
+use Rattle.reg_maps.specs.Maps.{keyed, only_if, select}
+use Rattle.reg_maps.proofs.MapLaws.{IsKeyOrder, number_keys, entries-select}
 use Rattle.reg_blocks.specs.Pool.{AddsPrefix}
 use Rattle.reg_ranges.proofs.Increasing.{Rises, rises_any}
-use Rattle.reg_core.specs.Maps.{keyed, only_if, select}
-use Rattle.reg_core.proofs.MapLaws.{IsKeyOrder, number_keys, entries-select}
 use Rattle.reg_statements.specs.Loading.{IsAscending}
 use Rattle.reg_statements.proofs.Neighbours.{strict}
 

@@ -2,7 +2,7 @@
 use Rattle.std.proofs.Common.{◌≡◌, true, false, List, ℕ, refl, ap, ◌∙◌}
 use Rattle.std.proofs.Common.{Option, Some, None, is_some, option_map, option_and_then}
 use Rattle.std.specs.FinMap.{contains_key, get}
-use Rattle.reg_core.specs.Maps.{only_if}
+use Rattle.reg_maps.specs.Maps.{only_if}
 use Rattle.reg_core.specs.View.{Queued, as_queued, queue_of}
 use Rattle.reg_core.specs.World.{RequestName, World}
 use Rattle.reg_core.specs.declared.request.Case.{Case}

@@ -8,13 +8,17 @@ use Rattle.std.specs.FinMap.{get}
 use Rattle.sqlite.specs.Effect.{Database}
 use Rattle.sqlite.specs.Order.{Row, column}
 use Rattle.sqlite.specs.declared.types.Value.TheVariants.{Text}
-use Rattle.reg_core.specs.Maps.{keyed, same_text}
+use Rattle.reg_maps.specs.Maps.{keyed, same_text}
+use Rattle.reg_maps.specs.RowMaps.{PassesAt}
+use Rattle.reg_maps.proofs.MapLaws.{text_keys, tied}
+use Rattle.reg_maps.proofs.RowMaps.Alone.{AreAlone, alone_at}
+use Rattle.reg_maps.proofs.KeyTests.{text_test}
 use Rattle.reg_core.specs.Request.{case_of}
 use Rattle.reg_core.specs.View.{Queued, as_queued}
 use Rattle.reg_core.specs.World.{RequestName, Seat, World, name_cmp}
 use Rattle.reg_core.specs.declared.advice.Advice.{Advice}
 use Rattle.reg_core.specs.declared.request.Case.{Case}
-use Rattle.reg_core.proofs.MapLaws.{name_keys, seat_keys, text_keys, tied}
+use Rattle.reg_core.proofs.KeyOrders.{name_keys, seat_keys}
 use Rattle.reg_records.specs.Advice.{advice_in}
 use Rattle.reg_records.specs.Queue.{seat_in}
 use Rattle.reg_records.specs.Queued.{queued_in}
@@ -27,12 +31,9 @@ use Rattle.reg_tables.specs.Editing.{has_all}
 use Rattle.reg_tables.specs.Selecting.{stored}
 use Rattle.reg_tables.specs.Values.{same_value}
 use Rattle.reg_statements.specs.Content.{IsStored, advice_at, case_at, parts_of, seat_at}
-use Rattle.reg_statements.specs.RowMaps.{PassesAt}
 use Rattle.reg_content.specs.Seats.{assigned_to}
 use Rattle.reg_content.proofs.JoinedRows.{joined_reads, own_advice_at, was_made}
 use Rattle.reg_content.proofs.MinutedRows.{bare_world}
-use Rattle.reg_statements.proofs.RowMaps.Alone.{AreAlone, alone_at}
-use Rattle.reg_statements.proofs.RowMaps.KeyTests.{text_test}
 use Rattle.reg_statements.specs.Office as office
 use Rattle.reg_statements.proofs.Defined.{key_passes, whole_rows}
 use Rattle.reg_statements.proofs.Office as laws

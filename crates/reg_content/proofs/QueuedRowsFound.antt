@@ -10,11 +10,13 @@ use Rattle.std.specs.Cmp.{eq_by_cmp_equiv}
 use Rattle.sqlite.specs.Order.{Row}
 use Rattle.sqlite.specs.State.{State, Shown}
 use Rattle.sqlite.specs.declared.types.Value.TheVariants.{Text}
-use Rattle.reg_core.specs.Maps.{keyed, same_text, text_cmp}
+use Rattle.reg_maps.specs.Maps.{keyed, same_text, text_cmp}
+use Rattle.reg_maps.proofs.MapLaws.{text_keys, tied, entries_are}
+use Rattle.reg_maps.proofs.KeyTests.{pair_test, text_test}
 use Rattle.reg_core.specs.Queue.{queue_row, queue_rows}
 use Rattle.reg_core.specs.View.{Queued, queue_of}
 use Rattle.reg_core.specs.World.{RequestName, Seat, World, name_cmp, seat_cmp}
-use Rattle.reg_core.proofs.MapLaws.{name_keys, seat_keys, text_keys, tied}
+use Rattle.reg_core.proofs.KeyOrders.{name_keys, seat_keys}
 use Rattle.reg_records.specs.Queued.{queued_in}
 use Rattle.reg_records.specs.declared.queued.QueuedRequest.{QueuedRequest}
 use Rattle.reg_tables.specs.Joining.{queued_rows}
@@ -28,8 +30,6 @@ use Rattle.reg_content.proofs.JoinedRows.{pairs_ascend, shown_at}
 use Rattle.reg_content.proofs.MinutedRows.{bare_world}
 use Rattle.reg_content.proofs.QueueRows.{by_seat}
 use Rattle.reg_content.proofs.QueuedRows.{queue_reads, queued_pair, seen_by}
-use Rattle.reg_statements.proofs.RowMaps.Ascending.{entries_are}
-use Rattle.reg_statements.proofs.RowMaps.KeyTests.{pair_test, text_test}
 
 -- in the order of the names of requests
 abbrev pub are_queued : List QueuedRequest → Type 0

@@ -7,10 +7,12 @@ use Rattle.std.specs.List.{AllByRecursion, cons_option}
 use Rattle.std.specs.Ordering.{eq_by_cmp}
 use Rattle.sqlite.specs.Effect.{Database}
 use Rattle.sqlite.specs.Order.{Row}
+use Rattle.reg_maps.specs.Maps.{text_cmp, update}
+use Rattle.reg_maps.specs.RowMaps.{held_in}
+use Rattle.reg_maps.proofs.MapLaws.{get-at_insert, text_keys, tied}
 use Rattle.reg_ranges.specs.declared.range.Range.{Range}
-use Rattle.reg_core.specs.Maps.{text_cmp, update}
 use Rattle.reg_core.specs.World.{Place, place_cmp}
-use Rattle.reg_core.proofs.MapLaws.{get-at_insert, place_keys, text_keys, tied}
+use Rattle.reg_core.proofs.KeyOrders.{place_keys}
 use Rattle.reg_records.specs.Ranges.{range_in}
 use Rattle.reg_records.specs.declared.ranges.RegistryRange.{RegistryRange}
 use Rattle.reg_records.specs.declared.registries.Registry.{Registry}
@@ -20,7 +22,6 @@ use Rattle.reg_statements.specs.Content.{IsStored, assembled, content_of, parts_
 use Rattle.reg_statements.specs.Content.{range_at, registry_table}
 use Rattle.reg_statements.specs.Defined.{IsFree, KeepsTies, with_row}
 use Rattle.reg_content.specs.Registries.{CanFollow, with_range}
-use Rattle.reg_statements.specs.RowMaps.{held_in}
 use Rattle.reg_statements.proofs.RegistryRows.{ranges-at, registry-at}
 use Rattle.reg_content.proofs.RegistryRowsMaps.{AreAtFirst, place_free, range_more, registry_more}
 use Rattle.reg_statements.specs.Office as office

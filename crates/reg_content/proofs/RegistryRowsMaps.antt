@@ -12,17 +12,17 @@ use Rattle.std.specs.Ordering.{eq_by_cmp, is_eq, nat_cmp, ordering_then, orderin
 use Rattle.std.specs.Cmp.{eq_by_cmp_equiv, nat_cmp_is}
 use Rattle.std.proofs.lemmas.List.{map-append}
 use Rattle.std.proofs.lemmas.List.Elements.{recursion_from_All}
+use Rattle.reg_maps.specs.Maps.{only_if, same_text, text_cmp, update}
+use Rattle.reg_maps.specs.RowMaps.{AreAscending}
+use Rattle.reg_maps.proofs.MapLaws.{All-entries, IsKeyOrder, get-at_insert, get-select, get-update, same_at, text_keys, tied, entries_are}
+use Rattle.reg_maps.proofs.KeyTests.{text_test}
+use Rattle.reg_maps.proofs.Ascending.{ascending_from_is_sorted}
 use Rattle.reg_ranges.specs.declared.range.Range.{Range}
-use Rattle.reg_core.specs.Maps.{only_if, same_text, text_cmp, update}
 use Rattle.reg_core.specs.World.{Place, place_cmp}
-use Rattle.reg_core.proofs.MapLaws.{All-entries, IsKeyOrder, get-at_insert, get-select, get-update}
-use Rattle.reg_core.proofs.MapLaws.{place_keys, same_at, text_keys, tied}
+use Rattle.reg_core.proofs.KeyOrders.{place_keys}
 use Rattle.reg_statements.specs.Content.{ranges_of, registries_in, registry_table}
 use Rattle.reg_content.specs.Registries.{with_range}
-use Rattle.reg_statements.specs.RowMaps.{AreAscending}
 use Rattle.reg_statements.proofs.RegistryRows.{registry-at}
-use Rattle.reg_statements.proofs.RowMaps.Ascending.{ascending_from_is_sorted, entries_are}
-use Rattle.reg_statements.proofs.RowMaps.KeyTests.{text_test}
 
 same_name : (a b : List ℕ) → same_text a b ≡ true → a ≡ b
 same_name a b t = tied text_keys a b (sym (text_test a b) ∙ t)

@@ -7,12 +7,12 @@ use Rattle.std.specs.List.{AllByRecursion}
 use Rattle.std.specs.Ordering.{eq_by_cmp}
 use Rattle.std.proofs.lemmas.List.{take_more}
 use Rattle.sqlite.specs.State.{State}
+use Rattle.reg_maps.specs.Maps.{replaced, text_cmp, update}
+use Rattle.reg_maps.proofs.MapLaws.{get-at_insert, get-inserted, same_at, text_keys}
 use Rattle.reg_ranges.specs.Tables.{IsPartition, Table}
 use Rattle.reg_ranges.specs.declared.range.Range.{Range}
 use Rattle.reg_ranges.proofs.Increasing.{Rises, rises_any}
-use Rattle.reg_core.specs.Maps.{replaced, text_cmp, update}
 use Rattle.reg_core.specs.World.{World}
-use Rattle.reg_core.proofs.MapLaws.{get-at_insert, get-inserted, same_at, text_keys}
 use Rattle.reg_tables.proofs.Enduring.{endures_then}
 use Rattle.reg_content.specs.Calls.{Steps}
 use Rattle.reg_content.specs.Registries.{CanFollow, with_range}

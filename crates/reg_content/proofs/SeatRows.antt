@@ -11,12 +11,15 @@ use Rattle.sqlite.specs.Order.{Row, column}
 use Rattle.sqlite.specs.Query.{or_nulls}
 use Rattle.sqlite.specs.State.{State, Shown}
 use Rattle.sqlite.specs.declared.types.Value.TheVariants.{Text}
+use Rattle.reg_maps.specs.Maps.{keyed, only_if, same_text, select}
+use Rattle.reg_maps.proofs.MapLaws.{entries-select, get-select, same_at, entries_are}
+use Rattle.reg_maps.proofs.RowMaps.Alone.{AreAlone, alone_at}
+use Rattle.reg_maps.proofs.RowMaps.Entries.{find_selected}
 use Rattle.reg_core.specs.File.{experts_of, opinion, opinions_of, same_name, seats_of}
-use Rattle.reg_core.specs.Maps.{keyed, only_if, same_text, select}
 use Rattle.reg_core.specs.World.{RequestName, Seat, World, seat_cmp}
 use Rattle.reg_core.specs.declared.advice.Advice.{Advice}
 use Rattle.reg_core.specs.declared.advice.Opinion.{Opinion}
-use Rattle.reg_core.proofs.MapLaws.{entries-select, get-select, same_at, seat_keys}
+use Rattle.reg_core.proofs.KeyOrders.{seat_keys}
 use Rattle.reg_records.specs.Advice.{advice_in}
 use Rattle.reg_records.specs.Advised.{advised_in}
 use Rattle.reg_records.specs.Queue.{seat_in}
@@ -36,9 +39,6 @@ use Rattle.reg_statements.specs.Loading.{IsAscending, ReadAs}
 use Rattle.reg_statements.specs.Office as office
 use Rattle.reg_statements.proofs.Defined.{is_there, row_there, whole_rows}
 use Rattle.reg_statements.proofs.Office as laws
-use Rattle.reg_statements.proofs.RowMaps.Alone.{AreAlone, alone_at}
-use Rattle.reg_statements.proofs.RowMaps.Ascending.{entries_are}
-use Rattle.reg_statements.proofs.RowMaps.Entries.{find_selected}
 use Rattle.reg_content.specs.Seats.{opinion_at}
 use Rattle.reg_content.proofs.JoinedRows.{joined_reads, own_advice_at, pairs_ascend, shown_at, was_made}
 

@@ -9,9 +9,9 @@ use Rattle.sqlite.specs.Kind.TheVariants.{Integer}
 use Rattle.sqlite.specs.Values.{or_null}
 use Rattle.sqlite.specs.declared.types.Value.TheVariants.{Text}
 use Rattle.sqlite_schema.specs.Rules.{is_of}
+use Rattle.reg_maps.specs.Maps.{same_text}
 use Rattle.reg_blocks.specs.Block.{SizedPrefix, first_address}
 use Rattle.reg_core.specs.Advice.{verdict_word}
-use Rattle.reg_core.specs.Maps.{same_text}
 use Rattle.reg_core.specs.Holding.{with_mark}
 use Rattle.reg_core.specs.Request.{has_state_form, state_word, word_of}
 use Rattle.reg_core.specs.World.{Link, Place, RequestName, Seat, in_state, name_cmp}

@@ -4,7 +4,7 @@ use Rattle.std.specs.FinMap.{entries}
 use Rattle.sqlite.specs.Listing.{understood}
 use Rattle.sqlite_tied.specs.Compute.{everything}
 use Rattle.std.proofs.lemmas.Simd.{map-map}
-use Rattle.reg_core.proofs.MapLaws.{link_keys, text_keys}
+use Rattle.reg_maps.proofs.MapLaws.{text_keys}
 use Rattle.reg_keeper.specs.Rows.{cap_rows, link_rows}
 use Rattle.reg_tables.specs.Selecting.{Selects, columns_of, ordered_by}
 use Rattle.reg_statements.specs.Defined.{Chooses, rows_where}
@@ -14,6 +14,7 @@ use Rattle.reg_statements.proofs.Defined.{by_all}
 use Rattle.reg_statements.proofs.Office as laws
 use Rattle.reg_content.specs.Whole.{cap_of, link_of, select_agents, select_caps}
 use Rattle.reg_content.proofs.PoolRowsListed.{entries_all}
+use Rattle.reg_core.proofs.KeyOrders.{link_keys}
 
 -- ---- Statements
 

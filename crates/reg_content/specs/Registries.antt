@@ -2,9 +2,9 @@
 use Rattle.std.specs.Prelude.{◌≡◌, ℕ, ◌<◌, List, [], ◌∷◌, ◌++◌, Some}
 use Rattle.std.specs.FinMap.{FinMap, get}
 use Rattle.std.specs.List.{AllByRecursion}
+use Rattle.reg_maps.specs.Maps.{text_cmp}
 use Rattle.reg_ranges.specs.Tables.{Table}
 use Rattle.reg_ranges.specs.declared.range.Range.{Range}
-use Rattle.reg_core.specs.Maps.{text_cmp}
 
 -- the table with this range after its own
 abbrev pub with_range : Range → Table → Table

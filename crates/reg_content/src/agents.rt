@@ -2,8 +2,8 @@
 ghost use Rattle.std.specs.Prelude.{◌≡◌, not, false, IfOk, map};
 ghost use Rattle.std.specs.FinMap.{contains_key, insert, remove};
 ghost use Rattle.sqlite.specs.Held.{state};
+ghost use Rattle.reg_maps.specs.Maps.{only_if};
 ghost use Rattle.reg_core.specs.Link.{agent_rows, principal_names};
-ghost use Rattle.reg_core.specs.Maps.{only_if};
 ghost use Rattle.reg_core.specs.Request.{request_rows};
 ghost use Rattle.reg_core.specs.View.{agents_of, principals_of, requests_of};
 ghost use Rattle.reg_core.specs.World.{World, applied};

@@ -3,6 +3,7 @@ ghost use Rattle.std.specs.Prelude.{◌≡◌, true, false, IfOk, IsSome, IsTrue
 ghost use Rattle.std.specs.FinMap.{get, insert};
 ghost use Rattle.std.specs.List.Sorted.{IsStrictlyIncreasing};
 ghost use Rattle.sqlite.specs.Held.{state};
+ghost use Rattle.reg_maps.specs.RowMaps.{IsTable, held_in};
 ghost use Rattle.reg_core.specs.Entry.{entry_row, registration_in, with_hold};
 ghost use Rattle.reg_core.specs.Page.{entry_rows};
 ghost use Rattle.reg_core.specs.View.{entries_of};
@@ -13,7 +14,6 @@ ghost use Rattle.reg_tables.specs.Schema.{entries_table};
 ghost use Rattle.reg_content.specs.Calls.{IsKeeping, Looks, Steps};
 ghost use Rattle.reg_content.specs.Marks.{IsUnheld};
 ghost use Rattle.reg_statements.specs.Content.{registration_at};
-ghost use Rattle.reg_statements.specs.RowMaps.{IsTable, held_in};
 
 use crate::holds::{add_hold, marked, marked_all, take_hold};
 use crate::kept::{find, list, put};

@@ -3,7 +3,7 @@ ghost use Rattle.std.specs.Prelude.{◌≡◌, ◌++◌, ◌∷◌, [], Some, No
 ghost use Rattle.std.specs.FinMap.{get};
 ghost use Rattle.std.specs.List.{list_any};
 ghost use Rattle.sqlite.specs.Held.{state};
-ghost use Rattle.reg_core.specs.Maps.{update};
+ghost use Rattle.reg_maps.specs.Maps.{update};
 ghost use Rattle.reg_core.specs.World.{World};
 ghost use Rattle.reg_core.specs.declared.request.Case.{Case};
 ghost use Rattle.reg_core.specs.Minutes.{ask_with, is_renewal, with_minute};

@@ -2,8 +2,8 @@
 ghost use Rattle.std.specs.Prelude.{◌≡◌, Some, None, IfOk, [], map, option_map};
 ghost use Rattle.std.specs.FinMap.{get, insert, keys};
 ghost use Rattle.sqlite.specs.Held.{state};
+ghost use Rattle.reg_maps.specs.Maps.{update};
 ghost use Rattle.reg_ranges.specs.Tables.{Table};
-ghost use Rattle.reg_core.specs.Maps.{update};
 ghost use Rattle.reg_core.specs.World.{World};
 ghost use Rattle.reg_content.specs.Calls.{IsKeeping, Looks, Steps};
 ghost use Rattle.reg_content.specs.Registries.{CanFollow, with_range};

@@ -6,6 +6,7 @@ use Rattle.std.specs.FinMap.{get}
 use Rattle.std.specs.Cmp.{first_so, second_so}
 use Rattle.std.proofs.lemmas.Bool.Decides.{nat_tests}
 use Rattle.std.proofs.lemmas.Slice.Eq.{bytes_eq-Decides}
+use Rattle.reg_maps.specs.Maps.{same_text}
 use Rattle.reg_ranges.specs.Requirements.{first_item, is_closed_policy}
 use Rattle.reg_ranges.specs.Sameness.{same_treatment}
 use Rattle.reg_ranges.specs.Tables.{Table, IsPartition, treatment_of}
@@ -19,7 +20,6 @@ use Rattle.reg_ranges.specs.declared.evidence.Item.{Item}
 use Rattle.reg_ranges.specs.declared.evidence.Item.TheVariants as item
 use Rattle.reg_core.specs.Allowance.{◌>>=◌, or_refusal, open_policy, policy_for, is_met, is_met_early, own_entry}
 use Rattle.reg_core.specs.Ask.{has_note_form}
-use Rattle.reg_core.specs.Maps.{same_text}
 use Rattle.reg_core.specs.MayBeGiven.{IsUnder}
 use Rattle.reg_core.specs.Names.{is_name}
 use Rattle.reg_core.specs.Registry.{has_table_form, is_partition}

@@ -1,8 +1,7 @@
 pub mod Places
 pub mod EntriesInRange
 pub mod Cases
-pub mod MapLaws
-pub mod KeySets
+pub mod KeyOrders
 pub mod WordsReadBack
 pub mod SamenessIsDecided
 pub mod Links

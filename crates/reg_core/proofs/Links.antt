@@ -3,7 +3,7 @@ use Rattle.std.proofs.Common.{◌≡◌, ℕ, Bool, true, false, cond, List, [],
 use Rattle.std.specs.Prelude.{Option, Some, None, IsSome, is_some, option_and_then}
 use Rattle.std.specs.List.{AllByRecursion}
 use Rattle.std.specs.List.Sorted.{IsStrictlySortedBy}
-use Rattle.std.specs.FinMap.{FinMap, get, contains_key, entries, keys, remove, get-remove}
+use Rattle.std.specs.FinMap.{get, contains_key, entries, keys, get-remove}
 use Rattle.std.specs.FinSet.{FinSet}
 use Rattle.std.specs.declared.cmp.Ordering.{Ordering}
 use Rattle.std.specs.declared.cmp.Ordering.TheVariants.{Less, Equal, Greater}
@@ -11,26 +11,17 @@ use Rattle.std.specs.Ordering.{eq_by_cmp, ordering_then}
 use Rattle.std.proofs.lemmas.Cmp.{tied_itself}
 use Rattle.std.proofs.lemmas.List.Elements.{All-map, recursion_from_All}
 use Rattle.std.proofs.lemmas.Slice.Eq.{bytes_eq-Decides}
+use Rattle.reg_maps.specs.Maps.{text_cmp, same_text, only_if, select}
+use Rattle.reg_maps.proofs.KeySets.{is_inserted}
+use Rattle.reg_maps.proofs.MapLaws.{text_keys, same_at, get-at_insert, get-removed, get-select, All-entries, Contains-map, Contains-keys, ascending-keys}
 use Rattle.reg_core.specs.Link.{agent_rows, principal_names}
 use Rattle.reg_core.specs.Lists.{AccountList}
-use Rattle.reg_core.specs.Maps.{text_cmp, same_text, only_if, select}
 use Rattle.reg_core.specs.View.{agents_of, principals_of, principal_rows_of, requests_by, requests_of}
 use Rattle.reg_core.specs.World.{World, Link, RequestName, link_cmp, applied}
 use Rattle.reg_core.specs.declared.change.Change.TheVariants.{SetAgent}
 use Rattle.reg_core.specs.declared.request.Case.{Case}
-use Rattle.reg_core.proofs.KeySets.{is_inserted}
-use Rattle.reg_core.proofs.MapLaws.{IsKeyOrder, text_keys, name_keys, link_keys, same_at, get-at_insert, get-removed, get-select, All-entries, Contains-map, Contains-keys, ascending-keys}
 use Rattle.reg_core.proofs.SamenessIsDecided.{same_text-itself}
-
--- a key that is there after a removal was there
-pub was_left : {K X : Type 0} {R : K → K → Ordering} → IsKeyOrder R → (m : FinMap R X) (k q : K)
-    → IsSome (get (remove m k) q) → IsSome (get m q)
-was_left {R = R} o m k q h =
-    by (eq_by_cmp R q k) (sym (ap is_some (get-remove o.total m k q)) ∙ h)
-  where
-    by : (b : Bool) → IsSome (cond b None (get m q)) → IsSome (get m q)
-    by true h = absurd (cc)
-    by false h = h
+use Rattle.reg_core.proofs.KeyOrders.{name_keys, link_keys}
 
 -- ---- After a change
 

@@ -7,7 +7,9 @@ use Rattle.std.specs.declared.cmp.Ordering.{Ordering}
 use Rattle.std.specs.declared.cmp.Ordering.TheVariants.{Less, Equal, Greater}
 use Rattle.std.specs.Ordering.{eq_by_cmp, is_eq, ordering_then}
 use Rattle.std.specs.FinMap.{FinMap, get, insert, contains_key}
-use Rattle.reg_core.specs.Maps.{text_cmp, same_text, only_if, select, update}
+use Rattle.std.proofs.lemmas.Bool.{not-true}
+use Rattle.reg_maps.specs.Maps.{text_cmp, same_text, only_if, select, update}
+use Rattle.reg_maps.proofs.MapLaws.{tied, same_at, get-select, get-at_insert, get-inserted, get-update}
 use Rattle.reg_core.specs.Names.{is_name}
 use Rattle.reg_core.specs.Queue.{with_advice}
 use Rattle.reg_core.specs.View.{Queued, as_queued, queued_to, queue_of, principal_rows_of}
@@ -15,8 +17,8 @@ use Rattle.reg_core.specs.WellKept.{WellKept}
 use Rattle.reg_core.specs.World.{World, RequestName, name_cmp}
 use Rattle.reg_core.specs.declared.advice.Advice.{Advice}
 use Rattle.reg_core.specs.declared.request.Case.{Case}
-use Rattle.reg_core.proofs.MapLaws.{name_keys, seat_keys, tied, same_at, get-select, get-at_insert, get-inserted, get-update}
 use Rattle.reg_core.proofs.SamenessIsDecided.{same_text-itself}
+use Rattle.reg_core.proofs.KeyOrders.{name_keys, seat_keys}
 
 pub get-queue_of : (account : List ℕ) (w : World) (name : RequestName)
     → get (queue_of account w) name
@@ -125,10 +127,6 @@ others_same {Y = Y} account shows row m n others same = same_at name_keys _ _ (�
         ap (option_and_then (λ case. only_if true (row name case))) (same name (others name t))
     by name false t = none (row name) (get m name) (get n name)
 
-not_true : (b : Bool) → not b ≡ true → b ≡ false
-not_true true h = absurd (cc)
-not_true false h = refl
-
 -- no request is queued to its applicant, so an account's queue does not change with its own
 -- requests
 pub queue_same : (account : List ℕ) (w : World) (requests : FinMap name_cmp Case) → WellKept w
@@ -137,7 +135,7 @@ pub queue_same : (account : List ℕ) (w : World) (requests : FinMap name_cmp Ca
 queue_same account w requests kept =
     others_same account (λ name. contains_key w.queue (name, account))
     (λ name case. as_queued (get w.advice (name, account)) case) requests w.requests
-    (λ name t. not_true (same_text account name.0)
+    (λ name t. not-true (same_text account name.0)
     (second_so (is_name account) (not (same_text account name.0)) (kept.queue (name, account) t)))
 
 -- nor do the requests of its principals, since no account is its own agent
@@ -147,7 +145,7 @@ pub principal_rows_same : (account : List ℕ) (w : World) (requests : FinMap na
 principal_rows_same account w requests kept =
     others_same account (λ name. contains_key w.agents (name.0, account)) (λ name case. case)
     requests w.requests
-    (λ name t. not_true (same_text account name.0)
+    (λ name t. not-true (same_text account name.0)
     (second_so (is_name name.0 && is_name account) (not (same_text account name.0))
     (kept.agents (name.0, account) t)))
 

@@ -7,13 +7,13 @@ use Rattle.std.specs.Option.{option_eq}
 use Rattle.std.specs.Str.{bytes_eq}
 use Rattle.std.proofs.lemmas.Slice.Eq.{bytes_eq-Decides}
 use Rattle.std.specs.Prelude.{Option, Some, None}
+use Rattle.reg_maps.specs.Maps.{same_text}
 use Rattle.reg_core.specs.Advice.{same_advice, is_given}
 use Rattle.reg_core.specs.Ask.{same_want, same_code, same_early, same_renewal, same_permanence, same_size, same_block, same_ask}
 use Rattle.reg_core.specs.declared.ask.Want.{Want}
 use Rattle.reg_core.specs.declared.ask.Want.TheVariants.{Value, Least}
 use Rattle.reg_core.specs.Capability.{same_cap, same_kind}
 use Rattle.reg_core.specs.Laws.{DecidesSame}
-use Rattle.reg_core.specs.Maps.{same_text}
 use Rattle.reg_ranges.specs.Sameness.{same_evidence, same_table}
 use Rattle.reg_ranges.specs.Tables.{Table}
 use Rattle.reg_ranges.specs.declared.evidence.Evidence.{Evidence}

@@ -11,17 +11,18 @@ use Rattle.std.proofs.lemmas.List.Elements.{All-map, recursion_from_All}
 use Rattle.std.proofs.lemmas.Map.Keys.{IsStrictlyIncreasing-from_sorted}
 use Rattle.std.proofs.lemmas.Simd.{map-map}
 use Rattle.std.proofs.lemmas.Slice.Eq.{bytes_eq-Decides}
+use Rattle.reg_maps.specs.Maps.{same_text, only_if, text_cmp}
+use Rattle.reg_maps.proofs.MapLaws.{text_keys, get-select, All-entries, ascending-keys, Contains-map, Contains-entries}
 use Rattle.reg_ranges.proofs.LeastGap.{has_cases}
 use Rattle.reg_core.specs.Entry.{entry_row, page_entry}
 use Rattle.reg_core.specs.LeastFree.{values_in}
-use Rattle.reg_core.specs.Maps.{same_text, only_if, text_cmp}
 use Rattle.reg_core.specs.Page.{entry_rows}
 use Rattle.reg_core.specs.View.{entries_of}
 use Rattle.reg_core.specs.World.{Place, place_cmp}
 use Rattle.reg_core.specs.declared.entry.PageEntry.{PageEntry}
 use Rattle.reg_core.specs.declared.entry.Registration.{Registration}
-use Rattle.reg_core.proofs.MapLaws.{place_keys, text_keys, get-select, All-entries, ascending-keys, Contains-map, Contains-entries}
 use Rattle.reg_core.proofs.SamenessIsDecided.{same_text-itself}
+use Rattle.reg_core.proofs.KeyOrders.{place_keys}
 
 module _ (registry : List ℕ) (m : FinMap place_cmp Registration) where
   -- an entry of the registry has a place of its own

@@ -1,9 +1,9 @@
 -- What advice is, and whether a request was advised.
 use Rattle.std.specs.Prelude.{ℕ, Bool, true, false, ◌&&◌, bytes_eq, codes, List, [], ◌∷◌, Option, Some, None}
 use Rattle.std.specs.List.{list_any}
+use Rattle.reg_maps.specs.Maps.{same_text}
 use Rattle.reg_ranges.specs.Texts.{is_text}
 use Rattle.reg_ranges.specs.Words.{read_among}
-use Rattle.reg_core.specs.Maps.{same_text}
 use Rattle.reg_core.specs.declared.advice.Advice.{Advice}
 use Rattle.reg_core.specs.declared.advice.Opinion.{Opinion}
 use Rattle.reg_core.specs.declared.advice.Verdict.{Verdict}

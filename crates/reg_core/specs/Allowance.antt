@@ -4,6 +4,7 @@
 use Rattle.std.specs.Prelude.{ℕ, Bool, false, nat_lt, List, is_some, Option, Some, None, Result, Ok, Err, if◌then◌else◌}
 use Rattle.std.specs.FinMap.{get}
 use Rattle.std.specs.List.{list_any}
+use Rattle.reg_maps.specs.Maps.{same_text}
 use Rattle.reg_early.specs.EarlyRequirements.{early_unmet}
 use Rattle.reg_early.specs.Terms.{renewable, settleable}
 use Rattle.reg_early.specs.declared.term.RenewFault.{RenewFault}
@@ -21,7 +22,6 @@ use Rattle.reg_ranges.specs.declared.policy.Treatment.TheVariants.{Under, Reserv
 use Rattle.reg_blocks.specs.Block.{SizedPrefix}
 use Rattle.reg_core.specs.Award.{Tenure, for_good, early, renewed, settled, awarded_entry, AwardedEntry, new_holding, NewHolding, Allowance, given_in}
 use Rattle.reg_core.specs.BlockDue.{due_in}
-use Rattle.reg_core.specs.Maps.{same_text}
 use Rattle.reg_core.specs.LeastFree.{least_free_in}
 use Rattle.reg_core.specs.View.{Published}
 use Rattle.reg_core.specs.declared.ask.Ask.{Ask}

@@ -1,8 +1,8 @@
 -- Requests with their experts and all advice on them.
 use Rattle.std.specs.Prelude.{ℕ, Bool, ◌&&◌, List, map}
 use Rattle.std.specs.FinMap.{FinMap, entries}
+use Rattle.reg_maps.specs.Maps.{same_text, only_if, select}
 use Rattle.reg_core.specs.Advice.{is_advised}
-use Rattle.reg_core.specs.Maps.{same_text, only_if, select}
 use Rattle.reg_core.specs.Request.{request_row}
 use Rattle.reg_core.specs.World.{World, RequestName, Seat, seat_cmp}
 use Rattle.reg_core.specs.declared.advice.Advice.{Advice}

@@ -1,9 +1,9 @@
 -- Blocks that were given with their holders, and what the public sees of them.
 use Rattle.std.specs.Prelude.{ℕ, Bool, ◌&&◌, not, List, map, Option, Some}
 use Rattle.std.specs.FinMap.{FinMap, entries}
+use Rattle.reg_maps.specs.Maps.{only_if, select}
 use Rattle.reg_blocks.specs.Block.{SizedPrefix, block_cmp}
 use Rattle.reg_ranges.specs.Texts.{is_text}
-use Rattle.reg_core.specs.Maps.{only_if, select}
 use Rattle.reg_core.specs.Names.{is_name}
 use Rattle.reg_core.specs.declared.holding.Holder.{Holder}
 use Rattle.reg_core.specs.declared.holding.Holding.{Holding}

@@ -1,10 +1,10 @@
 -- The values of a registry that have entries, and the least that has none.
 use Rattle.std.specs.Prelude.{ℕ, List, map, Option, option_and_then}
 use Rattle.std.specs.FinMap.{FinMap, get, entries}
+use Rattle.reg_maps.specs.Maps.{text_cmp}
 use Rattle.reg_ranges.specs.FreeValues.{least_value}
 use Rattle.reg_ranges.specs.Tables.{Table}
 use Rattle.reg_ranges.specs.declared.policy.Policy.{Policy}
-use Rattle.reg_core.specs.Maps.{text_cmp}
 use Rattle.reg_core.specs.View.{entries_of}
 use Rattle.reg_core.specs.World.{place_cmp}
 use Rattle.reg_core.specs.declared.entry.Registration.{Registration}

@@ -5,7 +5,6 @@ pub mod AskKind
 pub mod Advice
 pub mod Registry
 pub mod Command
-pub mod Maps
 pub mod Entry
 pub mod Holding
 pub mod World

@@ -2,7 +2,7 @@
 use Rattle.std.specs.Prelude.{ℕ, Bool, ◌&&◌, not, List, map}
 use Rattle.std.specs.FinMap.{keys}
 use Rattle.std.specs.FinSet.{FinSet}
-use Rattle.reg_core.specs.Maps.{same_text}
+use Rattle.reg_maps.specs.Maps.{same_text}
 use Rattle.reg_core.specs.Names.{is_name}
 use Rattle.reg_core.specs.World.{Link, link_cmp}
 

@@ -2,11 +2,11 @@
 use Rattle.std.specs.Prelude.{◌≡◌, ◌<◌, ◌≤◌, ℕ, Bool, true, false, List, map, Option, Some, None, IsSome, All, Contains}
 use Rattle.std.specs.FinMap.{get, contains_key}
 use Rattle.std.specs.List.Sorted.{IsStrictlySortedBy, IsStrictlyIncreasing}
+use Rattle.reg_maps.specs.Maps.{text_cmp}
 use Rattle.reg_blocks.specs.Block.{SizedPrefix, block_cmp}
 use Rattle.reg_early.specs.declared.term.Status.TheVariants as status
 use Rattle.reg_core.specs.Entry.{page_entry}
 use Rattle.reg_core.specs.File.{experts_of, opinions_of}
-use Rattle.reg_core.specs.Maps.{text_cmp}
 use Rattle.reg_core.specs.Holding.{holder_in, holding_row, holding_rows, listed_rows}
 use Rattle.reg_core.specs.Page.{page_entries}
 use Rattle.reg_core.specs.Queue.{queue_rows}

@@ -1,5 +1,6 @@
 -- The rule by which each command is decided, over just the rows that it needs.
 use Rattle.std.specs.Prelude.{◌≡◌, ℕ, Bool, true, false, ◌&&◌, not, List, Option, Some, None, Result, Ok, Err, is_some, if◌then◌else◌, MatchResult}
+use Rattle.reg_maps.specs.Maps.{same_text}
 use Rattle.reg_blocks.specs.Block.{SizedPrefix}
 use Rattle.reg_blocks.specs.Pool.{is_pool_prefix}
 use Rattle.reg_early.specs.Terms.{status_on}
@@ -9,7 +10,6 @@ use Rattle.reg_early.specs.declared.term.Term.{Term}
 use Rattle.reg_ranges.specs.Sameness.{same_table}
 use Rattle.reg_ranges.specs.Tables.{Table}
 use Rattle.reg_core.specs.Advice.{is_given}
-use Rattle.reg_core.specs.Maps.{same_text}
 use Rattle.reg_core.specs.Allowance.{Ground, allowance_on}
 use Rattle.reg_core.specs.Ask.{same_ask}
 use Rattle.reg_core.specs.Award.{Award, awarded_entry, new_holding, Allowance, entry_on, holding_from}

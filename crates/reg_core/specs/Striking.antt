@@ -2,7 +2,7 @@
 use Rattle.std.specs.Prelude.{◌≡◌, ℕ, Bool, true, false, ◌||◌, not, List, map, filter, Option, Some, None}
 use Rattle.std.specs.FinMap.{get}
 use Rattle.std.specs.List.{AllZip}
-use Rattle.reg_core.specs.Maps.{same_text}
+use Rattle.reg_maps.specs.Maps.{same_text}
 use Rattle.reg_core.specs.Run.{Event, run, world_after}
 use Rattle.reg_core.specs.Unseen.{Stage, stages, is_unseen, kept_stages, struck}
 use Rattle.reg_core.specs.View.{published, cap_at, view_of}

@@ -3,10 +3,10 @@
 use Rattle.std.specs.Prelude.{ℕ, Bool, true, false, ◌&&◌, ◌||◌, not, List, [], ◌∷◌, map, filter, Option, Some, None}
 use Rattle.std.specs.List.{list_any}
 use Rattle.std.specs.FinMap.{contains_key}
+use Rattle.reg_maps.specs.Maps.{same_text}
 use Rattle.reg_core.specs.Answer.{change_of}
 use Rattle.reg_core.specs.Command.{about}
 use Rattle.reg_core.specs.File.{same_name}
-use Rattle.reg_core.specs.Maps.{same_text}
 use Rattle.reg_core.specs.Run.{Event, step_of}
 use Rattle.reg_core.specs.Step.{answer_to}
 use Rattle.reg_core.specs.View.{cap_at}

@@ -3,10 +3,10 @@ use Rattle.std.specs.Prelude.{ℕ, List, Option, option_map, option_and_then}
 use Rattle.std.specs.FinMap.{FinMap, get, contains_key}
 use Rattle.std.specs.FinSet.{FinSet}
 use Rattle.std.specs.Ordering.{nat_cmp}
+use Rattle.reg_maps.specs.Maps.{text_cmp, same_text, only_if, select}
 use Rattle.reg_blocks.specs.Block.{block_cmp}
 use Rattle.reg_ranges.specs.Tables.{Table}
 use Rattle.reg_core.specs.Holding.{Shown, masked_blocks}
-use Rattle.reg_core.specs.Maps.{text_cmp, same_text, only_if, select}
 use Rattle.reg_core.specs.Request.{word_of}
 use Rattle.reg_core.specs.World.{World, RequestName, name_cmp, place_cmp, link_cmp}
 use Rattle.reg_core.specs.declared.advice.Advice.{Advice}

@@ -1,6 +1,7 @@
 -- What holds of every world that an office keeps, and the changes that fit it.
 use Rattle.std.specs.Prelude.{◌≡◌, ◌^◌, Bool, true, false, ◌&&◌, not, nat_lt, List, ℕ, Option, Some, None, IsSome, is_ok}
 use Rattle.std.specs.FinMap.{FinMap, get, contains_key}
+use Rattle.reg_maps.specs.Maps.{same_text}
 use Rattle.reg_blocks.specs.Block.{SizedPrefix, Clash, block_cmp, is_block, leading_24}
 use Rattle.reg_blocks.specs.Pool.{is_pool_prefix}
 use Rattle.reg_blocks.specs.declared.size.Size.{Size}
@@ -13,7 +14,6 @@ use Rattle.reg_core.specs.Allowance.{open_policy}
 use Rattle.reg_core.specs.Entry.{has_registration_form}
 use Rattle.reg_core.specs.Link.{has_link_form}
 use Rattle.reg_core.specs.Holding.{has_holder_form}
-use Rattle.reg_core.specs.Maps.{same_text}
 use Rattle.reg_core.specs.Request.{has_state_form}
 use Rattle.reg_core.specs.Names.{is_name, is_digest}
 use Rattle.reg_core.specs.Registry.{has_table_form}

@@ -5,9 +5,9 @@ use Rattle.std.specs.declared.cmp.Ordering.{Ordering}
 use Rattle.std.specs.FinMap as map
 use Rattle.std.specs.FinMap.{FinMap, insert, remove}
 use Rattle.std.specs.FinSet.{FinSet}
+use Rattle.reg_maps.specs.Maps.{text_cmp, pair_cmp, update}
 use Rattle.reg_blocks.specs.Block.{block_cmp}
 use Rattle.reg_ranges.specs.Tables.{Table}
-use Rattle.reg_core.specs.Maps.{text_cmp, pair_cmp, update}
 use Rattle.reg_core.specs.Entry.{registration_in, with_hold}
 use Rattle.reg_core.specs.Holding.{holder_in, with_mark}
 use Rattle.reg_core.specs.declared.advice.Advice.{Advice}

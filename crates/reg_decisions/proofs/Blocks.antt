@@ -5,6 +5,8 @@ use Rattle.std.specs.FinMap.{FinMap, get, keys, contains_key, entries}
 use Rattle.std.proofs.lemmas.List.Elements.{All-contains}
 use Rattle.std.proofs.lemmas.Map.Keys.{IsStrictlyIncreasing-from_sorted}
 use Rattle.std.proofs.lemmas.Slice.Eq.{bytes_eq-Decides}
+use Rattle.reg_maps.specs.Maps.{same_text, only_if, keyed}
+use Rattle.reg_maps.proofs.MapLaws.{get-select, entries-select, ascending-keys, Contains-keys, has_row, number_keys}
 use Rattle.reg_blocks.specs.Block.{SizedPrefix, Clash, block_cmp, leading_24}
 use Rattle.reg_blocks.specs.Due.{block_due}
 use Rattle.reg_blocks.specs.declared.size.Size.{Size}
@@ -13,11 +15,10 @@ use Rattle.reg_blocks.proofs.TrialFindsTheBlockDue.{block_due-IsAnswer}
 use Rattle.reg_core.specs.BlockDue.{due_in}
 use Rattle.reg_core.specs.BlocksGiven.{IsDueIn, BlocksDueAreLeast}
 use Rattle.reg_core.specs.Holding.{masked, masked_blocks}
-use Rattle.reg_core.specs.Maps.{same_text, only_if, keyed}
 use Rattle.reg_core.specs.View.{published, holdings_of}
 use Rattle.reg_core.specs.World.{World}
 use Rattle.reg_core.specs.declared.holding.Holder.{Holder}
-use Rattle.reg_core.proofs.MapLaws.{block_keys, get-select, entries-select, ascending-keys, Contains-keys, has_row, number_keys}
+use Rattle.reg_core.proofs.KeyOrders.{block_keys}
 
 -- ---- The block due
 

@@ -7,17 +7,18 @@ use Rattle.std.specs.FinMap.{FinMap, get, entries, contains_key}
 use Rattle.std.specs.List.{list_any}
 use Rattle.std.proofs.lemmas.List.Elements.{All-nil, All-cons, All-head, All-tail, All-weaker, All-contains, All-map}
 use Rattle.std.proofs.lemmas.Slice.Eq.{bytes_eq-Decides}
+use Rattle.reg_maps.specs.Maps.{same_text, only_if}
+use Rattle.reg_maps.proofs.MapLaws.{get-select, All-entries, Contains-map, Contains-entries}
 use Rattle.reg_core.specs.Advice.{is_among, is_favourable, same_verdict}
 use Rattle.reg_core.specs.File.{same_name, seats_of, experts_of, opinion, opinions_of, was_advised}
 use Rattle.reg_core.specs.Laws.{IsAdvised}
-use Rattle.reg_core.specs.Maps.{same_text, only_if}
 use Rattle.reg_core.specs.World.{World, RequestName, Seat, seat_cmp}
 use Rattle.reg_core.specs.declared.advice.Advice.{Advice}
 use Rattle.reg_core.specs.declared.advice.Opinion.{Opinion}
 use Rattle.reg_core.specs.declared.advice.Verdict.{Verdict}
 use Rattle.reg_core.specs.declared.advice.Verdict.TheVariants.{For, Against}
-use Rattle.reg_core.proofs.MapLaws.{seat_keys, get-select, All-entries, Contains-map, Contains-entries}
 use Rattle.reg_core.proofs.SamenessIsDecided.{same_text-itself}
+use Rattle.reg_core.proofs.KeyOrders.{seat_keys}
 
 -- ---- Names
 

@@ -3,17 +3,18 @@ use Rattle.std.proofs.Common.{◌≡◌, ℕ, Bool, true, false, List, refl, sym
 use Rattle.std.proofs.lemmas.Slice.Eq.{bytes_eq-Decides}
 use Rattle.std.specs.Prelude.{Option, Some, None, Ok, Err, option_and_then, nat_le, if◌then◌else◌}
 use Rattle.std.specs.FinMap.{get}
+use Rattle.reg_maps.specs.Maps.{same_text, only_if}
+use Rattle.reg_maps.proofs.MapLaws.{get-select}
 use Rattle.reg_core.specs.Answer.{admitted}
 use Rattle.reg_core.specs.Capability.{same_kind}
-use Rattle.reg_core.specs.Maps.{same_text, only_if}
 use Rattle.reg_core.specs.View.{requests_of}
 use Rattle.reg_core.specs.World.{World, RequestName}
 use Rattle.reg_core.specs.declared.capability.Cap.{Cap}
 use Rattle.reg_core.specs.declared.capability.Kind.{Kind}
 use Rattle.reg_core.specs.declared.request.Case.{Case}
 use Rattle.reg_core.specs.declared.refusal.Refusal.TheVariants as no
-use Rattle.reg_core.proofs.MapLaws.{name_keys, get-select}
 use Rattle.reg_core.proofs.SamenessIsDecided.{same_text-itself}
+use Rattle.reg_core.proofs.KeyOrders.{name_keys}
 
 -- among an account's own requests each of the account's is found under its name
 pub own_request : (account : List ℕ) (reference : List ℕ) (w : World)

@@ -1,14 +1,15 @@
 -- Which numbers lie in runs once a number is joined to them, and that they stay apart.
 use Rattle.std.proofs.Common.{◌≡◌, ◌≢◌, ℕ, ◌+◌, ◌^◌, ◌<◌, ◌≤◌, true, false, nat_eq, ◌||◌, Option, Some, None, refl, sym, ap, ◌∙◌, ◌⊎◌, inl, inr, arith}
-use Rattle.std.specs.Prelude.{unwrap_or, Result, Ok, Err, OnOk, OnErr}
-use Rattle.std.specs.BTreeMap.{IsOrdered, IsUnchanged, Updates, get, is_at}
+use Rattle.std.specs.Prelude.{unwrap_or}
+use Rattle.std.specs.BTreeMap.{IsOrdered, IsUnchanged, Updates, get}
 use Rattle.std.specs.List.{list_any}
-use Rattle.std.specs.Map.{lookup}
 use Rattle.std.specs.Ordering.{nat_cmp}
 use Rattle.std.proofs.lemmas.Bool.{cases_eq, cases_lt, cases_order, eq-eqb, leb-false, ne_eqb, or_left}
-use Rattle.std.proofs.lemmas.Bool.Decides.{Decides-eqb, Decides-like, Decides-or, nat_tests, same_from_decides}
-use Rattle.reg_free.specs.Spans.{Spans, Apart, IsBefore, IsFirst, IsRun, Joins, is_within, reaches}
-use Rattle.reg_free.proofs.SpanLaws.{Decides-within, Lies, covers, same_run}
+use Rattle.std.proofs.lemmas.Bool.Decides.{Decides-eqb, Decides-like, Decides-or, same_from_decides}
+use Rattle.reg_maps.specs.Spans.{Spans, IsRun, Lies}
+use Rattle.reg_maps.proofs.Runs.{apart_keys, run_unchanged, same_run}
+use Rattle.reg_free.specs.Spans.{Apart, IsBefore, IsFirst, Joins, is_within, reaches}
+use Rattle.reg_free.proofs.SpanLaws.{Decides-within, covers}
 
 none_above : (spans : Spans) → Apart spans → (n : ℕ) → 2 ^ 32 ≤ n → get nat_cmp spans n ≡ None
 none_above spans apart n big =
@@ -17,9 +18,6 @@ none_above spans apart n big =
       | Some last ↦ λ is. let filled = apart.filled n last is in let fits =
           apart.fits n last is in absurd (omega arith)
     ] refl
-
-apart_keys : (a b : ℕ) → a ≢ b → is_at (nat_cmp a) b ≡ false
-apart_keys a b ne = grind (arith, nat_tests)
 
 pub joins_two : (old mid new : Spans) (first last value : ℕ) → first ≤ value
     → Updates nat_cmp old mid first (Some last) → Updates nat_cmp mid new (value + 1) None
@@ -324,15 +322,9 @@ within_unchanged old new same n = ap (list_any (covers n)) same
 
 pub apart_unchanged : (old new : Spans) → IsUnchanged old new → Apart old → Apart new
 apart_unchanged old new same apart =
-    let was : (f l : ℕ) → IsRun new f l → IsRun old f l =
-    λ f l some. sym (ap (lookup (is_at (nat_cmp f))) same) ∙ some in
+    let was = run_unchanged old new same in
     record {
       filled = λ f l some. apart.filled f l (was f l some);
       fits = λ f l some. apart.fits f l (was f l some);
       apart = λ f l g k some other lt. apart.apart f l g k (was f l some) (was g k other) lt;
     }
-
--- what follows at either outcome
-pub either : {T E P Q G : Type 0} (r : Result T E) → OnOk r P → OnErr r Q → (P → G) → (Q → G) → G
-either (Ok x) p q f g = f p
-either (Err e) p q f g = g q

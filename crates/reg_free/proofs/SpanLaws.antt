@@ -1,7 +1,7 @@
 -- Runs: which numbers lie in them, and which is free next.
 use Rattle.std.proofs.Common.{◌≡◌, ℕ, suc, ◌+◌, ◌^◌, ◌<◌, ◌≤◌, Bool, true, false, ◌&&◌, nat_le, List, [], ◌∷◌, ◌++◌, Option, Some, None, refl, sym, ap, ◌∙◌, inl, inr, arith}
-use Rattle.std.specs.Prelude.{Contains, IsSome}
-use Rattle.std.specs.BTreeMap.{IsOrdered, get}
+use Rattle.std.specs.Prelude.{Contains}
+use Rattle.std.specs.BTreeMap.{IsOrdered}
 use Rattle.std.specs.BTreeMap.Range.{IsRangeOf, IsLeBy}
 use Rattle.std.specs.Bool.{Decides}
 use Rattle.std.specs.Cmp.{nat_cmp_total}
@@ -15,17 +15,11 @@ use Rattle.std.proofs.lemmas.List.Folds.{list_any_at}
 use Rattle.std.proofs.lemmas.Map.Keys.{ge_from_not_lt, le_from_not_gt}
 use Rattle.std.proofs.lemmas.Map.Lookups.{exact_unsigned}
 use Rattle.std.proofs.lemmas.Map.Views.{btree_map_get_iff}
-use Rattle.reg_free.specs.Spans.{Spans, Apart, IsBefore, IsNextFree, IsRun, is_within, reaches}
+use Rattle.reg_maps.specs.Spans.{Spans, IsRun, Lies}
+use Rattle.reg_maps.proofs.Runs.{is_some_at, same_run}
+use Rattle.reg_free.specs.Spans.{Apart, IsBefore, IsNextFree, is_within, reaches}
 
 -- ---- the test as a fact
-
--- the number lies in this run
-pub record Lies (spans : Spans) (n : ℕ) : Type 0 where
-  pub first : ℕ
-  pub last : ℕ
-  pub run : IsRun spans first last
-  pub low : first ≤ n
-  pub high : n ≤ last
 
 abbrev pub covers : ℕ → ℕ × ℕ → Bool
 covers n run = nat_le run.0 n && nat_le n run.1
@@ -84,10 +78,6 @@ not_within spans ordered n none =
 
 -- ---- the last run that begins at or below a number
 
-is_some_at : (spans : Spans) (first last : ℕ) → IsRun spans first last
-    → IsSome (get nat_cmp spans first)
-is_some_at spans first last is = rw is refl
-
 not_above : (a b : ℕ) → a ≤ b → IsLeBy nat_cmp a b
 not_above a b le = grind (arith, nat_tests)
 
@@ -110,14 +100,6 @@ before_none spans value between range none =
     λ first le. range.5 none first (tt, not_above first value le)
 
 -- ---- tests by that run
-
-same_last : (spans : Spans) (first last other : ℕ) → IsRun spans first last
-    → IsRun spans first other → last ≡ other
-same_last spans first last other a b = cc
-
-pub same_run : (spans : Spans) (first last f l : ℕ) → f ≡ first → IsRun spans first last
-    → IsRun spans f l → l ≡ last
-same_run spans first last f l e a b = cc
 
 -- a number that lies in a run lies in the last one that begins at or below it
 lies_in_last : (spans : Spans) → Apart spans → (value : ℕ) (run : ℕ × ℕ)

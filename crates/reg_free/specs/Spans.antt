@@ -1,20 +1,13 @@
--- The numbers in runs, and the map that keeps the runs.
+-- The numbers in runs between which there is a number that lies in none, and what adds one.
 use Rattle.std.specs.Prelude.{◌≡◌, ◌≢◌, ℕ, ◌+◌, ◌^◌, ◌<◌, ◌≤◌, Bool, true, false, ◌&&◌, nat_le, Option, Some, None, ◌⊎◌}
-use Rattle.std.specs.BTreeMap.{BTreeMap, get}
+use Rattle.std.specs.BTreeMap.{get}
 use Rattle.std.specs.List.{list_any}
 use Rattle.std.specs.Ordering.{nat_cmp}
-
--- from the first to the last number of each run
-abbrev pub Spans : Type 0
-Spans = BTreeMap ℕ ℕ
+use Rattle.reg_maps.specs.Spans.{Spans, IsRun}
 
 -- the number lies in a run
 abbrev pub is_within : Spans → ℕ → Bool
 is_within spans n = list_any (λ run. nat_le run.0 n && nat_le n run.1) spans.entries
-
--- the run is kept
-abbrev pub IsRun : Spans → ℕ → ℕ → Type 0
-IsRun spans first last = get nat_cmp spans first ≡ Some last
 
 -- no run is empty, its numbers have 32 bits, and between two runs there is a number that lies in
 -- none

@@ -2,7 +2,7 @@
 use Rattle.std.specs.Prelude.{ℕ, List, map}
 use Rattle.std.specs.FinMap.{FinMap, entries}
 use Rattle.std.specs.FinSet.{FinSet}
-use Rattle.reg_core.specs.Maps.{text_cmp}
+use Rattle.reg_maps.specs.Maps.{text_cmp}
 use Rattle.reg_core.specs.World.{Link, link_cmp}
 use Rattle.reg_core.specs.declared.capability.Cap.{Cap}
 use Rattle.reg_keeper.specs.declared.rows.CapRow.{CapRow}

@@ -2,13 +2,13 @@
 ghost use Rattle.std.specs.Prelude.{◌≡◌, Bool, IfOk, map, option_map};
 ghost use Rattle.std.specs.FinMap.{contains_key, get, keys};
 ghost use Rattle.std.specs.List.Sorted.{IsStrictlyIncreasing};
+ghost use Rattle.reg_maps.specs.Maps.{only_if};
 ghost use Rattle.reg_core.specs.BlockDue.{due_in};
 ghost use Rattle.reg_core.specs.Entry.{entry_row};
 ghost use Rattle.reg_core.specs.File.{file as file_of};
 ghost use Rattle.reg_core.specs.Holding.{holding_row, holding_rows, listed_rows, masked_blocks};
 ghost use Rattle.reg_core.specs.LeastFree.{least_free_in};
 ghost use Rattle.reg_core.specs.Link.{agent_rows, principal_names};
-ghost use Rattle.reg_core.specs.Maps.{only_if};
 ghost use Rattle.reg_core.specs.Page.{entry_rows};
 ghost use Rattle.reg_core.specs.Queue.{queue_row, queue_rows};
 ghost use Rattle.reg_core.specs.Request.{request_row, request_rows};

@@ -5,11 +5,12 @@ use Rattle.std.specs.Ordering.{eq_by_cmp}
 use Rattle.std.specs.FinMap.{get, contains_key}
 use Rattle.std.specs.FinSet.{FinSet}
 use Rattle.std.proofs.lemmas.Bool.{both_ways}
-use Rattle.reg_core.specs.Maps.{same_text, only_if, select}
+use Rattle.reg_maps.specs.Maps.{same_text, only_if, select}
+use Rattle.reg_maps.proofs.MapLaws.{tied, get-at_insert, get-at_remove, select-insert_same, select-remove_same, select-insert_unchosen, select-remove_unchosen}
 use Rattle.reg_core.specs.View.{principals_of, principal_rows_of}
 use Rattle.reg_core.specs.World.{World, Link, link_cmp, with_link}
-use Rattle.reg_core.proofs.MapLaws.{link_keys, tied, get-at_insert, get-at_remove, select-insert_same, select-remove_same, select-insert_unchosen, select-remove_unchosen}
 use Rattle.reg_core.proofs.SamenessIsDecided.{same_text-itself}
+use Rattle.reg_core.proofs.KeyOrders.{link_keys}
 
 -- whether the link is there, after it or another one was added or taken away
 pub there_after : (reads : Bool) (link : Link) (links : FinSet link_cmp) (q : Link)

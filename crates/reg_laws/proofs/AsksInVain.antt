@@ -4,6 +4,7 @@ use Rattle.std.proofs.Common.{◌≡◌, ℕ, Bool, true, false, List, refl, sym
 use Rattle.std.specs.Prelude.{Option, Some, None, Result, Ok, Err, is_some, option_map, if◌then◌else◌}
 use Rattle.std.specs.FinMap.{FinMap, get}
 use Rattle.std.proofs.lemmas.Slice.Eq.{bytes_eq-Decides}
+use Rattle.reg_maps.specs.Maps.{same_text}
 use Rattle.reg_early.specs.EarlyRequirements.{early_unmet}
 use Rattle.reg_early.specs.Moment.{is_in_clock}
 use Rattle.reg_ranges.specs.Requirements.{first_item, unmet}
@@ -12,7 +13,6 @@ use Rattle.reg_core.specs.Allowance.{◌>>=◌, or_refusal, policy_for, is_met, 
 use Rattle.reg_core.specs.Answer.{Answer, admitted, as_kind, by_rule, change_of, made_row, reply_of}
 use Rattle.reg_core.specs.Ask.{same_ask}
 use Rattle.reg_core.specs.EarlyAllocations.{WantsNew, ExpiredValuesAreTaken, IsOfEntry, HasNoEntry, ForeignEntriesAreHidden}
-use Rattle.reg_core.specs.Maps.{same_text}
 use Rattle.reg_core.specs.Rules.{submit_rule}
 use Rattle.reg_core.specs.Step.{answer_to}
 use Rattle.reg_core.specs.View.{published, Personal, personal, cap_at, with_personal}

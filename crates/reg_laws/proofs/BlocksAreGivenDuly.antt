@@ -5,6 +5,8 @@ use Rattle.std.specs.Prelude.{Option, Some, None, Result, Ok, Err, IsSome, is_so
 use Rattle.std.specs.Cmp.{first_so, second_so}
 use Rattle.std.specs.FinMap.{FinMap, get, contains_key}
 use Rattle.std.proofs.lemmas.Slice.Eq.{bytes_eq-Decides}
+use Rattle.reg_maps.specs.Maps.{same_text, only_if}
+use Rattle.reg_maps.proofs.MapLaws.{same_at, get-select}
 use Rattle.reg_blocks.specs.Block.{SizedPrefix, block_cmp, leading_24}
 use Rattle.reg_early.specs.Moment.{is_in_clock}
 use Rattle.reg_core.specs.Allowance.{◌>>=◌, allowed, ground_of, or_refusal}
@@ -13,7 +15,6 @@ use Rattle.reg_core.specs.Ask.{same_size}
 use Rattle.reg_core.specs.BlocksGiven.{BlocksAreApart, IsDueIn, IsBlockGivenDuly, BlockAsksAreServedDuly, AreHidden, PrivateHoldersAreHidden, IsNotHeld, ForeignBlocksAreHidden}
 use Rattle.reg_core.specs.Holding.{masked, masked_blocks, Shown, holding_row, with_mark}
 use Rattle.reg_core.specs.Laws.{GivesDigests}
-use Rattle.reg_core.specs.Maps.{same_text, only_if}
 use Rattle.reg_core.specs.Rules.{listing_rule}
 use Rattle.reg_core.specs.Run.{world_after}
 use Rattle.reg_core.specs.Step.{answer_to}
@@ -37,9 +38,9 @@ use Rattle.reg_core.specs.declared.request.State.{State}
 use Rattle.reg_decisions.proofs.Allowances.{allowance_of, allows_block}
 use Rattle.reg_decisions.proofs.Blocks.{due_is_due, holding_found}
 use Rattle.reg_decisions.proofs.Keeping.RunsKeepWell.{runs_keep}
-use Rattle.reg_core.proofs.MapLaws.{block_keys, same_at, get-select}
 use Rattle.reg_decisions.proofs.Outcomes.Dues.{GivesBlock, changes_due}
 use Rattle.reg_core.proofs.SamenessIsDecided.{same_size-is}
+use Rattle.reg_core.proofs.KeyOrders.{block_keys}
 use Rattle.reg_laws.proofs.TwoWorlds.{worlds_alike}
 
 -- ---- Blocks are apart

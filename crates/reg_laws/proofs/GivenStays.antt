@@ -6,6 +6,9 @@ use Rattle.std.specs.declared.cmp.Ordering.{Ordering}
 use Rattle.std.specs.Ordering.{eq_by_cmp}
 use Rattle.std.specs.FinMap.{FinMap, get, insert, remove}
 use Rattle.std.specs.FinSet.{FinSet}
+use Rattle.reg_maps.specs.Maps.{text_cmp, update}
+use Rattle.reg_maps.proofs.KeySets.{still_in}
+use Rattle.reg_maps.proofs.MapLaws.{IsKeyOrder, number_keys, text_keys, tied, get-at_insert, get-update}
 use Rattle.reg_early.specs.Calendar.{IsDay}
 use Rattle.reg_early.specs.Moment.{is_in_clock, utc_day}
 use Rattle.reg_early.proofs.MomentsHaveDays.{IsDay-utc_day}
@@ -15,7 +18,6 @@ use Rattle.reg_core.specs.Entry.{registration_in, with_hold}
 use Rattle.reg_core.specs.Holding.{holder_in, with_mark}
 use Rattle.reg_blocks.specs.Block.{SizedPrefix, block_cmp}
 use Rattle.reg_core.specs.Laws.{GivesDigests, GivenStays, SameReview, Stays, StillGiven, StillHeld, StillStands, StillAsks}
-use Rattle.reg_core.specs.Maps.{text_cmp, update}
 use Rattle.reg_core.specs.MayBeGiven.{IsDuly, place_of}
 use Rattle.reg_core.specs.Request.{is_pending}
 use Rattle.reg_core.specs.Run.{Event, have_forms, step_of, world_after}
@@ -34,9 +36,8 @@ use Rattle.reg_core.specs.declared.request.Given.TheVariants.{Value, Block}
 use Rattle.reg_core.specs.declared.request.State.{State}
 use Rattle.reg_core.specs.declared.request.State.TheVariants.{Pending, Approved, Declined, Withdrawn}
 use Rattle.reg_decisions.proofs.Keeping.RunsKeepWell.{step_keeps_well}
-use Rattle.reg_core.proofs.KeySets.{still_in}
-use Rattle.reg_core.proofs.MapLaws.{IsKeyOrder, number_keys, text_keys, name_keys, place_keys, seat_keys, block_keys, tied, get-at_insert, get-update}
 use Rattle.reg_core.specs.declared.change.Change.TheVariants.{Grant, Revoke, Define, AddPool, Submit, Close, Assign, Advise, GiveValue, GiveBlock, SetPrivate, SetHold, SetAgent}
+use Rattle.reg_core.proofs.KeyOrders.{name_keys, place_keys, seat_keys, block_keys}
 use Rattle.reg_decisions.proofs.Blocks.{due_is_new}
 use Rattle.reg_decisions.proofs.Outcomes.Dues.{WasPending, MarksEntry, Due, each_step}
 use Rattle.reg_laws.proofs.TermsStand.{term_stands, marked_stands, term_stands_on, given_duly, still_given}

@@ -4,8 +4,8 @@ use Rattle.std.specs.Prelude.{Option, Some, None, filter, is_some}
 use Rattle.std.specs.List.{list_any, AllZip}
 use Rattle.std.specs.FinMap.{get, contains_key}
 use Rattle.std.proofs.lemmas.Bool.{or_parts, not-false}
+use Rattle.reg_maps.specs.Maps.{same_text}
 use Rattle.reg_core.specs.Answer.{change_of, reply_of}
-use Rattle.reg_core.specs.Maps.{same_text}
 use Rattle.reg_core.specs.Run.{Event, step_of, world_after}
 use Rattle.reg_core.specs.Step.{answer_to}
 use Rattle.reg_core.specs.Striking.{ShowSame, HasNone, AreAlikeTo, UnseenLeaveNoTrace, StagesAreOfRun}
@@ -19,7 +19,6 @@ use Rattle.reg_laws.proofs.Striking.Lists.{answer_plain}
 use Rattle.reg_laws.proofs.Striking.Untouched.{kept_apart, left_if}
 use Rattle.reg_laws.proofs.Striking.Views.{show_same}
 use Rattle.reg_laws.proofs.Striking.Worlds.{agree_itself, agree_if, agree_hidden_if, Blind, IsQuiet, IsOfHidden, blind_if, Unaware}
-pub mod Maps
 pub mod Worlds
 pub mod Views
 pub mod Answers

@@ -3,13 +3,14 @@ use Rattle.std.proofs.Common.{◌≡◌, ℕ, Bool, true, false, not, cond, List
 use Rattle.std.specs.Prelude.{Option, Some, None, IsSome, option_map, ◌⊎◌}
 use Rattle.std.specs.FinMap.{get, insert}
 use Rattle.std.specs.Ordering.{eq_by_cmp}
+use Rattle.reg_maps.specs.Maps.{update}
+use Rattle.reg_maps.proofs.MapLaws.{tied, get-at_insert, get-update}
 use Rattle.reg_early.specs.Moment.{utc_day}
 use Rattle.reg_early.specs.Terms.{status_on}
 use Rattle.reg_early.specs.declared.term.Status.TheVariants as status
 use Rattle.reg_core.specs.Answer.{change_of}
 use Rattle.reg_core.specs.EarlyAllocations.{MovesTerm, IsMoved, IsMarked, TermsMoveDuly}
 use Rattle.reg_core.specs.Entry.{registration_in, with_hold}
-use Rattle.reg_core.specs.Maps.{update}
 use Rattle.reg_core.specs.MayBeGiven.{place_of}
 use Rattle.reg_core.specs.Step.{answer_to}
 use Rattle.reg_core.specs.WellKept.{WellKept}
@@ -21,7 +22,7 @@ use Rattle.reg_core.specs.declared.command.Command.TheVariants.{Clerk}
 use Rattle.reg_core.specs.declared.command.ClerkCommand.TheVariants.{Approve, SetHold as SetHoldOf}
 use Rattle.reg_core.specs.declared.entry.Entry.{Entry}
 use Rattle.reg_core.specs.declared.entry.Registration.{Registration}
-use Rattle.reg_core.proofs.MapLaws.{place_keys, tied, get-at_insert, get-update}
+use Rattle.reg_core.proofs.KeyOrders.{place_keys}
 use Rattle.reg_decisions.proofs.Outcomes.Dues.{changes_due}
 use Rattle.reg_laws.proofs.TermsStand.{given_duly, given_moves}
 

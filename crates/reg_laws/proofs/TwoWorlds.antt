@@ -1,11 +1,12 @@
 -- Two worlds that show a caller the same view answer it alike, and show it the same view after its
 -- step.
 use Rattle.std.proofs.Common.{◌≡◌, ℕ, Bool, true, false, ◌&&◌, List, refl, sym, ap, subst, ◌∙◌}
+use Rattle.reg_maps.specs.Maps.{same_text, only_if, update}
+use Rattle.reg_maps.proofs.MapLaws.{select-insert_same, select-update_same}
 use Rattle.reg_core.specs.Capability.{same_kind}
 use Rattle.reg_early.specs.Moment.{is_in_clock, utc_day}
 use Rattle.reg_blocks.specs.Block.{SizedPrefix}
 use Rattle.reg_core.specs.Holding.{masked, with_mark}
-use Rattle.reg_core.specs.Maps.{same_text, only_if, update}
 use Rattle.reg_core.specs.Queue.{with_advice}
 use Rattle.reg_core.specs.Laws.{TwoWorlds, IsNoClerk}
 use Rattle.reg_core.specs.Step.{is_clerk, clerk_answer, answer_to}
@@ -25,7 +26,6 @@ use Rattle.reg_core.specs.declared.request.Case.{Case}
 use Rattle.reg_core.specs.declared.request.State.{State}
 use Rattle.reg_core.specs.declared.request.State.TheVariants.{Pending, Approved, Declined, Withdrawn}
 use Rattle.reg_decisions.proofs.Blocks.{holding_found, own_holding}
-use Rattle.reg_core.proofs.MapLaws.{name_keys, block_keys, select-insert_same, select-update_same}
 use Rattle.reg_laws.proofs.Agents.{select-with_link_same, principals_unchanged, principal_rows_unchanged}
 use Rattle.reg_core.proofs.Queues.{SameOthers, others_after_insert, others_after_update, queue_same, principal_rows_same, queue_advised}
 use Rattle.reg_decisions.proofs.Stepping.{own_request}
@@ -35,6 +35,7 @@ use Rattle.reg_core.specs.Answer.{reply_of, change_of, answer}
 use Rattle.reg_core.specs.World.{World, RequestName, name_cmp, in_state, applied, applied_if, pending}
 use Rattle.reg_core.specs.declared.capability.Kind.TheVariants as kind
 use Rattle.reg_core.proofs.SamenessIsDecided.{same_kind-is}
+use Rattle.reg_core.proofs.KeyOrders.{name_keys, block_keys}
 use Rattle.reg_decisions.proofs.Outcomes.Accepted.{ClerkServes}
 use Rattle.reg_decisions.proofs.Outcomes.Dues.{Due, each_step}
 

@@ -3,6 +3,7 @@ use Rattle.std.proofs.Common.{◌≡◌, ℕ, true, List, refl, sym, ap, subst, 
 use Rattle.std.specs.Prelude.{Option, Some, None}
 use Rattle.std.specs.FinMap.{get}
 use Rattle.std.proofs.lemmas.Slice.Eq.{bytes_eq-Decides}
+use Rattle.reg_maps.proofs.MapLaws.{get-inserted}
 use Rattle.reg_early.specs.Calendar.{IsDay}
 use Rattle.reg_early.proofs.MomentsHaveDays.{IsDay-utc_day}
 use Rattle.reg_core.specs.Entry.{registration_in}
@@ -16,10 +17,10 @@ use Rattle.reg_core.specs.declared.ask.Ask.{Ask}
 use Rattle.reg_core.specs.declared.change.Change.TheVariants.{GiveValue}
 use Rattle.reg_core.specs.declared.entry.Entry.{Entry}
 use Rattle.reg_core.specs.declared.entry.Registration.{Registration}
+use Rattle.reg_core.proofs.KeyOrders.{place_keys}
 use Rattle.reg_decisions.proofs.Allowances.{allowed_asked}
 use Rattle.reg_laws.proofs.GivenStays.{runs_stay}
 use Rattle.reg_decisions.proofs.Keeping.RunsKeepWell.{step_keeps_well, runs_keep}
-use Rattle.reg_core.proofs.MapLaws.{place_keys, get-inserted}
 use Rattle.reg_decisions.proofs.Outcomes.Dues.{changes_due}
 use Rattle.reg_laws.proofs.TermsStand.{given_duly, still_given}
 

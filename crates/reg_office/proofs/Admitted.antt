@@ -3,11 +3,11 @@ use Rattle.std.proofs.Common.{◌≡◌, ℕ, Bool, true, false, refl, ap, ◌�
 use Rattle.std.specs.Prelude.{List, Option, Some, None, Result, Ok, Err, is_some, option_map, nat_le, nat_lt, if◌then◌else◌}
 use Rattle.std.specs.FinMap.{get}
 use Rattle.std.proofs.lemmas.Bool.Decides.{nat_tests}
+use Rattle.reg_maps.specs.Maps.{only_if}
 use Rattle.reg_early.specs.Moment.{is_in_clock, utc_day, day_of_moment}
 use Rattle.reg_core.specs.Allowance.{◌>>=◌, or_refusal}
 use Rattle.reg_core.specs.Answer.{Answer, admitted, as_kind, by_rule, own_answer, expert_answer, unchanged}
 use Rattle.reg_core.specs.Capability.{same_kind}
-use Rattle.reg_core.specs.Maps.{only_if}
 use Rattle.reg_core.specs.Request.{request_rows}
 use Rattle.reg_core.specs.Rules.{agent_rule}
 use Rattle.reg_core.specs.Step.{answer_to, is_clerk}

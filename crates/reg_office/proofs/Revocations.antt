@@ -8,14 +8,15 @@ use Rattle.std.specs.Ordering.{eq_by_cmp}
 use Rattle.std.proofs.Math.Seq.{take-suc}
 use Rattle.std.proofs.lemmas.Bool.Decides.{nat_tests}
 use Rattle.std.proofs.lemmas.List.Elements.{All-map, recursion_from_All}
+use Rattle.std.proofs.lemmas.Bool.{and_parts, not-true}
+use Rattle.reg_maps.specs.Maps.{text_cmp}
+use Rattle.reg_maps.proofs.MapLaws.{All-entries, text_keys, tied}
 use Rattle.reg_core.specs.Capability.{same_kind}
-use Rattle.reg_core.specs.Maps.{text_cmp}
 use Rattle.reg_core.specs.World.{World, applied}
 use Rattle.reg_core.specs.declared.capability.Cap.{Cap}
 use Rattle.reg_core.specs.declared.capability.Kind.{Kind}
 use Rattle.reg_core.specs.declared.capability.Kind.TheVariants.{Applicant, Expert, Clerk}
 use Rattle.reg_core.specs.declared.change.Change.TheVariants.{Revoke}
-use Rattle.reg_core.proofs.MapLaws.{All-entries, text_keys, tied}
 use Rattle.reg_keeper.specs.Keeper.{MayFault}
 use Rattle.reg_keeper.specs.Rows.{cap_row, cap_rows}
 use Rattle.reg_keeper.specs.declared.rows.CapRow.{CapRow}
@@ -109,18 +110,6 @@ elsewhere caps test r at fails (x ∷ xs) are =
           | false ↦ λ t. refl
         ] refl
 
-first : (a b : Bool) → (a && b) ≡ true → a ≡ true
-first true b h = refl
-first false b h = absurd (cc)
-
-second : (a b : Bool) → (a && b) ≡ true → b ≡ true
-second true b h = h
-second false b h = absurd (cc)
-
-not_so : (b : Bool) → not b ≡ true → b ≡ false
-not_so true h = absurd (cc)
-not_so false h = refl
-
 clerks : (kind : Kind) → same_kind kind Clerk ≡ true → kind ≡ Clerk
 clerks Applicant h = absurd (cc)
 clerks Expert h = absurd (cc)
@@ -134,22 +123,17 @@ clerk_left moment choice w left =
     let found = passing w.caps (λ row. not (is_chosen choice row) && is_clerk_at moment row.cap)
     (cap_rows w.caps) (are_rows w.caps) left in
     let r = found.0 in
-    let stands = second (not (is_chosen choice r)) (is_clerk_at moment r.cap) found.1 in
-    let other = not_so (is_chosen choice r)
-    (first (not (is_chosen choice r)) (is_clerk_at moment r.cap) found.1) in (
+    let parts = and_parts (not (is_chosen choice r)) (is_clerk_at moment r.cap) found.1 in
+    let stands = and_parts (same_kind r.cap.kind Clerk) (nat_lt moment r.cap.until) parts.1 in
+    let other = not-true (is_chosen choice r) parts.0 in (
       r.digest,
       r.cap,
       stays_there (filter (is_chosen choice) (cap_rows w.caps)) w r.digest
           (elsewhere w.caps (is_chosen choice) r found.2 other (cap_rows w.caps)
           (are_rows w.caps))
           ∙ found.2,
-      clerks r.cap.kind
-          (first (same_kind r.cap.kind Clerk) (nat_lt moment r.cap.until) stands),
-      grind (
-        arith,
-        nat_tests,
-        second (same_kind r.cap.kind Clerk) (nat_lt moment r.cap.until) stands,
-      ),
+      clerks r.cap.kind stands.0,
+      grind (arith, nat_tests, stands.1),
     )
 
 -- ---- What is taken

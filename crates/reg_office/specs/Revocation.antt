@@ -3,8 +3,8 @@ use Rattle.std.specs.Prelude.{◌≡◌, ◌⊎◌, ◌<◌, ◌==◌, ◌&&◌,
 use Rattle.std.specs.Prelude.{List, [], ◌∷◌, filter, length, take, Some, Result, Ok, Err}
 use Rattle.std.specs.FinMap.{get}
 use Rattle.std.specs.List.{list_any, starts_with}
+use Rattle.reg_maps.specs.Maps.{same_text}
 use Rattle.reg_core.specs.Capability.{same_kind}
-use Rattle.reg_core.specs.Maps.{same_text}
 use Rattle.reg_core.specs.World.{World, applied}
 use Rattle.reg_core.specs.declared.capability.Cap.{Cap}
 use Rattle.reg_core.specs.declared.capability.Kind.TheVariants.{Clerk}

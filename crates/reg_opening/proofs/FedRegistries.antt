@@ -10,13 +10,20 @@ use Rattle.std.specs.List.{AllByRecursion, IsDistinct, cons_option, list_all}
 use Rattle.std.specs.Map.{keys_of}
 use Rattle.std.specs.Ordering.{eq_by_cmp}
 use Rattle.sqlite.specs.Order.{Row as SqlRow}
+use Rattle.reg_maps.specs.Maps.{keyed, only_if, same_text, text_cmp}
+use Rattle.reg_maps.specs.RowMaps.{AreApart, IsTable}
+use Rattle.reg_maps.proofs.MapLaws.{entries-select, same_at, text_keys, tied}
+use Rattle.reg_maps.proofs.RowMaps.Entries.{IsFree, apart_head, apart_tail, find-free}
+use Rattle.reg_maps.proofs.RowMaps.Items.{is_item_table, read_pairs}
+use Rattle.reg_maps.proofs.RowMaps.Lists.{shown_rows}
+use Rattle.reg_maps.proofs.KeyTests.{text_test}
+use Rattle.reg_maps.proofs.RowMaps.Loads as rows
 use Rattle.reg_ranges.specs.Forms.{is_partition}
 use Rattle.reg_ranges.specs.Tables.{Table}
 use Rattle.reg_ranges.specs.declared.range.Range.{Range}
-use Rattle.reg_core.specs.Maps.{keyed, only_if, same_text, text_cmp}
 use Rattle.reg_core.specs.WellKept.{WellKept}
 use Rattle.reg_core.specs.World.{World, Place, place_cmp}
-use Rattle.reg_core.proofs.MapLaws.{entries-select, place_keys, same_at, text_keys, tied}
+use Rattle.reg_core.proofs.KeyOrders.{place_keys}
 use Rattle.reg_audit.specs.Audits.{Audits}
 use Rattle.reg_audit.specs.declared.audit.Audit.{Audit}
 use Rattle.reg_records.specs.declared.ranges.RegistryRange.{RegistryRange}
@@ -30,18 +37,12 @@ use Rattle.reg_opening.specs.Feeding.{FeedsRows, FeedsTable, TellsTable}
 use Rattle.reg_statements.specs.Loading.{ReadAs}
 use Rattle.reg_opening.specs.Partitions.{AreRegistries, are_owned, is_named, partition_of, partition_row}
 use Rattle.reg_opening.specs.Partitions.{IsEither, IsFedPartitions, ranges_named}
-use Rattle.reg_statements.specs.RowMaps.{AreApart, IsTable}
 use Rattle.reg_statements.specs.Tables.{Tables}
 use Rattle.reg_opening.specs.declared.partitions.Partition.{Partition}
 use Rattle.reg_opening.proofs.FedTables.{apart_from_new, new_from_apart, turns, untied, with_all}
 use Rattle.reg_opening.specs.Feeding.{IsPart, Untied}
 use Rattle.reg_statements.proofs.Neighbours.{strict}
 use Rattle.reg_statements.proofs.RegistryRows.{registry-at}
-use Rattle.reg_statements.proofs.RowMaps.Entries.{IsFree, apart_head, apart_tail, find-free}
-use Rattle.reg_statements.proofs.RowMaps.Items.{is_item_table, read_pairs}
-use Rattle.reg_statements.proofs.RowMaps.Lists.{shown_rows}
-use Rattle.reg_statements.proofs.RowMaps.KeyTests.{text_test}
-use Rattle.reg_statements.proofs.RowMaps.Loads as rows
 
 abbrev max_of : Registry → List ℕ × ℕ
 max_of registry = (registry.name, registry.max)

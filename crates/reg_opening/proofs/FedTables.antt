@@ -11,6 +11,13 @@ use Rattle.sqlite.specs.State.{State, Shown}
 use Rattle.sqlite.specs.Term.{Term}
 use Rattle.sqlite_value.specs.declared.keys.Key.{Key}
 use Rattle.sqlite.specs.Tree.{Trees, rowid}
+use Rattle.reg_maps.specs.RowMaps.{AreApart, IsTable, held_in}
+use Rattle.reg_maps.proofs.KeySets.{each_key, is_inserted, still_in}
+use Rattle.reg_maps.proofs.MapLaws.{IsKeyOrder}
+use Rattle.reg_maps.proofs.RowMaps.Entries.{apart_head, apart_more, apart_tail, find-free, free_from_none}
+use Rattle.reg_maps.proofs.RowMaps.Items.{read_pairs}
+use Rattle.reg_maps.proofs.RowMaps.Lists.{all_permuted, shown_rows, filter_true}
+use Rattle.reg_maps.proofs.RowMaps.Loads as rows
 use Rattle.reg_records.specs.Columns.{int_in}
 use Rattle.reg_tables.specs.Connection.{Endures, IsIdle, Stays, Works}
 use Rattle.reg_tables.specs.Version.{rows_of, table_count}
@@ -19,8 +26,6 @@ use Rattle.reg_tables.proofs.Enduring.{endures_still}
 use Rattle.reg_tables.proofs.SelectLemmas.{selected, shows_columns}
 use Rattle.reg_statements.specs.Content.{content_at}
 use Rattle.reg_statements.specs.Tables.{Tables, tables_in}
-use Rattle.reg_core.proofs.KeySets.{each_key, is_inserted, still_in}
-use Rattle.reg_core.proofs.MapLaws.{IsKeyOrder}
 use Rattle.reg_core.specs.World.{World}
 use Rattle.reg_audit.specs.Audits.{Audits}
 use Rattle.reg_audit.specs.Rows.{with_row, IsInTurn, IsNew}
@@ -40,11 +45,6 @@ use Rattle.reg_opening.proofs.Versions.{first_begins, ranges_rows, registries_ro
 use Rattle.reg_opening.proofs.Feeding.{feeds_none}
 use Rattle.reg_opening.specs.Feeding.{EachIsTied, IsPart, IsTiedTable, FeedsPart, FeedsRows, FeedsTable, IsFed, TellsTable}
 use Rattle.reg_opening.specs.Feeding.{AreInTurn, AreNew, tables_at, with_rows}
-use Rattle.reg_statements.specs.RowMaps.{AreApart, IsTable, held_in}
-use Rattle.reg_statements.proofs.RowMaps.Entries.{apart_head, apart_more, apart_tail, find-free, free_from_none}
-use Rattle.reg_statements.proofs.RowMaps.Items.{read_pairs}
-use Rattle.reg_statements.proofs.RowMaps.Lists.{all_permuted, shown_rows, filter_true}
-use Rattle.reg_statements.proofs.RowMaps.Loads as rows
 
 few : (m n : ℕ) → nat_lt m n ≡ true → m + 1 ≤ n
 few m n h = grind (arith, nat_tests)

@@ -10,6 +10,7 @@ use Rattle.sqlite.specs.Effect.{Database}
 use Rattle.sqlite.specs.Order.{Row}
 use Rattle.sqlite.specs.Schema.{Schema}
 use Rattle.sqlite.specs.State.{State, IsLive}
+use Rattle.reg_maps.proofs.RowMaps.Lists.{all_permuted, shown_rows}
 use Rattle.reg_audit.specs.Audits.{Audits}
 use Rattle.reg_audit.specs.declared.audit.Audit.{Audit}
 use Rattle.reg_core.specs.WellKept.{WellKept}
@@ -29,7 +30,6 @@ use Rattle.reg_tables.proofs.RestLemmas.{stays_then}
 use Rattle.reg_statements.specs.Content.{HasVersion, content, content_at}
 use Rattle.reg_statements.specs.Loading.{ReadAs}
 use Rattle.reg_statements.specs.Tables.{Tables, tables_in}
-use Rattle.reg_statements.proofs.RowMaps.Lists.{all_permuted, shown_rows}
 use Rattle.reg_opening.specs.Feeding.{FeedsTable, tables_at}
 use Rattle.reg_opening.specs.Opening.{AreRowsOf, Finds, HasVersionTables, IsFirst, IsFoundAs, IsFree, IsFreeBy}
 use Rattle.reg_opening.specs.Opening.{IsOurs, IsReadAs, IsVersionOf, LeaveFree, Reads, only, verdict_of}

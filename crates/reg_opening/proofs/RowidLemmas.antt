@@ -19,7 +19,8 @@ use Rattle.sqlite_trees.specs.Tree.{IsTable}
 use Rattle.sqlite_trees.specs.View.{is_int}
 use Rattle.sqlite_value.specs.declared.keys.Key.{Key}
 use Rattle.sqlite_value.proofs.OrderLemmas.{value_cmp-Int}
-use Rattle.reg_core.proofs.MapLaws.{IsKeyOrder}
+use Rattle.reg_maps.proofs.MapLaws.{IsKeyOrder}
+use Rattle.reg_maps.proofs.RowMaps.Lists.{filter_true}
 use Rattle.reg_records.specs.Columns.{int_in}
 use Rattle.reg_tables.specs.Editing.{AreKeyed}
 use Rattle.reg_tables.specs.Selecting.{BeginsWith, shows}
@@ -30,7 +31,6 @@ use Rattle.reg_opening.specs.Numbered.{IsRising, either_cmp, numbered_in}
 use Rattle.reg_opening.specs.Rowids.{SelectsRowids, rowid_in}
 use Rattle.reg_opening.specs.declared.numbered.Numbered.{Numbered}
 use Rattle.reg_statements.proofs.Neighbours.{strict}
-use Rattle.reg_statements.proofs.RowMaps.Lists.{filter_true}
 
 int_keys : IsKeyOrder int_cmp
 int_keys = record { total = int_cmp_total; exact = int_cmp-IsAntisymmetric }

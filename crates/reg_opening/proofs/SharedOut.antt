@@ -10,15 +10,15 @@ use Rattle.std.specs.Ordering.{is_eq}
 use Rattle.std.specs.Prelude.{MatchOption, Vec}
 use Rattle.std.specs.declared.alloc.Global.{Global}
 use Rattle.std.specs.declared.cmp.Ordering.TheVariants.{Less}
+use Rattle.reg_maps.specs.Maps.{same_text, text_cmp}
+use Rattle.reg_maps.proofs.MapLaws.{text_keys, tied}
+use Rattle.reg_maps.proofs.KeyTests.{text_test}
 use Rattle.reg_ranges.specs.Forms.{is_partition}
-use Rattle.reg_core.specs.Maps.{same_text, text_cmp}
-use Rattle.reg_core.proofs.MapLaws.{text_keys, tied}
 use Rattle.reg_records.specs.declared.ranges.RegistryRange.{RegistryRange}
 use Rattle.reg_records.specs.declared.registries.Registry.{Registry}
 use Rattle.reg_opening.specs.Partitions.{ArePartitions, Share, are_owned, is_named, leading, left_over}
 use Rattle.reg_opening.specs.Partitions.{partition_from, partition_of, ranges_named, shared_out, trailing}
 use Rattle.reg_opening.specs.declared.partitions.Partition.{Partition}
-use Rattle.reg_statements.proofs.RowMaps.KeyTests.{text_test}
 
 abbrev share_of : List RegistryRange → Registry → Share
 share_of rows g = (g, ranges_named rows g.name)

@@ -6,6 +6,7 @@ use Rattle.std.specs.List.{AllByRecursion}
 use Rattle.sqlite.specs.Effect.{Database}
 use Rattle.sqlite.specs.Order.{Row as SqlRow}
 use Rattle.sqlite.specs.State.{State}
+use Rattle.reg_maps.specs.RowMaps.{IsTable, held_in}
 use Rattle.reg_core.specs.WellKept.{WellKept}
 use Rattle.reg_core.specs.World.{World}
 use Rattle.reg_audit.specs.Audits.{Audits, is_well_kept}
@@ -21,7 +22,6 @@ use Rattle.reg_opening.specs.Numbered.{IsRising}
 use Rattle.reg_opening.specs.declared.numbered.Numbered.{Numbered}
 use Rattle.reg_statements.specs.Content.{content_at}
 use Rattle.reg_statements.specs.Loading.{ReadAs}
-use Rattle.reg_statements.specs.RowMaps.{IsTable, held_in}
 use Rattle.reg_statements.specs.Tables.{Tables, tables_in}
 
 -- the rows of the tables of a version; those that it lacks have none

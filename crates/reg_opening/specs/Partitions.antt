@@ -3,19 +3,19 @@ use Rattle.std.specs.Prelude.{◌≡◌, ◌⊎◌, if◌then◌else◌, true, f
 use Rattle.std.specs.FinMap.{get}
 use Rattle.std.specs.List.{AllByRecursion, list_all, list_any}
 use Rattle.std.specs.declared.alloc.Global.{Global}
+use Rattle.reg_maps.specs.Maps.{same_text, text_cmp}
+use Rattle.reg_maps.specs.RowMaps.{IsTable}
 use Rattle.reg_ranges.specs.Forms.{is_partition}
 use Rattle.reg_ranges.specs.declared.range.Range.{Range}
 use Rattle.reg_audit.specs.declared.audit.Audit.{Audit}
 use Rattle.reg_audit.specs.declared.row.Row.{Row}
 use Rattle.reg_audit.specs.declared.row.Row.TheVariants as row
-use Rattle.reg_core.specs.Maps.{same_text, text_cmp}
 use Rattle.reg_core.specs.World.{Place, place_cmp}
 use Rattle.reg_records.specs.declared.ranges.RegistryRange.{RegistryRange}
 use Rattle.reg_records.specs.declared.registries.Registry.{Registry}
 use Rattle.reg_statements.specs.Content.{max_at, maxes_in, range_at, ranges_in}
 use Rattle.reg_opening.specs.Feeding.{FeedsRows}
 use Rattle.reg_statements.specs.Loading.{IsAscending}
-use Rattle.reg_statements.specs.RowMaps.{IsTable}
 use Rattle.reg_statements.specs.Tables.{Tables}
 use Rattle.reg_opening.specs.declared.partitions.Partition.{Partition}
 

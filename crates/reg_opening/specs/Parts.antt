@@ -3,8 +3,9 @@
 use Rattle.std.specs.Prelude.{◌≡◌, true, Some, IsSome}
 use Rattle.std.specs.FinMap.{empty, get}
 use Rattle.std.specs.Ordering.{nat_cmp}
+use Rattle.reg_maps.specs.Maps.{text_cmp}
+use Rattle.reg_maps.specs.RowMaps.{held_in}
 use Rattle.reg_blocks.specs.Block.{block_cmp}
-use Rattle.reg_core.specs.Maps.{text_cmp}
 use Rattle.reg_core.specs.World.{World, Place, RequestName, link_cmp, name_cmp, place_cmp, seat_cmp}
 use Rattle.reg_core.specs.declared.entry.Registration.{Registration}
 use Rattle.reg_core.specs.declared.request.Case.{Case}
@@ -14,7 +15,6 @@ use Rattle.reg_statements.specs.Content.{hold_at, link_at, minute_at, marked, mi
 use Rattle.reg_statements.specs.Content.{content, holder_at, maxes_in, ranges_in, registries_in}
 use Rattle.reg_opening.specs.Feeding.{IsTiedTable, Untied}
 use Rattle.reg_opening.specs.Partitions.{AreRegistries}
-use Rattle.reg_statements.specs.RowMaps.{held_in}
 use Rattle.reg_statements.specs.Tables.{Tables}
 
 -- ---- Capabilities, registries, entries and their marks

@@ -1,6 +1,6 @@
 -- The prefixes of a pool as a set, and what free blocks have to do with it.
-use Rattle.std.proofs.Common.{◌≡◌, ◌≢◌, ℕ, ◌<◌, Bool, true, false, not, ◌||◌, List, [], ◌∷◌, refl, sym, ap, subst, ◌∙◌, ◌⊎◌, inl, inr, arith}
-use Rattle.std.specs.Prelude.{Contains, IsTrue, ◌↔◌, Result, Ok, Err, OnOk, OnErr}
+use Rattle.std.proofs.Common.{◌≡◌, ◌≢◌, ℕ, ◌<◌, Bool, true, false, not, List, [], ◌∷◌, refl, sym, ap, subst, ◌∙◌, ◌⊎◌, inl, inr, arith}
+use Rattle.std.specs.Prelude.{Contains, IsTrue, ◌↔◌}
 use Rattle.std.specs.BTreeSet.{BTreeSet, IsOrdered, Updates, contains, insert_key}
 use Rattle.std.specs.BTreeMap.{is_at}
 use Rattle.std.specs.Cmp.{nat_cmp_total}
@@ -8,14 +8,14 @@ use Rattle.std.specs.List.{list_any}
 use Rattle.std.specs.declared.cmp.Ordering.TheVariants.{Less, Greater}
 use Rattle.std.specs.Ordering.{nat_cmp}
 use Rattle.std.specs.Set.{remove_key}
-use Rattle.std.proofs.lemmas.Bool.{cases_eq, cases_order}
+use Rattle.std.proofs.lemmas.Bool.{cases_eq, cases_order, or_parts}
 use Rattle.std.proofs.lemmas.Bool.Decides.{nat_tests}
 use Rattle.std.proofs.lemmas.Map.Keys.{IsStrictlyIncreasing-from_sorted}
 use Rattle.std.proofs.lemmas.Map.Lookups.{exact_unsigned}
 use Rattle.std.proofs.lemmas.Map.Views.{All-insert_key, btree_set_contains_iff}
+use Rattle.reg_maps.specs.Spans.{Spans}
 use Rattle.reg_blocks.specs.Block.{SizedPrefix, leading_24}
 use Rattle.reg_blocks.specs.Pool.{is_pool_prefix, AddsPrefix, IsPool}
-use Rattle.reg_places.specs.Spans.{Spans}
 use Rattle.reg_places.specs.Sizes.{ArePooled, FreeOf}
 
 pub is_key : (s : BTreeSet ℕ) (k : ℕ) → IsTrue (contains nat_cmp s k) ↔ Contains s.keys k
@@ -116,15 +116,11 @@ is_less k x lt = grind (arith, nat_tests)
 is_greater : (k x : ℕ) → x < k → nat_cmp k x ≡ Greater
 is_greater k x lt = grind (arith, nat_tests)
 
-or_false : (a b : Bool) → (a || b) ≡ false → (a ≡ false) × (b ≡ false)
-or_false true b none = absurd (cc)
-or_false false b none = (refl, none)
-
 pub removed_inserted : (ks : List ℕ) (k : ℕ) → list_any (is_at (nat_cmp k)) ks ≡ false
     → remove_key (is_at (nat_cmp k)) (insert_key nat_cmp ks k) ≡ ks
 removed_inserted [] k none = rw (tie_self k) refl
 removed_inserted (x ∷ xs) k none =
-    let parts = or_false (is_at (nat_cmp k) x) (list_any (is_at (nat_cmp k)) xs) none in
+    let parts = or_parts (is_at (nat_cmp k) x) (list_any (is_at (nat_cmp k)) xs) none in
     let first : is_at (nat_cmp k) x ≡ false = parts.0 in
     elim (cases_order k x) [
       | inl same ↦ let e : is_at (nat_cmp k) x ≡ true = tie_at k x same in absurd (cc)
@@ -142,10 +138,3 @@ was_there false added says e = absurd (cc)
 pub was_new : (b added : Bool) → added ≡ not b → added ≡ true → b ≡ false
 was_new true added says e = absurd (cc)
 was_new false added says e = refl
-
--- ---- what follows at either outcome, of two clauses on each
-
-pub at_either : {T E P Q R S G : Type 0} (r : Result T E) → OnOk r P → OnOk r Q → OnErr r R
-    → OnErr r S → (P → Q → G) → (R → S → G) → G
-at_either (Ok x) p q e f ok err = ok p q
-at_either (Err x) p q e f ok err = err e f

@@ -6,14 +6,15 @@ use Rattle.std.specs.Map.{lookup}
 use Rattle.std.specs.Ordering.{nat_cmp}
 use Rattle.std.specs.BTreeMap.{is_at}
 use Rattle.std.proofs.lemmas.Bool.{cases_lt}
+use Rattle.reg_maps.specs.Spans.{Spans, Lies}
 use Rattle.reg_blocks.specs.declared.size.Size.{Size}
 use Rattle.reg_blocks.specs.declared.size.Size.TheVariants.{MaL, MaM, MaS}
 use Rattle.reg_blocks.specs.Size.{address_count, blocks_in_prefix}
 use Rattle.reg_blocks.specs.Block.{SizedPrefix, Clash, first_address, last_address, leading_24}
 use Rattle.reg_blocks.proofs.EndsDecideClash.{sized, of_every, apart_after, apart_before, candidate-leading, clash_by_ends, first-up}
-use Rattle.reg_places.specs.Spans.{Spans, IsInside, IsOutside, Lies}
 use Rattle.reg_places.specs.Sizes.{FreeOf, IsLeastPlace, runs_of}
 use Rattle.reg_places.specs.Places.{IsDueOf}
+use Rattle.reg_places.specs.Spans.{IsInside, IsOutside}
 
 -- ---- a block is taken away
 

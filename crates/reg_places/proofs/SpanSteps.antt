@@ -1,29 +1,19 @@
 -- What the steps over runs leave: which numbers lie in the runs, where they are cut, and that they
 -- stay apart.
-use Rattle.std.proofs.Common.{◌≡◌, ◌≢◌, ℕ, ◌+◌, ◌-◌, ◌<◌, ◌≤◌, false, Option, Some, None, refl, sym, ap, ◌∙◌, ◌⊎◌, inl, inr, arith}
-use Rattle.std.specs.Prelude.{◌↔◌, IsSome, List, [], ◌∷◌, ◌++◌, Result, Ok, Err, OnOk, OnErr}
-use Rattle.std.specs.BTreeMap.{IsUnchanged, Updates, get, is_at}
+use Rattle.std.proofs.Common.{◌≡◌, ◌≢◌, ℕ, ◌+◌, ◌-◌, ◌<◌, ◌≤◌, Option, Some, None, sym, ◌∙◌, ◌⊎◌, inl, inr, arith}
+use Rattle.std.specs.Prelude.{◌↔◌, List, [], ◌∷◌, ◌++◌}
+use Rattle.std.specs.BTreeMap.{IsUnchanged, Updates}
 use Rattle.std.specs.BTreeMap.Range.{IsRangeOf, IsLtBy}
-use Rattle.std.specs.Map.{lookup}
 use Rattle.std.specs.Ordering.{nat_cmp}
 use Rattle.std.proofs.lemmas.Bool.{cases_eq, cases_lt, cases_order}
 use Rattle.std.specs.declared.ops.Bound.TheVariants.{Excluded, Unbounded}
 use Rattle.std.proofs.lemmas.Bool.Decides.{nat_tests}
 use Rattle.std.proofs.lemmas.Map.Keys.{ge_from_not_lt}
-use Rattle.reg_places.specs.Spans.{Spans, Apart, IsBelow, IsCut, IsInside, IsRun, Lies, Splits}
-
-apart_keys : (a b : ℕ) → a ≢ b → is_at (nat_cmp a) b ≡ false
-apart_keys a b ne = grind (arith, nat_tests)
-
--- two runs that begin at one number are one
-same_run : (spans : Spans) (first last f l : ℕ) → f ≡ first → IsRun spans first last
-    → IsRun spans f l → l ≡ last
-same_run spans first last f l e a b = cc
+use Rattle.reg_maps.specs.Spans.{Spans, IsRun, Lies}
+use Rattle.reg_maps.proofs.Runs.{apart_keys, is_some_at, run_unchanged, same_run}
+use Rattle.reg_places.specs.Spans.{Apart, IsBelow, IsCut, IsInside, Splits}
 
 -- ---- where nothing changed
-
-run_unchanged : (old new : Spans) → IsUnchanged old new → (f l : ℕ) → IsRun new f l → IsRun old f l
-run_unchanged old new same f l run = sym (ap (lookup (is_at (nat_cmp f))) same) ∙ run
 
 pub apart_unchanged : (old new : Spans) → IsUnchanged old new → Apart old → Apart new
 apart_unchanged old new same apart = record {
@@ -48,11 +38,6 @@ same_unchanged old new same n = (lies_unchanged old new same n, lies_unchanged n
 pub cut_unchanged : (old new : Spans) → IsUnchanged old new → (n : ℕ) → IsCut old n → IsCut new n
 cut_unchanged old new same n cut =
     λ f l run lt. cut f l (run_unchanged old new same f l run) lt
-
--- what follows at either outcome
-pub either : {T E P Q G : Type 0} (r : Result T E) → OnOk r P → OnErr r Q → (P → G) → (Q → G) → G
-either (Ok x) p q f g = f p
-either (Err e) p q f g = g q
 
 -- ---- a run that is put where none of its numbers is
 
@@ -274,10 +259,6 @@ module _ (old new : Spans) (first last at : ℕ) (apart : Apart old) (run : IsRu
   cut_kept n cut f l is below = cut_elsewhere n cut f l (split_run f l is) below
 
 -- ---- the last run that begins below a number
-
-is_some_at : (spans : Spans) (first last : ℕ) → IsRun spans first last
-    → IsSome (get nat_cmp spans first)
-is_some_at spans first last is = rw is refl
 
 below_by : (a b : ℕ) → a < b → IsLtBy nat_cmp a b
 below_by a b lt = grind (arith, nat_tests)

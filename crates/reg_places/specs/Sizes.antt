@@ -2,11 +2,12 @@
 use Rattle.std.specs.Prelude.{◌≡◌, ℕ, ◌+◌, ◌/◌, ◌^◌, ◌≤◌, ◌⊎◌, ◌↔◌, IsTrue, Option, Some, None}
 use Rattle.std.specs.BTreeSet.{BTreeSet, contains}
 use Rattle.std.specs.Ordering.{nat_cmp}
+use Rattle.reg_maps.specs.Spans.{Spans, Lies}
 use Rattle.reg_blocks.specs.declared.size.Size.{Size}
 use Rattle.reg_blocks.specs.declared.size.Size.TheVariants.{MaL, MaM, MaS}
 use Rattle.reg_blocks.specs.Block.{SizedPrefix, first_address, last_address, leading_24, is_block}
 use Rattle.reg_blocks.specs.Pool.{IsPool}
-use Rattle.reg_places.specs.Spans.{Spans, Apart, IsCut, IsInside, Lies}
+use Rattle.reg_places.specs.Spans.{Apart, IsCut, IsInside}
 
 -- the runs of the size
 abbrev pub runs_of : Spans → Spans → Spans → Size → Spans

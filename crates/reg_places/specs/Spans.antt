@@ -1,23 +1,8 @@
--- The numbers in runs, and the map that keeps the runs.
+-- The numbers in runs that may touch, and what fills and cuts them.
 use Rattle.std.specs.Prelude.{◌≡◌, ◌≢◌, ℕ, ◌-◌, ◌<◌, ◌≤◌, Option, Some, None, ◌⊎◌}
-use Rattle.std.specs.BTreeMap.{BTreeMap, get}
+use Rattle.std.specs.BTreeMap.{get}
 use Rattle.std.specs.Ordering.{nat_cmp}
-
--- from the first to the last number of each run
-abbrev pub Spans : Type 0
-Spans = BTreeMap ℕ ℕ
-
--- the run is kept
-abbrev pub IsRun : Spans → ℕ → ℕ → Type 0
-IsRun spans first last = get nat_cmp spans first ≡ Some last
-
--- the number lies in a run
-pub record Lies (spans : Spans) (n : ℕ) : Type 0 where
-  pub first : ℕ
-  pub last : ℕ
-  pub run : IsRun spans first last
-  pub low : first ≤ n
-  pub high : n ≤ last
+use Rattle.reg_maps.specs.Spans.{Spans, IsRun}
 
 -- no run is empty, and no two share a number
 pub record Apart (spans : Spans) : Type 0 where

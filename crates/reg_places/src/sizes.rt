@@ -1,9 +1,10 @@
 //! The free blocks of each size, by the runs of their prefixes.
 ghost use Rattle.std.specs.Prelude.{◌≡◌, ℕ, ◌+◌, ◌*◌, ◌<◌, ◌^◌, ◌⊎◌, ◌↔◌, Contains, IsTrue, Ok, OnOk, OnErr};
+ghost use Rattle.reg_maps.specs.Spans.{Lies};
 ghost use Rattle.reg_blocks.specs.Block.{SizedPrefix, Clash, leading_24};
 ghost use Rattle.reg_blocks.specs.Pool.{is_pool_prefix, AddsPrefix};
-ghost use Rattle.reg_places.specs.Spans.{Apart, IsInside, Lies};
 ghost use Rattle.reg_places.specs.Sizes.{AreBlocks, AreOpen, ArePooled, AreSame, AreSound, FreeOf, Gains, IsLeastPlace};
+ghost use Rattle.reg_places.specs.Spans.{Apart, IsInside};
 
 use crate::spans::{Spans, clear, fill, least, open};
 use reg_blocks::block::Block;

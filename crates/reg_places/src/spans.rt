@@ -1,7 +1,8 @@
 //! Runs of numbers in a map, from the first to the last number of each. Two runs may touch.
 ghost use Rattle.std.specs.Prelude.{◌≡◌, ℕ, ◌+◌, ◌^◌, ◌<◌, ◌≤◌, ◌⊎◌, ◌↔◌, OnOk, OnErr};
 ghost use Rattle.std.specs.BTreeMap.{IsUnchanged};
-ghost use Rattle.reg_places.specs.Spans.{Apart, BeginsIn, IsBelow, IsCut, IsInside, IsLeast, IsOutside, IsRun, Lies, Splits};
+ghost use Rattle.reg_maps.specs.Spans.{IsRun, Lies};
+ghost use Rattle.reg_places.specs.Spans.{Apart, BeginsIn, IsBelow, IsCut, IsInside, IsLeast, IsOutside, Splits};
 
 use std::alloc::AllocError;
 use std::collections::BTreeMap;

@@ -12,7 +12,7 @@ use Rattle.csv.specs.declared.writer.Writer.{Writer}
 use Rattle.jiff.specs.Types.{DateTime}
 use Rattle.jiff.specs.Words.{civil_nanos}
 use Rattle.jiff.proofs.SpanFacts.{signed_arith}
-use Rattle.reg_core.specs.Maps.{pair_cmp, text_cmp}
+use Rattle.reg_maps.specs.Maps.{pair_cmp, text_cmp}
 use Rattle.reg_keeper.specs.declared.rows.CapRow.{CapRow}
 use Rattle.reg_print.specs.Records.{Adds}
 use Rattle.reg_print.proofs.PrintedTokens.{one_more}

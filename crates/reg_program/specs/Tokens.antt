@@ -6,7 +6,7 @@ use Rattle.csv.specs.declared.writer.Writer.{Writer}
 use Rattle.jiff.specs.Types.{DateTime}
 use Rattle.jiff.specs.Names.{iso_datetime_text}
 use Rattle.jiff.specs.Words.{civil_nanos}
-use Rattle.reg_core.specs.Maps.{pair_cmp, text_cmp}
+use Rattle.reg_maps.specs.Maps.{pair_cmp, text_cmp}
 use Rattle.reg_core.specs.World.{World}
 use Rattle.reg_keeper.specs.Rows.{cap_rows}
 use Rattle.reg_keeper.specs.declared.rows.CapRow.{CapRow}

@@ -2,7 +2,7 @@
 ghost use Rattle.std.specs.Prelude.{◌≡◌};
 ghost use Rattle.sqlite.specs.Order.{column};
 ghost use Rattle.sqlite.specs.Values.{bound};
-ghost use Rattle.reg_core.specs.Maps.{text_cmp};
+ghost use Rattle.reg_maps.specs.Maps.{text_cmp};
 ghost use Rattle.reg_records.specs.Columns.{number_in};
 ghost use Rattle.reg_records.specs.Caps.{grant_in, grant_values, is_until};
 

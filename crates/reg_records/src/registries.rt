@@ -1,7 +1,7 @@
 //! Registries as rows of the table `registries`.
 ghost use Rattle.std.specs.Prelude.{◌≡◌};
 ghost use Rattle.sqlite.specs.Values.{bound};
-ghost use Rattle.reg_core.specs.Maps.{text_cmp};
+ghost use Rattle.reg_maps.specs.Maps.{text_cmp};
 ghost use Rattle.reg_records.specs.Registries.{registry_in, registry_values};
 
 use crate::column::{name, name_value, number, number_value};

@@ -1,18 +1,19 @@
 -- What is free, as a change leaves it.
 use Rattle.std.proofs.Common.{◌≡◌, ℕ, List, refl}
 use Rattle.std.specs.Prelude.{Result, Ok, Err, IsTrue, OnOk, is_ok}
+use Rattle.reg_maps.specs.Maps.{update}
+use Rattle.reg_maps.proofs.KeySets.{contains-changed}
 use Rattle.reg_core.specs.Entry.{with_hold}
 use Rattle.reg_core.specs.Holding.{with_mark}
-use Rattle.reg_core.specs.Maps.{update}
 use Rattle.reg_core.specs.World.{World, applied}
 use Rattle.reg_core.specs.declared.change.Change.{Change}
 use Rattle.reg_core.specs.declared.change.Change.TheVariants.{AddPool, Advise, Assign, Close, Define, GiveBlock, GiveValue, Grant, Revoke, SetAgent, SetHold, SetPrivate, Submit}
 use Rattle.reg_core.specs.declared.entry.Entry.{Entry}
 use Rattle.reg_core.specs.declared.holding.Holding.{Holding}
-use Rattle.reg_core.proofs.MapLaws.{place_keys}
+use Rattle.reg_core.proofs.KeyOrders.{place_keys}
 use Rattle.reg_vacancies.specs.declared.vacancies.Vacancies.{Vacancies}
-use Rattle.reg_vacancies.proofs.Carrying.{contains-changed, holders_are_changed, keys_decide}
 use Rattle.reg_vacancies.specs.Vacancies.{AreVacanciesOf}
+use Rattle.reg_vacancies.proofs.Carrying.{holders_are_changed, keys_decide}
 
 -- what a call gives that went through
 pub went : {T E P : Type 0} (result : Result T E) → OnOk result P → IsTrue (is_ok result) → P

@@ -5,14 +5,17 @@ use Rattle.std.specs.declared.cmp.Ordering.{Ordering}
 use Rattle.std.specs.FinMap.{contains_key, empty, get, get-empty}
 use Rattle.sqlite.specs.Effect.{Database}
 use Rattle.sqlite.specs.Order.{Row}
+use Rattle.reg_maps.specs.Maps.{select}
+use Rattle.reg_maps.specs.RowMaps.{IsTable}
+use Rattle.reg_maps.proofs.MapLaws.{IsKeyOrder, get-select, same_at, text_keys}
+use Rattle.reg_maps.proofs.RowMaps.Tables.{empty_table}
 use Rattle.reg_core.specs.Entry.{with_hold}
-use Rattle.reg_core.specs.Maps.{select}
 use Rattle.reg_core.specs.Minutes.{with_minute}
 use Rattle.sqlite.specs.State.{State}
 use Rattle.reg_core.specs.WellKept.{WellKept}
 use Rattle.reg_core.specs.World.{empty_world, name_cmp, place_cmp}
 use Rattle.reg_core.proofs.Keeping.FirstWorlds.{first_worlds_kept}
-use Rattle.reg_core.proofs.MapLaws.{IsKeyOrder, get-select, name_keys, place_keys, same_at, text_keys}
+use Rattle.reg_core.proofs.KeyOrders.{name_keys, place_keys}
 use Rattle.reg_vacancies.specs.Vacancies.{AreVacancies, AreVacanciesOf}
 use Rattle.reg_vacancies.specs.declared.vacancies.Vacancies.{Vacancies}
 use Rattle.reg_tables.specs.Connection.{Holds, IsIdle}
@@ -22,9 +25,7 @@ use Rattle.reg_tables.specs.Schema.{office_schema}
 use Rattle.reg_tables.specs.Version.{newest, number_of}
 use Rattle.reg_tables.proofs.GrowLemmas.{none_before}
 use Rattle.reg_statements.specs.Content.{AreKept, HasVersion, IsStored, content, content_of, registry_table}
-use Rattle.reg_statements.specs.RowMaps.{IsTable}
 use Rattle.reg_statements.specs.Tables.{Tables, tables_in}
-use Rattle.reg_statements.proofs.RowMaps.Tables.{empty_table}
 use Rattle.reg_sql.specs.Keeping.{KeepsOffice}
 use Rattle.reg_sql.specs.Opening.{HasNoTables}
 

@@ -6,6 +6,7 @@ use Rattle.std.specs.FinMap.{FinMap, contains_key, entries, find, from_entries, 
 use Rattle.std.specs.FinSet.{FinSet}
 use Rattle.std.specs.Ordering.{eq_by_cmp, nat_cmp}
 use Rattle.std.proofs.lemmas.List.Elements.{All-map}
+use Rattle.reg_maps.proofs.MapLaws.{All-entries, Contains-keys, IsKeyOrder, get-select, number_keys, same_at}
 use Rattle.reg_blocks.specs.Block.{SizedPrefix, block_cmp, leading_24}
 use Rattle.reg_core.specs.Entry.{entry_row}
 use Rattle.reg_core.specs.Holding.{Shown, listed_row, listed_rows, masked, masked_blocks}
@@ -14,7 +15,7 @@ use Rattle.reg_core.specs.World.{Place, place_cmp}
 use Rattle.reg_core.specs.declared.entry.Registration.{Registration}
 use Rattle.reg_core.specs.declared.holding.Holder.{Holder}
 use Rattle.reg_core.specs.declared.holding.Listed.{Listed}
-use Rattle.reg_core.proofs.MapLaws.{All-entries, Contains-keys, IsKeyOrder, block_keys, get-select, number_keys, place_keys, same_at}
+use Rattle.reg_core.proofs.KeyOrders.{block_keys, place_keys}
 use Rattle.reg_vacancies.specs.Pool.{prefix_set}
 use Rattle.reg_sql.specs.Listed.{given, nobody, registered, registrations}
 

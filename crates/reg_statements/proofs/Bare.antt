@@ -8,6 +8,8 @@ use Rattle.std.specs.List.{cons_option}
 use Rattle.std.specs.Ordering.{eq_by_cmp}
 use Rattle.std.specs.declared.cmp.Ordering.{Ordering}
 use Rattle.sqlite.specs.Order.{Row}
+use Rattle.reg_maps.specs.RowMaps.{held_in}
+use Rattle.reg_maps.proofs.MapLaws.{IsKeyOrder}
 use Rattle.reg_core.specs.Entry.{registration_in}
 use Rattle.reg_core.specs.Request.{case_of}
 use Rattle.reg_core.specs.WellKept.{has_entry_form, has_request_form}
@@ -16,16 +18,15 @@ use Rattle.reg_core.specs.declared.entry.Entry.{Entry}
 use Rattle.reg_core.specs.declared.entry.Registration.{Registration}
 use Rattle.reg_core.specs.declared.request.Case.{Case}
 use Rattle.reg_core.specs.declared.request.Request.{Request}
-use Rattle.reg_core.proofs.MapLaws.{IsKeyOrder, name_keys, place_keys}
 use Rattle.reg_records.specs.Entries.{entry_in}
 use Rattle.reg_records.specs.Requests.Forms.{gives_its_kind}
 use Rattle.reg_core.specs.Minutes.{is_bare}
+use Rattle.reg_core.proofs.KeyOrders.{name_keys, place_keys}
 use Rattle.reg_records.specs.Requests.Reading.{request_in}
 use Rattle.reg_records.proofs.EntryLaws.{entry_formed}
 use Rattle.reg_records.proofs.RequestLaws.Rows.{request_formed}
 use Rattle.reg_tables.specs.Selecting.{stored}
 use Rattle.reg_statements.specs.Content.{AreBare, AreUnheld, case_at, registration_at}
-use Rattle.reg_statements.specs.RowMaps.{held_in}
 
 -- ---- What rows read as, their map has
 

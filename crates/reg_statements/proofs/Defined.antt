@@ -16,8 +16,14 @@ use Rattle.sqlite.specs.Term.{Term}
 use Rattle.sqlite_rules.specs.Lists.{Has}
 use Rattle.sqlite_rules.proofs.ListLemmas.{has_filtered}
 use Rattle.sqlite_value.specs.declared.keys.Key.{Key}
-use Rattle.reg_core.specs.Maps.{keyed, only_if, select}
-use Rattle.reg_core.proofs.MapLaws.{tied}
+use Rattle.reg_maps.specs.Maps.{keyed, only_if, select}
+use Rattle.reg_maps.specs.RowMaps.{IsTable, PassesAt, changed_where, held_in}
+use Rattle.reg_maps.proofs.MapLaws.{tied}
+use Rattle.reg_maps.proofs.RowMaps.Alone.{alone_at}
+use Rattle.reg_maps.proofs.RowMaps.Items as items
+use Rattle.reg_maps.proofs.RowMaps.Loads.{entries_at}
+use Rattle.reg_maps.proofs.RowMaps.Lists.{filter_true, shown_rows}
+use Rattle.reg_maps.proofs.RowMaps.Tables as tables
 use Rattle.reg_tables.specs.Editing.{AltersRows, IsOffice, LosesRows, has_all}
 use Rattle.reg_tables.specs.Inserting.{AddedRow}
 use Rattle.reg_tables.specs.Putting.{PutRow}
@@ -31,16 +37,10 @@ use Rattle.reg_statements.specs.Content.{AreTied, AreWhole, IsStored, parts_in, 
 use Rattle.reg_statements.specs.Defined.{Chooses, Finds, ShowsAll, IsDefined, IsFound, IsFree, KeepsTies, rows_where, with_changed, with_row, without_row}
 use Rattle.reg_statements.specs.Loading.{IsAscending, ReadAs}
 use Rattle.reg_statements.specs.Parts.{Parts, TableDef, cells_of, pairs, same_cells}
-use Rattle.reg_statements.specs.RowMaps.{IsTable, PassesAt, changed_where, held_in}
 use Rattle.reg_statements.specs.Tables.{OthersStay}
 use Rattle.reg_statements.proofs.Neighbours.{strict}
 use Rattle.reg_statements.proofs.OneTable.{only_one}
-use Rattle.reg_statements.proofs.RowMaps.Alone.{alone_at}
-use Rattle.reg_statements.proofs.RowMaps.Items as items
-use Rattle.reg_statements.proofs.RowMaps.Loads.{entries_at}
-use Rattle.reg_statements.proofs.RowMaps.Lists.{filter_true, shown_rows}
-use Rattle.reg_statements.proofs.RowMaps.Present.{none_held, some_held}
-use Rattle.reg_statements.proofs.RowMaps.Tables as tables
+use Rattle.reg_statements.proofs.Present.{none_held, some_held}
 
 -- ---- Tests
 

@@ -1,11 +1,11 @@
-pub mod RowMaps
+pub mod OfficeKeyTests
+pub mod Present
 pub mod Neighbours
 pub mod RegistryRows
 pub mod ReadLemmas
 pub mod OneTable
 pub mod Defined
 pub mod Office
-pub mod Mapped
 pub mod Marks
 pub mod Minutes
 pub mod Bare

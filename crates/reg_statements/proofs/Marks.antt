@@ -1,13 +1,14 @@
 -- Entries with their marks.
 use Rattle.std.proofs.Common.{◌≡◌, true, false, cond, is_some, Some, None, option_map, sym, ap, ◌∙◌}
 use Rattle.std.specs.FinMap.{FinMap, contains_key, empty, get, get-empty, get-remove, insert, remove}
+use Rattle.reg_maps.specs.Maps.{update}
+use Rattle.reg_maps.proofs.MapLaws.{get-at_insert, get-inserted, get-removed}
+use Rattle.reg_maps.proofs.Mapped.{get-mapped, mapped-but, mapped-insert, mapped-same}
 use Rattle.reg_core.specs.Entry.{with_hold}
-use Rattle.reg_core.specs.Maps.{update}
 use Rattle.reg_core.specs.World.{Place, place_cmp}
 use Rattle.reg_core.specs.declared.entry.Registration.{Registration}
-use Rattle.reg_core.proofs.MapLaws.{get-at_insert, get-inserted, get-removed, place_keys}
+use Rattle.reg_core.proofs.KeyOrders.{place_keys}
 use Rattle.reg_statements.specs.Content.{AreUnheld, marked}
-use Rattle.reg_statements.proofs.Mapped.{get-mapped, mapped-but, mapped-insert, mapped-same}
 
 -- an entry as it stands beside the marks
 abbrev by_marks : FinMap place_cmp (Unit {0}) → Place → Registration → Registration

@@ -1,17 +1,18 @@
 -- Requests with the minutes that renewals name.
 use Rattle.std.proofs.Common.{◌≡◌, ℕ, true, cond, List, Option, Some, None, option_map, refl, sym, ap, ◌∙◌}
 use Rattle.std.specs.FinMap.{FinMap, empty, get, get-empty, insert}
-use Rattle.reg_core.specs.Maps.{update}
+use Rattle.reg_maps.specs.Maps.{update}
+use Rattle.reg_maps.proofs.MapLaws.{get-at_insert, get-inserted}
+use Rattle.reg_maps.proofs.Mapped.{get-mapped, mapped-but, mapped-insert, mapped-same, mapped-update}
 use Rattle.reg_core.specs.World.{RequestName, in_state, name_cmp}
 use Rattle.reg_core.specs.declared.ask.Ask.{Ask}
 use Rattle.reg_core.specs.declared.ask.Ask.TheVariants.{Code, Early, Renew, Permanent, Block}
 use Rattle.reg_core.specs.declared.request.Case.{Case}
 use Rattle.reg_core.specs.declared.request.State.{State}
-use Rattle.reg_core.proofs.MapLaws.{get-at_insert, get-inserted, name_keys}
 use Rattle.reg_core.specs.Minutes.{ask_with, is_bare, with_minute}
+use Rattle.reg_core.proofs.KeyOrders.{name_keys}
 use Rattle.reg_records.proofs.RequestLaws.Asks.{no_minute}
 use Rattle.reg_statements.specs.Content.{AreBare, minuted}
-use Rattle.reg_statements.proofs.Mapped.{get-mapped, mapped-but, mapped-insert, mapped-same, mapped-update}
 
 -- an ask that was given a minute and then another has the other
 ask_with-again : (minute other : Option (List ℕ)) (a : Ask)

@@ -4,7 +4,7 @@ use Rattle.std.specs.List.{AllByRecursion}
 use Rattle.std.specs.List.Sorted.{IsStrictlySortedBy}
 use Rattle.std.specs.declared.cmp.Ordering.{Ordering}
 use Rattle.std.specs.declared.cmp.Ordering.TheVariants.{Less}
-use Rattle.reg_core.proofs.MapLaws.{IsKeyOrder}
+use Rattle.reg_maps.proofs.MapLaws.{IsKeyOrder}
 use Rattle.reg_statements.specs.Loading.{IsAscending}
 
 module _ {K T : Type 0} {R : K → K → Ordering} (o : IsKeyOrder R) (key : T → K) where

@@ -4,15 +4,17 @@ use Rattle.std.proofs.Math.Bool.{and-true}
 use Rattle.std.proofs.lemmas.Bool.Decides.{nat_tests}
 use Rattle.std.specs.Ordering.{eq_by_cmp, int_eq, nat_cmp}
 use Rattle.sqlite.specs.declared.types.Value.{Value}
+use Rattle.reg_maps.specs.Maps.{text_cmp}
+use Rattle.reg_maps.proofs.MapLaws.{number_keys, text_keys}
+use Rattle.reg_maps.proofs.KeyTests.{pair_test, text_test}
 use Rattle.reg_blocks.specs.Block.{first_address}
 use Rattle.reg_blocks.specs.Size.{prefix_bits, word_of}
 use Rattle.reg_blocks.specs.declared.size.Size.{Size}
 use Rattle.reg_blocks.specs.declared.size.Size.TheVariants.{MaL, MaM, MaS}
-use Rattle.reg_core.specs.Maps.{text_cmp}
 use Rattle.reg_core.specs.declared.ask.Ask.{Ask}
 use Rattle.reg_core.specs.declared.ask.Ask.TheVariants as ask
 use Rattle.reg_core.specs.declared.request.Request.{Request}
-use Rattle.reg_core.proofs.MapLaws.{block_keys, link_keys, name_keys, number_keys, place_keys, seat_keys, text_keys}
+use Rattle.reg_core.proofs.KeyOrders.{block_keys, link_keys, name_keys, place_keys, seat_keys}
 use Rattle.reg_records.proofs.AdviceLaws.{advice_back, advice_exact}
 use Rattle.reg_records.proofs.EntryLaws.{entry_back, entry_exact}
 use Rattle.reg_records.proofs.GrantLaws.{grant_back, grant_exact}
@@ -32,7 +34,7 @@ use Rattle.reg_statements.specs.Content.{max_at, minute_at, prefix_at, range_at,
 use Rattle.reg_statements.specs.Defined.{IsDefined, IsKey}
 use Rattle.reg_statements.specs.Office as office
 use Rattle.reg_statements.specs.Parts.{block_key, link_key, name_key, number_key, place_key, seat_key, text_key}
-use Rattle.reg_statements.proofs.RowMaps.KeyTests.{block_test, name_test, pair_test, seat_test, text_test}
+use Rattle.reg_statements.proofs.OfficeKeyTests.{block_test, name_test, seat_test}
 
 -- ---- Keys
 

@@ -3,13 +3,13 @@ use Rattle.std.proofs.Common.{◌≡◌, ℕ, List, [], ◌∷◌, Some, None, O
 use Rattle.std.proofs.Common.{map, filter_map, refl, sym, ap, ◌∙◌, option_map, option_and_then}
 use Rattle.std.specs.declared.cmp.Ordering.{Ordering}
 use Rattle.std.specs.FinMap.{FinMap, get, entries, keys}
+use Rattle.reg_maps.specs.Maps.{keyed, select, text_cmp}
+use Rattle.reg_maps.proofs.MapLaws.{IsKeyOrder, entries-select, get-select, same_at, text_keys}
+use Rattle.reg_maps.proofs.Mapped.{get-mapped, map_map}
 use Rattle.reg_ranges.specs.Tables.{Table}
 use Rattle.reg_ranges.specs.declared.range.Range.{Range}
-use Rattle.reg_core.specs.Maps.{keyed, select, text_cmp}
 use Rattle.reg_core.specs.World.{place_cmp}
-use Rattle.reg_core.proofs.MapLaws.{IsKeyOrder, entries-select, get-select, same_at, text_keys}
 use Rattle.reg_statements.specs.Content.{ranges_of, registries_in, registry_table}
-use Rattle.reg_statements.proofs.Mapped.{get-mapped, map_map}
 
 -- ---- The registries that the two tables hold
 

@@ -5,12 +5,13 @@ use Rattle.std.specs.Ordering.{nat_cmp}
 use Rattle.sqlite.specs.Effect.{Database}
 use Rattle.sqlite.specs.Order.{Row}
 use Rattle.sqlite.specs.State.{State}
+use Rattle.reg_maps.specs.Maps.{only_if, same_text, select, text_cmp}
+use Rattle.reg_maps.specs.RowMaps.{IsTable, held_in}
 use Rattle.reg_blocks.specs.Block.{SizedPrefix, block_cmp}
 use Rattle.reg_ranges.specs.Tables.{Table}
 use Rattle.reg_ranges.specs.declared.range.Range.{Range}
 use Rattle.reg_core.specs.Entry.{registration_in, with_hold}
 use Rattle.reg_core.specs.Holding.{holder_in}
-use Rattle.reg_core.specs.Maps.{only_if, same_text, select, text_cmp}
 use Rattle.reg_core.specs.Request.{case_of}
 use Rattle.reg_core.specs.World.{World, Link, Place, RequestName, Seat, link_cmp, name_cmp, place_cmp, seat_cmp}
 use Rattle.reg_core.specs.declared.advice.Advice.{Advice}
@@ -37,7 +38,6 @@ use Rattle.reg_tables.specs.Selecting.{stored}
 use Rattle.reg_tables.specs.Version.{newest, number_of, rows_of}
 use Rattle.reg_tables.specs.declared.version.Version.{Version}
 use Rattle.reg_statements.specs.Parts.{Parts}
-use Rattle.reg_statements.specs.RowMaps.{IsTable, held_in}
 use Rattle.reg_statements.specs.Tables.{Tables, tables_in}
 
 -- ---- What a row holds, by its key

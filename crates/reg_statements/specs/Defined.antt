@@ -10,8 +10,9 @@ use Rattle.sqlite.specs.Tree.{Trees}
 use Rattle.sqlite.specs.declared.types.Value.{Value}
 use Rattle.sqlite_schema.specs.declared.schema.Index.{Index}
 use Rattle.sqlite_value.specs.declared.keys.Key.{Key}
-use Rattle.reg_core.specs.Maps.{only_if, select}
-use Rattle.reg_core.proofs.MapLaws.{IsKeyOrder}
+use Rattle.reg_maps.specs.Maps.{only_if, select}
+use Rattle.reg_maps.specs.RowMaps.{IsTable, changed_where, held_in}
+use Rattle.reg_maps.proofs.MapLaws.{IsKeyOrder}
 use Rattle.reg_tables.proofs.EditLemmas.Changing as changing
 use Rattle.reg_tables.proofs.EditLemmas.ByKey.{cells}
 use Rattle.reg_tables.proofs.EditLemmas.Deleting as deleting
@@ -23,7 +24,6 @@ use Rattle.reg_tables.specs.Selecting.{Selects, columns_of, equals, passes, show
 use Rattle.reg_tables.specs.Version.{newest}
 use Rattle.reg_statements.specs.Content.{AreTied, AreWhole, parts_in}
 use Rattle.reg_statements.specs.Parts.{KeyDef, Parts, TableDef, cells_of, pairs, same_cells}
-use Rattle.reg_statements.specs.RowMaps.{IsTable, changed_where, held_in}
 use Rattle.reg_statements.specs.Tables.{put_tree, tables_in}
 
 -- the order is one of keys, and SQL finds two keys the same where it does

@@ -4,5 +4,4 @@ pub mod Parts
 pub mod Defined
 pub mod Office
 pub mod Loading
-pub mod RowMaps
 pub mod Reading

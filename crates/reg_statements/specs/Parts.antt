@@ -8,10 +8,10 @@ use Rattle.sqlite.specs.Order.{Row, column}
 use Rattle.sqlite.specs.Table.{Table}
 use Rattle.sqlite.specs.declared.types.Value.{Value}
 use Rattle.sqlite.specs.declared.types.Value.TheVariants.{Text}
+use Rattle.reg_maps.specs.Maps.{text_cmp}
 use Rattle.reg_blocks.specs.Block.{SizedPrefix, block_cmp, first_address}
 use Rattle.reg_blocks.specs.Size.{word_of}
 use Rattle.reg_ranges.specs.declared.range.Range.{Range}
-use Rattle.reg_core.specs.Maps.{text_cmp}
 use Rattle.reg_core.specs.World.{Link, Place, RequestName, Seat, link_cmp, name_cmp, place_cmp, seat_cmp}
 use Rattle.reg_core.specs.declared.advice.Advice.{Advice}
 use Rattle.reg_core.specs.declared.capability.Cap.{Cap}

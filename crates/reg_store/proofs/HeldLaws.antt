@@ -7,18 +7,18 @@ use Rattle.std.specs.BTreeMap.{BTreeMap}
 use Rattle.std.specs.FinMap.{FinMap, get, get-remove, insert, remove, entries, entries_sorted, get-entries, get-empty, from_entries}
 use Rattle.std.proofs.lemmas.Map.Text.{is_eq-slice_cmp}
 use Rattle.std.proofs.lemmas.Slice.Eq.{bytes_eq-Decides}
+use Rattle.reg_maps.specs.Maps.{text_cmp, same_text, only_if, keyed, update, finite_map}
+use Rattle.reg_maps.specs.Groups.{group_at, rows_in}
+use Rattle.reg_maps.proofs.MapLaws.{IsKeyOrder, text_keys, pair_keys, tied, get-select, entries-select, get-at_insert, get-update}
+use Rattle.reg_maps.proofs.FiniteMaps.Ordered.{find_is}
+use Rattle.reg_maps.proofs.Orderings.{tie}
+use Rattle.reg_maps.proofs.FiniteMaps.InOrder.{group_is, map-group_rows}
 use Rattle.reg_blocks.specs.Block.{SizedPrefix, block_cmp}
 use Rattle.reg_core.specs.Holding.{holding_row, holding_rows, listed_row, listed_rows, masked, masked_blocks, with_mark}
-use Rattle.reg_core.specs.Maps.{text_cmp, same_text, only_if, keyed, update}
 use Rattle.reg_core.specs.View.{holdings_of}
 use Rattle.reg_core.specs.declared.holding.Holder.{Holder}
-use Rattle.reg_core.proofs.MapLaws.{IsKeyOrder, text_keys, block_keys, pair_keys, tied, get-select, entries-select, get-at_insert, get-update}
-use Rattle.reg_store.specs.Groups.{group_at, rows_in}
+use Rattle.reg_core.proofs.KeyOrders.{block_keys}
 use Rattle.reg_store.specs.Lists.Held.{Held, held_cmp, all_held, block_world, AreHeld, account_of}
-use Rattle.reg_store.specs.Maps.{finite_map}
-use Rattle.reg_store.proofs.FiniteMaps.Ordered.{find_is}
-use Rattle.reg_store.proofs.FiniteMaps.Nested.{tie}
-use Rattle.reg_store.proofs.FiniteMaps.InOrder.{group_is, map-group_rows}
 
 pub held_keys : IsKeyOrder held_cmp
 held_keys = pair_keys text_keys block_keys

@@ -14,32 +14,25 @@ use Rattle.std.specs.List.{AllByRecursion}
 use Rattle.std.proofs.lemmas.List.Elements.{recursion_from_All}
 use Rattle.std.proofs.lemmas.Simd.{map-map}
 use Rattle.std.proofs.lemmas.Slice.Eq.{bytes_eq-Decides}
+use Rattle.reg_maps.specs.Maps.{text_cmp, same_text, only_if}
+use Rattle.reg_maps.specs.Groups.{group_at}
+use Rattle.reg_maps.proofs.MapLaws.{text_keys, All-entries, get-select, get-at_insert, get-at_remove}
+use Rattle.reg_maps.proofs.Tests.{both, first, second, and-true}
+use Rattle.reg_maps.proofs.KeyTests.{pair_turned}
+use Rattle.reg_maps.proofs.Orderings.{tie}
+use Rattle.reg_maps.proofs.FiniteMaps.InOrder.{group_is, text_group, map-group_rows}
 use Rattle.reg_core.specs.Link.{agent_rows, principal_names}
-use Rattle.reg_core.specs.Maps.{text_cmp, same_text, only_if}
 use Rattle.reg_core.specs.View.{agents_of, principals_of}
 use Rattle.reg_core.specs.World.{Link, link_cmp}
-use Rattle.reg_core.proofs.MapLaws.{text_keys, link_keys, All-entries, get-select, get-at_insert, get-at_remove}
-use Rattle.reg_store.specs.Groups.{group_at}
+use Rattle.reg_core.proofs.KeyOrders.{link_keys}
 use Rattle.reg_store.specs.Lists.Pairs.{AreMirrored, link_world}
-use Rattle.reg_store.proofs.FiniteMaps.Ordered.{both, first, second}
-use Rattle.reg_store.proofs.FiniteMaps.Nested.{tie}
-use Rattle.reg_store.proofs.FiniteMaps.InOrder.{group_is, text_group, map-group_rows}
 
 -- ---- In both orders
-
-and_turned : (a b : Bool) → (a && b) ≡ (b && a)
-and_turned true true = refl
-and_turned true false = refl
-and_turned false true = refl
-and_turned false false = refl
 
 -- two links are the same in either order
 same_turned : (principal agent p a : List ℕ)
     → eq_by_cmp link_cmp (agent, principal) (a, p) ≡ eq_by_cmp link_cmp (principal, agent) (p, a)
-same_turned principal agent p a =
-    tie (text_cmp agent a) (text_cmp principal p)
-    ∙ and_turned (is_eq (text_cmp agent a)) (is_eq (text_cmp principal p))
-    ∙ sym (tie (text_cmp principal p) (text_cmp agent a))
+same_turned principal agent p a = pair_turned text_cmp text_cmp (agent, principal) (a, p)
 
 module _ (agents principals : FinSet link_cmp) (are : AreMirrored agents principals)
     (p a : List ℕ) where
@@ -106,10 +99,6 @@ module _ (agent : List ℕ) where
       both _ _ (below-firsts e.0 es of.0 of.1 (first _ _ h))
       (is_sorted-firsts es of.1 (second _ _ h))
 
-  and_true : (b : Bool) → (b && true) ≡ b
-  and_true true = refl
-  and_true false = refl
-
   -- and are found by them
   find-firsts : (p : List ℕ) (es : List (Link × Unit {0})) → AreOf agent es
       → find link_cmp (p, agent) es ≡ lookup (is_at (text_cmp p)) (firsts es)
@@ -120,7 +109,7 @@ module _ (agent : List ℕ) where
       (find-firsts p es of.1 i))
       ∙ ap (λ b. cond (here && b) (Some e.1) (lookup (is_at (text_cmp p)) (firsts es)))
       (same_agent agent agent e.0.1 refl of.0)
-      ∙ ap (λ b. cond b (Some e.1) (lookup (is_at (text_cmp p)) (firsts es))) (and_true here)
+      ∙ ap (λ b. cond b (Some e.1) (lookup (is_at (text_cmp p)) (firsts es))) (and-true here)
 
 -- the link, where it has this agent
 abbrev to : List ℕ → Link → Unit {0} → Option (Unit {0})

@@ -1,3 +1,2 @@
 pub mod Maps
-pub mod Groups
 pub mod Lists

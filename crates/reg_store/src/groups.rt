@@ -4,11 +4,11 @@ ghost use Rattle.std.specs.Fn.{FnOnceReturnsAtMut};
 ghost use Rattle.std.specs.Option.{option_copied};
 ghost use Rattle.std.specs.BTreeMap as tree;
 ghost use Rattle.std.specs.FinMap as fin;
-ghost use Rattle.reg_core.specs.Maps.{update};
-ghost use Rattle.reg_store.specs.Groups.{pair_map, group_at, group_rows, rows_of};
+ghost use Rattle.reg_maps.specs.Maps.{update};
+ghost use Rattle.reg_maps.specs.Groups.{pair_map, group_at, group_rows, rows_of};
 ghost use Rattle.reg_store.specs.Maps.{Computes};
 
-use crate::maps::{Key, push_rows};
+use crate::maps::{Key, change_at, push_rows};
 use std::alloc::{AllocError, Global};
 use std::collections::BTreeMap;
 
@@ -104,9 +104,7 @@ pub fn change_row<A: Key, B: Key, V, F: FnOnce(&mut V) + Drop>(
         ≡ update (pair_map A.cmp B.cmp groups.old) (first.now, second.now) f }
 {
     if let Some(group) = groups.get_mut(first) {
-        if let Some(row) = group.get_mut(second) {
-            change(row);
-        }
+        change_at(group, second, change);
     }
 }
 

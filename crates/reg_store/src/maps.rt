@@ -3,9 +3,10 @@ ghost use Rattle.std.specs.Prelude.{◌≡◌, ◌++◌, map as each, OnOk, OnEr
 ghost use Rattle.std.specs.Fn.{FnOnceReturnsAtMut};
 ghost use Rattle.std.specs.Option.{option_copied};
 ghost use Rattle.std.specs.FinMap as fin;
-ghost use Rattle.reg_core.proofs.MapLaws.{IsKeyOrder, number_keys, text_keys, pair_keys, block_keys};
-ghost use Rattle.reg_core.specs.Maps.{update};
-ghost use Rattle.reg_store.specs.Maps.{finite_map, Computes};
+ghost use Rattle.reg_maps.specs.Maps.{update, finite_map};
+ghost use Rattle.reg_maps.proofs.MapLaws.{IsKeyOrder, number_keys, text_keys, pair_keys};
+ghost use Rattle.reg_core.proofs.KeyOrders.{block_keys};
+ghost use Rattle.reg_store.specs.Maps.{Computes};
 
 use reg_blocks::block::Block;
 use reg_core::text::{Form, Word};

@@ -1,15 +1,14 @@
 -- The vacancies of rows that change.
-use Rattle.std.proofs.Common.{◌≡◌, Bool, true, false, cond, refl, sym, ap, subst, ◌∙◌, List}
-use Rattle.std.specs.Prelude.{Option, Some, None, IsSome, is_some, option_map}
-use Rattle.std.specs.declared.cmp.Ordering.{Ordering}
-use Rattle.std.specs.Ordering.{eq_by_cmp, nat_cmp}
-use Rattle.std.specs.FinMap.{FinMap, contains_key, get, insert}
+use Rattle.std.proofs.Common.{◌≡◌, refl, sym, subst, ◌∙◌, List}
+use Rattle.std.specs.Ordering.{nat_cmp}
+use Rattle.std.specs.FinMap.{contains_key, insert}
 use Rattle.std.specs.FinSet.{FinSet, code}
 use Rattle.std.specs.Coded.{Coded, coded_ℕ}
 use Rattle.std.proofs.Props.{props}
+use Rattle.reg_maps.specs.Maps.{update}
+use Rattle.reg_maps.proofs.KeySets.{contains-changed, contains-replaced}
+use Rattle.reg_maps.proofs.KeyLists.{keys-same}
 use Rattle.reg_blocks.specs.Block.{SizedPrefix}
-use Rattle.reg_core.specs.Maps.{update}
-use Rattle.reg_core.proofs.MapLaws.{IsKeyOrder, block_keys, get-at_insert, get-update, place_keys, tied}
 use Rattle.reg_places.specs.Places.{Follows}
 use Rattle.reg_vacancies.specs.Laws.{EntriesAreReplaced, HoldersAreChanged, KeysDecide}
 use Rattle.reg_vacancies.specs.Places.{AreLeftBy, AreUnchanged, Blocks, places_in}
@@ -17,7 +16,7 @@ use Rattle.reg_vacancies.specs.Vacancies.{AreSame, AreVacancies, Pool, free_in, 
 use Rattle.reg_vacancies.specs.Values.{Entries}
 use Rattle.reg_vacancies.specs.declared.places.FreePlaces.{FreePlaces}
 use Rattle.reg_vacancies.specs.declared.vacancies.Vacancies.{Vacancies}
-use Rattle.reg_vacancies.proofs.KeyLists.{keys-same}
+use Rattle.reg_core.proofs.KeyOrders.{block_keys, place_keys}
 
 -- ---- A fact, which a type may have as its invariant
 
@@ -45,33 +44,6 @@ same-from_unchanged old places same entries pool blocks = (
     left = (same.left blocks).1 are.left;
   }),
 )
-
--- ---- Rows in the place of others
-
-module _ {K X : Type 0} {R : K → K → Ordering} (o : IsKeyOrder R) (m : FinMap R X) (k : K) where
-  -- a row in the place of one that stands leaves the keys
-  pub contains-replaced : (x : X) → IsSome (get m k) → (q : K)
-      → contains_key (insert m k x) q ≡ contains_key m q
-  contains-replaced x there q =
-      ap is_some (get-at_insert o m k x q) ∙ by (eq_by_cmp R q k) refl
-    where
-      by : (b : Bool) → eq_by_cmp R q k ≡ b
-          → is_some (cond b (Some x) (get m q)) ≡ contains_key m q
-      by true t = sym (ap (contains_key m) (tied o q k t) ∙ there)
-      by false t = refl
-
-  -- and so does a row that is changed
-  pub contains-changed : (f : X → X) (q : K) → contains_key (update m k f) q ≡ contains_key m q
-  contains-changed f q = ap is_some (get-update o m k f q) ∙ by (eq_by_cmp R q k) refl
-    where
-      mapped : (row : Option X) → is_some (option_map f row) ≡ is_some row
-      mapped None = refl
-      mapped (Some x) = refl
-
-      by : (b : Bool) → eq_by_cmp R q k ≡ b
-          → is_some (cond b (option_map f (get m k)) (get m q)) ≡ contains_key m q
-      by true t = mapped (get m k) ∙ sym (ap (contains_key m) (tied o q k t))
-      by false t = refl
 
 -- ---- The laws
 

@@ -2,6 +2,9 @@
 use Rattle.std.proofs.Common.{ℕ, List}
 use Rattle.std.specs.Prelude.{Contains, IsTrue}
 use Rattle.std.specs.FinMap.{keys}
+use Rattle.reg_maps.proofs.KeySets.{is_inserted}
+use Rattle.reg_maps.proofs.MapLaws.{get-inserted, number_keys}
+use Rattle.reg_maps.proofs.KeyLists.{contains_at}
 use Rattle.reg_blocks.specs.Block.{leading_24}
 use Rattle.reg_blocks.specs.Pool.{is_pool_prefix}
 use Rattle.reg_core.specs.Holding.{holder_in}
@@ -9,9 +12,7 @@ use Rattle.reg_core.specs.WellKept.{CanApply}
 use Rattle.reg_core.specs.World.{World}
 use Rattle.reg_core.specs.declared.change.Change.TheVariants.{AddPool, GiveBlock}
 use Rattle.reg_core.specs.declared.holding.Holding.{Holding}
-use Rattle.reg_core.proofs.KeySets.{is_inserted}
-use Rattle.reg_core.proofs.MapLaws.{block_keys, get-inserted, number_keys}
-use Rattle.reg_vacancies.proofs.KeyLists.{contains_at}
+use Rattle.reg_core.proofs.KeyOrders.{block_keys}
 
 -- a prefix that can be added may be in a pool
 pub may_be_added : (w : World) (prefix : ℕ) → CanApply w (AddPool prefix)

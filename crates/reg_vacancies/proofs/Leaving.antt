@@ -3,17 +3,18 @@ use Rattle.std.proofs.Common.{◌≡◌, ℕ, List, sym, ap, subst, ◌⊎◌, i
 use Rattle.std.specs.Prelude.{All, Contains, IsSome, ◌↔◌, Result, Ok, Err, OnErr}
 use Rattle.std.specs.FinMap.{FinMap, get, keys, insert}
 use Rattle.std.proofs.Math.Logic.{∥∥₁_map}
+use Rattle.reg_maps.proofs.KeySets.{is_inserted, still_in, each_key}
+use Rattle.reg_maps.proofs.MapLaws.{has_row}
+use Rattle.reg_maps.proofs.KeyLists.{contains_at}
 use Rattle.reg_blocks.specs.Block.{SizedPrefix, block_cmp, leading_24}
 use Rattle.reg_blocks.specs.Due.{IsFree}
 use Rattle.reg_core.specs.declared.holding.Holder.{Holder}
-use Rattle.reg_core.proofs.KeySets.{is_inserted, still_in, each_key}
-use Rattle.reg_core.proofs.MapLaws.{block_keys, has_row}
+use Rattle.reg_core.proofs.KeyOrders.{block_keys}
 use Rattle.reg_places.specs.Places.{AddsBlock, Follows, IsFreeIn, pool_of}
 use Rattle.reg_places.specs.declared.places.Places.{Places}
 use Rattle.reg_vacancies.specs.Places.{AreUnchanged, places_in}
 use Rattle.reg_vacancies.specs.Pool.{prefix_set}
 use Rattle.reg_vacancies.specs.declared.places.FreePlaces.{FreePlaces}
-use Rattle.reg_vacancies.proofs.KeyLists.{contains_at}
 
 -- a block that was given is one more
 pub adds-inserted : (m : FinMap block_cmp Holder) (block : SizedPrefix) (h : Holder)

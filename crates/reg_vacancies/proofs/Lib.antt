@@ -1,5 +1,4 @@
 mod TakenLaws
-pub mod KeyLists
 mod PrefixSets
 mod Leaving
 pub mod Carrying

@@ -18,10 +18,10 @@ use Rattle.std.proofs.lemmas.Map.Keys.{sorted_from_strictly_increasing}
 use Rattle.std.proofs.lemmas.Map.Lookups.{exact_unsigned}
 use Rattle.std.proofs.lemmas.Map.Made.{is_member-Decides}
 use Rattle.std.proofs.lemmas.Map.Views.{btree_set_contains_iff}
+use Rattle.reg_maps.proofs.MapLaws.{number_keys, tied, same_at, get-at_insert}
+use Rattle.reg_maps.proofs.KeyLists.{keys-are}
 use Rattle.reg_blocks.specs.Pool.{is_pool_prefix, AddsPrefix}
-use Rattle.reg_core.proofs.MapLaws.{number_keys, tied, same_at, get-at_insert}
 use Rattle.reg_vacancies.specs.Pool.{prefix_set}
-use Rattle.reg_vacancies.proofs.KeyLists.{keys-are}
 
 -- ---- The keys
 

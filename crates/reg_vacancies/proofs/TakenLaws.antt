@@ -7,14 +7,15 @@ use Rattle.std.specs.BTreeMap as tree
 use Rattle.std.specs.BTreeMap.{is_at}
 use Rattle.std.specs.FinMap.{FinMap, get, insert, contains_key}
 use Rattle.std.proofs.lemmas.Bool.Decides.{nat_tests}
+use Rattle.reg_maps.specs.Maps.{text_cmp}
+use Rattle.reg_maps.proofs.MapLaws.{text_keys, tied, get-at_insert}
 use Rattle.reg_free.specs.Runs.{has}
 use Rattle.reg_free.specs.declared.runs.Runs.{Runs}
 use Rattle.reg_core.specs.LeastFree.{values_in}
-use Rattle.reg_core.specs.Maps.{text_cmp}
 use Rattle.reg_core.specs.World.{place_cmp}
 use Rattle.reg_core.specs.declared.entry.Registration.{Registration}
-use Rattle.reg_core.proofs.MapLaws.{text_keys, place_keys, tied, get-at_insert}
 use Rattle.reg_core.proofs.ValuesIn.{has_entry}
+use Rattle.reg_core.proofs.KeyOrders.{place_keys}
 use Rattle.reg_vacancies.specs.Sets.{Sets, Test, Tells, Gains, AreAlike, is_in, is_member}
 
 -- ---- One set put in the place of another, or of none

@@ -1,8 +1,8 @@
 -- The laws of vacancies.
 use Rattle.std.specs.Prelude.{◌≡◌, IsSome}
 use Rattle.std.specs.FinMap.{contains_key, get, insert}
+use Rattle.reg_maps.specs.Maps.{update}
 use Rattle.reg_blocks.specs.Block.{SizedPrefix}
-use Rattle.reg_core.specs.Maps.{update}
 use Rattle.reg_core.specs.World.{Place}
 use Rattle.reg_core.specs.declared.entry.Registration.{Registration}
 use Rattle.reg_core.specs.declared.holding.Holder.{Holder}

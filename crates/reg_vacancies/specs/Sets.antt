@@ -3,9 +3,9 @@ use Rattle.std.specs.Prelude.{◌≡◌, ℕ, List, Bool, false, ◌||◌, Optio
 use Rattle.std.specs.BTreeMap.{BTreeMap, get}
 use Rattle.std.specs.FinMap.{FinMap, contains_key}
 use Rattle.std.specs.Ordering.{eq_by_cmp}
+use Rattle.reg_maps.specs.Maps.{text_cmp}
 use Rattle.reg_free.specs.Runs.{has}
 use Rattle.reg_free.specs.declared.runs.Runs.{Runs}
-use Rattle.reg_core.specs.Maps.{text_cmp}
 use Rattle.reg_core.specs.World.{place_cmp}
 use Rattle.reg_core.specs.declared.entry.Registration.{Registration}
 

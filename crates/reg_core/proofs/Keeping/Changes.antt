@@ -5,6 +5,9 @@ use Rattle.std.specs.Cmp.{first_so, second_so}
 use Rattle.std.specs.Cmp.Derive.{both_true}
 use Rattle.std.specs.FinMap.{FinMap, get, insert, remove, contains_key}
 use Rattle.std.specs.Ordering.{eq_by_cmp}
+use Rattle.reg_maps.specs.Maps.{text_cmp, same_text, update}
+use Rattle.reg_maps.proofs.KeySets.{each_key, still_in, insert_passes, update_passes, was_left}
+use Rattle.reg_maps.proofs.MapLaws.{number_keys, text_keys, tied, get-at_insert, get-inserted, insert_keeps, remove_keeps}
 use Rattle.reg_blocks.specs.Block.{SizedPrefix, block_cmp, leading_24}
 use Rattle.reg_blocks.specs.Pool.{is_pool_prefix}
 use Rattle.reg_ranges.specs.Tables.{Table}
@@ -12,7 +15,6 @@ use Rattle.reg_core.specs.Advice.{has_advice_form}
 use Rattle.reg_core.specs.Ask.{has_ask_form, registry_of}
 use Rattle.reg_core.specs.Entry.{registration_in, with_hold, has_day_form}
 use Rattle.reg_core.specs.Link.{has_link_form}
-use Rattle.reg_core.specs.Maps.{text_cmp, same_text, update}
 use Rattle.reg_core.specs.MayBeGiven.{IsDuly, place_of}
 use Rattle.reg_core.specs.Names.{is_name}
 use Rattle.reg_core.specs.Request.{has_state_form}
@@ -31,10 +33,8 @@ use Rattle.reg_core.specs.declared.request.State.{State}
 use Rattle.reg_core.specs.declared.request.State.TheVariants.{Pending, Approved, Declined, Withdrawn}
 use Rattle.reg_core.proofs.Keeping.Entries.{duly_fits, value_form, entry_form, entry_open, entry_own}
 use Rattle.reg_core.proofs.Keeping.OtherMaps.{AllStand, with_caps, with_registries, with_queue, with_advice, with_pool, with_agents, with_entry, with_hold_set, with_request, with_change, with_link}
-use Rattle.reg_core.proofs.KeySets.{each_key, still_in, insert_passes, update_passes}
-use Rattle.reg_core.proofs.Links.{was_left}
 use Rattle.reg_core.proofs.Terms.{held_form}
-use Rattle.reg_core.proofs.MapLaws.{number_keys, text_keys, place_keys, seat_keys, tied, get-at_insert, get-inserted, insert_keeps, remove_keeps, link_keys}
+use Rattle.reg_core.proofs.KeyOrders.{place_keys, seat_keys, link_keys}
 
 -- ---- Capabilities and registries
 

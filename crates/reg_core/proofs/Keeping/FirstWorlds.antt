@@ -4,9 +4,9 @@ use Rattle.std.specs.Prelude.{Option, Some, None, IsSome, is_some}
 use Rattle.std.specs.Cmp.Derive.{both_true}
 use Rattle.std.specs.FinMap.{get-empty}
 use Rattle.std.specs.Ordering.{nat_cmp}
+use Rattle.reg_maps.specs.Maps.{text_cmp}
 use Rattle.reg_blocks.specs.Block.{block_cmp}
 use Rattle.reg_core.specs.Laws.{FirstWorldsAreWellKept, clerk_cap}
-use Rattle.reg_core.specs.Maps.{text_cmp}
 use Rattle.reg_core.specs.WellKept.{WellKept}
 use Rattle.reg_core.specs.World.{name_cmp, place_cmp, seat_cmp, link_cmp, empty_world}
 use Rattle.reg_core.proofs.Keeping.Changes.{can_grant}

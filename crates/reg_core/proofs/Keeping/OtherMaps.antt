@@ -12,7 +12,7 @@ use Rattle.reg_ranges.specs.Tables.{Table}
 use Rattle.reg_core.specs.Advice.{has_advice_form}
 use Rattle.reg_core.specs.Entry.{with_hold}
 use Rattle.reg_core.specs.Link.{has_link_form}
-use Rattle.reg_core.specs.Maps.{text_cmp, update}
+use Rattle.reg_maps.specs.Maps.{text_cmp, update}
 use Rattle.reg_core.specs.WellKept.{WellKept, has_grant_form, has_registry_form, has_entry_form, has_holding_form, has_request_form, has_seat_form, is_open_at, stands_in}
 use Rattle.reg_core.specs.World.{World, RequestName, Place, Seat, Link, name_cmp, place_cmp, seat_cmp, link_cmp}
 use Rattle.reg_core.specs.declared.advice.Advice.{Advice}
@@ -20,8 +20,9 @@ use Rattle.reg_core.specs.declared.capability.Cap.{Cap}
 use Rattle.reg_core.specs.declared.entry.Registration.{Registration}
 use Rattle.reg_core.specs.declared.holding.Holder.{Holder}
 use Rattle.reg_core.specs.declared.request.Case.{Case}
-use Rattle.reg_core.proofs.KeySets.{each_key, still_in, still_at}
-use Rattle.reg_core.proofs.MapLaws.{name_keys, place_keys, block_keys, link_keys, insert_keeps, update_keeps}
+use Rattle.reg_maps.proofs.KeySets.{each_key, still_in, still_at}
+use Rattle.reg_core.proofs.KeyOrders.{name_keys, place_keys, block_keys, link_keys}
+use Rattle.reg_maps.proofs.MapLaws.{insert_keeps, update_keeps}
 
 -- what each request was given stands
 abbrev pub AllStand : FinMap place_cmp Registration → FinMap block_cmp Holder → FinMap name_cmp Case

@@ -11,7 +11,7 @@ use Rattle.reg_core.specs.Allowance.{holding_asked}
 use Rattle.reg_core.specs.Award.{holding_from}
 use Rattle.reg_core.specs.BlocksGiven.{IsDueIn}
 use Rattle.reg_core.specs.Holding.{holder_in, with_mark}
-use Rattle.reg_core.specs.Maps.{update}
+use Rattle.reg_maps.specs.Maps.{update}
 use Rattle.reg_core.specs.WellKept.{WellKept, CanApply, has_holding_form, is_held_by, stands_in}
 use Rattle.reg_core.specs.World.{World, RequestName}
 use Rattle.reg_core.specs.declared.ask.Ask.TheVariants.{Block}
@@ -22,8 +22,9 @@ use Rattle.reg_core.specs.declared.holding.Holder.{Holder}
 use Rattle.reg_core.specs.declared.request.Given.TheVariants as given
 use Rattle.reg_core.specs.declared.request.State.TheVariants.{Approved}
 use Rattle.reg_decisions.proofs.Blocks.{due_in_pool, due_apart, due_is_new}
-use Rattle.reg_core.proofs.KeySets.{was_at, insert_passes, update_passes}
-use Rattle.reg_core.proofs.MapLaws.{block_keys, get-inserted, update_keeps}
+use Rattle.reg_maps.proofs.KeySets.{was_at, insert_passes, update_passes}
+use Rattle.reg_core.proofs.KeyOrders.{block_keys}
+use Rattle.reg_maps.proofs.MapLaws.{get-inserted, update_keeps}
 use Rattle.reg_core.proofs.SamenessIsDecided.{same_text-itself, same_size-itself}
 use Rattle.reg_core.proofs.Keeping.Changes.{asks_this, blocks_stand, forms_of, with_its_state}
 use Rattle.reg_core.proofs.Keeping.OtherMaps.{with_block, with_blocks}

@@ -5,6 +5,7 @@ use Rattle.std.specs.Cmp.{first_so, second_so}
 use Rattle.std.specs.Cmp.Derive.{both_true}
 use Rattle.std.specs.Prelude.{Option, Some, None, Ok, Err, IsSome}
 use Rattle.std.specs.FinMap.{get, contains_key}
+use Rattle.reg_maps.specs.Maps.{same_text}
 use Rattle.reg_blocks.specs.Block.{SizedPrefix}
 use Rattle.reg_blocks.specs.Pool.{is_pool_prefix}
 use Rattle.reg_early.specs.Moment.{is_in_clock, utc_day}
@@ -21,7 +22,6 @@ use Rattle.reg_core.specs.Capability.{has_cap_form}
 use Rattle.reg_core.specs.Command.{own_name, about, has_command_form}
 use Rattle.reg_core.specs.File.{was_advised}
 use Rattle.reg_core.specs.Laws.{GivesDigests, IsOfAsk}
-use Rattle.reg_core.specs.Maps.{same_text}
 use Rattle.reg_core.specs.Names.{is_name, is_token}
 use Rattle.reg_core.specs.Request.{word_of}
 use Rattle.reg_core.specs.Rules.{change_to_give}

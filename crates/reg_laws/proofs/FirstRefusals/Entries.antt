@@ -2,6 +2,7 @@
 use Rattle.std.proofs.Common.{◌≡◌, ◌<◌, ◌≤◌, ℕ, Bool, true, false, not, ◌&&◌, List, refl, sym, ap, ◌∙◌, arith}
 use Rattle.std.specs.Prelude.{Option, Some, None, Ok, Err, is_some, if◌then◌else◌}
 use Rattle.std.proofs.lemmas.Slice.Eq.{bytes_eq-Decides}
+use Rattle.reg_maps.specs.Maps.{same_text}
 use Rattle.reg_early.specs.Terms.{renewable, settleable}
 use Rattle.reg_early.specs.declared.term.RenewFault.TheVariants as renew_fault
 use Rattle.reg_early.specs.declared.term.SettleFault.TheVariants as settle_fault
@@ -9,7 +10,6 @@ use Rattle.reg_ranges.specs.Tables.{Table}
 use Rattle.reg_ranges.specs.declared.policy.Policy.{Policy}
 use Rattle.reg_core.specs.Allowance.{Ground, or_refusal, value_for, own_entry, may_renew, may_settle}
 use Rattle.reg_core.specs.FirstRefusals.{IsForEntry, IsPlainRenewal, IsForValue, IsExhausted, Applies, line_of}
-use Rattle.reg_core.specs.Maps.{same_text}
 use Rattle.reg_core.specs.declared.ask.Ask.{Ask}
 use Rattle.reg_core.specs.declared.ask.Want.{Want}
 use Rattle.reg_core.specs.declared.ask.Want.TheVariants.{Value, Least}

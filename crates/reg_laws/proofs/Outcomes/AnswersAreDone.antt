@@ -3,12 +3,14 @@ use Rattle.std.proofs.Common.{◌≡◌, ℕ, Bool, false, List, refl, sym, ap, 
 use Rattle.std.specs.Prelude.{Option, Some, None, Ok, Err, is_some, option_map}
 use Rattle.std.specs.FinMap.{get}
 use Rattle.std.proofs.lemmas.Slice.Eq.{bytes_eq-Decides}
+use Rattle.reg_maps.specs.Maps.{same_text, update}
+use Rattle.reg_maps.proofs.MapLaws.{number_keys, text_keys, get-inserted, get-updated, get-removed}
+use Rattle.reg_maps.proofs.KeySets.{is_inserted}
 use Rattle.reg_early.specs.Moment.{utc_day}
 use Rattle.reg_early.specs.Terms.{held_term}
 use Rattle.reg_core.specs.Award.{Award, awarded_entry, new_holding}
 use Rattle.reg_core.specs.Entry.{page_entry, with_hold}
 use Rattle.reg_core.specs.Holding.{with_mark}
-use Rattle.reg_core.specs.Maps.{same_text, update}
 use Rattle.reg_core.specs.World.{World, RequestName, in_state, applied, applied_if, pending, Seat}
 use Rattle.reg_core.specs.declared.change.Change.{Change}
 use Rattle.reg_core.specs.declared.command.Command.{Command}
@@ -25,9 +27,8 @@ use Rattle.reg_core.specs.declared.request.Case.{Case}
 use Rattle.reg_core.specs.declared.request.Given.TheVariants.{Value, Block}
 use Rattle.reg_core.specs.declared.request.State.{State}
 use Rattle.reg_core.specs.declared.request.State.TheVariants.{Approved, Declined, Withdrawn}
-use Rattle.reg_core.proofs.MapLaws.{number_keys, text_keys, name_keys, place_keys, seat_keys, block_keys, get-inserted, get-updated, get-removed}
-use Rattle.reg_core.proofs.KeySets.{is_inserted}
 use Rattle.reg_core.proofs.Links.{link_is, agent_list, principal_list}
+use Rattle.reg_core.proofs.KeyOrders.{name_keys, place_keys, seat_keys, block_keys}
 use Rattle.reg_core.specs.Answer.{Outcome, Answer, reply_of, change_of, change_by, made_row}
 use Rattle.reg_core.specs.Rules.{change_to_give}
 use Rattle.reg_core.specs.Step.{desk_by, answer_to}

@@ -3,10 +3,11 @@ use Rattle.std.proofs.Common.{◌≡◌, ℕ, List, not, refl, sym, ap, subst, �
 use Rattle.std.specs.Prelude.{Option, Some, None, option_and_then}
 use Rattle.std.specs.FinMap.{FinMap, get, entries}
 use Rattle.std.proofs.lemmas.List.Elements.{All-map}
+use Rattle.reg_maps.specs.Maps.{only_if}
+use Rattle.reg_maps.proofs.MapLaws.{get-select, All-entries, Contains-map, Contains-entries, ascending-entries}
 use Rattle.reg_core.specs.Lists.{EntryList, ShowsEntry, ShowsStanding, BlockList, ShowsHolder, ShowsHeld, HasRowOf, HasHoldingOf, HoldingList, IsItem, OwnList, QueueList}
 use Rattle.reg_early.proofs.TermsInWords.{assigned, temporary, held as held_term, expired}
 use Rattle.reg_core.specs.Entry.{page_entry}
-use Rattle.reg_core.specs.Maps.{only_if}
 use Rattle.reg_core.specs.Page.{page_entries}
 use Rattle.reg_core.specs.Holding.{Shown, masked, masked_blocks, listed_row, listed_rows, holding_row, holding_rows}
 use Rattle.reg_blocks.specs.Block.{SizedPrefix, block_cmp}
@@ -22,10 +23,10 @@ use Rattle.reg_core.specs.declared.holding.Listed.{Listed}
 use Rattle.reg_core.specs.declared.queue.QueueRow.{QueueRow}
 use Rattle.reg_core.specs.declared.request.Case.{Case}
 use Rattle.reg_core.specs.declared.request.Request.{Request}
-use Rattle.reg_core.proofs.MapLaws.{name_keys, place_keys, block_keys, get-select, All-entries, Contains-map, Contains-entries, ascending-entries}
 use Rattle.reg_decisions.proofs.Blocks.{holding_found, own_holding}
 use Rattle.reg_core.proofs.ValuesIn.{own_found, found_own, page_ascends}
 use Rattle.reg_core.proofs.Queues.{IsQueued, queued_found, found_queued}
+use Rattle.reg_core.proofs.KeyOrders.{name_keys, place_keys, block_keys}
 use Rattle.reg_decisions.proofs.Stepping.{own_request, own_row_found, own_row_is_own}
 
 -- ---- Registers

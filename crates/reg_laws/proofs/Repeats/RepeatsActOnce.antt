@@ -5,6 +5,7 @@ use Rattle.std.specs.Prelude.{Option, Some, None, IsSome, is_some, Ok, nat_le, n
 use Rattle.std.specs.FinMap.{get, contains_key, keys}
 use Rattle.std.proofs.lemmas.Bool.Decides.{nat_tests}
 use Rattle.std.proofs.lemmas.Slice.Eq.{bytes_eq-Decides}
+use Rattle.reg_maps.specs.Maps.{same_text}
 use Rattle.reg_early.specs.Moment.{is_in_clock, utc_day}
 use Rattle.reg_early.specs.Terms.{status_on}
 use Rattle.reg_early.specs.declared.term.Status.{Status}
@@ -20,7 +21,6 @@ use Rattle.reg_core.specs.File.{file}
 use Rattle.reg_core.specs.Queue.{queue_rows}
 use Rattle.reg_core.specs.Laws.{is_refused, IsStillValid, MayRepeat, IsDone, RepeatsActOnce}
 use Rattle.reg_core.specs.Lists.{IsRow, IsOwnRow}
-use Rattle.reg_core.specs.Maps.{same_text}
 use Rattle.reg_blocks.specs.Block.{SizedPrefix}
 use Rattle.reg_core.specs.Request.{case_of, request_rows}
 use Rattle.reg_core.specs.Rules.{listing_rule, link_rule, mark_rule}

@@ -4,12 +4,13 @@ use Rattle.std.specs.Prelude.{Option, Some, None, Result, Ok, Err, option_map, n
 use Rattle.std.specs.Cmp.{first_so, second_so}
 use Rattle.std.specs.FinMap.{get}
 use Rattle.std.proofs.lemmas.Bool.{and_left, and_right, both_ways, not-false}
+use Rattle.reg_maps.specs.Maps.{same_text}
+use Rattle.reg_maps.proofs.HiddenKeys.{AgreeBut}
 use Rattle.reg_early.specs.Moment.{is_in_clock, utc_day}
 use Rattle.reg_core.specs.Allowance.{◌>>=◌, or_refusal}
 use Rattle.reg_core.specs.Answer.{Answer, reply_of, change_of, admitted, as_kind, own_answer, expert_answer}
 use Rattle.reg_core.specs.Capability.{same_kind}
 use Rattle.reg_core.specs.File.{seats_of}
-use Rattle.reg_core.specs.Maps.{same_text}
 use Rattle.reg_core.specs.Run.{Event}
 use Rattle.reg_core.specs.Step.{is_clerk, acts_as_clerk, clerk_answer, answer_to}
 use Rattle.reg_core.specs.Striking.{is_others, reply_lists_others, reply_without}
@@ -34,7 +35,6 @@ use Rattle.reg_core.specs.declared.refusal.Refusal.TheVariants as no
 use Rattle.reg_core.specs.declared.reply.Reply.TheVariants.{Accepted}
 use Rattle.reg_core.proofs.SamenessIsDecided.{same_kind-is}
 use Rattle.reg_laws.proofs.Striking.Lists.{same_requests, same_queue}
-use Rattle.reg_laws.proofs.Striking.Maps.{AgreeBut}
 use Rattle.reg_laws.proofs.Striking.Views.{own_agree, queue_agree, rows_agree, seats_same, personal_same}
 use Rattle.reg_laws.proofs.Striking.Worlds.{with_requests_of, agree_rest, Unaware}
 

@@ -1,8 +1,9 @@
 -- Lists of requests without the hidden ones: maps that agree but for those, and where none is.
-use Rattle.std.proofs.Common.{◌≡◌, ℕ, Bool, true, false, cond, not, List, [], ◌∷◌, refl, sym, ap, subst, ◌∙◌}
-use Rattle.std.specs.Prelude.{Option, Some, None, Ok, Err, option_and_then, filter, All}
-use Rattle.std.specs.FinMap.{FinMap, get, entries}
-use Rattle.std.proofs.lemmas.List.Elements.{All-head, All-tail, All-map}
+use Rattle.std.proofs.Common.{◌≡◌, ℕ, Bool, not, List, refl, sym, ap, subst, ◌∙◌}
+use Rattle.std.specs.Prelude.{Option, Some, None, Ok, Err, option_and_then}
+use Rattle.std.specs.FinMap.{FinMap, get}
+use Rattle.reg_maps.proofs.MapLaws.{get-select}
+use Rattle.reg_maps.proofs.HiddenKeys.{AgreeBut, IsBare, plain_rows, same_rows}
 use Rattle.reg_early.specs.Moment.{utc_day}
 use Rattle.reg_core.specs.Answer.{Answer, Outcome, reply_of, made_row}
 use Rattle.reg_core.specs.Queue.{queue_row, queue_rows}
@@ -28,9 +29,8 @@ use Rattle.reg_core.specs.declared.queue.QueueRow.{QueueRow}
 use Rattle.reg_core.specs.declared.reply.Reply.TheVariants.{Accepted}
 use Rattle.reg_core.specs.declared.request.Case.{Case}
 use Rattle.reg_core.specs.declared.request.Request.{Request}
-use Rattle.reg_core.proofs.MapLaws.{name_keys, get-select, All-entries}
+use Rattle.reg_core.proofs.KeyOrders.{name_keys}
 use Rattle.reg_decisions.proofs.Outcomes.Accepted.{PublicSo, OwnSo, ExpertSo, ClerkSo, CommandSo, accepted}
-use Rattle.reg_laws.proofs.Striking.Maps.{AgreeBut, rows_of, same_rows}
 
 module _ (hidden : RequestName → Bool) where
   -- the row is of no hidden request
@@ -51,35 +51,6 @@ module _ (hidden : RequestName → Bool) where
       → queue_without hidden (queue_rows m) ≡ queue_without hidden (queue_rows n)
   same_queue m n = same_rows name_keys hidden seen_queued queue_row m n (λ name h queued. ap not h)
 
--- ---- No hidden row
-
--- a test that all pass leaves the list as it is
-all_pass : {A : Type 0} (test : A → Bool) (xs : List A) → All (λ x. test x ≡ true) xs
-    → filter test xs ≡ xs
-all_pass test [] all = refl
-all_pass test (x ∷ xs) all =
-    ap (λ b. cond b (x ∷ filter test xs) (filter test xs)) (All-head (λ x. test x ≡ true) x xs all)
-    ∙ ap (λ rest. x ∷ rest) (all_pass test xs (All-tail (λ x. test x ≡ true) x xs all))
-
--- nothing is hidden in this map
-abbrev IsBare : {X : Type 0} → (RequestName → Bool) → FinMap name_cmp X → Type 0
-IsBare hidden m = (name : RequestName) → hidden name ≡ true → get m name ≡ None
-
-plain_rows : {X Y : Type 0} (hidden : RequestName → Bool)
-    (seen : Y → Bool) (row : RequestName → X → Y)
-    → ((name : RequestName) (x : X) → seen (row name x) ≡ not (hidden name))
-    → (m : FinMap name_cmp X) → IsBare hidden m → filter seen (rows_of row m) ≡ rows_of row m
-plain_rows {X = X} hidden seen row test m bare =
-    let shown = λ (name : RequestName) (x : X) (is_there : get m name ≡ Some x).
-    test name x ∙ by name x is_there (hidden name) refl in
-    all_pass seen (rows_of row m) (All-map (λ y. seen y ≡ true) (λ e. row e.0 e.1) (entries m)
-    (All-entries name_keys.total (λ e. seen (row e.0 e.1) ≡ true) m shown))
-  where
-    by : (name : RequestName) (x : X) → get m name ≡ Some x
-        → (b : Bool) → hidden name ≡ b → not (hidden name) ≡ true
-    by name x is_there true h = let gone = bare name h in absurd (cc)
-    by name x is_there false h = ap not h
-
 -- ---- No hidden request
 
 module _ (hidden : RequestName → Bool) (v : World) (none : HasNone hidden v) where
@@ -94,7 +65,7 @@ module _ (hidden : RequestName → Bool) (v : World) (none : HasNone hidden v) w
 
   plain_requests : (m : FinMap name_cmp Case) → IsBare hidden m
       → requests_without hidden (request_rows m) ≡ request_rows m
-  plain_requests = plain_rows hidden (seen_request hidden) request_row (λ name case. refl)
+  plain_requests = plain_rows name_keys hidden (seen_request hidden) request_row (λ name case. refl)
 
   -- an outcome that tells of no hidden request in a list
   abbrev IsPlain : Outcome → Type 0
@@ -135,7 +106,7 @@ module _ (hidden : RequestName → Bool) (v : World) (none : HasNone hidden v) w
   expert_plain : (of : List ℕ) (given : ExpertCommand) (o : Outcome)
       → ExpertSo v of given o → IsPlain o
   expert_plain of Queue o so =
-      plain so (ap content.Items (plain_rows hidden (seen_queued hidden) queue_row
+      plain so (ap content.Items (plain_rows name_keys hidden (seen_queued hidden) queue_row
       (λ name queued. refl) (queue_of of v) (queue_bare of)))
   expert_plain of (Advise applicant reference advice) o so = plain so.so.is refl
 

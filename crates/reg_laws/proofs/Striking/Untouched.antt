@@ -4,8 +4,9 @@ use Rattle.std.specs.Prelude.{Option, Some, None, is_some}
 use Rattle.std.specs.FinMap.{FinMap, get, insert, contains_key}
 use Rattle.std.proofs.lemmas.Bool.{and_parts, or_cases, both_ways, not-true, cases_Bool}
 use Rattle.std.proofs.lemmas.Slice.Eq.{bytes_eq-Decides}
+use Rattle.reg_maps.specs.Maps.{same_text, update}
+use Rattle.reg_maps.proofs.HiddenKeys.{one_insert, one_update}
 use Rattle.reg_core.specs.Answer.{change_of}
-use Rattle.reg_core.specs.Maps.{same_text, update}
 use Rattle.reg_core.specs.Run.{Event}
 use Rattle.reg_core.specs.Command.{about}
 use Rattle.reg_core.specs.Unseen.{is_outside, speaks_for, is_hidden}
@@ -18,12 +19,11 @@ use Rattle.reg_core.specs.declared.change.Change.TheVariants.{Submit, Close, Ass
 use Rattle.reg_core.specs.declared.request.Case.{Case}
 use Rattle.reg_core.specs.declared.request.State.TheVariants.{Pending, Approved, Declined, Withdrawn}
 use Rattle.reg_core.specs.declared.request.Given.TheVariants.{Value, Block}
-use Rattle.reg_core.proofs.MapLaws.{name_keys}
 use Rattle.reg_decisions.proofs.Outcomes.Accepted.{Serves, ClerkServes}
 use Rattle.reg_decisions.proofs.Outcomes.Dues.{Due, IsApplicant, IsExpert, change_about, changes_due}
 use Rattle.reg_core.proofs.SamenessIsDecided.{same_kind-is}
+use Rattle.reg_core.proofs.KeyOrders.{name_keys}
 use Rattle.reg_laws.proofs.Striking.Answers.{Stays, answer_at}
-use Rattle.reg_laws.proofs.Striking.Maps.{one_insert, one_update}
 use Rattle.reg_laws.proofs.Striking.Worlds.{IsOfHidden, Unaware}
 
 -- ---- What the account does itself

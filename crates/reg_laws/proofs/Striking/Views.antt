@@ -4,16 +4,16 @@ use Rattle.std.specs.Prelude.{Option, Some, None, option_map, is_some}
 use Rattle.std.specs.FinMap.{FinMap, get, contains_key}
 use Rattle.std.proofs.lemmas.Bool.{or_cases, both_ways}
 use Rattle.std.proofs.lemmas.Slice.Eq.{bytes_eq-Decides}
+use Rattle.reg_maps.specs.Maps.{same_text, only_if}
+use Rattle.reg_maps.proofs.HiddenKeys.{AgreeBut, NoneAt, ChooseAlike, both_select, same_select}
 use Rattle.reg_core.specs.File.{same_name, seats_of}
-use Rattle.reg_core.specs.Maps.{same_text, only_if}
 use Rattle.reg_core.specs.Striking.{has_account, ShowSame}
 use Rattle.reg_core.specs.View.{published, personal, requests_of, requests_by, queue_of, principal_rows_of, queued_to, as_queued, cap_at, with_personal}
 use Rattle.reg_core.specs.World.{World, RequestName, Seat, seat_cmp}
 use Rattle.reg_core.specs.declared.capability.Cap.{Cap}
 use Rattle.reg_core.specs.declared.request.Case.{Case}
+use Rattle.reg_core.proofs.KeyOrders.{name_keys, seat_keys}
 use Rattle.reg_decisions.proofs.Files.{same_name-is}
-use Rattle.reg_core.proofs.MapLaws.{name_keys, seat_keys}
-use Rattle.reg_laws.proofs.Striking.Maps.{AgreeBut, NoneAt, ChooseAlike, both_select, same_select}
 use Rattle.reg_laws.proofs.Striking.Worlds.{at_seat, Agree, Blind, Unaware}
 
 module _ {hidden : RequestName → Bool} {w v : World} (a : Agree hidden w v) where

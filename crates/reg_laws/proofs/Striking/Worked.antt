@@ -5,6 +5,8 @@ use Rattle.std.specs.FinMap as map
 use Rattle.std.specs.FinMap.{get, contains_key, get-insert, get-empty}
 use Rattle.std.specs.List.{list_any}
 use Rattle.std.specs.Prelude.{Some, None, Ok, Err, codes, filter}
+use Rattle.reg_maps.specs.Maps.{same_text}
+use Rattle.reg_maps.proofs.MapLaws.{text_keys, get-inserted}
 use Rattle.reg_early.specs.Moment.{utc_day}
 use Rattle.reg_early.specs.Terms.{permanent_term}
 use Rattle.reg_ranges.specs.Tables.{Table}
@@ -12,7 +14,6 @@ use Rattle.reg_ranges.specs.declared.policy.Policy.TheVariants.{FirstComeFirstSe
 use Rattle.reg_ranges.specs.declared.policy.Treatment.TheVariants.{Under}
 use Rattle.reg_core.specs.Answer.{Answer, reply_of, change_of, desk_row}
 use Rattle.reg_core.specs.Laws.{clerk_cap, founded_world}
-use Rattle.reg_core.specs.Maps.{same_text}
 use Rattle.reg_core.specs.Request.{request_row}
 use Rattle.reg_core.specs.Run.{Event, run}
 use Rattle.reg_core.specs.Step.{answer_to}
@@ -36,7 +37,7 @@ use Rattle.reg_core.specs.declared.entry.Entry.{Entry}
 use Rattle.reg_core.specs.declared.request.Given.TheVariants as given
 use Rattle.reg_core.specs.declared.request.State.TheVariants.{Approved, Declined}
 use Rattle.reg_core.specs.declared.request.State.{State}
-use Rattle.reg_core.proofs.MapLaws.{name_keys, text_keys, get-inserted}
+use Rattle.reg_core.proofs.KeyOrders.{name_keys}
 use Rattle.reg_decisions.proofs.Stepping.{own_request}
 
 abbrev clerk : List ℕ

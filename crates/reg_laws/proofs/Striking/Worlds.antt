@@ -8,10 +8,12 @@ use Rattle.std.specs.FinMap as map
 use Rattle.std.specs.FinMap.{FinMap, get, insert, contains_key}
 use Rattle.std.specs.FinSet.{FinSet}
 use Rattle.std.proofs.lemmas.Bool.{both_ways}
+use Rattle.reg_maps.specs.Maps.{same_text}
+use Rattle.reg_maps.proofs.MapLaws.{tied, get-at_insert}
+use Rattle.reg_maps.proofs.HiddenKeys.{AgreeBut, both_insert, both_update, one_insert, one_update}
 use Rattle.reg_core.specs.Entry.{registration_in}
 use Rattle.reg_core.specs.File.{same_name}
 use Rattle.reg_core.specs.Holding.{holder_in}
-use Rattle.reg_core.specs.Maps.{same_text}
 use Rattle.reg_core.specs.Unseen.{reveals_if, is_hidden}
 use Rattle.reg_core.specs.World.{World, RequestName, name_cmp, Place, Seat, seat_cmp, Link, link_cmp, in_state, pending, applied, applied_if}
 use Rattle.reg_core.specs.declared.advice.Advice.{Advice}
@@ -22,10 +24,9 @@ use Rattle.reg_core.specs.declared.request.State.TheVariants.{Approved}
 use Rattle.reg_core.specs.declared.request.Given.TheVariants.{Value, Block}
 use Rattle.reg_decisions.proofs.Files.{same_name-itself}
 use Rattle.reg_laws.proofs.Agents.{there_after}
-use Rattle.reg_core.proofs.MapLaws.{name_keys, seat_keys, link_keys, tied, get-at_insert}
 use Rattle.reg_decisions.proofs.Outcomes.Dues.{change_about}
 use Rattle.reg_core.proofs.SamenessIsDecided.{same_text-itself}
-use Rattle.reg_laws.proofs.Striking.Maps.{AgreeBut, both_insert, both_update, one_insert, one_update}
+use Rattle.reg_core.proofs.KeyOrders.{name_keys, seat_keys, link_keys}
 
 -- the rows of a hidden request: its own, and those of its experts and of their advice
 abbrev pub at_seat : (RequestName → Bool) → Seat → Bool

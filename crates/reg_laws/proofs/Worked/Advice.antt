@@ -3,9 +3,9 @@
 use Rattle.std.proofs.Common.{◌≡◌, ℕ, true, false, List, [], ◌∷◌, refl, sym, ap, ◌∙◌}
 use Rattle.std.specs.Prelude.{Option, Some, None, Ok, Err, codes, is_some, option_and_then}
 use Rattle.std.specs.FinMap.{get}
+use Rattle.reg_maps.specs.Maps.{only_if}
 use Rattle.reg_core.specs.Advice.{is_advised}
 use Rattle.reg_core.specs.Allowance.{Ground, allowance_on, needs_advice}
-use Rattle.reg_core.specs.Maps.{only_if}
 use Rattle.reg_core.specs.Award.{Allowance}
 use Rattle.reg_core.specs.Rules.{approve_rule}
 use Rattle.reg_core.specs.Step.{Stepped, step}

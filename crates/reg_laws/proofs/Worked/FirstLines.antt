@@ -4,9 +4,10 @@ use Rattle.std.specs.Prelude.{Option, Some, None, codes, filter_map}
 use Rattle.std.specs.FinMap as map
 use Rattle.std.specs.FinMap.{get, entries, entries-insert, put, get-insert, get-empty, len-entries, len-empty}
 use Rattle.std.specs.Ordering.{nat_cmp}
+use Rattle.reg_maps.specs.Maps.{text_cmp, keyed, same_text, only_if}
+use Rattle.reg_maps.proofs.MapLaws.{number_keys, text_keys, get-inserted, entries-select}
 use Rattle.reg_early.specs.Moment.{is_in_clock}
 use Rattle.reg_core.specs.Laws.{clerk_cap, founded_world}
-use Rattle.reg_core.specs.Maps.{text_cmp, keyed, same_text, only_if}
 use Rattle.reg_core.specs.Run.{Event, run}
 use Rattle.reg_core.specs.Step.{Stepped, step}
 use Rattle.reg_core.specs.View.{requests_of}
@@ -23,7 +24,7 @@ use Rattle.reg_core.specs.declared.refusal.Refusal.TheVariants as no
 use Rattle.reg_core.specs.declared.content.Content.TheVariants.{Rows, Pool, Pooled, Granted}
 use Rattle.reg_core.specs.declared.reply.Reply.TheVariants.{Accepted, Refused}
 use Rattle.reg_core.specs.declared.request.Case.{Case}
-use Rattle.reg_core.proofs.MapLaws.{number_keys, name_keys, text_keys, get-inserted, entries-select}
+use Rattle.reg_core.proofs.KeyOrders.{name_keys}
 
 abbrev clerk : List ℕ
 clerk = codes "clerk-token-00001"

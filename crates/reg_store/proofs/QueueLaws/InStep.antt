@@ -7,7 +7,11 @@ use Rattle.std.specs.BTreeMap.{is_at}
 use Rattle.std.specs.Map.{lookup}
 use Rattle.std.specs.FinMap.{FinMap, get, contains_key, insert, entries, entries_sorted}
 use Rattle.std.specs.FinMap.{from_entries, get-entries, get-empty}
-use Rattle.reg_core.specs.Maps.{text_cmp, keyed, select, update}
+use Rattle.reg_maps.specs.Maps.{text_cmp, keyed, select, update}
+use Rattle.reg_maps.specs.Groups.{group_at, group_rows, rows_in}
+use Rattle.reg_maps.proofs.MapLaws.{text_keys, get-select, entries-select, get-at_insert, get-update, tied}
+use Rattle.reg_maps.proofs.FiniteMaps.Ordered.{find_is}
+use Rattle.reg_maps.proofs.FiniteMaps.InOrder.{group_is}
 use Rattle.reg_core.specs.Queue.{queue_row, queue_rows}
 use Rattle.reg_core.specs.Request.{word_of}
 use Rattle.reg_core.specs.View.{Queued, queue_of}
@@ -17,17 +21,13 @@ use Rattle.reg_core.specs.declared.ask.Ask.{Ask}
 use Rattle.reg_core.specs.declared.change.Change.TheVariants.{Submit, Assign, Advise}
 use Rattle.reg_core.specs.declared.queue.QueueRow.{QueueRow}
 use Rattle.reg_core.specs.declared.request.State.{State}
-use Rattle.reg_core.proofs.MapLaws.{text_keys, name_keys, get-select, entries-select}
-use Rattle.reg_core.proofs.MapLaws.{get-at_insert, get-update, tied}
-use Rattle.reg_store.specs.Groups.{group_at, group_rows, rows_in}
+use Rattle.reg_core.proofs.KeyOrders.{name_keys}
 use Rattle.reg_store.specs.Lists.File.{review_world}
 use Rattle.reg_store.specs.Lists.Opinions.{Opinions}
 use Rattle.reg_store.specs.Lists.Panels.{Panels}
 use Rattle.reg_store.specs.Lists.Queues.{Queues, queue_cmp, all_queues, AreInStep, row_in_queue}
 use Rattle.reg_store.specs.Lists.Queues.{row_for, with_word, with_advice}
 use Rattle.reg_store.specs.Lists.Requests.{Requests}
-use Rattle.reg_store.proofs.FiniteMaps.Ordered.{find_is}
-use Rattle.reg_store.proofs.FiniteMaps.InOrder.{group_is}
 use Rattle.reg_store.proofs.QueueLaws.Rows.{queue_keys, row_in_queue-unseated, row_in_queue-submit}
 use Rattle.reg_store.proofs.QueueLaws.Rows.{row_in_queue-with_state, row_in_queue-assign}
 use Rattle.reg_store.proofs.QueueLaws.Rows.{row_in_queue-assign_none, row_in_queue-advise}

@@ -1,12 +1,14 @@
 -- The row of a request in an expert's queue, after each change.
-use Rattle.std.proofs.Common.{◌≡◌, ℕ, Bool, true, false, cond, ◌&&◌, List, refl, sym, ap, subst}
+use Rattle.std.proofs.Common.{◌≡◌, ℕ, Bool, true, false, cond, List, refl, sym, ap, subst}
 use Rattle.std.proofs.Common.{◌∙◌}
 use Rattle.std.specs.Prelude.{Option, Some, None, is_some, option_map, option_and_then}
 use Rattle.std.specs.Cmp.{eq_by_cmp_equiv}
 use Rattle.std.specs.Ordering.{eq_by_cmp}
 use Rattle.std.specs.BTreeMap.{is_at}
 use Rattle.std.specs.FinMap.{get, contains_key}
-use Rattle.reg_core.specs.Maps.{text_cmp, only_if}
+use Rattle.reg_maps.specs.Maps.{text_cmp, only_if}
+use Rattle.reg_maps.proofs.MapLaws.{IsKeyOrder, text_keys, pair_keys, get-select, get-at_insert, get-update, tied}
+use Rattle.reg_maps.proofs.KeyTests.{pair_turned}
 use Rattle.reg_core.specs.Queue.{queue_row}
 use Rattle.reg_core.specs.Request.{word_of}
 use Rattle.reg_core.specs.View.{as_queued, queued_to}
@@ -18,10 +20,8 @@ use Rattle.reg_core.specs.declared.change.Change.TheVariants.{Submit, Assign, Ad
 use Rattle.reg_core.specs.declared.queue.QueueRow.{QueueRow}
 use Rattle.reg_core.specs.declared.request.Case.{Case}
 use Rattle.reg_core.specs.declared.request.State.{State}
-use Rattle.reg_core.proofs.MapLaws.{IsKeyOrder, text_keys, name_keys, seat_keys, pair_keys}
-use Rattle.reg_core.proofs.MapLaws.{get-select, get-at_insert, get-update, tied}
+use Rattle.reg_core.proofs.KeyOrders.{name_keys, seat_keys}
 use Rattle.reg_store.specs.Lists.Queues.{queue_cmp, row_in_queue, row_for, with_word, with_advice}
-use Rattle.reg_store.proofs.FiniteMaps.Nested.{tie}
 
 pub queue_keys : IsKeyOrder queue_cmp
 queue_keys = pair_keys text_keys name_keys
@@ -105,19 +105,10 @@ module _ (w : World) (expert : List ℕ) (name : RequestName) where
 
 -- ---- After a change
 
-turned : (a b : Bool) → (a && b) ≡ (b && a)
-turned true true = refl
-turned true false = refl
-turned false true = refl
-turned false false = refl
-
 -- the seat of an expert in a request's panel, and the place of the request in the expert's queue
 seat-place : (name n : RequestName) (expert e : List ℕ)
     → eq_by_cmp seat_cmp (n, e) (name, expert) ≡ eq_by_cmp queue_cmp (e, n) (expert, name)
-seat-place name n expert e =
-    tie (name_cmp n name) (text_cmp e expert)
-    ∙ turned (is_at (name_cmp n) name) (is_at (text_cmp e) expert)
-    ∙ sym (tie (text_cmp e expert) (name_cmp n name))
+seat-place name n expert e = pair_turned name_cmp text_cmp (n, e) (name, expert)
 
 -- what holds at a place holds where it ties with another
 at_place : (P : List ℕ → RequestName → Type 0) (name n : RequestName) (expert e : List ℕ)

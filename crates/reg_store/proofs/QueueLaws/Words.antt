@@ -7,13 +7,15 @@ use Rattle.std.specs.Ordering.{eq_by_cmp}
 use Rattle.std.specs.BTreeMap.{is_at}
 use Rattle.std.specs.FinMap.{FinMap, get}
 use Rattle.std.specs.Map.{lookup, keys_of}
-use Rattle.reg_core.specs.Maps.{text_cmp, update}
+use Rattle.reg_maps.specs.Maps.{text_cmp, update}
+use Rattle.reg_maps.proofs.MapLaws.{get-update, tied}
+use Rattle.reg_maps.proofs.Tests.{or-false}
+use Rattle.reg_maps.proofs.Orderings.{tie}
 use Rattle.reg_core.specs.World.{RequestName, name_cmp}
 use Rattle.reg_core.specs.declared.queue.QueueRow.{QueueRow}
 use Rattle.reg_core.specs.declared.request.StateWord.{StateWord}
-use Rattle.reg_core.proofs.MapLaws.{name_keys, get-update, tied}
+use Rattle.reg_core.proofs.KeyOrders.{name_keys}
 use Rattle.reg_store.specs.Lists.Queues.{queue_cmp, with_word}
-use Rattle.reg_store.proofs.FiniteMaps.Nested.{tie}
 use Rattle.reg_store.proofs.QueueLaws.Rows.{queue_keys}
 
 -- an account is one of these
@@ -24,11 +26,7 @@ is_among e (x ∷ xs) = is_at (text_cmp e) x || is_among e xs
 -- or of one more
 is_among-push : (e : List ℕ) (xs : List (List ℕ)) (x : List ℕ)
     → is_among e (xs ++ x ∷ []) ≡ (is_among e xs || is_at (text_cmp e) x)
-is_among-push e [] x = last (is_at (text_cmp e) x)
-  where
-    last : (b : Bool) → (b || false) ≡ b
-    last true = refl
-    last false = refl
+is_among-push e [] x = or-false (is_at (text_cmp e) x)
 is_among-push e (y ∷ xs) x =
     ap (λ b. is_at (text_cmp e) y || b) (is_among-push e xs x)
     ∙ along (is_at (text_cmp e) y) (is_among e xs) (is_at (text_cmp e) x)

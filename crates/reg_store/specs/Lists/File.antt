@@ -1,7 +1,7 @@
 -- Requests with their experts and the advice on them.
-use Rattle.reg_core.specs.Maps.{text_cmp}
+use Rattle.reg_maps.specs.Maps.{text_cmp}
+use Rattle.reg_maps.specs.Groups.{pair_map}
 use Rattle.reg_core.specs.World.{World, name_cmp, empty_world}
-use Rattle.reg_store.specs.Groups.{pair_map}
 use Rattle.reg_store.specs.Lists.Opinions.{Opinions}
 use Rattle.reg_store.specs.Lists.Panels.{Panels, seats}
 use Rattle.reg_store.specs.Lists.Requests.{Requests}

@@ -3,12 +3,12 @@ use Rattle.std.specs.Prelude.{◌≡◌, List, ℕ}
 use Rattle.std.specs.BTreeMap.{BTreeMap}
 use Rattle.std.specs.FinMap.{FinMap, get}
 use Rattle.std.specs.declared.cmp.Ordering.{Ordering}
+use Rattle.reg_maps.specs.Maps.{text_cmp, pair_cmp}
+use Rattle.reg_maps.specs.Groups.{pair_map}
 use Rattle.reg_blocks.specs.Block.{SizedPrefix, block_cmp}
-use Rattle.reg_core.specs.Maps.{text_cmp, pair_cmp}
 use Rattle.reg_core.specs.View.{holdings_of}
 use Rattle.reg_core.specs.World.{World, empty_world}
 use Rattle.reg_core.specs.declared.holding.Holder.{Holder}
-use Rattle.reg_store.specs.Groups.{pair_map}
 
 -- an account, and a block
 abbrev pub held_cmp : List ℕ × SizedPrefix → List ℕ × SizedPrefix → Ordering

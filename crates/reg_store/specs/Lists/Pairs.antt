@@ -3,9 +3,9 @@ use Rattle.std.specs.Prelude.{◌≡◌, ℕ, List}
 use Rattle.std.specs.BTreeMap.{BTreeMap}
 use Rattle.std.specs.FinMap.{get}
 use Rattle.std.specs.FinSet.{FinSet}
-use Rattle.reg_core.specs.Maps.{text_cmp}
+use Rattle.reg_maps.specs.Maps.{text_cmp}
+use Rattle.reg_maps.specs.Groups.{pair_map}
 use Rattle.reg_core.specs.World.{World, empty_world, link_cmp}
-use Rattle.reg_store.specs.Groups.{pair_map}
 
 -- by one account, and then by another
 abbrev pub Pairs : Type 0

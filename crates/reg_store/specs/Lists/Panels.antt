@@ -2,9 +2,9 @@
 use Rattle.std.specs.Prelude.{ℕ, List}
 use Rattle.std.specs.BTreeMap.{BTreeMap}
 use Rattle.std.specs.FinSet.{FinSet}
-use Rattle.reg_core.specs.Maps.{text_cmp}
+use Rattle.reg_maps.specs.Maps.{text_cmp}
+use Rattle.reg_maps.specs.Groups.{pair_map}
 use Rattle.reg_core.specs.World.{RequestName, name_cmp, seat_cmp}
-use Rattle.reg_store.specs.Groups.{pair_map}
 
 -- by request, and then by expert
 abbrev pub Panels : Type 0

@@ -3,7 +3,8 @@ use Rattle.std.specs.Prelude.{◌≡◌, ℕ, List, Option, Some, option_map}
 use Rattle.std.specs.BTreeMap.{BTreeMap}
 use Rattle.std.specs.FinMap.{FinMap, get}
 use Rattle.std.specs.declared.cmp.Ordering.{Ordering}
-use Rattle.reg_core.specs.Maps.{text_cmp, pair_cmp}
+use Rattle.reg_maps.specs.Maps.{text_cmp, pair_cmp}
+use Rattle.reg_maps.specs.Groups.{pair_map}
 use Rattle.reg_core.specs.Queue.{queue_row}
 use Rattle.reg_core.specs.View.{as_queued, queue_of}
 use Rattle.reg_core.specs.World.{World, RequestName, name_cmp, seat_cmp}
@@ -11,7 +12,6 @@ use Rattle.reg_core.specs.declared.advice.Advice.{Advice}
 use Rattle.reg_core.specs.declared.queue.QueueRow.{QueueRow}
 use Rattle.reg_core.specs.declared.request.Case.{Case}
 use Rattle.reg_core.specs.declared.request.StateWord.{StateWord}
-use Rattle.reg_store.specs.Groups.{pair_map}
 
 -- an expert, and a request
 abbrev pub queue_cmp : List ℕ × RequestName → List ℕ × RequestName → Ordering

@@ -1,11 +1,11 @@
 //! The pool of prefixes, and the blocks that were given of it.
 ghost use Rattle.std.specs.Prelude.{◌≡◌, None, Contains, IsTrue, IfOk, OnOk, OnErr};
 ghost use Rattle.std.specs.FinMap as fin;
+ghost use Rattle.reg_maps.specs.Maps.{update};
 ghost use Rattle.reg_blocks.specs.Block.{leading_24};
 ghost use Rattle.reg_blocks.specs.Pool.{is_pool_prefix};
 ghost use Rattle.reg_core.specs.BlockDue.{due_in};
 ghost use Rattle.reg_core.specs.Holding.{holder_in, with_mark};
-ghost use Rattle.reg_core.specs.Maps.{update};
 ghost use Rattle.reg_vacancies.specs.Places.{AreLeftBy, pool_in};
 ghost use Rattle.reg_store.specs.Lists.Holdings.{blocks_held};
 

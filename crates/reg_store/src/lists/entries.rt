@@ -3,11 +3,11 @@ ghost use Rattle.std.specs.Prelude.{◌≡◌, IfOk, OnOk, OnErr, map, option_ma
 ghost use Rattle.std.specs.FinMap as fin;
 ghost use Rattle.std.specs.List.Sorted.{IsStrictlyIncreasing};
 ghost use Rattle.std.specs.Ordering.{nat_cmp};
+ghost use Rattle.reg_maps.specs.Maps.{text_cmp, update};
+ghost use Rattle.reg_maps.specs.Groups.{pair_map};
 ghost use Rattle.reg_core.specs.Entry.{entry_row as entry_of, registration_in, with_hold};
-ghost use Rattle.reg_core.specs.Maps.{text_cmp, update};
 ghost use Rattle.reg_core.specs.Page.{entry_rows};
 ghost use Rattle.reg_core.specs.View.{entries_of};
-ghost use Rattle.reg_store.specs.Groups.{pair_map};
 
 use crate::groups::{change_row, list_group, put_row, row_in};
 use reg_core::entry::{Entry, Registration};

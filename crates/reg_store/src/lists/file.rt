@@ -1,10 +1,10 @@
 //! Requests with their experts and all advice on them.
 ghost use Rattle.std.specs.Prelude.{◌≡◌, IfOk, map, option_map};
 ghost use Rattle.std.specs.FinMap as fin;
+ghost use Rattle.reg_maps.specs.Maps.{text_cmp};
+ghost use Rattle.reg_maps.specs.Groups.{pair_map};
 ghost use Rattle.reg_core.specs.File.{file, opinion, seats_of};
-ghost use Rattle.reg_core.specs.Maps.{text_cmp};
 ghost use Rattle.reg_core.specs.World.{name_cmp};
-ghost use Rattle.reg_store.specs.Groups.{pair_map};
 ghost use Rattle.reg_store.specs.Lists.File.{review_world};
 ghost use Rattle.reg_store.specs.Lists.Panels.{seats};
 

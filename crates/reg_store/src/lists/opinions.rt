@@ -1,10 +1,10 @@
 //! The advice of experts by requests, and then by experts.
 ghost use Rattle.std.specs.Prelude.{◌≡◌, map, IfOk};
 ghost use Rattle.std.specs.FinMap as fin;
+ghost use Rattle.reg_maps.specs.Maps.{text_cmp};
+ghost use Rattle.reg_maps.specs.Groups.{pair_map};
 ghost use Rattle.reg_core.specs.File.{opinion as opinion_of, seats_of};
-ghost use Rattle.reg_core.specs.Maps.{text_cmp};
 ghost use Rattle.reg_core.specs.World.{name_cmp};
-ghost use Rattle.reg_store.specs.Groups.{pair_map};
 
 use crate::groups::{list_group, row_in};
 use crate::lists::requests::RequestName;

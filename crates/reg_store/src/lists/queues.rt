@@ -3,7 +3,7 @@ ghost use Rattle.std.specs.Prelude.{◌≡◌, ◌&&◌, ℕ, List, cond, is_som
 ghost use Rattle.std.specs.BTreeMap as tree;
 ghost use Rattle.std.specs.BTreeMap.{is_at};
 ghost use Rattle.std.specs.FinMap as fin;
-ghost use Rattle.reg_core.specs.Maps.{text_cmp, update};
+ghost use Rattle.reg_maps.specs.Maps.{text_cmp, update};
 ghost use Rattle.reg_core.specs.World.{name_cmp};
 ghost use Rattle.reg_store.specs.Lists.Panels.{seats};
 ghost use Rattle.reg_store.specs.Lists.Queues.{all_queues, with_word, with_advice};

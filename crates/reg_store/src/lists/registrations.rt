@@ -1,10 +1,10 @@
 //! The entries of registries, and the values that have them.
 ghost use Rattle.std.specs.Prelude.{◌≡◌, OnOk, OnErr};
 ghost use Rattle.std.specs.FinMap as fin;
+ghost use Rattle.reg_maps.specs.Maps.{update};
 ghost use Rattle.reg_ranges.specs.FreeValues.{least_value};
 ghost use Rattle.reg_core.specs.Entry.{registration_in, with_hold};
 ghost use Rattle.reg_core.specs.LeastFree.{values_in};
-ghost use Rattle.reg_core.specs.Maps.{update};
 ghost use Rattle.reg_vacancies.specs.Values.{AreTakenBy};
 ghost use Rattle.reg_store.specs.Lists.Entries.{all_entries};
 

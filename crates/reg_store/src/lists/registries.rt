@@ -1,8 +1,7 @@
 //! Registries by their names.
 ghost use Rattle.std.specs.Prelude.{◌≡◌, IfOk};
 ghost use Rattle.std.specs.FinMap as fin;
-ghost use Rattle.reg_core.specs.Maps.{text_cmp};
-ghost use Rattle.reg_store.specs.Maps.{finite_map};
+ghost use Rattle.reg_maps.specs.Maps.{text_cmp, finite_map};
 
 use crate::maps::{push_rows, row_at};
 use reg_core::rows::Rows;

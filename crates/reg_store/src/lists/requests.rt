@@ -1,10 +1,10 @@
 //! Requests by the accounts of their applicants, and then by reference.
 ghost use Rattle.std.specs.Prelude.{◌≡◌, IfOk, option_map};
 ghost use Rattle.std.specs.FinMap as fin;
-ghost use Rattle.reg_core.specs.Maps.{text_cmp, same_text, only_if, select, update};
+ghost use Rattle.reg_maps.specs.Maps.{text_cmp, same_text, only_if, select, update};
+ghost use Rattle.reg_maps.specs.Groups.{pair_map};
 ghost use Rattle.reg_core.specs.Request.{request_row as request_of, request_rows};
 ghost use Rattle.reg_core.specs.World.{in_state};
-ghost use Rattle.reg_store.specs.Groups.{pair_map};
 
 use crate::groups::{change_row, list_group, row_in};
 use crate::maps::push_rows;

@@ -2,13 +2,13 @@
 //! expert.
 ghost use Rattle.std.specs.Prelude.{◌≡◌, ℕ, List, None, false, IfOk, OnOk, OnErr, option_map};
 ghost use Rattle.std.specs.FinMap as fin;
+ghost use Rattle.reg_maps.specs.Maps.{text_cmp};
+ghost use Rattle.reg_maps.specs.Groups.{pair_map};
 ghost use Rattle.reg_core.specs.File.{file as file_of};
-ghost use Rattle.reg_core.specs.Maps.{text_cmp};
 ghost use Rattle.reg_core.specs.Queue.{queue_row as queue_row_of, queue_rows};
 ghost use Rattle.reg_core.specs.View.{queue_of};
 ghost use Rattle.reg_core.specs.World.{name_cmp, empty_world, applied, with_state};
 ghost use Rattle.reg_core.specs.declared.change.Change.TheVariants.{Submit, Assign, Advise};
-ghost use Rattle.reg_store.specs.Groups.{pair_map};
 ghost use Rattle.reg_store.specs.Lists.File.{review_world};
 ghost use Rattle.reg_store.specs.Lists.Panels.{seats};
 ghost use Rattle.reg_store.specs.Lists.Queues.{AreInStep, all_queues, row_for};

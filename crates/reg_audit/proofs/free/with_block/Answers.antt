@@ -1,9 +1,9 @@
 use Rattle.std.proofs.Common.{subst}
+use Rattle.reg_maps.proofs.MapLaws.{number_keys}
+use Rattle.reg_maps.proofs.KeyLists.{contains_at}
 use Rattle.reg_blocks.specs.Block.{leading_24}
 use Rattle.reg_core.specs.Holding.{holder_in}
-use Rattle.reg_core.proofs.MapLaws.{number_keys}
 use Rattle.reg_vacancies.specs.Vacancies.{MayBeOf}
-use Rattle.reg_vacancies.proofs.KeyLists.{contains_at}
 use Rattle.reg_audit.proofs.free.with_block.Goals as goal
 
 pub returns-in-Ok : goal.returns-in-Ok

@@ -1,12 +1,13 @@
 use Rattle.std.proofs.Common.{◌≡◌, true, sym, ap, ◌∙◌}
 use Rattle.std.specs.FinMap.{get}
 use Rattle.std.specs.Option.{option_copied}
+use Rattle.std.proofs.lemmas.Bool.{and_from}
 use Rattle.reg_core.specs.Capability.{has_cap_form}
 use Rattle.reg_core.specs.Names.{is_digest}
 use Rattle.reg_core.specs.Rules.{grant_rule}
 use Rattle.reg_core.specs.WellKept.{has_grant_form}
 use Rattle.reg_decisions.proofs.Fitting.{grant_fits}
-use Rattle.reg_commands.proofs.Decided.{both, can_make, follows}
+use Rattle.reg_commands.proofs.Decided.{can_make, follows}
 use Rattle.reg_commands.proofs.Rows.{selected_after}
 use Rattle.reg_commands.proofs.clerk.grant.Goals as goal
 
@@ -19,7 +20,7 @@ conclude-requires g c = λ h kept.
     let found : get w.caps digest ≡ existing =
     sym (c.as_ref.ensures.value ∙ selected_after c.in_ok-existing.ensures h) in
     let form : has_grant_form digest cap ≡ true =
-    both (is_digest digest) (has_cap_form cap)
+    and_from (is_digest digest) (has_cap_form cap)
     (ap is_digest c.digest_of-digest.ensures.value ∙ c.digest_of-digest.ensures.form) c.formed.ensures in
     can_make w (grant_rule existing digest cap) c.in_ok-decision.decision
     (follows _ c.in_ok-decision.decision (sym c.in_ok-decision.ensures))

@@ -1,8 +1,9 @@
 use Rattle.std.proofs.Common.{refl}
+use Rattle.reg_maps.proofs.MapLaws.{get-inserted}
 use Rattle.reg_core.specs.Entry.{registration_in}
-use Rattle.reg_core.proofs.MapLaws.{get-inserted, place_keys}
 use Rattle.reg_core.specs.declared.request.Given.TheVariants as given
 use Rattle.reg_core.specs.declared.request.State.TheVariants.{Approved}
+use Rattle.reg_core.proofs.KeyOrders.{place_keys}
 use Rattle.reg_content.proofs.Fitting.{given_expires, given_kind, makes, may_turn}
 use Rattle.reg_content.proofs.change.make.Goals as goal
 

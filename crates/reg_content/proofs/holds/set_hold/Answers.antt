@@ -1,7 +1,7 @@
 use Rattle.std.proofs.Common.{Bool, not, subst, sym, refl}
 use Rattle.sqlite.specs.Held.{state}
+use Rattle.reg_maps.specs.Maps.{update}
 use Rattle.reg_core.specs.Entry.{with_hold}
-use Rattle.reg_core.specs.Maps.{update}
 use Rattle.reg_core.specs.World.{Place, World}
 use Rattle.reg_content.specs.Calls.{Steps}
 use Rattle.reg_content.specs.Marks.{IsHeldSo}

@@ -1,7 +1,7 @@
 use Rattle.std.proofs.Common.{◌≡◌, map, ap, subst, ◌∙◌}
 use Rattle.std.specs.FinMap.{entries}
 use Rattle.std.specs.Prelude.{IfOk}
-use Rattle.reg_core.proofs.MapLaws.{number_keys}
+use Rattle.reg_maps.proofs.MapLaws.{number_keys}
 use Rattle.reg_tables.proofs.Statements.Pool.{all_pool}
 use Rattle.reg_statements.proofs.RegistryRows.{select-all}
 use Rattle.reg_content.proofs.Looking.{looks_if}

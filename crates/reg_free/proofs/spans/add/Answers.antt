@@ -1,8 +1,9 @@
 use Rattle.std.proofs.Common.{sym, ◌∙◌}
 use Rattle.std.proofs.lemmas.Result.{on_err_weaker, on_ok_weaker}
-use Rattle.reg_free.proofs.Joining.{Between, apart_joined, apart_unchanged, between, either, within_already, within_joined}
+use Rattle.reg_maps.proofs.Outcomes.{either}
 use Rattle.reg_free.proofs.SpanLaws.{within_reaches}
 use Rattle.reg_free.proofs.spans.add.Goals as goal
+use Rattle.reg_free.proofs.Joining.{Between, apart_joined, apart_unchanged, between, within_already, within_joined}
 
 pub returns-then-reaches-clause-ok : goal.returns-then-reaches-clause-ok
 returns-then-reaches-clause-ok c =

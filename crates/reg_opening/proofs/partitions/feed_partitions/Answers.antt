@@ -1,6 +1,6 @@
 use Rattle.std.proofs.Common.{◌≡◌, IsTrue, inl, inr, map, rules, subst, sym}
 use Rattle.std.proofs.lemmas.Result.{IfOk-weaker}
-use Rattle.reg_core.proofs.MapLaws.{text_keys}
+use Rattle.reg_maps.proofs.MapLaws.{text_keys}
 use Rattle.reg_opening.specs.Feeding.{FeedsRows}
 use Rattle.reg_opening.specs.Partitions.{IsFedPartitions, partition_of, partition_row}
 use Rattle.reg_statements.proofs.Neighbours.{strict}

@@ -1,6 +1,7 @@
 use Rattle.std.proofs.lemmas.Result.{on_ok_weaker}
-use Rattle.reg_places.proofs.SpanSteps.{apart_split, apart_unchanged, cut_kept, cut_split, cut_unchanged, either, lies_split, same_unchanged}
+use Rattle.reg_maps.proofs.Outcomes.{either}
 use Rattle.reg_places.proofs.spans.cut.Goals as goal
+use Rattle.reg_places.proofs.SpanSteps.{apart_split, apart_unchanged, cut_kept, cut_split, cut_unchanged, lies_split, same_unchanged}
 
 pub returns-in-Some-clause-same : goal.returns-in-Some-clause-same
 returns-in-Some-clause-same c = λ n.

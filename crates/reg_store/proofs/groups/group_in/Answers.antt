@@ -1,9 +1,9 @@
 use Rattle.std.proofs.Common.{sym, ap, ◌∙◌}
 use Rattle.std.specs.Prelude.{Some, None}
 use Rattle.std.specs.Option.{option_copied}
-use Rattle.reg_store.specs.Groups.{group_rows, rows_of}
-use Rattle.reg_store.proofs.FiniteMaps.Nested.{get-group, row_of}
-use Rattle.reg_store.proofs.FiniteMaps.InOrder.{entries-group_at}
+use Rattle.reg_maps.specs.Groups.{group_rows, rows_of}
+use Rattle.reg_maps.proofs.FiniteMaps.Nested.{get-group, row_of}
+use Rattle.reg_maps.proofs.FiniteMaps.InOrder.{entries-group_at}
 use Rattle.reg_store.proofs.groups.group_in.Goals as goal
 
 pub returns-clause-rows : goal.returns-clause-rows

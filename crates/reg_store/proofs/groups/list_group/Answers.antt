@@ -1,5 +1,5 @@
 use Rattle.std.proofs.Common.{sym, ap, ◌∙◌, ◌++◌, map}
-use Rattle.reg_store.proofs.FiniteMaps.InOrder.{map-group_rows}
+use Rattle.reg_maps.proofs.FiniteMaps.InOrder.{map-group_rows}
 use Rattle.reg_store.proofs.groups.list_group.Goals as goal
 
 pub returns : goal.returns

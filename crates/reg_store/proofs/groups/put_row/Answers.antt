@@ -2,7 +2,8 @@ use Rattle.std.proofs.Common.{cond, sym, ap, ◌∙◌, rules}
 use Rattle.std.specs.Prelude.{Some, None}
 use Rattle.std.specs.BTreeMap as tree
 use Rattle.std.specs.Map.{lookup}
-use Rattle.reg_store.proofs.FiniteMaps.Nested.{get-group, pair_map-insert, pair_map-same, any_err}
+use Rattle.reg_maps.proofs.FiniteMaps.Nested.{get-group, pair_map-insert, pair_map-same}
+use Rattle.reg_maps.proofs.Outcomes.{any_err}
 use Rattle.reg_store.proofs.groups.put_row.Goals as goal
 
 -- ---- Into a group

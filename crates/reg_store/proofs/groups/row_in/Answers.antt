@@ -1,7 +1,7 @@
 use Rattle.std.proofs.Common.{sym, ap, ◌∙◌}
 use Rattle.std.specs.Prelude.{Some, None}
 use Rattle.std.specs.Option.{option_copied}
-use Rattle.reg_store.proofs.FiniteMaps.Nested.{get-group}
+use Rattle.reg_maps.proofs.FiniteMaps.Nested.{get-group}
 use Rattle.reg_store.proofs.groups.row_in.Goals as goal
 
 pub returns-in_err-get : goal.returns-in_err-get

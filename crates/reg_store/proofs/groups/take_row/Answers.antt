@@ -1,7 +1,7 @@
 use Rattle.std.proofs.Common.{sym, ap, ◌∙◌, rules}
 use Rattle.std.specs.Prelude.{Some, None}
-use Rattle.reg_store.specs.Groups.{pair_map}
-use Rattle.reg_store.proofs.FiniteMaps.Nested.{get-group, pair_map-remove, remove-absent}
+use Rattle.reg_maps.specs.Groups.{pair_map}
+use Rattle.reg_maps.proofs.FiniteMaps.Nested.{get-group, pair_map-remove, remove-absent}
 use Rattle.reg_store.proofs.groups.take_row.Goals as goal
 
 pub returns-in-Some : goal.returns-in-Some

@@ -1,8 +1,8 @@
 use Rattle.std.proofs.Common.{◌≡◌, cond, refl, sym, ap, subst, ◌∙◌, rules}
 use Rattle.std.specs.Prelude.{Some}
 use Rattle.std.specs.BTreeMap as tree
-use Rattle.reg_store.specs.Maps.{finite_map}
-use Rattle.reg_store.proofs.FiniteMaps.Ordered.{finite_map-update, finite_map-absent}
+use Rattle.reg_maps.specs.Maps.{finite_map}
+use Rattle.reg_maps.proofs.FiniteMaps.Ordered.{finite_map-update, finite_map-absent}
 use Rattle.reg_store.proofs.maps.change_at.Goals as goal
 
 pub returns-in-Some : goal.returns-in-Some

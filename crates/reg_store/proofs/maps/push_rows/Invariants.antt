@@ -1,7 +1,7 @@
 use Rattle.std.proofs.Common.{◌≡◌, ◌++◌, map}
 use Rattle.std.specs.Map.Iter.{deref_pair}
-use Rattle.reg_store.specs.Maps.{Computes}
 use Rattle.reg_store.proofs.maps.push_rows.Given as goal
+use Rattle.reg_store.specs.Maps.{Computes}
 
 abbrev pub invariant-loop-key : goal.invariant-loop-key
 invariant-loop-key g l =

@@ -1,5 +1,5 @@
 use Rattle.std.proofs.Common.{sym, ◌∙◌}
-use Rattle.reg_store.proofs.FiniteMaps.Ordered.{get-finite_map}
+use Rattle.reg_maps.proofs.FiniteMaps.Ordered.{get-finite_map}
 use Rattle.reg_store.proofs.maps.row_at.Goals as goal
 
 pub returns : goal.returns

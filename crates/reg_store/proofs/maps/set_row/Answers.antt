@@ -1,4 +1,4 @@
-use Rattle.reg_store.proofs.FiniteMaps.Ordered.{finite_map-insert}
+use Rattle.reg_maps.proofs.FiniteMaps.Ordered.{finite_map-insert}
 use Rattle.reg_store.proofs.maps.set_row.Goals as goal
 
 pub returns-clause-ok : goal.returns-clause-ok

@@ -1,4 +1,4 @@
-use Rattle.reg_store.proofs.FiniteMaps.Ordered.{finite_map-remove}
+use Rattle.reg_maps.proofs.FiniteMaps.Ordered.{finite_map-remove}
 use Rattle.reg_store.proofs.maps.unset_row.Goals as goal
 
 pub returns : goal.returns

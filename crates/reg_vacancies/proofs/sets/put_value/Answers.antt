@@ -1,7 +1,8 @@
 use Rattle.std.proofs.Common.{◌||◌, cond, nat_eq, sym, ap, ◌∙◌, rules}
-use Rattle.std.specs.Prelude.{Some, None, Result, Ok, Err, OnErr}
+use Rattle.std.specs.Prelude.{Some, None}
 use Rattle.std.specs.BTreeMap as tree
-use Rattle.reg_core.specs.Maps.{text_cmp}
+use Rattle.reg_maps.specs.Maps.{text_cmp}
+use Rattle.reg_maps.proofs.Outcomes.{any_err}
 use Rattle.reg_vacancies.proofs.TakenLaws.{gains, alike}
 use Rattle.reg_vacancies.proofs.sets.put_value.Goals as goal
 
@@ -12,11 +13,6 @@ returns-in_ok-insert-in-Some-clause-ok c =
     (Some c.in-Some.runs.now) runs (sym c.in-Some.ensures.value)
     ((c.get_mut.follows.holds runs).3 (search rules)).0
     c.args.value c.in_ok-insert-in-Some.ensures.ok
-
--- what holds anyway holds at an error
-any_err : {T E P : Type 0} (r : Result T E) → P → OnErr r P
-any_err (Ok x) p = tt
-any_err (Err e) p = p
 
 pub returns-in_err-insert-in-Some-clause-err : goal.returns-in_err-insert-in-Some-clause-err
 returns-in_err-insert-in-Some-clause-err c =

@@ -1,8 +1,9 @@
+use Rattle.reg_maps.proofs.Outcomes.{on_either}
 use Rattle.reg_places.specs.Places.{IsFreeIn, pool_of}
 use Rattle.reg_places.specs.Sizes.{FreeOf}
 use Rattle.reg_places.proofs.Following.{prefix_followed, same_followed}
-use Rattle.reg_places.proofs.Pooling.{at_either, decided}
 use Rattle.reg_places.proofs.places.Places.add_prefix.Goals as goal
+use Rattle.reg_places.proofs.Pooling.{decided}
 
 pub returns-clause-pool : goal.returns-clause-pool
 unfolding pool_of
@@ -31,7 +32,7 @@ returns-clause-follows c = λ given follows.
     let new = c.add_pooled.new in
     let ensures = c.add_pooled.ensures in
     let now =
-    at_either c.add_pooled.result ensures.pool ensures.ok ensures.err_pool ensures.err
+    on_either c.add_pooled.result ensures.pool ensures.ok ensures.err_pool ensures.err
     (λ adds gains. prefix_followed (FreeOf old.large old.medium old.small)
     (FreeOf new.large new.medium new.small) old.prefixes.keys given
     (follows.free, follows.in_pool) new.prefixes.keys c.args.prefix adds

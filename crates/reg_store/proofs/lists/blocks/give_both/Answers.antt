@@ -1,12 +1,13 @@
 use Rattle.std.proofs.Common.{◌≡◌, sym, ap, subst, ◌∙◌}
 use Rattle.std.specs.Prelude.{option_map}
 use Rattle.std.specs.FinMap.{get, remove}
+use Rattle.reg_maps.proofs.MapLaws.{get-inserted}
+use Rattle.reg_maps.proofs.FiniteMaps.Nested.{remove-inserted}
 use Rattle.reg_core.specs.Holding.{holder_in}
-use Rattle.reg_core.proofs.MapLaws.{block_keys, get-inserted}
+use Rattle.reg_core.proofs.KeyOrders.{block_keys}
 use Rattle.reg_vacancies.specs.Places.{AreLeftBy}
 use Rattle.reg_store.specs.Lists.Held.{account_of}
 use Rattle.reg_store.specs.Lists.Holdings.{blocks_held}
-use Rattle.reg_store.proofs.FiniteMaps.Nested.{remove-inserted}
 use Rattle.reg_store.proofs.lists.blocks.give_both.Goals.{After-take}
 use Rattle.reg_store.proofs.lists.blocks.give_both.Goals as goal
 

@@ -2,12 +2,12 @@ use Rattle.std.proofs.Common.{ap, sym, subst, ◌∙◌, rules}
 use Rattle.std.specs.Prelude.{map}
 use Rattle.std.specs.List.Sorted.{IsStrictlyIncreasing}
 use Rattle.std.specs.Ordering.{nat_cmp}
+use Rattle.reg_maps.specs.Maps.{text_cmp}
+use Rattle.reg_maps.specs.Groups.{pair_map}
+use Rattle.reg_maps.proofs.FiniteMaps.InOrder.{text_group}
 use Rattle.reg_core.specs.Entry.{entry_row}
 use Rattle.reg_core.specs.Page.{entry_rows}
-use Rattle.reg_core.specs.Maps.{text_cmp}
 use Rattle.reg_core.proofs.ValuesIn.{rows_ascend}
-use Rattle.reg_store.specs.Groups.{pair_map}
-use Rattle.reg_store.proofs.FiniteMaps.InOrder.{text_group}
 use Rattle.reg_store.proofs.lists.entries.entries_in.Goals as goal
 
 pub returns-clause-rows : goal.returns-clause-rows

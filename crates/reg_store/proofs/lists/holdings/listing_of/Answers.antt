@@ -1,10 +1,10 @@
 use Rattle.std.proofs.Common.{◌++◌, ap, sym, ◌∙◌, map, rules}
+use Rattle.reg_maps.specs.Maps.{finite_map}
+use Rattle.reg_maps.proofs.FiniteMaps.InOrder.{entries-finite_map}
 use Rattle.reg_blocks.specs.Block.{SizedPrefix, block_cmp}
 use Rattle.reg_core.specs.Holding.{listed_row, masked}
 use Rattle.reg_core.specs.declared.holding.Holder.{Holder}
-use Rattle.reg_core.proofs.MapLaws.{block_keys}
-use Rattle.reg_store.specs.Maps.{finite_map}
-use Rattle.reg_store.proofs.FiniteMaps.InOrder.{entries-finite_map}
+use Rattle.reg_core.proofs.KeyOrders.{block_keys}
 use Rattle.reg_store.proofs.HeldLaws.{listed_rows-masked}
 use Rattle.reg_store.proofs.lists.holdings.listing_of.Goals as goal
 

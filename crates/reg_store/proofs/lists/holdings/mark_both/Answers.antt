@@ -1,8 +1,7 @@
 use Rattle.std.proofs.Common.{sym, subst}
+use Rattle.reg_maps.specs.Maps.{update, finite_map}
 use Rattle.reg_core.specs.Holding.{with_mark}
-use Rattle.reg_core.specs.Maps.{update}
 use Rattle.reg_store.specs.Lists.Held.{AreHeld, all_held}
-use Rattle.reg_store.specs.Maps.{finite_map}
 use Rattle.reg_blocks.specs.Block.{block_cmp}
 use Rattle.reg_store.proofs.HeldLaws.{held-mark}
 use Rattle.reg_store.proofs.lists.holdings.mark_both.Goals as goal

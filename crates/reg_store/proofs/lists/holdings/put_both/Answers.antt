@@ -1,10 +1,10 @@
 use Rattle.std.proofs.Common.{◌≡◌, List, ℕ, sym, ap, subst, ◌∙◌}
 use Rattle.std.specs.FinMap.{insert, remove}
+use Rattle.reg_maps.specs.Maps.{finite_map}
+use Rattle.reg_maps.proofs.FiniteMaps.Nested.{remove-inserted}
 use Rattle.reg_blocks.specs.Block.{SizedPrefix, block_cmp}
 use Rattle.reg_core.specs.Holding.{holder_in}
 use Rattle.reg_store.specs.Lists.Held.{AreHeld, all_held}
-use Rattle.reg_store.specs.Maps.{finite_map}
-use Rattle.reg_store.proofs.FiniteMaps.Nested.{remove-inserted}
 use Rattle.reg_store.proofs.HeldLaws.{held_keys, held-put, not_held}
 use Rattle.reg_store.proofs.lists.holdings.put_both.Goals as goal
 

@@ -1,8 +1,8 @@
 use Rattle.std.proofs.Common.{sym, subst}
 use Rattle.std.specs.FinMap.{remove}
+use Rattle.reg_maps.specs.Maps.{finite_map}
 use Rattle.reg_blocks.specs.Block.{block_cmp}
 use Rattle.reg_store.specs.Lists.Held.{AreHeld, all_held}
-use Rattle.reg_store.specs.Maps.{finite_map}
 use Rattle.reg_store.proofs.HeldLaws.{held-take}
 use Rattle.reg_store.proofs.lists.holdings.take_both.Goals as goal
 

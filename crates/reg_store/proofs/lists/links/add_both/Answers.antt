@@ -1,9 +1,9 @@
 use Rattle.std.proofs.Common.{◌≡◌, sym, ap, subst, ◌∙◌}
 use Rattle.std.specs.FinMap.{insert, remove}
+use Rattle.reg_maps.proofs.FiniteMaps.Nested.{remove-inserted}
 use Rattle.reg_core.specs.World.{Link}
-use Rattle.reg_core.proofs.MapLaws.{link_keys}
+use Rattle.reg_core.proofs.KeyOrders.{link_keys}
 use Rattle.reg_store.specs.Lists.Pairs.{AreMirrored, all_pairs}
-use Rattle.reg_store.proofs.FiniteMaps.Nested.{remove-inserted}
 use Rattle.reg_store.proofs.LinkLaws.{mirrored-added}
 use Rattle.reg_store.proofs.lists.links.add_both.Goals.{After-take_row}
 use Rattle.reg_store.proofs.lists.links.add_both.Goals as goal

@@ -5,13 +5,13 @@ use Rattle.std.specs.Map.Iter.{deref_pair}
 use Rattle.std.proofs.lemmas.List.{map-append}
 use Rattle.std.proofs.lemmas.List.Elements.{All-push}
 use Rattle.std.proofs.lemmas.Map.Iter.{iter_end}
-use Rattle.reg_core.specs.Maps.{text_cmp}
+use Rattle.reg_maps.specs.Maps.{text_cmp}
+use Rattle.reg_maps.specs.Groups.{rows_in, group_rows}
+use Rattle.reg_maps.proofs.MapLaws.{text_keys}
+use Rattle.reg_maps.proofs.FiniteMaps.InOrder.{entries-pair_map, rows_in-push, map-group_rows}
 use Rattle.reg_core.specs.World.{Link}
-use Rattle.reg_core.proofs.MapLaws.{text_keys}
 use Rattle.reg_keeper.specs.declared.rows.LinkRow.{LinkRow}
 use Rattle.reg_keeper.specs.Rows.{link_row}
-use Rattle.reg_store.specs.Groups.{rows_in, group_rows}
-use Rattle.reg_store.proofs.FiniteMaps.InOrder.{entries-pair_map, rows_in-push, map-group_rows}
 use Rattle.reg_store.proofs.lists.links.pairs_in.Goals as goal
 
 abbrev listed : List (Link × (Unit {0})) → List LinkRow

@@ -1,12 +1,12 @@
 use Rattle.std.proofs.Common.{ap, sym, ◌∙◌, map, rules}
 use Rattle.std.specs.FinMap.{entries}
+use Rattle.reg_maps.specs.Maps.{text_cmp}
+use Rattle.reg_maps.specs.Groups.{pair_map}
 use Rattle.reg_core.specs.File.{opinion}
-use Rattle.reg_core.specs.Maps.{text_cmp}
 use Rattle.reg_core.specs.World.{Seat, name_cmp}
 use Rattle.reg_core.specs.declared.advice.Advice.{Advice}
-use Rattle.reg_store.specs.Groups.{pair_map}
-use Rattle.reg_store.proofs.FiniteMaps.InOrder.{name_group}
 use Rattle.reg_store.proofs.lists.opinions.opinions_in.Goals as goal
+use Rattle.reg_store.proofs.NameGroups.{name_group}
 
 pub returns : goal.returns
 returns c =

@@ -2,8 +2,8 @@ use Rattle.std.proofs.Common.{ap, sym, ◌∙◌, map, rules}
 use Rattle.std.specs.FinMap.{entries}
 use Rattle.reg_core.specs.World.{Seat}
 use Rattle.reg_store.specs.Lists.Panels.{seats}
-use Rattle.reg_store.proofs.FiniteMaps.InOrder.{name_group}
 use Rattle.reg_store.proofs.lists.panels.experts_in.Goals as goal
+use Rattle.reg_store.proofs.NameGroups.{name_group}
 
 pub returns : goal.returns
 returns c =

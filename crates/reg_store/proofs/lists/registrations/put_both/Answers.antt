@@ -1,11 +1,11 @@
 use Rattle.std.proofs.Common.{◌≡◌, sym, ap, subst, ◌∙◌}
 use Rattle.std.specs.FinMap.{remove}
+use Rattle.reg_maps.proofs.FiniteMaps.Nested.{remove-inserted}
 use Rattle.reg_core.specs.Entry.{registration_in}
 use Rattle.reg_core.specs.World.{Place}
-use Rattle.reg_core.proofs.MapLaws.{place_keys}
+use Rattle.reg_core.proofs.KeyOrders.{place_keys}
 use Rattle.reg_vacancies.specs.Values.{AreTakenBy}
 use Rattle.reg_store.specs.Lists.Entries.{all_entries}
-use Rattle.reg_store.proofs.FiniteMaps.Nested.{remove-inserted}
 use Rattle.reg_store.proofs.lists.registrations.put_both.Goals.{After-take_row}
 use Rattle.reg_store.proofs.lists.registrations.put_both.Goals as goal
 

@@ -1,8 +1,8 @@
 use Rattle.std.proofs.Common.{◌++◌, List, ℕ, ap, sym, ◌∙◌, rules}
 use Rattle.std.specs.Map.{keys_of}
+use Rattle.reg_maps.proofs.MapLaws.{text_keys}
+use Rattle.reg_maps.proofs.FiniteMaps.InOrder.{keys-finite_map}
 use Rattle.reg_ranges.specs.Tables.{Table}
-use Rattle.reg_core.proofs.MapLaws.{text_keys}
-use Rattle.reg_store.proofs.FiniteMaps.InOrder.{keys-finite_map}
 use Rattle.reg_store.proofs.lists.registries.names_in.Goals as goal
 
 pub returns : goal.returns

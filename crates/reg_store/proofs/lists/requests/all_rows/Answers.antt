@@ -5,13 +5,13 @@ use Rattle.std.specs.Map.Iter.{deref_pair}
 use Rattle.std.proofs.lemmas.List.{map-append}
 use Rattle.std.proofs.lemmas.List.Elements.{All-push}
 use Rattle.std.proofs.lemmas.Map.Iter.{iter_end}
-use Rattle.reg_core.specs.Maps.{text_cmp}
+use Rattle.reg_maps.specs.Maps.{text_cmp}
+use Rattle.reg_maps.specs.Groups.{rows_in, group_rows}
+use Rattle.reg_maps.proofs.MapLaws.{text_keys}
+use Rattle.reg_maps.proofs.FiniteMaps.InOrder.{entries-pair_map, rows_in-push, map-group_rows}
 use Rattle.reg_core.specs.Request.{request_row}
 use Rattle.reg_core.specs.declared.request.Case.{Case}
 use Rattle.reg_core.specs.declared.request.Request.{Request}
-use Rattle.reg_core.proofs.MapLaws.{text_keys}
-use Rattle.reg_store.specs.Groups.{rows_in, group_rows}
-use Rattle.reg_store.proofs.FiniteMaps.InOrder.{entries-pair_map, rows_in-push, map-group_rows}
 use Rattle.reg_store.proofs.lists.requests.all_rows.Goals as goal
 
 abbrev listed : List ((List ℕ × List ℕ) × Case) → List Request

@@ -2,9 +2,9 @@ use Rattle.std.proofs.Common.{◌≡◌, map}
 use Rattle.std.specs.Prelude.{All}
 use Rattle.std.specs.BTreeMap.{IsOrdered}
 use Rattle.std.specs.Map.Iter.{deref_pair}
-use Rattle.reg_core.specs.Maps.{text_cmp}
+use Rattle.reg_maps.specs.Maps.{text_cmp}
+use Rattle.reg_maps.specs.Groups.{rows_in}
 use Rattle.reg_core.specs.Request.{request_row}
-use Rattle.reg_store.specs.Groups.{rows_in}
 use Rattle.reg_store.proofs.lists.requests.all_rows.Given as goal
 
 abbrev pub invariant-loop-account : goal.invariant-loop-account

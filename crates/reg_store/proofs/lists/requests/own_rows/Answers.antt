@@ -1,8 +1,8 @@
 use Rattle.std.proofs.Common.{ap, sym, ◌∙◌, rules}
-use Rattle.reg_core.specs.Maps.{text_cmp}
+use Rattle.reg_maps.specs.Maps.{text_cmp}
+use Rattle.reg_maps.specs.Groups.{pair_map}
+use Rattle.reg_maps.proofs.FiniteMaps.InOrder.{text_group}
 use Rattle.reg_core.specs.Request.{request_row, request_rows}
-use Rattle.reg_store.specs.Groups.{pair_map}
-use Rattle.reg_store.proofs.FiniteMaps.InOrder.{text_group}
 use Rattle.reg_store.proofs.lists.requests.own_rows.Goals as goal
 
 pub returns : goal.returns

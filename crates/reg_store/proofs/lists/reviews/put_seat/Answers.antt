@@ -1,10 +1,10 @@
 use Rattle.std.proofs.Common.{◌≡◌, List, ℕ, ap, ◌∙◌}
 use Rattle.std.specs.Prelude.{None}
 use Rattle.std.specs.FinMap.{get, remove}
+use Rattle.reg_maps.proofs.FiniteMaps.Nested.{remove-inserted}
 use Rattle.reg_core.specs.World.{RequestName}
 use Rattle.reg_store.specs.Lists.Panels.{seats}
 use Rattle.reg_store.specs.Lists.Queues.{all_queues}
-use Rattle.reg_store.proofs.FiniteMaps.Nested.{remove-inserted}
 use Rattle.reg_store.proofs.QueueLaws.Rows.{queue_keys}
 use Rattle.reg_store.proofs.lists.reviews.put_seat.Goals as goal
 

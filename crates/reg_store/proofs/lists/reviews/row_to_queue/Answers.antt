@@ -1,11 +1,11 @@
 use Rattle.std.proofs.Common.{ap, ◌∙◌}
 use Rattle.std.specs.Prelude.{Some, option_map}
 use Rattle.std.specs.FinMap.{get}
-use Rattle.reg_core.specs.Maps.{text_cmp}
+use Rattle.reg_maps.specs.Maps.{text_cmp}
+use Rattle.reg_maps.specs.Groups.{pair_map}
 use Rattle.reg_core.specs.Queue.{queue_row}
 use Rattle.reg_core.specs.View.{as_queued}
 use Rattle.reg_core.specs.World.{name_cmp}
-use Rattle.reg_store.specs.Groups.{pair_map}
 use Rattle.reg_store.proofs.lists.reviews.row_to_queue.Goals as goal
 
 pub returns-in_ok-advice_in-in-Some : goal.returns-in_ok-advice_in-in-Some

@@ -3,7 +3,7 @@ use Rattle.std.specs.Prelude.{is_some}
 use Rattle.std.specs.BTreeMap.{is_at}
 use Rattle.std.specs.FinMap.{get-empty}
 use Rattle.std.specs.Map.{lookup}
-use Rattle.reg_core.specs.Maps.{text_cmp}
+use Rattle.reg_maps.specs.Maps.{text_cmp}
 use Rattle.reg_core.specs.World.{place_cmp}
 use Rattle.reg_vacancies.specs.Sets.{is_in}
 use Rattle.reg_vacancies.specs.Values.{is_taken}

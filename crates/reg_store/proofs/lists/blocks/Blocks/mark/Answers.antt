@@ -1,9 +1,10 @@
 use Rattle.std.proofs.Common.{sym, subst}
+use Rattle.reg_maps.specs.Maps.{update}
+use Rattle.reg_maps.proofs.KeySets.{contains-changed}
 use Rattle.reg_core.specs.Holding.{with_mark}
-use Rattle.reg_core.specs.Maps.{update}
-use Rattle.reg_core.proofs.MapLaws.{block_keys}
+use Rattle.reg_core.proofs.KeyOrders.{block_keys}
 use Rattle.reg_vacancies.specs.Places.{AreLeftBy}
-use Rattle.reg_vacancies.proofs.Carrying.{contains-changed, left-same}
+use Rattle.reg_vacancies.proofs.Carrying.{left-same}
 use Rattle.reg_store.specs.Lists.Holdings.{blocks_held}
 use Rattle.reg_store.proofs.lists.blocks.Blocks.mark.Goals as goal
 

@@ -1,7 +1,7 @@
 use Rattle.std.proofs.Common.{sym, ap, ◌∙◌}
 use Rattle.std.specs.FinMap.{from_entries, get, get-empty}
+use Rattle.reg_maps.specs.Groups.{rows_in}
 use Rattle.reg_core.specs.World.{link_cmp}
-use Rattle.reg_store.specs.Groups.{rows_in}
 use Rattle.reg_store.proofs.lists.links.Links.new.Goals as goal
 
 pub invariant_of-result : goal.invariant_of-result

@@ -1,9 +1,9 @@
 use Rattle.std.proofs.Common.{sym, subst, ◌∙◌}
+use Rattle.reg_maps.proofs.KeySets.{contains-changed}
 use Rattle.reg_core.specs.Entry.{with_hold}
 use Rattle.reg_core.specs.World.{Place}
-use Rattle.reg_core.proofs.MapLaws.{place_keys}
+use Rattle.reg_core.proofs.KeyOrders.{place_keys}
 use Rattle.reg_vacancies.specs.Values.{AreTakenBy}
-use Rattle.reg_vacancies.proofs.Carrying.{contains-changed}
 use Rattle.reg_store.specs.Lists.Entries.{all_entries}
 use Rattle.reg_store.proofs.lists.registrations.Registrations.mark.Goals as goal
 

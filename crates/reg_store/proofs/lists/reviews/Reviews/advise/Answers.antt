@@ -1,10 +1,10 @@
 use Rattle.std.proofs.Common.{◌≡◌, sym, ap, subst, ◌∙◌}
 use Rattle.std.specs.FinMap.{FinMap, insert}
-use Rattle.reg_core.specs.Maps.{text_cmp}
+use Rattle.reg_maps.specs.Maps.{text_cmp}
+use Rattle.reg_maps.specs.Groups.{pair_map}
 use Rattle.reg_core.specs.World.{World, seat_cmp, name_cmp, applied}
 use Rattle.reg_core.specs.declared.advice.Advice.{Advice}
 use Rattle.reg_core.specs.declared.change.Change.TheVariants.{Advise}
-use Rattle.reg_store.specs.Groups.{pair_map}
 use Rattle.reg_store.specs.Lists.Queues.{AreInStep, all_queues}
 use Rattle.reg_store.specs.Lists.Reviews.{world_of}
 use Rattle.reg_store.proofs.QueueLaws.InStep.{in_step-advise}

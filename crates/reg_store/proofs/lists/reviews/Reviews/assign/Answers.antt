@@ -3,11 +3,11 @@ use Rattle.std.specs.Prelude.{Some, None}
 use Rattle.std.specs.FinMap.{insert}
 use Rattle.std.specs.FinSet.{FinSet}
 use Rattle.std.proofs.lemmas.Result.{on_ok_weaker}
+use Rattle.reg_maps.proofs.Outcomes.{either_way, on_either}
 use Rattle.reg_core.specs.World.{World, seat_cmp}
 use Rattle.reg_store.specs.Lists.Panels.{seats}
 use Rattle.reg_store.specs.Lists.Queues.{AreInStep, all_queues, row_for}
 use Rattle.reg_store.specs.Lists.Reviews.{world_of}
-use Rattle.reg_store.proofs.FiniteMaps.Nested.{either_way, on_either}
 use Rattle.reg_store.proofs.QueueLaws.InStep.{unseated, in_step-assign, in_step-assign_none}
 use Rattle.reg_store.proofs.lists.reviews.Reviews.assign.Goals as goal
 

@@ -1,12 +1,12 @@
 use Rattle.std.specs.FinMap.{FinMap, insert}
-use Rattle.reg_core.specs.Maps.{text_cmp}
+use Rattle.reg_maps.specs.Maps.{text_cmp}
+use Rattle.reg_maps.specs.Groups.{pair_map}
+use Rattle.reg_maps.proofs.Outcomes.{either_way}
 use Rattle.reg_core.specs.World.{World, name_cmp, pending}
 use Rattle.reg_core.specs.declared.request.Case.{Case}
-use Rattle.reg_store.specs.Groups.{pair_map}
 use Rattle.reg_store.specs.Lists.Queues.{AreInStep, all_queues}
 use Rattle.reg_store.specs.Lists.Reviews.{world_of}
 use Rattle.reg_store.proofs.QueueLaws.InStep.{in_step-submit}
-use Rattle.reg_store.proofs.FiniteMaps.Nested.{either_way}
 use Rattle.reg_store.proofs.lists.reviews.Reviews.submit.Goals as goal
 
 pub invariant_of-self : goal.invariant_of-self

@@ -1,11 +1,10 @@
 -- Maps of maps as finite maps by pairs of keys.
 use Rattle.std.proofs.Common.{◌≡◌, true, false, cond, ◌&&◌, T, List, [], ◌∷◌, ◌++◌, refl, sym, ap}
 use Rattle.std.proofs.Common.{subst, ◌∙◌}
-use Rattle.std.specs.Prelude.{Option, Some, None, Result, Ok, Err, OnOk, OnErr, option_map}
+use Rattle.std.specs.Prelude.{Option, Some, None, option_map}
 use Rattle.std.specs.Prelude.{option_and_then}
 use Rattle.std.specs.declared.cmp.Ordering.{Ordering}
-use Rattle.std.specs.declared.cmp.Ordering.TheVariants.{Less, Equal, Greater}
-use Rattle.std.specs.Ordering.{eq_by_cmp, is_eq, is_lt, ordering_then}
+use Rattle.std.specs.Ordering.{eq_by_cmp}
 use Rattle.std.specs.Cmp.{eq_by_cmp_equiv}
 use Rattle.std.specs.Map.{lookup}
 use Rattle.std.specs.BTreeMap as tree
@@ -13,11 +12,13 @@ use Rattle.std.specs.BTreeMap.{BTreeMap, is_at, IsOrdered}
 use Rattle.std.specs.FinMap.{FinMap, get, insert, remove, find, is_sorted, get-from_entries}
 use Rattle.std.specs.FinMap.{get-remove}
 use Rattle.std.specs.FinMap.Entries.{below_all}
-use Rattle.reg_core.specs.Maps.{pair_cmp, replaced, update}
-use Rattle.reg_core.proofs.MapLaws.{IsKeyOrder, pair_keys, same_at, get-update, get-at_insert}
-use Rattle.reg_core.proofs.MapLaws.{tied}
-use Rattle.reg_store.specs.Groups.{group_rows, rows_in, pair_map}
-use Rattle.reg_store.proofs.FiniteMaps.Ordered.{first, second, sorted, find_is}
+use Rattle.reg_maps.specs.Maps.{pair_cmp, replaced, update, finite_map}
+use Rattle.reg_maps.specs.Groups.{group_rows, rows_in, pair_map}
+use Rattle.reg_maps.proofs.MapLaws.{IsKeyOrder, pair_keys, same_at, get-update, get-at_insert, tied}
+use Rattle.reg_maps.proofs.Tests.{first, second}
+use Rattle.reg_maps.proofs.Orderings.{tie}
+use Rattle.reg_maps.proofs.Ascending.{find-below, is_sorted_from_ascending}
+use Rattle.reg_maps.proofs.FiniteMaps.Ordered.{find_is, get-finite_map}
 
 -- ---- One search after the other
 
@@ -41,26 +42,6 @@ find-both R q (e ∷ xs) ys =
       | true ↦ refl
       | false ↦ find-both R q xs ys
     ]
-
--- a lesser key is no tie
-not_eq_of_lt : (r : Ordering) → T (is_lt r) → is_eq r ≡ false
-not_eq_of_lt Less p = refl
-not_eq_of_lt Equal p = absurd p
-not_eq_of_lt Greater p = absurd p
-
--- no key below all is found
-find-below : {K Z : Type 0} (R : K → K → Ordering) (q : K) (es : List (K × Z))
-    → T (below_all R q es) → find R q es ≡ None
-find-below R q [] h = refl
-find-below R q (e ∷ es) h =
-    ap (λ b. cond b (Some e.1) (find R q es)) (not_eq_of_lt (R q e.0) (first _ _ h))
-    ∙ find-below R q es (second _ _ h)
-
--- pairs tie where both parts do
-pub tie : (x y : Ordering) → is_eq (ordering_then x y) ≡ (is_eq x && is_eq y)
-tie Less y = refl
-tie Equal y = refl
-tie Greater y = refl
 
 -- ---- What a map of maps has at two keys
 
@@ -138,7 +119,7 @@ module _ {A B V : Type 0} {P : A → A → Ordering} {Q : B → B → Ordering} 
       → get (pair_map P Q m) q ≡ row_of Q (tree.get P m q.0) q.1
   get-pair_map m h q =
       get-from_entries (pair_keys o p).total (rows_in m.entries) q
-      ∙ find-groups P Q o q m.entries (sorted P m.entries h)
+      ∙ find-groups P Q o q m.entries (is_sorted_from_ascending P m.entries h)
 
   -- and in a group, or where there is none
   pub get-group : (m : BTreeMap A (BTreeMap B V)) → IsOrdered P m
@@ -171,23 +152,32 @@ module _ {A B V : Type 0} {P : A → A → Ordering} {Q : B → B → Ordering} 
         ((sym (tie (P k q.0) (Q j q.1))
         ∙ (eq_by_cmp_equiv (pair_keys o p).total).symm (k, j) q) s) x (sym (get-pair_map m h q) s))
 
-    -- with one row put, changed or taken away
+    -- with one row put or taken away
     pub pair_map-insert : (j : B) (v : V)
         → ((b : B) → tree.get Q w b ≡ cond (is_at (Q j) b) (Some v) (row_of Q g b))
         → pair_map P Q n ≡ insert (pair_map P Q m) (k, j) v
     pair_map-insert j v rows = same_at (pair_keys o p) _ _ (λ q.
         at_key j (Some v) rows q ∙ sym (get-at_insert (pair_keys o p) (pair_map P Q m) (k, j) v q))
 
-    pub pair_map-update : (j : B) (f : V → V) (v : V) → row_of Q g j ≡ Some v
-        → ((b : B) → tree.get Q w b ≡ cond (is_at (Q j) b) (Some (f v)) (row_of Q g b))
+    -- with the row at one key changed, if there is one
+    pub pair_map-change : (j : B) (f : V → V) (old : BTreeMap B V) → g ≡ Some old
+        → finite_map Q w ≡ update (finite_map Q old) j f
         → pair_map P Q n ≡ update (pair_map P Q m) (k, j) f
-    pair_map-update j f v there rows =
-        let old : get (pair_map P Q m) (k, j) ≡ Some v = get-group m h k g was j ∙ there in
-        same_at (pair_keys o p) _ _ (λ q.
-        at_key j (Some (f v)) rows q
+    pair_map-change j f old is changed = same_at (pair_keys o p) _ _ (λ q.
+        at_key j (option_map f (row_of Q g j)) rows q
         ∙ ap (λ r. cond (eq_by_cmp (pair_cmp P Q) q (k, j)) (option_map f r)
-        (get (pair_map P Q m) q)) (sym old)
+        (get (pair_map P Q m) q)) (sym (get-group m h k g was j))
         ∙ sym (get-update (pair_keys o p) (pair_map P Q m) (k, j) f q))
+      where
+        rows : (b : B) → tree.get Q w b
+            ≡ cond (is_at (Q j) b) (option_map f (row_of Q g j)) (row_of Q g b)
+        rows b =
+            sym (get-finite_map p w b) ∙ ap (λ m. get m b) changed
+            ∙ get-update p (finite_map Q old) j f b
+            ∙ (λ i. cond ((eq_by_cmp_equiv p.total).symm b j i)
+            (option_map f (get-finite_map p old j i)) (get-finite_map p old b i))
+            ∙ ap (λ group. cond (is_at (Q j) b) (option_map f (row_of Q group j)) (row_of Q group b))
+            (sym is)
 
     pub pair_map-remove : (j : B)
         → ((b : B) → tree.get Q w b ≡ cond (is_at (Q j) b) None (row_of Q g b))
@@ -218,21 +208,3 @@ module _ {A B V : Type 0} {P : A → A → Ordering} {Q : B → B → Ordering} 
   pub remove-absent : (m : BTreeMap A (BTreeMap B V)) (q : A × B) → get (pair_map P Q m) q ≡ None
       → remove (pair_map P Q m) q ≡ pair_map P Q m
   remove-absent m q none = remove-none (pair_keys o p) (pair_map P Q m) q none
-
--- ---- Outcomes
-
--- what holds anyway holds at a fault
-pub any_err : {T E : Type 0} {P : Type 0} (r : Result T E) → P → OnErr r P
-any_err (Ok x) p = tt
-any_err (Err e) p = p
-
--- what holds of a value as it was made, and as it was, holds of it at either outcome
-pub either_way : {T E W : Type 0} (P : W → Type 0) (r : Result T E) (new made old : W)
-    → OnOk r (new ≡ made) → OnErr r (new ≡ old) → P made → P old → P new
-either_way P (Ok x) new made old is kept p q = subst P (sym is) p
-either_way P (Err e) new made old is kept p q = subst P (sym kept) q
-
-pub on_either : {T E : Type 0} {A B C D G : Type 0} (r : Result T E)
-    → OnOk r A → OnOk r B → OnErr r C → OnErr r D → (A → B → G) → (C → D → G) → G
-on_either (Ok x) a b c d f g = f a b
-on_either (Err e) a b c d f g = g c d

@@ -7,7 +7,7 @@ use Rattle.std.specs.List.{list_any}
 use Rattle.std.specs.List.Sorted.{IsStrictlySortedBy}
 use Rattle.std.specs.FinMap.{FinMap, empty, get, get-empty, keys, contains_key, contains_key-keys}
 use Rattle.std.proofs.lemmas.Map.Lookups.{btree_set_from_contains}
-use Rattle.reg_core.proofs.MapLaws.{IsKeyOrder, ascending-keys, Contains-keys}
+use Rattle.reg_maps.proofs.MapLaws.{IsKeyOrder, ascending-keys, Contains-keys}
 
 module _ {K X : Type 0} {R : K → K → Ordering} (o : IsKeyOrder R) where
   -- the keys of a map are the ascending list that has the same members

@@ -1,14 +1,16 @@
 -- Maps that agree at every key but the hidden ones: in what is selected of them, in the rows that
--- are not hidden, after the same change of both, and after a change at a hidden key.
-use Rattle.std.proofs.Common.{◌≡◌, Bool, true, false, cond, List, [], ◌∷◌, map, refl, sym, ap, ◌∙◌}
-use Rattle.std.specs.Prelude.{Option, Some, None, option_map, option_and_then, filter, filter_map}
+-- are not hidden, after the same change of both, and after a change at a hidden key. And maps that
+-- have no row at a hidden key.
+use Rattle.std.proofs.Common.{◌≡◌, Bool, true, false, cond, not, List, [], ◌∷◌, map, refl, sym, ap, ◌∙◌}
+use Rattle.std.specs.Prelude.{Option, Some, None, option_map, option_and_then, filter, filter_map, All}
 use Rattle.std.specs.List.{cons_option}
 use Rattle.std.specs.declared.cmp.Ordering.{Ordering}
 use Rattle.std.specs.Ordering.{eq_by_cmp}
 use Rattle.std.specs.FinMap.{FinMap, get, insert, entries}
 use Rattle.std.proofs.lemmas.Bool.{both_ways}
-use Rattle.reg_core.specs.Maps.{only_if, keyed, select, update}
-use Rattle.reg_core.proofs.MapLaws.{IsKeyOrder, tied, get-select, entries-select, same_at, get-at_insert, get-update}
+use Rattle.std.proofs.lemmas.List.Elements.{All-head, All-tail, All-map}
+use Rattle.reg_maps.specs.Maps.{only_if, keyed, select, update}
+use Rattle.reg_maps.proofs.MapLaws.{IsKeyOrder, tied, All-entries, get-select, entries-select, same_at, get-at_insert, get-update}
 
 -- the two maps have the same rows at all keys but the hidden ones
 abbrev pub AgreeBut : {K X : Type 0} {R : K → K → Ordering} → (K → Bool) → FinMap R X → FinMap R X
@@ -23,11 +25,23 @@ NoneAt {K = K} {X = X} hidden f = (k : K) → hidden k ≡ true → (x : X) → 
 abbrev pub ChooseAlike : {K X Y : Type 0} → (K → Bool) → (f g : K → X → Option Y) → Type 0
 ChooseAlike {K = K} {X = X} hidden f g = (k : K) → hidden k ≡ false → (x : X) → f k x ≡ g k x
 
+-- nothing is hidden in this map
+abbrev pub IsBare : {K X : Type 0} {R : K → K → Ordering} → (K → Bool) → FinMap R X → Type 0
+IsBare {K = K} hidden m = (k : K) → hidden k ≡ true → get m k ≡ None
+
 -- ---- Rows
 
 -- a map's rows, in order
 abbrev pub rows_of : {K X Y : Type 0} {R : K → K → Ordering} → (K → X → Y) → FinMap R X → List Y
 rows_of row m = map (λ e. row e.0 e.1) (entries m)
+
+-- a test that all pass leaves the list as it is
+all_pass : {A : Type 0} (test : A → Bool) (xs : List A) → All (λ x. test x ≡ true) xs
+    → filter test xs ≡ xs
+all_pass test [] all = refl
+all_pass test (x ∷ xs) all =
+    ap (λ b. cond b (x ∷ filter test xs) (filter test xs)) (All-head (λ x. test x ≡ true) x xs all)
+    ∙ ap (λ rest. x ∷ rest) (all_pass test xs (All-tail (λ x. test x ≡ true) x xs all))
 
 none_chosen : {X Y : Type 0} (f : X → Option Y) (existing : Option X) → ((x : X) → f x ≡ None)
     → option_and_then f existing ≡ None
@@ -80,6 +94,19 @@ module _ {K : Type 0} {R : K → K → Ordering} (o : IsKeyOrder R) (hidden : K 
       let left = sym (entries-select o shown m) ∙ ap entries same ∙ entries-select o shown n in
       seen_list seen row (entries m) ∙ ap (map (λ e. row e.0 e.1)) left
       ∙ sym (seen_list seen row (entries n))
+
+  -- a map without a row at a hidden key lists all its rows
+  pub plain_rows : {X Y : Type 0} (seen : Y → Bool) (row : K → X → Y)
+      → ((k : K) (x : X) → seen (row k x) ≡ not (hidden k))
+      → (m : FinMap R X) → IsBare hidden m → filter seen (rows_of row m) ≡ rows_of row m
+  plain_rows {X = X} seen row test m bare =
+      all_pass seen (rows_of row m) (All-map (λ y. seen y ≡ true) (λ e. row e.0 e.1) (entries m)
+      (All-entries o.total (λ e. seen (row e.0 e.1) ≡ true) m
+      (λ k x is_there. test k x ∙ by k x is_there (hidden k) refl)))
+    where
+      by : (k : K) (x : X) → get m k ≡ Some x → (b : Bool) → hidden k ≡ b → not (hidden k) ≡ true
+      by k x is_there true h = let gone = bare k h in absurd (cc)
+      by k x is_there false h = ap not h
 
   -- ---- Changes
 

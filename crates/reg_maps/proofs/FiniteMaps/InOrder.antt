@@ -1,49 +1,32 @@
 -- Ordered maps, and maps of maps, as lists of rows in order.
-use Rattle.std.proofs.Common.{◌≡◌, ℕ, true, false, cond, ◌&&◌, T, List, [], ◌∷◌, ◌++◌, map}
+use Rattle.std.proofs.Common.{◌≡◌, ℕ, true, false, cond, T, List, [], ◌∷◌, ◌++◌, map}
 use Rattle.std.proofs.Common.{refl, sym, ap, subst, ◌∙◌, append_assoc}
 use Rattle.std.specs.Prelude.{Option, Some, None, IfSome, option_and_then, All}
 use Rattle.std.specs.declared.cmp.Ordering.{Ordering}
-use Rattle.std.specs.declared.cmp.Ordering.TheVariants.{Less, Equal, Greater}
-use Rattle.std.specs.Ordering.{is_lt, ordering_then, ordering_reverse}
+use Rattle.std.specs.Ordering.{is_lt, ordering_then}
 use Rattle.std.specs.Cmp.{IsTotalOrder}
 use Rattle.std.specs.Map.{lookup, keys_of}
 use Rattle.std.specs.List.{AllByRecursion}
 use Rattle.std.specs.BTreeMap as tree
 use Rattle.std.specs.BTreeMap.{BTreeMap, is_at, IsOrdered}
-use Rattle.std.specs.FinMap.{FinMap, get, keys, entries, entries_sorted, find, is_sorted}
-use Rattle.std.specs.FinMap.{get-from_entries, get-entries}
-use Rattle.std.specs.FinMap.Entries.{below_all, same_entries}
+use Rattle.std.specs.FinMap.{FinMap, get, keys, entries, is_sorted, get-from_entries}
+use Rattle.std.specs.FinMap.Entries.{below_all}
 use Rattle.std.proofs.lemmas.List.{append-nil}
 use Rattle.std.proofs.lemmas.List.Elements.{recursion_from_All}
 use Rattle.std.proofs.lemmas.Map.Text.{is_eq-slice_cmp}
-use Rattle.reg_core.specs.File.{same_name, seats_of}
-use Rattle.reg_core.specs.Maps.{text_cmp, pair_cmp, same_text, only_if, select}
-use Rattle.reg_core.specs.World.{RequestName, name_cmp, seat_cmp}
-use Rattle.reg_core.proofs.MapLaws.{IsKeyOrder, pair_keys, get-select, tied}
-use Rattle.reg_store.specs.Maps.{finite_map}
-use Rattle.reg_store.specs.Groups.{group_rows, rows_in, pair_map, group_at, rows_of}
-use Rattle.reg_store.proofs.FiniteMaps.Ordered.{both, first, second, sorted}
-use Rattle.reg_store.proofs.FiniteMaps.Nested.{tie, find-group, get-pair_map, row_of}
-
--- what is its own reverse is a tie
-self_tie : (r : Ordering) → r ≡ ordering_reverse r → r ≡ Equal
-self_tie Less e = absurd (subst (λ r. T (is_lt r)) e tt)
-self_tie Equal e = refl
-self_tie Greater e = absurd (subst (λ r. T (is_lt r)) (sym e) tt)
-
--- the entries of a map are the list in order that has the same row at each key
-pub entries_are : {K X : Type 0} {R : K → K → Ordering} → IsKeyOrder R
-    → (m : FinMap R X) (es : List (K × X)) → T (is_sorted R es)
-    → ((q : K) → get m q ≡ find R q es) → entries m ≡ es
-entries_are {R = R} o m es h is =
-    same_entries R o.total o.exact (entries m) es (entries_sorted m) h
-    (λ q. sym (get-entries m q) ∙ is q)
+use Rattle.reg_maps.specs.Maps.{text_cmp, pair_cmp, same_text, only_if, select, finite_map}
+use Rattle.reg_maps.specs.Groups.{group_rows, rows_in, pair_map, group_at, rows_of}
+use Rattle.reg_maps.proofs.MapLaws.{IsKeyOrder, pair_keys, get-select, entries_are, tied}
+use Rattle.reg_maps.proofs.Tests.{both, first, second}
+use Rattle.reg_maps.proofs.Ascending.{is_sorted_from_ascending, ascending_from_is_sorted}
+use Rattle.reg_maps.proofs.Orderings.{self_tie, lt_then}
+use Rattle.reg_maps.proofs.FiniteMaps.Nested.{find-group, get-pair_map, row_of}
 
 -- an ordered map has the entries of the finite map that it is seen as, in the same order
 pub entries-finite_map : {K X : Type 0} {R : K → K → Ordering} → IsKeyOrder R
     → (m : BTreeMap K X) → IsOrdered R m → entries (finite_map R m) ≡ m.entries
 entries-finite_map {R = R} o m h =
-    entries_are o (finite_map R m) m.entries (sorted R m.entries h)
+    entries_are o (finite_map R m) m.entries h
     (get-from_entries o.total m.entries)
 
 -- an ordered map has the keys of the finite map that it is seen as, in the same order
@@ -73,12 +56,6 @@ below-append : {K Z : Type 0} (R : K → K → Ordering) (k : K) (xs ys : List (
     → T (below_all R k xs) → T (below_all R k ys) → T (below_all R k (xs ++ ys))
 below-append R k [] ys h i = i
 below-append R k (x ∷ xs) ys h i = both _ _ (first _ _ h) (below-append R k xs ys (second _ _ h) i)
-
--- what is less by its first part is less
-lt_then : (x y : Ordering) → T (is_lt x) → T (is_lt (ordering_then x y))
-lt_then Less y h = tt
-lt_then Equal y h = absurd h
-lt_then Greater y h = absurd h
 
 module _ {A B V : Type 0} {P : A → A → Ordering} (Q : B → B → Ordering) (o : IsTotalOrder P) where
   -- a group comes before another where its key does
@@ -110,7 +87,7 @@ module _ {A B V : Type 0} {P : A → A → Ordering} (Q : B → B → Ordering) 
       → AllByRecursion (λ e. IsOrdered Q e.1) es → T (is_sorted (pair_cmp P Q) (rows_in es))
   is_sorted-rows [] h each = tt
   is_sorted-rows (e ∷ es) h each =
-      is_sorted-group_then e.0 e.1.entries es (sorted Q e.1.entries each.0) (first _ _ h)
+      is_sorted-group_then e.0 e.1.entries es (is_sorted_from_ascending Q e.1.entries each.0) (first _ _ h)
       (is_sorted-rows es (second _ _ h) each.1)
 
 -- a map of maps has the rows of all groups, in the same order
@@ -119,8 +96,9 @@ pub entries-pair_map : {A B V : Type 0} {P : A → A → Ordering} {Q : B → B 
     → All (λ e. IsOrdered Q e.1) m.entries → entries (pair_map P Q m) ≡ rows_in m.entries
 entries-pair_map {P = P} {Q = Q} o p m h each =
     entries_are (pair_keys o p) (pair_map P Q m) (rows_in m.entries)
-    (is_sorted-rows Q o.total m.entries (sorted P m.entries h)
-    (recursion_from_All (λ e. IsOrdered Q e.1) m.entries each))
+    (ascending_from_is_sorted (pair_cmp P Q) (rows_in m.entries)
+    (is_sorted-rows Q o.total m.entries (is_sorted_from_ascending P m.entries h)
+    (recursion_from_All (λ e. IsOrdered Q e.1) m.entries each)))
     (get-from_entries (pair_keys o p).total (rows_in m.entries))
 
 -- the rows of one more group
@@ -150,7 +128,7 @@ in_rows Q b (Some m) = refl
 pub sorted-rows_of : {B V : Type 0} (Q : B → B → Ordering) (g : Option (BTreeMap B V))
     → IfSome g (IsOrdered Q) → T (is_sorted Q (rows_of g))
 sorted-rows_of Q None h = tt
-sorted-rows_of Q (Some m) h = sorted Q m.entries h
+sorted-rows_of Q (Some m) h = is_sorted_from_ascending Q m.entries h
 
 -- the rows of a group are a list in order that has what the map has at the group's keys
 pub group_is : {A B V : Type 0} {P : A → A → Ordering} {Q : B → B → Ordering} → IsKeyOrder P
@@ -159,7 +137,8 @@ pub group_is : {A B V : Type 0} {P : A → A → Ordering} {Q : B → B → Orde
     → ((b : B) → get m (a, b) ≡ lookup (is_at (Q b)) rs)
     → entries (group_at P m a) ≡ group_rows a rs
 group_is {P = P} {Q = Q} o p m a rs in_order has =
-    entries_are (pair_keys o p) _ _ (is_sorted-group Q o.total a rs in_order) (λ q.
+    entries_are (pair_keys o p) _ _
+    (ascending_from_is_sorted _ (group_rows a rs) (is_sorted-group Q o.total a rs in_order)) (λ q.
     get-select (pair_keys o p) (λ key row. only_if (is_at (P key.0) a) row) m q
     ∙ elim (is_at (P q.0) a) as (λ b. is_at (P q.0) a ≡ b
     → option_and_then (λ row. only_if b row) (get m q) ≡ cond b (lookup (is_at (Q q.1)) rs) None) [
@@ -185,18 +164,8 @@ pub map-group_rows : {A B V X : Type 0} (f : A × B → V → X) (a : A) (rs : L
 map-group_rows f a [] = refl
 map-group_rows f a (r ∷ rs) = ap (λ xs. f (a, r.0) r.1 ∷ xs) (map-group_rows f a rs)
 
--- ---- Groups by a text, and by a request's name
-
+-- a group by a text
 pub text_group : {B V : Type 0} {R : List ℕ × B → List ℕ × B → Ordering} (m : FinMap R V)
     (a : List ℕ)
     → select (λ key row. only_if (same_text key.0 a) row) m ≡ group_at text_cmp m a
 text_group m a = λ i. select (λ key row. only_if (sym (is_eq-slice_cmp key.0 a) i) row) m
-
-same_name-tie : (q a : RequestName) → same_name q a ≡ is_at (name_cmp q) a
-same_name-tie q a =
-    (λ i. sym (is_eq-slice_cmp q.0 a.0) i && sym (is_eq-slice_cmp q.1 a.1) i)
-    ∙ sym (tie (text_cmp q.0 a.0) (text_cmp q.1 a.1))
-
-pub name_group : {V : Type 0} (m : FinMap seat_cmp V) (name : RequestName)
-    → seats_of name m ≡ group_at name_cmp m name
-name_group m name = λ i. select (λ seat x. only_if (same_name-tie seat.0 name i) x) m

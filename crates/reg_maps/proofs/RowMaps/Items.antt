@@ -7,10 +7,10 @@ use Rattle.std.specs.declared.cmp.Ordering.{Ordering}
 use Rattle.std.specs.Ordering.{eq_by_cmp}
 use Rattle.std.specs.FinMap.{entries}
 use Rattle.std.proofs.lemmas.Simd.{map-map}
-use Rattle.reg_core.specs.Maps.{only_if, select}
-use Rattle.reg_core.proofs.MapLaws.{IsKeyOrder}
-use Rattle.reg_statements.specs.RowMaps.{held_in, AreAscending, IsTable, PassesAt, PassesWhere}
-use Rattle.reg_statements.proofs.RowMaps.Loads as rows
+use Rattle.reg_maps.specs.Maps.{only_if, select}
+use Rattle.reg_maps.specs.RowMaps.{held_in, AreAscending, IsTable, PassesAt, PassesWhere}
+use Rattle.reg_maps.proofs.MapLaws.{IsKeyOrder}
+use Rattle.reg_maps.proofs.RowMaps.Loads as rows
 
 module _ {A K X T : Type 0} {R : K → K → Ordering} (o : IsKeyOrder R) (pair : T → K × X)
     (of : A → Option T) where

@@ -5,11 +5,11 @@ use Rattle.std.specs.List.{AllByRecursion, cons_option}
 use Rattle.std.specs.declared.cmp.Ordering.{Ordering}
 use Rattle.std.specs.FinMap.{get}
 use Rattle.std.proofs.lemmas.List.Sorted.{IsPermutation-refl}
-use Rattle.reg_core.specs.Maps.{keyed}
-use Rattle.reg_core.proofs.MapLaws.{IsKeyOrder}
-use Rattle.reg_statements.specs.RowMaps.{held_in, IsTable, PassesAt}
-use Rattle.reg_statements.proofs.RowMaps.Lists.{all_filtered}
-use Rattle.reg_statements.proofs.RowMaps.Loads.{found_pairs}
+use Rattle.reg_maps.specs.Maps.{keyed}
+use Rattle.reg_maps.specs.RowMaps.{held_in, IsTable, PassesAt}
+use Rattle.reg_maps.proofs.MapLaws.{IsKeyOrder}
+use Rattle.reg_maps.proofs.RowMaps.Lists.{all_filtered}
+use Rattle.reg_maps.proofs.RowMaps.Loads.{found_pairs}
 
 -- a row that reads as the value of a key
 pub record HasRow {A K X : Type 0} (of : A → Option (K × X)) (k : K) (value : Option X)

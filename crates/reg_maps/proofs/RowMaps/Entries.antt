@@ -13,10 +13,10 @@ use Rattle.std.proofs.lemmas.List.Sorted.{IsPermutation-cons, IsPermutation-midd
 use Rattle.std.proofs.lemmas.List.Sorted.{IsPermutation-map}
 use Rattle.std.proofs.lemmas.Map.Keys.{IsDistinct-head, IsDistinct-tail, IsDistinct-cons}
 use Rattle.std.proofs.lemmas.Map.Keys.{IsDistinct-IsPermutation}
-use Rattle.reg_core.specs.Maps.{keyed, only_if}
-use Rattle.reg_core.proofs.MapLaws.{IsKeyOrder, tied}
-use Rattle.reg_statements.specs.RowMaps.{AreApart}
-use Rattle.reg_statements.proofs.RowMaps.Lists.{along_permutation}
+use Rattle.reg_maps.specs.Maps.{keyed, only_if}
+use Rattle.reg_maps.specs.RowMaps.{AreApart}
+use Rattle.reg_maps.proofs.MapLaws.{IsKeyOrder, tied}
+use Rattle.reg_maps.proofs.RowMaps.Lists.{along_permutation}
 
 -- no entry has this key
 abbrev pub IsFree : {K X : Type 0} → (K → K → Ordering) → K → List (K × X) → Type 0

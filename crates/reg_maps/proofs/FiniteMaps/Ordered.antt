@@ -1,53 +1,16 @@
 -- Ordered maps as finite maps.
-use Rattle.std.proofs.Common.{◌≡◌, Bool, true, false, cond, ◌&&◌, T, List, [], ◌∷◌, refl, sym, ap}
+use Rattle.std.proofs.Common.{◌≡◌, cond, List, [], ◌∷◌, refl, sym, ap}
 use Rattle.std.proofs.Common.{◌∙◌}
 use Rattle.std.specs.Prelude.{Some, None, option_map}
 use Rattle.std.specs.declared.cmp.Ordering.{Ordering}
-use Rattle.std.specs.declared.cmp.Ordering.TheVariants.{Less}
-use Rattle.std.specs.Ordering.{eq_by_cmp, is_lt}
+use Rattle.std.specs.Ordering.{eq_by_cmp}
 use Rattle.std.specs.Cmp.{eq_by_cmp_equiv}
-use Rattle.std.specs.List.{AllByRecursion}
-use Rattle.std.specs.List.Sorted.{IsStrictlySortedBy}
-use Rattle.std.specs.Map.{lookup, keys_of}
+use Rattle.std.specs.Map.{lookup}
 use Rattle.std.specs.BTreeMap as tree
 use Rattle.std.specs.BTreeMap.{BTreeMap, is_at}
-use Rattle.std.specs.FinMap.{get, insert, remove, find, is_sorted, get-from_entries, get-remove}
-use Rattle.std.specs.FinMap.Entries.{below_all}
-use Rattle.reg_core.specs.Maps.{replaced, update}
-use Rattle.reg_core.proofs.MapLaws.{IsKeyOrder, same_at, get-at_insert}
-use Rattle.reg_store.specs.Maps.{finite_map}
-
--- ---- Lists in order
-
--- a test of two holds where both hold, and only there
-pub both : (a b : Bool) → T a → T b → T (a && b)
-both true b p q = q
-both false b p q = p
-
-pub first : (a b : Bool) → T (a && b) → T a
-first true b p = tt
-first false b p = p
-
-pub second : (a b : Bool) → T (a && b) → T b
-second true b p = p
-second false b p = absurd p
-
--- a key that is less than each key comes before all entries
-all_below : {K X : Type 0} (R : K → K → Ordering) (k : K) (es : List (K × X))
-    → AllByRecursion (λ y. R k y ≡ Less) (keys_of es) → T (below_all R k es)
-all_below R k [] h = tt
-all_below R k (e ∷ es) h =
-    both (is_lt (R k e.0)) (below_all R k es) (rw h.0 tt) (all_below R k es h.1)
-
--- entries whose keys ascend are in order
-pub sorted : {K X : Type 0} (R : K → K → Ordering) (es : List (K × X))
-    → IsStrictlySortedBy R (keys_of es) → T (is_sorted R es)
-unfolding IsStrictlySortedBy
-sorted R [] h = tt
-sorted R (e ∷ es) h =
-    both (below_all R e.0 es) (is_sorted R es) (all_below R e.0 es h.0) (sorted R es h.1)
-
--- ---- Rows
+use Rattle.std.specs.FinMap.{get, insert, remove, find, get-from_entries, get-remove}
+use Rattle.reg_maps.specs.Maps.{replaced, update, finite_map}
+use Rattle.reg_maps.proofs.MapLaws.{IsKeyOrder, same_at, get-at_insert}
 
 -- two words for one search
 pub find_is : {K X : Type 0} (R : K → K → Ordering) (q : K) (es : List (K × X))

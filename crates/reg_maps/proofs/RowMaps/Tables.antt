@@ -8,15 +8,12 @@ use Rattle.std.specs.declared.cmp.Ordering.{Ordering}
 use Rattle.std.specs.Ordering.{eq_by_cmp}
 use Rattle.std.specs.FinMap.{FinMap, get, insert, remove, empty, find, from_entries}
 use Rattle.std.specs.FinMap.{get-from_entries, get-remove}
-use Rattle.reg_core.specs.Maps.{only_if, select, update, replaced}
-use Rattle.reg_core.proofs.MapLaws.{IsKeyOrder, tied, same_at, get-select, get-update}
-use Rattle.reg_statements.specs.RowMaps.{held_in, AreApart, IsTable, PassesAt, PassesWhere, changed_where}
-use Rattle.reg_statements.proofs.RowMaps.Held.{IsHeld, rows_held}
-use Rattle.reg_statements.proofs.RowMaps.Lists.{all_permuted, all_filtered, IsPermutation-filter_map}
-use Rattle.reg_statements.proofs.RowMaps.Lists.{filter_map-filter}
-use Rattle.reg_statements.proofs.RowMaps.Entries.{free_from_none, apart_more, apart_permuted}
-use Rattle.reg_statements.proofs.RowMaps.Entries.{find_permuted, apart_filtered, find_filtered}
-use Rattle.reg_statements.proofs.RowMaps.Entries.{changed_by, keys_changed, find_changed}
+use Rattle.reg_maps.specs.Maps.{only_if, select, update, replaced}
+use Rattle.reg_maps.specs.RowMaps.{held_in, AreApart, IsTable, PassesAt, PassesWhere, changed_where}
+use Rattle.reg_maps.proofs.MapLaws.{IsKeyOrder, tied, same_at, get-select, get-update}
+use Rattle.reg_maps.proofs.RowMaps.Held.{IsHeld, rows_held}
+use Rattle.reg_maps.proofs.RowMaps.Lists.{all_permuted, all_filtered, IsPermutation-filter_map, filter_map-filter}
+use Rattle.reg_maps.proofs.RowMaps.Entries.{free_from_none, apart_more, apart_permuted, find_permuted, apart_filtered, find_filtered, changed_by, keys_changed, find_changed}
 
 -- the table of no rows, which holds nothing
 pub empty_table : {A K X : Type 0} (R : K → K → Ordering) (of : A → Option (K × X))

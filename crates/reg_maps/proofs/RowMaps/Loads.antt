@@ -13,12 +13,12 @@ use Rattle.std.specs.FinMap.{get-entries, get-from_entries}
 use Rattle.std.proofs.lemmas.List.{length-map, get_or-map}
 use Rattle.std.proofs.lemmas.List.Sorted.{IsPermutation-sym}
 use Rattle.std.proofs.lemmas.Map.Keys.{IsDistinct-head, apart_from_distinct}
-use Rattle.reg_core.specs.Maps.{only_if, keyed, select}
-use Rattle.reg_core.proofs.MapLaws.{IsKeyOrder, tied, get-select}
-use Rattle.reg_statements.specs.RowMaps.{held_in, AreApart, AreAscending, IsTable, PassesAt, PassesWhere}
-use Rattle.reg_statements.proofs.RowMaps.Lists.{filter_map-loaded, reads-loaded}
-use Rattle.reg_statements.proofs.RowMaps.Ascending.{ascending_from_is_sorted, entries-from_ascending, apart_from_ascending}
-use Rattle.reg_statements.proofs.RowMaps.Tables.{same_rows, chosen}
+use Rattle.reg_maps.specs.Maps.{only_if, keyed, select}
+use Rattle.reg_maps.specs.RowMaps.{held_in, AreApart, AreAscending, IsTable, PassesAt, PassesWhere}
+use Rattle.reg_maps.proofs.MapLaws.{IsKeyOrder, tied, get-select, entries-from_ascending}
+use Rattle.reg_maps.proofs.RowMaps.Lists.{filter_map-loaded, reads-loaded}
+use Rattle.reg_maps.proofs.RowMaps.Tables.{same_rows, chosen}
+use Rattle.reg_maps.proofs.Ascending.{ascending_from_is_sorted, apart_from_ascending}
 
 module _ {K X : Type 0} {R : K → K → Ordering} (o : IsKeyOrder R) where
   passed : (b : Bool) (r : Option X) (x : X) → Some x ≡ option_and_then (λ x. only_if b x) r

@@ -6,9 +6,9 @@ use Rattle.std.specs.declared.cmp.Ordering.{Ordering}
 use Rattle.std.specs.FinMap.{get}
 use Rattle.sqlite_rules.specs.Lists.{Has}
 use Rattle.sqlite_rules.proofs.ListLemmas.{has_filtered, has_kept}
-use Rattle.reg_core.proofs.MapLaws.{IsKeyOrder}
-use Rattle.reg_statements.specs.RowMaps.{held_in, IsTable, PassesAt}
-use Rattle.reg_statements.proofs.RowMaps.Alone.{alone_at}
+use Rattle.reg_maps.specs.RowMaps.{held_in, IsTable, PassesAt}
+use Rattle.reg_maps.proofs.MapLaws.{IsKeyOrder}
+use Rattle.reg_maps.proofs.RowMaps.Alone.{alone_at}
 
 module _ {A K X : Type 0} {R : K → K → Ordering} (o : IsKeyOrder R) {of : A → Option (K × X)}
     (test : A → Bool) (k : K) (at : PassesAt R of test k) (rows : List A) (table : IsTable R of rows)

@@ -4,8 +4,8 @@ use Rattle.std.proofs.Common.{Option, Some, None, option_map, option_and_then, r
 use Rattle.std.specs.FinMap.{FinMap, get, insert, entries}
 use Rattle.std.specs.Ordering.{eq_by_cmp}
 use Rattle.std.specs.declared.cmp.Ordering.{Ordering}
-use Rattle.reg_core.specs.Maps.{keyed, select, update}
-use Rattle.reg_core.proofs.MapLaws.{IsKeyOrder, entries-select, get-at_insert, get-select, get-update, same_at, tied}
+use Rattle.reg_maps.specs.Maps.{keyed, select, update}
+use Rattle.reg_maps.proofs.MapLaws.{IsKeyOrder, entries-select, get-at_insert, get-select, get-update, same_at, tied}
 
 -- ---- Values that may be missing
 

@@ -3,7 +3,7 @@ use Rattle.std.specs.Prelude.{List, [], ◌∷◌, ◌++◌, map, Option, Some, 
 use Rattle.std.specs.declared.cmp.Ordering.{Ordering}
 use Rattle.std.specs.BTreeMap.{BTreeMap, is_at}
 use Rattle.std.specs.FinMap.{FinMap, from_entries}
-use Rattle.reg_core.specs.Maps.{pair_cmp, only_if, select}
+use Rattle.reg_maps.specs.Maps.{pair_cmp, only_if, select}
 
 -- a group's rows, each with its two keys
 abbrev pub group_rows : {A B V : Type 0} → A → List (B × V) → List ((A × B) × V)

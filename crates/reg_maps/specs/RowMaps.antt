@@ -6,7 +6,7 @@ use Rattle.std.specs.Map.{keys_of}
 use Rattle.std.specs.declared.cmp.Ordering.{Ordering}
 use Rattle.std.specs.Ordering.{eq_by_cmp}
 use Rattle.std.specs.FinMap.{FinMap, from_entries}
-use Rattle.reg_core.specs.Maps.{select}
+use Rattle.reg_maps.specs.Maps.{select}
 
 -- the map of the rows, each of which is read as a key and its value
 abbrev pub held_in : {A K X : Type 0} {R : K → K → Ordering} → (A → Option (K × X)) → List A

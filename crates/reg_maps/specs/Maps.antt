@@ -1,9 +1,11 @@
--- Finite maps: the orders of keys, rows chosen from a map, and a row replaced.
+-- Finite maps: the orders of keys, rows chosen from a map, a row replaced, and ordered maps seen as
+-- finite ones.
 use Rattle.std.specs.Prelude.{ℕ, Bool, List, Option, Some, None, option_map, filter_map, bytes_eq, if◌then◌else◌}
 use Rattle.std.specs.declared.cmp.Ordering.{Ordering}
 use Rattle.std.specs.Ordering.{nat_cmp, ordering_then}
 use Rattle.std.specs.Cmp.Lexicographic.{slice_cmp}
-use Rattle.std.specs.FinMap.{FinMap, get, insert, entries, from_sorted}
+use Rattle.std.specs.BTreeMap.{BTreeMap}
+use Rattle.std.specs.FinMap.{FinMap, get, insert, entries, from_sorted, from_entries}
 
 -- texts in order of their bytes
 abbrev pub text_cmp : List ℕ → List ℕ → Ordering
@@ -38,3 +40,7 @@ replaced m k (Some x) = insert m k x
 
 abbrev pub update : {K X : Type 0} {R : K → K → Ordering} → FinMap R X → K → (X → X) → FinMap R X
 update m k f = replaced m k (option_map f (get m k))
+
+-- the rows of an ordered map by key
+abbrev pub finite_map : {K V : Type 0} (R : K → K → Ordering) → BTreeMap K V → FinMap R V
+finite_map R m = from_entries m.entries

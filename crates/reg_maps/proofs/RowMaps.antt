@@ -2,10 +2,7 @@
 pub mod Lists
 pub mod Entries
 pub mod Held
-pub mod Ascending
 pub mod Tables
 pub mod Loads
 pub mod Items
-pub mod KeyTests
 pub mod Alone
-pub mod Present

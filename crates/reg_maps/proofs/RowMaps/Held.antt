@@ -6,9 +6,9 @@ use Rattle.std.specs.declared.cmp.Ordering.{Ordering}
 use Rattle.std.specs.Ordering.{eq_by_cmp}
 use Rattle.std.specs.Cmp.{eq_by_cmp_equiv}
 use Rattle.std.specs.FinMap.{find}
-use Rattle.reg_core.proofs.MapLaws.{IsKeyOrder, tied}
-use Rattle.reg_statements.specs.RowMaps.{AreApart}
-use Rattle.reg_statements.proofs.RowMaps.Entries.{IsFree, apart_head, apart_tail, find-free}
+use Rattle.reg_maps.specs.RowMaps.{AreApart}
+use Rattle.reg_maps.proofs.MapLaws.{IsKeyOrder, tied}
+use Rattle.reg_maps.proofs.RowMaps.Entries.{IsFree, apart_head, apart_tail, find-free}
 
 module _ {A K X : Type 0} {R : K → K → Ordering} (o : IsKeyOrder R) (of : A → Option (K × X)) where
   -- the entries have what the row reads as

@@ -1,11 +1,11 @@
--- Which keys a map has after a row is inserted or replaced.
+-- Which keys a map has after a row is inserted, replaced or taken away.
 use Rattle.std.proofs.Common.{◌≡◌, Bool, true, false, cond, refl, sym, ap, subst, ◌∙◌}
 use Rattle.std.specs.Prelude.{Option, Some, None, option_map, IsSome, is_some}
 use Rattle.std.specs.declared.cmp.Ordering.{Ordering}
 use Rattle.std.specs.Ordering.{eq_by_cmp}
-use Rattle.std.specs.FinMap.{FinMap, get, insert}
-use Rattle.reg_core.specs.Maps.{update}
-use Rattle.reg_core.proofs.MapLaws.{IsKeyOrder, tied, get-at_insert, get-inserted, get-update}
+use Rattle.std.specs.FinMap.{FinMap, get, insert, remove, contains_key}
+use Rattle.reg_maps.specs.Maps.{update}
+use Rattle.reg_maps.proofs.MapLaws.{IsKeyOrder, tied, get-at_insert, get-at_remove, get-inserted, get-update}
 
 module _ {K X : Type 0} {R : K → K → Ordering} (o : IsKeyOrder R) (m : FinMap R X) (k : K) where
   -- the key that was inserted is there
@@ -29,6 +29,15 @@ module _ {K X : Type 0} {R : K → K → Ordering} (o : IsKeyOrder R) (m : FinMa
       by : (b : Bool) → eq_by_cmp R q k ≡ b → IsSome (cond b (Some v) (get m q)) → P q
       by true t there = subst P (sym (tied o q k t)) new
       by false t there = each q there
+
+  -- a key that is there after a removal was there
+  pub was_left : (q : K) → IsSome (get (remove m k) q) → IsSome (get m q)
+  was_left q there =
+      by (eq_by_cmp R q k) (sym (ap is_some (get-at_remove o m k q)) ∙ there)
+    where
+      by : (b : Bool) → IsSome (cond b None (get m q)) → IsSome (get m q)
+      by true there = absurd (cc)
+      by false there = there
 
   -- a test that the new row passes if the one in its place does is passed by each row after an
   -- insertion that did before; and so it is after a replacement that keeps what passes it
@@ -83,3 +92,27 @@ module _ {K X : Type 0} {R : K → K → Ordering} (o : IsKeyOrder R) (m : FinMa
       by true t there =
           subst (λ q. IsSome (get m q)) (sym (tied o q k t)) (unmapped (get m k) there)
       by false t there = there
+
+  -- a row in the place of one that stands leaves the keys
+  pub contains-replaced : (x : X) → IsSome (get m k) → (q : K)
+      → contains_key (insert m k x) q ≡ contains_key m q
+  contains-replaced x there q =
+      ap is_some (get-at_insert o m k x q) ∙ by (eq_by_cmp R q k) refl
+    where
+      by : (b : Bool) → eq_by_cmp R q k ≡ b
+          → is_some (cond b (Some x) (get m q)) ≡ contains_key m q
+      by true t = sym (ap (contains_key m) (tied o q k t) ∙ there)
+      by false t = refl
+
+  -- and so does a row that is changed
+  pub contains-changed : (f : X → X) (q : K) → contains_key (update m k f) q ≡ contains_key m q
+  contains-changed f q = ap is_some (get-update o m k f q) ∙ by (eq_by_cmp R q k) refl
+    where
+      mapped : (row : Option X) → is_some (option_map f row) ≡ is_some row
+      mapped None = refl
+      mapped (Some x) = refl
+
+      by : (b : Bool) → eq_by_cmp R q k ≡ b
+          → is_some (cond b (option_map f (get m k)) (get m q)) ≡ contains_key m q
+      by true t = mapped (get m k) ∙ sym (ap (contains_key m) (tied o q k t))
+      by false t = refl

@@ -1,0 +1,13 @@
+pub mod Tests
+pub mod Outcomes
+pub mod Runs
+pub mod Orderings
+pub mod Ascending
+pub mod MapLaws
+pub mod KeySets
+pub mod KeyLists
+pub mod Mapped
+pub mod KeyTests
+pub mod HiddenKeys
+pub mod FiniteMaps
+pub mod RowMaps

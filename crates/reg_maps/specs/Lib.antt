@@ -1,0 +1,4 @@
+pub mod Maps
+pub mod Groups
+pub mod RowMaps
+pub mod Spans
