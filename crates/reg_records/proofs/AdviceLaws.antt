@@ -1,38 +1,38 @@
 -- The rows of `advice` keep advice: what is written reads back, and only that reads.
-use Rattle.std.proofs.Common.{◌≡◌, true, Some, refl, ap, subst, ◌∙◌}
+use Rattle.std.proofs.Common.{◌≡◌, [], ◌∷◌, ◌++◌, true, Some, refl, ap, subst, ◌∙◌}
+use Rattle.std.proofs.lemmas.Bool.{and_from}
 use Rattle.std.proofs.lemmas.Option.{same_Some}
 use Rattle.sqlite.specs.Order.{Row, column}
 use Rattle.sqlite.specs.declared.types.Value.TheVariants.{Text}
 use Rattle.reg_ranges.specs.Texts.{is_text}
 use Rattle.reg_core.specs.Advice.{verdict_word}
-use Rattle.reg_core.specs.Names.{is_name}
 use Rattle.reg_core.proofs.WordsReadBack.{verdicts_read}
 use Rattle.reg_records.specs.Advice.{advice_columns, advice_in, advice_values, is_expert_advice, own_advice_in}
 use Rattle.reg_records.specs.Laws.{KeepsRows}
+use Rattle.reg_records.specs.Queue.{seat_in}
 use Rattle.reg_records.specs.declared.advice.ExpertAdvice.{ExpertAdvice}
-use Rattle.reg_records.proofs.ColumnLaws.{both, column_some, column-at, formed_texts, words}
+use Rattle.reg_records.proofs.ColumnLaws.{both, column_some, column-at, formed_texts, given_some, given-at, words}
+use Rattle.reg_records.proofs.SeatLaws.{seat_back, seat_exact, seat_formed}
 
 pub advice_back : (advice : ExpertAdvice) → is_expert_advice advice ≡ true
     → advice_in (advice_values advice) ≡ Some advice
 advice_back row form =
-    both _ _ form (λ form text. both _ _ form (λ form expert. both _ _ form (λ account reference.
-    column-at (formed_texts is_name) row.account account _ _ (
-    column-at (formed_texts is_name) row.reference reference _ _ (
-    column-at (formed_texts is_name) row.expert expert _ _ (
+    both _ _ form (λ seat text.
+    given-at (seat_back row.seat seat) _ _ (
     column-at (words verdicts_read) row.advice.verdict refl _ _ (
-    column-at (formed_texts is_text) row.advice.text text _ _ refl)))))))
+    column-at (formed_texts is_text) row.advice.text text _ _ refl)))
 
 advice_read : (row : Row) (advice : ExpertAdvice) → advice_in row ≡ Some advice
     → (advice_columns row ≡ advice_values advice) × (is_expert_advice advice ≡ true)
 advice_read row advice h =
-    column_some (formed_texts is_name) (column row 0) _ advice h (λ account is0 form0 h.
-    column_some (formed_texts is_name) (column row 1) _ advice h (λ reference is1 form1 h.
-    column_some (formed_texts is_name) (column row 2) _ advice h (λ expert is2 form2 h.
+    given_some (seat_in row) _ advice h (λ seat is h.
     column_some (words verdicts_read) (column row 3) _ advice h (λ verdict is3 form3 h.
     column_some (formed_texts is_text) (column row 4) _ advice h (λ text is4 form4 h.
     subst (λ a. (advice_columns row ≡ advice_values a) × (is_expert_advice a ≡ true))
-    (same_Some _ _ h)
-    (rw (is0, is1, is2, is3, is4) refl, rw (form0, form1, form2, form4) refl))))))
+    (same_Some _ _ h) (
+      λ i. seat_exact row seat is i ++ is3 i ∷ is4 i ∷ [],
+      and_from _ _ (seat_formed row seat is) form4,
+    ))))
 
 pub advice_exact : (row : Row) (advice : ExpertAdvice) → advice_in row ≡ Some advice
     → advice_columns row ≡ advice_values advice

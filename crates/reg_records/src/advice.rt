@@ -5,22 +5,20 @@ ghost use Rattle.sqlite.specs.Values.{bound};
 ghost use Rattle.reg_core.specs.World.{seat_cmp};
 ghost use Rattle.reg_records.specs.Advice.{advice_in, advice_values, own_advice_in};
 
-use crate::column::{is_null, name, name_value, printable, printable_value, word, word_value};
-use crate::record::{Keyed, Record};
+use crate::column::{is_null, printable, printable_value, word, word_value};
+use crate::queue::Seat;
+use crate::record::{Keyed, Record, in_form};
 use reg_core::advice::Advice;
-use reg_core::text::{Account, Ref};
 use reg_ranges::formed::Formed;
 use sqlite::Row;
 use sqlite::types::ValueRef;
 use std::alloc::{AllocError, Global};
 use std::cmp::Ordering;
 
-/// An advice with its expert and the request that it is about.
+/// An advice with the seat of its expert.
 #[derive(Drop)]
 pub struct ExpertAdvice {
-    pub account: Account,
-    pub reference: Ref,
-    pub expert: Account,
+    pub seat: Seat,
     pub advice: Advice,
 }
 
@@ -28,38 +26,22 @@ impl Record for ExpertAdvice {
     ghost of = { advice_in };
 
     fn read(alloc: Global, row: &Row) -> Result<Option<Self>, AllocError> {
-        let Some(account) = name(row, 0) else {
-            return Ok(None);
-        };
-        let Some(reference) = name(row, 1) else {
-            return Ok(None);
-        };
-        let Some(expert) = name(row, 2) else {
-            return Ok(None);
-        };
-        let Some(verdict) = word(row, 3) else {
-            return Ok(None);
-        };
-        let Some(text) = printable(alloc, row, 4)? else {
-            return Ok(None);
-        };
+        let seat = in_form!(Seat::read(alloc, row)?);
+        let verdict = in_form!(word(row, 3));
+        let text = in_form!(printable(alloc, row, 4)?);
         Ok(Some(ExpertAdvice {
-            account,
-            reference,
-            expert,
+            seat,
             advice: Advice { verdict, text },
         }))
     }
 }
 
 impl Keyed for ExpertAdvice {
-    ghost order = { λ a b. seat_cmp ((a.account, a.reference), a.expert)
-        ((b.account, b.reference), b.expert) };
+    ghost order = { λ a b. seat_cmp ((a.seat.account, a.seat.reference), a.seat.expert)
+        ((b.seat.account, b.seat.reference), b.seat.expert) };
 
     fn compare(&self, other: &Self) -> Ordering {
-        let accounts = self.account.cmp(&other.account);
-        let names = accounts.then(self.reference.cmp(&other.reference));
-        names.then(self.expert.cmp(&other.expert))
+        self.seat.compare(&other.seat)
     }
 }
 
@@ -69,9 +51,7 @@ impl Formed for ExpertAdvice {
     ghost has_form = { is_expert_advice };
 
     fn formed(&self) {
-        self.account.formed();
-        self.reference.formed();
-        self.expert.formed();
+        self.seat.formed();
         self.advice.formed();
     }
 }
@@ -81,10 +61,11 @@ impl ExpertAdvice {
     pub fn values(&self) -> [ValueRef<'_>; 5]
         ensures { bound result ≡ advice_values self.now }
     {
+        let [account, reference, expert] = self.seat.values();
         [
-            name_value(&self.account),
-            name_value(&self.reference),
-            name_value(&self.expert),
+            account,
+            reference,
+            expert,
             word_value(&self.advice.verdict),
             printable_value(&self.advice.text),
         ]
@@ -105,11 +86,7 @@ pub fn own_advice(
     if is_null(row, verdict) && is_null(row, text) {
         return Ok(Some(None));
     }
-    let Some(verdict) = word(row, verdict) else {
-        return Ok(None);
-    };
-    let Some(text) = printable(alloc, row, text)? else {
-        return Ok(None);
-    };
+    let verdict = in_form!(word(row, verdict));
+    let text = in_form!(printable(alloc, row, text)?);
     Ok(Some(Some(Advice { verdict, text })))
 }

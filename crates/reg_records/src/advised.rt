@@ -4,7 +4,7 @@ ghost use Rattle.reg_records.specs.Advised.{advised_in};
 
 use crate::advice::own_advice;
 use crate::queue::Seat;
-use crate::record::{Keyed, Record};
+use crate::record::{Keyed, Record, in_form};
 use reg_core::advice::Advice;
 use sqlite::Row;
 use std::alloc::{AllocError, Global};
@@ -26,12 +26,8 @@ impl Record for AdvisedSeat {
     ghost of = { advised_in };
 
     fn read(alloc: Global, row: &Row) -> Result<Option<Self>, AllocError> {
-        let Some(seat) = Seat::read(alloc, row)? else {
-            return Ok(None);
-        };
-        let Some(advice) = own_advice(alloc, row, VERDICT, TEXT)? else {
-            return Ok(None);
-        };
+        let seat = in_form!(Seat::read(alloc, row)?);
+        let advice = in_form!(own_advice(alloc, row, VERDICT, TEXT)?);
         Ok(Some(AdvisedSeat { seat, advice }))
     }
 }

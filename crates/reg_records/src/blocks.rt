@@ -9,7 +9,7 @@ use crate::column::{
     flag, flag_value, name, name_value, printable, printable_value, whole, whole_value, word,
     word_value,
 };
-use crate::record::{Keyed, Record};
+use crate::record::{Keyed, Record, in_form};
 use reg_blocks::block::Block;
 use reg_blocks::size::Size;
 use reg_core::holding::Holding;
@@ -22,21 +22,11 @@ impl Record for Holding {
     ghost of = { holding_in };
 
     fn read(alloc: Global, row: &Row) -> Result<Option<Self>, AllocError> {
-        let Some(block) = block_in(row) else {
-            return Ok(None);
-        };
-        let Some(holder) = name(row, 2) else {
-            return Ok(None);
-        };
-        let Some(organization) = printable(alloc, row, 3)? else {
-            return Ok(None);
-        };
-        let Some(address) = printable(alloc, row, 4)? else {
-            return Ok(None);
-        };
-        let Some(private) = flag(row, 5) else {
-            return Ok(None);
-        };
+        let block = in_form!(block_in(row));
+        let holder = in_form!(name(row, 2));
+        let organization = in_form!(printable(alloc, row, 3)?);
+        let address = in_form!(printable(alloc, row, 4)?);
+        let private = in_form!(flag(row, 5));
         Ok(Some(Holding {
             block,
             holder,

@@ -11,7 +11,7 @@ ghost use Rattle.reg_records.specs.Entries.{entry_in, entry_values};
 use crate::column::{
     flag, flag_value, is_null, name, name_value, number, number_value, printable, printable_value,
 };
-use crate::record::{Keyed, Record};
+use crate::record::{Keyed, Record, in_form};
 use reg_core::entry::Entry;
 use reg_early::day::Day;
 use reg_early::term::Term;
@@ -24,27 +24,13 @@ impl Record for Entry {
     ghost of = { entry_in };
 
     fn read(alloc: Global, row: &Row) -> Result<Option<Self>, AllocError> {
-        let Some(registry) = name(row, 0) else {
-            return Ok(None);
-        };
-        let Some(value) = number(row, 1) else {
-            return Ok(None);
-        };
-        let Some(label) = printable(alloc, row, 2)? else {
-            return Ok(None);
-        };
-        let Some(assignee) = name(row, 3) else {
-            return Ok(None);
-        };
-        let Some(first) = day(row, 4) else {
-            return Ok(None);
-        };
-        let Some(expires) = day_or_null(row, 5) else {
-            return Ok(None);
-        };
-        let Some(renewed) = flag(row, 6) else {
-            return Ok(None);
-        };
+        let registry = in_form!(name(row, 0));
+        let value = in_form!(number(row, 1));
+        let label = in_form!(printable(alloc, row, 2)?);
+        let assignee = in_form!(name(row, 3));
+        let first = in_form!(day(row, 4));
+        let expires = in_form!(day_or_null(row, 5));
+        let renewed = in_form!(flag(row, 6));
         Ok(Some(Entry {
             registry,
             value,

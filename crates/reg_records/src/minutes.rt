@@ -5,7 +5,7 @@ ghost use Rattle.reg_core.specs.World.{name_cmp};
 ghost use Rattle.reg_records.specs.Minutes.{minute_in, minute_values};
 
 use crate::column::{name, name_value, printable, printable_value};
-use crate::record::{Keyed, Record};
+use crate::record::{Keyed, Record, in_form};
 use reg_core::text::{Account, Ref, Text};
 use reg_ranges::formed::Formed;
 use sqlite::Row;
@@ -25,15 +25,9 @@ impl Record for Minute {
     ghost of = { minute_in };
 
     fn read(alloc: Global, row: &Row) -> Result<Option<Self>, AllocError> {
-        let Some(account) = name(row, 0) else {
-            return Ok(None);
-        };
-        let Some(reference) = name(row, 1) else {
-            return Ok(None);
-        };
-        let Some(minute) = printable(alloc, row, 2)? else {
-            return Ok(None);
-        };
+        let account = in_form!(name(row, 0));
+        let reference = in_form!(name(row, 1));
+        let minute = in_form!(printable(alloc, row, 2)?);
         Ok(Some(Minute {
             account,
             reference,

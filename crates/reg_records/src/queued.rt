@@ -3,7 +3,7 @@ ghost use Rattle.reg_core.specs.World.{name_cmp};
 ghost use Rattle.reg_records.specs.Queued.{queued_in};
 
 use crate::advice::own_advice;
-use crate::record::{Keyed, Record};
+use crate::record::{Keyed, Record, in_form};
 use reg_core::advice::Advice;
 use reg_core::request::Request;
 use sqlite::Row;
@@ -26,9 +26,7 @@ impl Record for QueuedRequest {
     ghost of = { queued_in };
 
     fn read(alloc: Global, row: &Row) -> Result<Option<Self>, AllocError> {
-        let Some(request) = Request::read(alloc, row)? else {
-            return Ok(None);
-        };
+        let request = in_form!(Request::read(alloc, row)?);
         match own_advice(alloc, row, VERDICT, TEXT) {
             Ok(Some(advice)) => Ok(Some(QueuedRequest { request, advice })),
             Ok(None) => {

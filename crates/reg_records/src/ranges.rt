@@ -7,7 +7,7 @@ ghost use Rattle.reg_records.specs.Columns.{read_in};
 ghost use Rattle.reg_records.specs.Ranges.{note_text, range_in, range_values, read_note};
 
 use crate::column::{name, name_value, number, number_value, text, word, word_value};
-use crate::record::{Keyed, Record};
+use crate::record::{Keyed, Record, in_form};
 use reg_core::text::{Name, Text};
 use reg_ranges::formed::Formed;
 use reg_ranges::range::Range;
@@ -27,21 +27,11 @@ impl Record for RegistryRange {
     ghost of = { range_in };
 
     fn read(alloc: Global, row: &Row) -> Result<Option<Self>, AllocError> {
-        let Some(registry) = name(row, 0) else {
-            return Ok(None);
-        };
-        let Some(lo) = number(row, 1) else {
-            return Ok(None);
-        };
-        let Some(hi) = number(row, 2) else {
-            return Ok(None);
-        };
-        let Some(treatment) = word(row, 3) else {
-            return Ok(None);
-        };
-        let Some(note) = note(alloc, row, 4)? else {
-            return Ok(None);
-        };
+        let registry = in_form!(name(row, 0));
+        let lo = in_form!(number(row, 1));
+        let hi = in_form!(number(row, 2));
+        let treatment = in_form!(word(row, 3));
+        let note = in_form!(note(alloc, row, 4)?);
         Ok(Some(RegistryRange {
             registry,
             range: Range {
@@ -95,9 +85,7 @@ impl RegistryRange {
 fn note(alloc: Global, row: &Row, at: usize) -> Result<Option<Option<Text>>, AllocError>
     ensures { IfOk result (λ note. note ≡ read_in read_note (column row.now at)) }
 {
-    let Some(bytes) = text(row, at) else {
-        return Ok(None);
-    };
+    let bytes = in_form!(text(row, at));
     if bytes.is_empty() {
         return Ok(Some(None));
     }

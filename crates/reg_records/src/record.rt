@@ -7,6 +7,18 @@ use sqlite::Row;
 use std::alloc::{AllocError, Global};
 use std::cmp::Ordering;
 
+// What a column holds that has its form; of a row with one that has not, nothing is read.
+macro_rules! in_form {
+    ($read:expr) => {
+        match $read {
+            Some(value) => value,
+            None => return Ok(None),
+        }
+    };
+}
+
+pub(crate) use in_form;
+
 /// What a row of a table holds, where each column has its form.
 pub trait Record: Drop {
     /// What the columns of a row hold, in the order of the table's columns.

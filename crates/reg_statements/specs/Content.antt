@@ -67,7 +67,7 @@ seat_at row =
 
 unfoldable pub advice_at : Row → Option (Seat × Advice)
 advice_at row =
-    option_map (λ a. (((a.account, a.reference), a.expert), a.advice)) (advice_in (stored 5 row))
+    option_map (λ a. (((a.seat.account, a.seat.reference), a.seat.expert), a.advice)) (advice_in (stored 5 row))
 
 unfoldable pub prefix_at : Row → Option (ℕ × Unit {0})
 prefix_at row = option_map (λ prefix. (prefix, tt)) (prefix_in (stored 1 row))

@@ -104,9 +104,11 @@ advice = record {
   read = advice_in;
   values = advice_values;
   form = is_expert_advice;
-  pair = λ a. (((a.account, a.reference), a.expert), a.advice);
-  item = λ seat a.
-      record { account = seat.0.0; reference = seat.0.1; expert = seat.1; advice = a };
+  pair = λ a. (((a.seat.account, a.seat.reference), a.seat.expert), a.advice);
+  item = λ seat a. record {
+    seat = record { account = seat.0.0; reference = seat.0.1; expert = seat.1 };
+    advice = a;
+  };
   at = advice_at;
   rows = λ t. t.advice;
   part = λ p. p.advice;

@@ -1,10 +1,8 @@
 //! Statements that write.
-ghost use Rattle.std.specs.Prelude.{◌≡◌, IfErr, IfOk, OnOk};
-ghost use Rattle.std.specs.Prelude.{Ok as Done};
+ghost use Rattle.std.specs.Prelude.{◌≡◌, IfErr};
 ghost use Rattle.sqlite.specs.Held.{state};
-ghost use Rattle.sqlite.specs.State.{Executes, HasCleanDisk, KeepsCommit};
 ghost use Rattle.sqlite.specs.Values.{bound};
-ghost use Rattle.reg_tables.specs.Connection.{Endures, WentOn};
+ghost use Rattle.reg_tables.specs.Connection.{RunsInside};
 ghost use Rattle.reg_statements.specs.Reading.{IsFault, fault_of};
 
 use reg_keeper::keeper::Fault;
@@ -29,14 +27,8 @@ pub fn write<S: Alter>(
     params: &[ValueRef<'_>],
 ) -> Result<usize, Fault>
     ensures same_reference { tx.new.conn.ghost_name ≡ tx.old.conn.ghost_name }
-    ensures endures { Endures (state S.Store tx.old.conn.now) (state S.Store tx.new.conn.now) }
-    ensures kept { HasCleanDisk (state S.Store tx.new.conn.now)
-        → KeepsCommit (state S.Store tx.old.conn.now) (state S.Store tx.new.conn.now) }
-    ensures went { HasCleanDisk (state S.Store tx.new.conn.now)
-        → OnOk result (WentOn (state S.Store tx.old.conn.now) (state S.Store tx.new.conn.now)) }
-    ensures ran { HasCleanDisk (state S.Store tx.new.conn.now)
-        → IfOk result (λ count. Executes sql.now (bound params.now)
-        (state S.Store tx.old.conn.now) (state S.Store tx.new.conn.now) (Done count)) }
+    ensures runs { RunsInside sql.now (bound params.now) (state S.Store tx.old.conn.now)
+        (state S.Store tx.new.conn.now) result }
     ensures fault { IfErr result (IsFault (state S.Store tx.old.conn.now)
         (state S.Store tx.new.conn.now)) }
 {

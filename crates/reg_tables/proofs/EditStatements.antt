@@ -24,8 +24,6 @@ version_changes n = record {
   slot = refl;
   is = refl;
   plain = (refl, refl);
-  keyless = refl;
-  simple = refl;
   given = (refl, tt);
 }
 
@@ -50,8 +48,6 @@ module _ (account reference state : List ℕ) (given reason : Value)
     slot = refl;
     is = refl;
     plain = (refl, refl);
-    keyless = refl;
-    simple = refl;
     given = (refl, (typed.0, (typed.1, tt)));
   }
 
@@ -68,8 +64,6 @@ module _ (first private : ℤ) where
     slot = refl;
     is = refl;
     plain = (refl, refl);
-    keyless = refl;
-    simple = refl;
     given = (refl, tt);
   }
 

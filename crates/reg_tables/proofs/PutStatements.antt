@@ -65,8 +65,6 @@ module _ (account reference expert verdict text : List ℕ) where
     source = refl;
     casts = rw cast_null refl;
     casts_at = λ n. rw (cast_int n) refl;
-    keyless = refl;
-    simple = refl;
     given = λ id n. (refl, (refl, tt));
     made = λ id n row. refl;
     listed = has_got office_schema.indexes 7 advice_index refl;
@@ -124,8 +122,6 @@ module _ (registry : List ℕ) (value : ℤ) (label assignee : List ℕ) (first 
     source = refl;
     casts = rw (cast_null, same) refl;
     casts_at = λ n. rw (cast_int n, same) refl;
-    keyless = refl;
-    simple = refl;
     given = λ id n. (refl, (refl, (refl, (typed, (refl, tt)))));
     made = λ id n row. refl;
     listed = has_got office_schema.indexes 3 entries_index refl;

@@ -1,6 +1,7 @@
 -- What a connection to an office's store is between two statements, and what a call leaves of it.
-use Rattle.std.specs.Prelude.{◌≡◌, ◌≤◌, Bool, false, IsTrue}
-use Rattle.sqlite.specs.State.{State, HasCleanDisk}
+use Rattle.std.specs.Prelude.{◌≡◌, ◌≤◌, ℕ, Bool, false, IsTrue, List, Result, Ok, IfOk, OnOk}
+use Rattle.sqlite.specs.Order.{Row}
+use Rattle.sqlite.specs.State.{State, Executes, HasCleanDisk, KeepsCommit}
 use Rattle.reg_tables.specs.Schema.{office_schema}
 
 -- nothing else has written the store, it has returned what was written, and no fault has shut it
@@ -39,6 +40,14 @@ pub record WentOn (old new : State) : Type 0 where
   pub is_open : IsTrue new.is_open
   pub committed : new.committed ≡ old.committed
   pub live : IsTrue new.in_transaction
+
+-- a call that runs a statement inside a transaction, and tells of how many rows
+pub record RunsInside {E : Type 0} (sql : List ℕ) (params : Row) (old new : State)
+    (result : Result ℕ E) : Type 0 where
+  pub endures : Endures old new
+  pub kept : HasCleanDisk new → KeepsCommit old new
+  pub went : HasCleanDisk new → OnOk result (WentOn old new)
+  pub ran : HasCleanDisk new → IfOk result (λ count. Executes sql params old new (Ok count))
 
 -- the answer tells whether it holds
 pub record Tells (b : Bool) (P : Type 0) : Type 0 where

@@ -1,5 +1,5 @@
 -- The tables of an office.
-use Rattle.std.specs.Prelude.{ℕ, Bool, true, false, List, [], ◌∷◌, codes, None}
+use Rattle.std.specs.Prelude.{ℕ, Bool, true, false, List, [], ◌∷◌, map, codes, None}
 use Rattle.sqlite.specs.Collation.TheVariants.{Binary}
 use Rattle.sqlite.specs.declared.types.Value.TheVariants.{Null}
 use Rattle.sqlite_value.specs.Keys.{plain}
@@ -61,298 +61,169 @@ index name tree table columns = record {
   is_unique = true;
 }
 
-abbrev pub office_table : Table
-office_table = record {
-  name = codes "office";
-  tree = 0;
-  columns =
-      whole (codes "version") ∷
-      [];
+-- the first of its keys, if it has any
+abbrev primary_of : List (List ℕ) → List ℕ
+primary_of [] = []
+primary_of (key ∷ _) = key
+
+-- a table of these columns, keys and references, and of no other rule; the first key is the primary one
+abbrev table : List ℕ → ℕ → List Column → List (List ℕ) → List Reference → Table
+table name tree columns keys references = record {
+  name = name;
+  tree = tree;
+  columns = columns;
   key = None;
-  primary = [];
-  uniques = [];
-  orders = [];
+  primary = primary_of keys;
+  uniques = keys;
+  orders = map (λ _. plain) keys;
   checks = [];
-  references = [];
+  references = references;
   computed = [];
   stamps = record { places = []; terms = []; formats = [] };
   is_counted = false;
 }
+
+abbrev pub office_table : Table
+office_table = table (codes "office") 0
+    (whole (codes "version") ∷ [])
+    []
+    []
 
 abbrev pub caps_table : Table
-caps_table = record {
-  name = codes "caps";
-  tree = 1;
-  columns =
-      text (codes "digest") ∷
-      text (codes "account") ∷
-      text (codes "kind") ∷
-      whole (codes "until") ∷
-      [];
-  key = None;
-  primary = 1 ∷ [];
-  uniques = (1 ∷ []) ∷ [];
-  orders = plain ∷ [];
-  checks = [];
-  references = [];
-  computed = [];
-  stamps = record { places = []; terms = []; formats = [] };
-  is_counted = false;
-}
+caps_table = table (codes "caps") 1
+    (text (codes "digest") ∷
+    text (codes "account") ∷
+    text (codes "kind") ∷
+    whole (codes "until") ∷
+    [])
+    ((1 ∷ []) ∷ [])
+    []
 
 abbrev pub registries_table : Table
-registries_table = record {
-  name = codes "registries";
-  tree = 3;
-  columns =
-      text (codes "name") ∷
-      whole (codes "max") ∷
-      [];
-  key = None;
-  primary = 1 ∷ [];
-  uniques = (1 ∷ []) ∷ [];
-  orders = plain ∷ [];
-  checks = [];
-  references = [];
-  computed = [];
-  stamps = record { places = []; terms = []; formats = [] };
-  is_counted = false;
-}
+registries_table = table (codes "registries") 3
+    (text (codes "name") ∷
+    whole (codes "max") ∷
+    [])
+    ((1 ∷ []) ∷ [])
+    []
 
 abbrev pub ranges_table : Table
-ranges_table = record {
-  name = codes "ranges";
-  tree = 5;
-  columns =
-      text (codes "registry") ∷
-      whole (codes "lo") ∷
-      whole (codes "hi") ∷
-      text (codes "treatment") ∷
-      text (codes "note") ∷
-      [];
-  key = None;
-  primary = 1 ∷ 2 ∷ [];
-  uniques = (1 ∷ 2 ∷ []) ∷ [];
-  orders = plain ∷ [];
-  checks = [];
-  references = refers (1 ∷ []) (codes "registries")
-      (codes "name" ∷ []) ∷ [];
-  computed = [];
-  stamps = record { places = []; terms = []; formats = [] };
-  is_counted = false;
-}
+ranges_table = table (codes "ranges") 5
+    (text (codes "registry") ∷
+    whole (codes "lo") ∷
+    whole (codes "hi") ∷
+    text (codes "treatment") ∷
+    text (codes "note") ∷
+    [])
+    ((1 ∷ 2 ∷ []) ∷ [])
+    (refers (1 ∷ []) (codes "registries") (codes "name" ∷ []) ∷ [])
 
 abbrev pub entries_table : Table
-entries_table = record {
-  name = codes "entries";
-  tree = 7;
-  columns =
-      text (codes "registry") ∷
-      whole (codes "value") ∷
-      text (codes "label") ∷
-      text (codes "assignee") ∷
-      whole (codes "first") ∷
-      whole_or_null (codes "expires") ∷
-      whole (codes "renewed") ∷
-      [];
-  key = None;
-  primary = 1 ∷ 2 ∷ [];
-  uniques = (1 ∷ 2 ∷ []) ∷ [];
-  orders = plain ∷ [];
-  checks = [];
-  references = refers (1 ∷ []) (codes "registries")
-      (codes "name" ∷ []) ∷ [];
-  computed = [];
-  stamps = record { places = []; terms = []; formats = [] };
-  is_counted = false;
-}
+entries_table = table (codes "entries") 7
+    (text (codes "registry") ∷
+    whole (codes "value") ∷
+    text (codes "label") ∷
+    text (codes "assignee") ∷
+    whole (codes "first") ∷
+    whole_or_null (codes "expires") ∷
+    whole (codes "renewed") ∷
+    [])
+    ((1 ∷ 2 ∷ []) ∷ [])
+    (refers (1 ∷ []) (codes "registries") (codes "name" ∷ []) ∷ [])
 
 abbrev pub requests_table : Table
-requests_table = record {
-  name = codes "requests";
-  tree = 9;
-  columns =
-      text (codes "account") ∷
-      text (codes "reference") ∷
-      text (codes "kind") ∷
-      text_or_null (codes "registry") ∷
-      whole_or_null (codes "value") ∷
-      text_or_null (codes "least") ∷
-      text_or_null (codes "label") ∷
-      text_or_null (codes "contact") ∷
-      text_or_null (codes "specification") ∷
-      whole_or_null (codes "rfc_number") ∷
-      text_or_null (codes "rfc_stream") ∷
-      text_or_null (codes "rfc_track") ∷
-      text_or_null (codes "minute") ∷
-      text_or_null (codes "draft") ∷
-      whole_or_null (codes "stable") ∷
-      whole_or_null (codes "interest") ∷
-      text_or_null (codes "chair") ∷
-      text_or_null (codes "director") ∷
-      whole_or_null (codes "will_be_rfc") ∷
-      text_or_null (codes "size") ∷
-      text_or_null (codes "organization") ∷
-      text_or_null (codes "address") ∷
-      text (codes "state") ∷
-      text_or_null (codes "given") ∷
-      text_or_null (codes "reason") ∷
-      [];
-  key = None;
-  primary = 1 ∷ 2 ∷ [];
-  uniques = (1 ∷ 2 ∷ []) ∷ [];
-  orders = plain ∷ [];
-  checks = [];
-  references = [];
-  computed = [];
-  stamps = record { places = []; terms = []; formats = [] };
-  is_counted = false;
-}
+requests_table = table (codes "requests") 9
+    (text (codes "account") ∷
+    text (codes "reference") ∷
+    text (codes "kind") ∷
+    text_or_null (codes "registry") ∷
+    whole_or_null (codes "value") ∷
+    text_or_null (codes "least") ∷
+    text_or_null (codes "label") ∷
+    text_or_null (codes "contact") ∷
+    text_or_null (codes "specification") ∷
+    whole_or_null (codes "rfc_number") ∷
+    text_or_null (codes "rfc_stream") ∷
+    text_or_null (codes "rfc_track") ∷
+    text_or_null (codes "minute") ∷
+    text_or_null (codes "draft") ∷
+    whole_or_null (codes "stable") ∷
+    whole_or_null (codes "interest") ∷
+    text_or_null (codes "chair") ∷
+    text_or_null (codes "director") ∷
+    whole_or_null (codes "will_be_rfc") ∷
+    text_or_null (codes "size") ∷
+    text_or_null (codes "organization") ∷
+    text_or_null (codes "address") ∷
+    text (codes "state") ∷
+    text_or_null (codes "given") ∷
+    text_or_null (codes "reason") ∷
+    [])
+    ((1 ∷ 2 ∷ []) ∷ [])
+    []
 
 abbrev pub queue_table : Table
-queue_table = record {
-  name = codes "queue";
-  tree = 11;
-  columns =
-      text (codes "account") ∷
-      text (codes "reference") ∷
-      text (codes "expert") ∷
-      [];
-  key = None;
-  primary = 1 ∷ 2 ∷ 3 ∷ [];
-  uniques = (1 ∷ 2 ∷ 3 ∷ []) ∷ (3 ∷ 1 ∷ 2 ∷ []) ∷ [];
-  orders = plain ∷ plain ∷ [];
-  checks = [];
-  references = refers (1 ∷ 2 ∷ []) (codes "requests")
-      (codes "account" ∷ codes "reference" ∷ []) ∷ [];
-  computed = [];
-  stamps = record { places = []; terms = []; formats = [] };
-  is_counted = false;
-}
+queue_table = table (codes "queue") 11
+    (text (codes "account") ∷
+    text (codes "reference") ∷
+    text (codes "expert") ∷
+    [])
+    ((1 ∷ 2 ∷ 3 ∷ []) ∷ (3 ∷ 1 ∷ 2 ∷ []) ∷ [])
+    (refers (1 ∷ 2 ∷ []) (codes "requests") (codes "account" ∷ codes "reference" ∷ []) ∷ [])
 
 abbrev pub advice_table : Table
-advice_table = record {
-  name = codes "advice";
-  tree = 14;
-  columns =
-      text (codes "account") ∷
-      text (codes "reference") ∷
-      text (codes "expert") ∷
-      text (codes "verdict") ∷
-      text (codes "text") ∷
-      [];
-  key = None;
-  primary = 1 ∷ 2 ∷ 3 ∷ [];
-  uniques = (1 ∷ 2 ∷ 3 ∷ []) ∷ [];
-  orders = plain ∷ [];
-  checks = [];
-  references = refers (1 ∷ 2 ∷ 3 ∷ []) (codes "queue")
-      (codes "account" ∷ codes "reference" ∷ codes "expert" ∷ []) ∷ [];
-  computed = [];
-  stamps = record { places = []; terms = []; formats = [] };
-  is_counted = false;
-}
+advice_table = table (codes "advice") 14
+    (text (codes "account") ∷
+    text (codes "reference") ∷
+    text (codes "expert") ∷
+    text (codes "verdict") ∷
+    text (codes "text") ∷
+    [])
+    ((1 ∷ 2 ∷ 3 ∷ []) ∷ [])
+    (refers (1 ∷ 2 ∷ 3 ∷ []) (codes "queue") (codes "account" ∷ codes "reference" ∷ codes "expert" ∷ []) ∷ [])
 
 abbrev pub pool_table : Table
-pool_table = record {
-  name = codes "pool";
-  tree = 16;
-  columns =
-      whole (codes "prefix") ∷
-      [];
-  key = None;
-  primary = 1 ∷ [];
-  uniques = (1 ∷ []) ∷ [];
-  orders = plain ∷ [];
-  checks = [];
-  references = [];
-  computed = [];
-  stamps = record { places = []; terms = []; formats = [] };
-  is_counted = false;
-}
+pool_table = table (codes "pool") 16
+    (whole (codes "prefix") ∷ [])
+    ((1 ∷ []) ∷ [])
+    []
 
 abbrev pub blocks_table : Table
-blocks_table = record {
-  name = codes "blocks";
-  tree = 18;
-  columns =
-      whole (codes "first") ∷
-      text (codes "size") ∷
-      text (codes "holder") ∷
-      text (codes "organization") ∷
-      text (codes "address") ∷
-      whole (codes "private") ∷
-      [];
-  key = None;
-  primary = 1 ∷ [];
-  uniques = (1 ∷ []) ∷ (3 ∷ 1 ∷ []) ∷ [];
-  orders = plain ∷ plain ∷ [];
-  checks = [];
-  references = [];
-  computed = [];
-  stamps = record { places = []; terms = []; formats = [] };
-  is_counted = false;
-}
+blocks_table = table (codes "blocks") 18
+    (whole (codes "first") ∷
+    text (codes "size") ∷
+    text (codes "holder") ∷
+    text (codes "organization") ∷
+    text (codes "address") ∷
+    whole (codes "private") ∷
+    [])
+    ((1 ∷ []) ∷ (3 ∷ 1 ∷ []) ∷ [])
+    []
 
 abbrev pub holds_table : Table
-holds_table = record {
-  name = codes "holds";
-  tree = 21;
-  columns =
-      text (codes "registry") ∷
-      whole (codes "value") ∷
-      [];
-  key = None;
-  primary = 1 ∷ 2 ∷ [];
-  uniques = (1 ∷ 2 ∷ []) ∷ [];
-  orders = plain ∷ [];
-  checks = [];
-  references = refers (1 ∷ 2 ∷ []) (codes "entries")
-      (codes "registry" ∷ codes "value" ∷ []) ∷ [];
-  computed = [];
-  stamps = record { places = []; terms = []; formats = [] };
-  is_counted = false;
-}
+holds_table = table (codes "holds") 21
+    (text (codes "registry") ∷
+    whole (codes "value") ∷
+    [])
+    ((1 ∷ 2 ∷ []) ∷ [])
+    (refers (1 ∷ 2 ∷ []) (codes "entries") (codes "registry" ∷ codes "value" ∷ []) ∷ [])
 
 abbrev pub minutes_table : Table
-minutes_table = record {
-  name = codes "minutes";
-  tree = 23;
-  columns =
-      text (codes "account") ∷
-      text (codes "reference") ∷
-      text (codes "minute") ∷
-      [];
-  key = None;
-  primary = 1 ∷ 2 ∷ [];
-  uniques = (1 ∷ 2 ∷ []) ∷ [];
-  orders = plain ∷ [];
-  checks = [];
-  references = refers (1 ∷ 2 ∷ []) (codes "requests")
-      (codes "account" ∷ codes "reference" ∷ []) ∷ [];
-  computed = [];
-  stamps = record { places = []; terms = []; formats = [] };
-  is_counted = false;
-}
+minutes_table = table (codes "minutes") 23
+    (text (codes "account") ∷
+    text (codes "reference") ∷
+    text (codes "minute") ∷
+    [])
+    ((1 ∷ 2 ∷ []) ∷ [])
+    (refers (1 ∷ 2 ∷ []) (codes "requests") (codes "account" ∷ codes "reference" ∷ []) ∷ [])
 
 abbrev pub agents_table : Table
-agents_table = record {
-  name = codes "agents";
-  tree = 25;
-  columns =
-      text (codes "principal") ∷
-      text (codes "agent") ∷
-      [];
-  key = None;
-  primary = 1 ∷ 2 ∷ [];
-  uniques = (1 ∷ 2 ∷ []) ∷ (2 ∷ 1 ∷ []) ∷ [];
-  orders = plain ∷ plain ∷ [];
-  checks = [];
-  references = [];
-  computed = [];
-  stamps = record { places = []; terms = []; formats = [] };
-  is_counted = false;
-}
+agents_table = table (codes "agents") 25
+    (text (codes "principal") ∷
+    text (codes "agent") ∷
+    [])
+    ((1 ∷ 2 ∷ []) ∷ (2 ∷ 1 ∷ []) ∷ [])
+    []
 
 -- the texts that make the tables, in order
 abbrev pub office_texts : List (List ℕ)

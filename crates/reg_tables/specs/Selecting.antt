@@ -80,6 +80,10 @@ equals pairs = map (λ p. op2 (Compare Eq Binary) (col 1 p.0) (col 0 p.1)) pairs
 abbrev pub columns_of : ℕ → List Term
 columns_of n = map (col 1) (range_with_len 1 n)
 
+-- and their names
+abbrev pub column_names : Table → List (List ℕ)
+column_names table = map (λ c. c.name) table.columns
+
 -- in the order of the columns at these places
 abbrev pub ordered_by : List ℕ → List (Term × Key)
 ordered_by places = map (λ c. (col 1 c, ascending Binary)) places

@@ -1,11 +1,10 @@
 //! Statements that write, inside a transaction.
 
-ghost use Rattle.std.specs.Prelude.{◌≡◌, ◌≤◌, IfErr, IfOk, OnOk};
+ghost use Rattle.std.specs.Prelude.{◌≡◌, ◌≤◌, IfErr};
 ghost use Rattle.sqlite_trees.specs.View.{doubt};
 ghost use Rattle.sqlite.specs.Held.{state};
-ghost use Rattle.sqlite.specs.State.{HasCleanDisk, KeepsCommit, Executes};
 ghost use Rattle.sqlite.specs.Values.{bound};
-ghost use Rattle.reg_tables.specs.Connection.{Endures, WentOn};
+ghost use Rattle.reg_tables.specs.Connection.{RunsInside};
 ghost use Rattle.reg_tables.specs.Faulting.{IsExcused};
 
 use sqlite::types::ValueRef;
@@ -20,14 +19,8 @@ pub fn run<S: Alter>(
     ensures same_reference { tx.new.conn.ghost_name ≡ tx.old.conn.ghost_name }
     ensures clean { doubt (state S.Store tx.old.conn.now).is_clean
         ≤ doubt (state S.Store tx.new.conn.now).is_clean }
-    ensures endures { Endures (state S.Store tx.old.conn.now) (state S.Store tx.new.conn.now) }
-    ensures kept { HasCleanDisk (state S.Store tx.new.conn.now)
-        → KeepsCommit (state S.Store tx.old.conn.now) (state S.Store tx.new.conn.now) }
-    ensures went { HasCleanDisk (state S.Store tx.new.conn.now)
-        → OnOk result (WentOn (state S.Store tx.old.conn.now) (state S.Store tx.new.conn.now)) }
-    ensures ran { HasCleanDisk (state S.Store tx.new.conn.now)
-        → IfOk result (λ count. Executes sql.now (bound params.now)
-        (state S.Store tx.old.conn.now) (state S.Store tx.new.conn.now) (Ok count)) }
+    ensures runs { RunsInside sql.now (bound params.now) (state S.Store tx.old.conn.now)
+        (state S.Store tx.new.conn.now) result }
     ensures cause { IfErr result (IsExcused (state S.Store tx.old.conn.now)
         (state S.Store tx.new.conn.now)) }
 {

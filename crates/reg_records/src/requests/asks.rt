@@ -3,6 +3,7 @@ ghost use Rattle.std.specs.Prelude.{◌≡◌, ◌-◌, IfOk};
 ghost use Rattle.reg_records.specs.Requests.Reading.{are_null, want_in, rfc_of, rfc_in, evidence_in, early_in, code_in, early_ask_in, renewal_in, permanence_in, block_in, ask_in};
 
 use crate::column;
+use crate::record::in_form;
 use crate::requests::{
     ADDRESS, CHAIR, CONTACT, DIRECTOR, DRAFT, INTEREST, KIND, LABEL, LEAST, MINUTE, ORGANIZATION,
     REGISTRY, RFC_NUMBER, RFC_STREAM, RFC_TRACK, SIZE, SPECIFICATION, STABLE, STATE, VALUE,
@@ -21,9 +22,7 @@ use std::ops::Range;
 pub(crate) fn ask(alloc: Global, row: &Row) -> Result<Option<Ask>, AllocError>
     ensures { IfOk result (λ ask. ask ≡ ask_in row.now) }
 {
-    let Some(kind) = column::word(row, KIND) else {
-        return Ok(None);
-    };
+    let kind = in_form!(column::word(row, KIND));
     match kind {
         AskKind::Code => Ok(code(alloc, row)?.map(Ask::Code)),
         AskKind::Early => Ok(early(alloc, row)?.map(Ask::Early)),
@@ -47,23 +46,11 @@ fn code(alloc: Global, row: &Row) -> Result<Option<CodeAsk>, AllocError>
     if !are_null(row, DRAFT..STATE) {
         return Ok(None);
     }
-    let Some(registry) = column::name(row, REGISTRY) else {
-        return Ok(None);
-    };
-    let Some(want) = want(row) else {
-        return Ok(None);
-    };
-    let Some(label) = column::printable(alloc, row, LABEL)? else {
-        return Ok(None);
-    };
-    let Some(evidence) = evidence(alloc, row)? else {
-        return Ok(None);
-    };
     Ok(Some(CodeAsk {
-        registry,
-        want,
-        label,
-        evidence,
+        registry: in_form!(column::name(row, REGISTRY)),
+        want: in_form!(want(row)),
+        label: in_form!(column::printable(alloc, row, LABEL)?),
+        evidence: in_form!(evidence(alloc, row)?),
     }))
 }
 
@@ -74,23 +61,11 @@ fn early(alloc: Global, row: &Row) -> Result<Option<EarlyAsk>, AllocError>
     if !are_null(row, CONTACT..DRAFT) || !are_null(row, SIZE..STATE) {
         return Ok(None);
     }
-    let Some(registry) = column::name(row, REGISTRY) else {
-        return Ok(None);
-    };
-    let Some(want) = want(row) else {
-        return Ok(None);
-    };
-    let Some(label) = column::printable(alloc, row, LABEL)? else {
-        return Ok(None);
-    };
-    let Some(evidence) = early_evidence(alloc, row)? else {
-        return Ok(None);
-    };
     Ok(Some(EarlyAsk {
-        registry,
-        want,
-        label,
-        evidence,
+        registry: in_form!(column::name(row, REGISTRY)),
+        want: in_form!(want(row)),
+        label: in_form!(column::printable(alloc, row, LABEL)?),
+        evidence: in_form!(early_evidence(alloc, row)?),
     }))
 }
 
@@ -101,19 +76,10 @@ fn renewal(alloc: Global, row: &Row) -> Result<Option<RenewalAsk>, AllocError>
     if !are_null(row, LEAST..DRAFT) || !are_null(row, SIZE..STATE) {
         return Ok(None);
     }
-    let Some(registry) = column::name(row, REGISTRY) else {
-        return Ok(None);
-    };
-    let Some(value) = column::number(row, VALUE) else {
-        return Ok(None);
-    };
-    let Some(evidence) = early_evidence(alloc, row)? else {
-        return Ok(None);
-    };
     Ok(Some(RenewalAsk {
-        registry,
-        value,
-        evidence,
+        registry: in_form!(column::name(row, REGISTRY)),
+        value: in_form!(column::number(row, VALUE)),
+        evidence: in_form!(early_evidence(alloc, row)?),
         iesg: None,
     }))
 }
@@ -125,19 +91,10 @@ fn permanence(alloc: Global, row: &Row) -> Result<Option<PermanenceAsk>, AllocEr
     if !are_null(row, LEAST..CONTACT) || !are_null(row, DRAFT..STATE) {
         return Ok(None);
     }
-    let Some(registry) = column::name(row, REGISTRY) else {
-        return Ok(None);
-    };
-    let Some(value) = column::number(row, VALUE) else {
-        return Ok(None);
-    };
-    let Some(evidence) = evidence(alloc, row)? else {
-        return Ok(None);
-    };
     Ok(Some(PermanenceAsk {
-        registry,
-        value,
-        evidence,
+        registry: in_form!(column::name(row, REGISTRY)),
+        value: in_form!(column::number(row, VALUE)),
+        evidence: in_form!(evidence(alloc, row)?),
     }))
 }
 
@@ -148,19 +105,10 @@ fn block(alloc: Global, row: &Row) -> Result<Option<BlockAsk>, AllocError>
     if !are_null(row, REGISTRY..SIZE) {
         return Ok(None);
     }
-    let Some(size) = column::word(row, SIZE) else {
-        return Ok(None);
-    };
-    let Some(organization) = column::printable(alloc, row, ORGANIZATION)? else {
-        return Ok(None);
-    };
-    let Some(address) = column::printable(alloc, row, ADDRESS)? else {
-        return Ok(None);
-    };
     Ok(Some(BlockAsk {
-        size,
-        organization,
-        address,
+        size: in_form!(column::word(row, SIZE)),
+        organization: in_form!(column::printable(alloc, row, ORGANIZATION)?),
+        address: in_form!(column::printable(alloc, row, ADDRESS)?),
     }))
 }
 
@@ -181,23 +129,11 @@ fn want(row: &Row) -> Option<Want>
 fn evidence(alloc: Global, row: &Row) -> Result<Option<Evidence>, AllocError>
     ensures { IfOk result (λ evidence. evidence ≡ evidence_in row.now) }
 {
-    let Some(contact) = column::printable_or_null(alloc, row, CONTACT)? else {
-        return Ok(None);
-    };
-    let Some(spec) = column::printable_or_null(alloc, row, SPECIFICATION)? else {
-        return Ok(None);
-    };
-    let Some(rfc) = rfc(row) else {
-        return Ok(None);
-    };
-    let Some(minute) = column::printable_or_null(alloc, row, MINUTE)? else {
-        return Ok(None);
-    };
     Ok(Some(Evidence {
-        contact,
-        spec,
-        rfc,
-        minute,
+        contact: in_form!(column::printable_or_null(alloc, row, CONTACT)?),
+        spec: in_form!(column::printable_or_null(alloc, row, SPECIFICATION)?),
+        rfc: in_form!(rfc(row)),
+        minute: in_form!(column::printable_or_null(alloc, row, MINUTE)?),
     }))
 }
 
@@ -225,30 +161,12 @@ fn rfc_of(number: u32, stream: Stream, track: Track) -> Option<Rfc>
 fn early_evidence(alloc: Global, row: &Row) -> Result<Option<EarlyEvidence>, AllocError>
     ensures { IfOk result (λ evidence. evidence ≡ early_in row.now) }
 {
-    let Some(draft) = column::printable_or_null(alloc, row, DRAFT)? else {
-        return Ok(None);
-    };
-    let Some(stable) = column::flag(row, STABLE) else {
-        return Ok(None);
-    };
-    let Some(interest) = column::flag(row, INTEREST) else {
-        return Ok(None);
-    };
-    let Some(chair) = column::printable_or_null(alloc, row, CHAIR)? else {
-        return Ok(None);
-    };
-    let Some(director) = column::printable_or_null(alloc, row, DIRECTOR)? else {
-        return Ok(None);
-    };
-    let Some(will_be_rfc) = column::flag(row, WILL_BE_RFC) else {
-        return Ok(None);
-    };
     Ok(Some(EarlyEvidence {
-        draft,
-        stable,
-        interest,
-        chair,
-        director,
-        will_be_rfc,
+        draft: in_form!(column::printable_or_null(alloc, row, DRAFT)?),
+        stable: in_form!(column::flag(row, STABLE)),
+        interest: in_form!(column::flag(row, INTEREST)),
+        chair: in_form!(column::printable_or_null(alloc, row, CHAIR)?),
+        director: in_form!(column::printable_or_null(alloc, row, DIRECTOR)?),
+        will_be_rfc: in_form!(column::flag(row, WILL_BE_RFC)),
     }))
 }

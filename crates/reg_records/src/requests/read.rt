@@ -3,7 +3,7 @@ ghost use Rattle.reg_core.specs.World.{name_cmp};
 ghost use Rattle.reg_records.specs.Requests.Reading.{request_in};
 
 use crate::column;
-use crate::record::{Keyed, Record};
+use crate::record::{Keyed, Record, in_form};
 use crate::requests::asks::ask;
 use crate::requests::states::state;
 use crate::requests::{ACCOUNT, REFERENCE};
@@ -17,15 +17,9 @@ impl Record for Request {
 
     #[tactic(auto, unfolding(crate::specs::Requests::Reading::request_in))]
     fn read(alloc: Global, row: &Row) -> Result<Option<Self>, AllocError> {
-        let Some(account) = column::name(row, ACCOUNT) else {
-            return Ok(None);
-        };
-        let Some(reference) = column::name(row, REFERENCE) else {
-            return Ok(None);
-        };
-        let Some(ask) = ask(alloc, row)? else {
-            return Ok(None);
-        };
+        let account = in_form!(column::name(row, ACCOUNT));
+        let reference = in_form!(column::name(row, REFERENCE));
+        let ask = in_form!(ask(alloc, row)?);
         match state(alloc, row, &ask) {
             Ok(Some(state)) => Ok(Some(Request {
                 account,

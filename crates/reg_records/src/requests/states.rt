@@ -5,6 +5,7 @@ ghost use Rattle.reg_records.specs.Columns.{read_in};
 ghost use Rattle.reg_records.specs.Requests.Reading.{approved_in, declined_in, read_given, state_in, written_block};
 
 use crate::column;
+use crate::record::in_form;
 use crate::requests::asks::are_null;
 use crate::requests::{COUNT, GIVEN, REASON, STATE};
 use reg_blocks::block::Block;
@@ -19,9 +20,7 @@ use std::alloc::{AllocError, Global};
 pub(crate) fn state(alloc: Global, row: &Row, ask: &Ask) -> Result<Option<State>, AllocError>
     ensures { IfOk result (λ state. state ≡ state_in ask.now row.now) }
 {
-    let Some(word) = column::word(row, STATE) else {
-        return Ok(None);
-    };
+    let word = in_form!(column::word(row, STATE));
     match word {
         StateWord::Pending => Ok(are_null(row, GIVEN..COUNT).then_some(State::Pending)),
         StateWord::Approved => approved(alloc, row, ask),
@@ -54,9 +53,7 @@ fn given(alloc: Global, row: &Row, ask: &Ask) -> Result<Option<Given>, AllocErro
     ensures { IfOk result
         (λ given. given ≡ read_in (read_given ask.now) (column row.now GIVEN)) }
 {
-    let Some(text) = column::text(row, GIVEN) else {
-        return Ok(None);
-    };
+    let text = in_form!(column::text(row, GIVEN));
     match ask {
         Ask::Block(_) => Ok(written_block(alloc, text)?.map(Given::Block)),
         Ask::Code(_) | Ask::Early(_) | Ask::Renew(_) | Ask::Permanent(_) => {
@@ -69,9 +66,7 @@ fn given(alloc: Global, row: &Row, ask: &Ask) -> Result<Option<Given>, AllocErro
 fn written_block(alloc: Global, text: &[u8]) -> Result<Option<Block>, AllocError>
     ensures { IfOk result (λ block. block ≡ written_block text.now) }
 {
-    let Some(block) = Block::read(text) else {
-        return Ok(None);
-    };
+    let block = in_form!(Block::read(text));
     if block.text(alloc)?.as_bytes() == text {
         Ok(Some(block))
     } else {

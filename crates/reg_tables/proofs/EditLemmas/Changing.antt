@@ -1,9 +1,9 @@
 -- What an UPDATE does to the rows of a table.
-use Rattle.std.proofs.Common.{◌≡◌, ℕ, List, ◌∷◌, map, drop, filter, not, slice_get, Bool, true}
-use Rattle.std.proofs.Common.{Some, None, Ok, refl, sym, ap, subst, ◌∙◌}
+use Rattle.std.proofs.Common.{◌≡◌, ℕ, List, ◌∷◌, map, drop, filter, not, slice_get, Bool, true, false}
+use Rattle.std.proofs.Common.{Option, Some, None, is_some, Ok, refl, sym, ap, subst, ◌∙◌}
 use Rattle.std.specs.List.{list_all}
 use Rattle.std.specs.List.Sorted.{IsPermutation}
-use Rattle.std.proofs.lemmas.Bool.{and_parts, cond_both}
+use Rattle.std.proofs.lemmas.Bool.{and_parts, cond_both, not-true}
 use Rattle.sqlite.specs.Order.{Row}
 use Rattle.sqlite.specs.Table.{Table}
 use Rattle.sqlite.specs.Tree.{Trees, rowid}
@@ -21,7 +21,7 @@ use Rattle.sqlite_rules.specs.Calls.{ids_of}
 use Rattle.sqlite_rules.specs.Cast.{cast_row}
 use Rattle.sqlite_rules.specs.Edit.{Edit, edit_of, are_fresh}
 use Rattle.sqlite_rules.specs.Lists.{Has}
-use Rattle.sqlite_rules.proofs.ListLemmas.{has_got}
+use Rattle.sqlite_rules.proofs.ListLemmas.{has_got, test_has}
 use Rattle.sqlite_rules.proofs.PlaceLemmas.{given}
 use Rattle.sqlite_rules.proofs.RuleLemmas.{keeps_at}
 use Rattle.reg_tables.specs.Schema.{office_schema}
@@ -41,20 +41,33 @@ pub record Changes (sql : List ℕ) (at : ℕ) (table : Table) (tests project : 
   pub is : command_of (understood office_schema sql)
       ≡ Update at (finding table.tree tests (col 1 0 ∷ col 1 0 ∷ project))
   pub plain : IsPlain (understood office_schema sql)
-  pub keyless : table.key ≡ None
-  pub simple : list_all is_simple table.columns ≡ true
   pub given : AreGiven 1 table.columns params project
+
+is_missing : {X : Type 0} (o : Option X) → is_some o ≡ false → o ≡ None
+is_missing None missing = refl
+is_missing (Some x) missing = absurd (cc)
+
+-- no table of an office has its rowid in a column
+keyless : (table : Table) → Has office_schema.tables table → table.key ≡ None
+keyless table listed =
+    is_missing table.key (not-true (is_some table.key)
+    (test_has (λ (t : Table). not (is_some t.key)) office_schema.tables table refl listed))
+
+-- and each has simple columns
+simple : (table : Table) → Has office_schema.tables table → list_all is_simple table.columns ≡ true
+simple table =
+    test_has (λ (t : Table). list_all is_simple t.columns) office_schema.tables table refl
 
 -- a row, changed so, is stored as it is shown
 stored_as_shown : (table : Table) (project : List Term) (params : Row) (db : Database)
-    → Has office_schema.tables table → table.key ≡ None → list_all is_simple table.columns ≡ true
+    → Has office_schema.tables table
     → AreGiven 1 table.columns params project → db.schema ≡ office_schema → IsDatabase db
     → AreKeyed (db.trees table.tree) → (row : Row) → Has (db.trees table.tree) row
     → cast_row table (shows (col 1 0 ∷ project) params row) ≡ shows (col 1 0 ∷ project) params row
-stored_as_shown table project params db listed keyless simple given has sound keyed row there =
+stored_as_shown table project params db listed given has sound keyed row there =
     let kept = keeps_at Datatype db.schema db.trees table row (sound.obeys.rules Datatype)
     (rw has listed) there in
-    cast_shown params row table project keyless simple given (keyed.whole row there)
+    cast_shown params row table project (keyless table listed) (simple table listed) given (keyed.whole row there)
     (and_parts _ _ kept).0
 
 -- the rows that were found are replaced
@@ -97,16 +110,15 @@ module _ (table : Table) (tests project : List Term) (params : Row) (db next : T
 
 -- what was found and edited is changed, and each other table is as it was
 pub changed_found : (table : Table) (tests project : List Term) (params : Row) (old new : Database)
-    (next : Trees) → Has office_schema.tables table → table.key ≡ None
-    → list_all is_simple table.columns ≡ true → AreGiven 1 table.columns params project
+    (next : Trees) → Has office_schema.tables table → AreGiven 1 table.columns params project
     → old.schema ≡ office_schema → IsDatabase old → AreKeyed (old.trees table.tree)
     → IsDatabase new → new ≡ office_at next
     → EditsFound table tests (col 1 0 ∷ col 1 0 ∷ project) params 1 (λ rows. rows) old.trees next
     → ChangedRows table.tree tests (col 1 0 ∷ project) params old new
-changed_found table tests project params old new next listed keyless simple given has sound keyed
+changed_found table tests project params old new next listed given has sound keyed
     after is edits =
     let db = old.trees in
-    let stored = stored_as_shown table project params old listed keyless simple given has sound
+    let stored = stored_as_shown table project params old listed given has sound
     keyed in
     let goes = passes tests params in
     let by = shows (col 1 0 ∷ project) params in
@@ -145,5 +157,5 @@ changes sql at table tests project params old new count a has sound keyed h =
     let edits = edits_found old.step_limit table tests terms params 1 (λ rows. rows)
     (λ rows. (edit rows).news) db done.0 done.1 in
     changed_found table tests project params old.now new.now done.0.trees
-    (has_got office_schema.tables at table a.slot) a.keyless a.simple a.given has sound keyed w.sound
+    (has_got office_schema.tables at table a.slot) a.given has sound keyed w.sound
     done.2 edits

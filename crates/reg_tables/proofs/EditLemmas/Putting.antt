@@ -3,7 +3,6 @@ use Rattle.std.proofs.Common.{◌≡◌, ◌⊎◌, inl, inr, ℕ, ℤ, List, []
 use Rattle.std.proofs.Common.{◌+◌, ◌/◌, ◌&&◌, slice_get, Bool, true, false, if◌then◌else◌}
 use Rattle.std.proofs.Common.{Option, Some, None, Ok, refl, sym, ap, subst, ◌∙◌, Equal}
 use Rattle.std.proofs.Common.{Less, Greater}
-use Rattle.std.specs.List.{list_all}
 use Rattle.std.specs.List.Sorted.{IsPermutation}
 use Rattle.std.proofs.lemmas.Bool.{and_parts, and_from, both_ways, cases_Bool, not-true}
 use Rattle.std.proofs.lemmas.Bool.{false_from_ne_true}
@@ -57,7 +56,7 @@ use Rattle.reg_tables.proofs.Library.QuietReferences.{quiet_works}
 use Rattle.reg_tables.proofs.InsertLemmas.{quiet_office}
 use Rattle.reg_tables.proofs.Library.Parts.{chosen, same_ok, went}
 use Rattle.reg_tables.proofs.ValueLemmas.{passes_equals, same_value-Int}
-use Rattle.reg_tables.proofs.Library.Casts.{AreGiven, is_simple}
+use Rattle.reg_tables.proofs.Library.Casts.{AreGiven}
 use Rattle.reg_tables.proofs.EditLemmas.Changing.{changed_found}
 use Rattle.reg_tables.proofs.EditLemmas.Inserting.{uncounts}
 use Rattle.reg_tables.proofs.Library.RowLists.{map_same}
@@ -93,8 +92,6 @@ pub record Puts (sql : List ℕ) (at : ℕ) (table : Table) (terms : List Term) 
       (length terms / (length params + 1)) terms ≡ (Null ∷ params) ∷ []
   pub casts : cast_row table (Null ∷ params) ≡ Null ∷ params
   pub casts_at : (n : ℤ) → cast_row table (Int n ∷ params) ≡ Int n ∷ params
-  pub keyless : table.key ≡ None
-  pub simple : list_all is_simple table.columns ≡ true
   pub given : (id : Value) (n : ℤ)
       → AreGiven 1 table.columns (updating table params id (Int n ∷ params)) project
   pub made : (id : Value) (n : ℤ) (row : Row)
@@ -355,7 +352,7 @@ module _ (sql : List ℕ) (at : ℕ) (table : Table) (terms : List Term) (index 
       let edits = edits_found limit table tests (col 1 0 ∷ col 1 0 ∷ project) (given_to (rowid r)) 1
       (λ rows. rows) (λ rows. (edit rows).news) db one h in
       let found = changed_found table tests project (given_to (rowid r)) old new one.trees listed
-      a.keyless a.simple (a.given (rowid r) id) office.schema office.sound keyed sound is edits in
+      (a.given (rowid r) id) office.schema office.sound keyed sound is edits in
       let like = sym (a.meets id r) ∙ hits in
       let changed = alters_as table.tree (passes tests (given_to (rowid r))) (has_all key)
       (shows (col 1 0 ∷ project) (given_to (rowid r))) by old new

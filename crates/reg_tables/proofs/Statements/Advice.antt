@@ -1,13 +1,13 @@
 -- What the queries on the table of the advice select.
-use Rattle.std.proofs.Common.{ℕ, List, [], ◌∷◌, codes, refl}
+use Rattle.std.proofs.Common.{ℕ, List, [], ◌∷◌, refl}
 use Rattle.sqlite.specs.Listing.{understood}
 use Rattle.sqlite_tied.specs.Compute.{everything}
-use Rattle.reg_tables.specs.Selecting.{Selects, equals, columns_of}
+use Rattle.reg_tables.specs.Schema.{advice_table}
+use Rattle.reg_tables.specs.Selecting.{column_names, Selects, equals, columns_of}
 use Rattle.reg_tables.specs.Texts.{select_advice_row}
 
 abbrev names : List (List ℕ)
-names =
-    codes "account" ∷ codes "reference" ∷ codes "expert" ∷ codes "verdict" ∷ codes "text" ∷ []
+names = column_names advice_table
 
 pub advice_by_key : Selects 8 select_advice_row 14 (equals ((1, 0) ∷ (2, 1) ∷ (3, 2) ∷ [])) (columns_of 5)
     []

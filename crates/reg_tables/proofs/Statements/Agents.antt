@@ -1,13 +1,13 @@
 -- What the queries on the table of the agents select.
-use Rattle.std.proofs.Common.{ℕ, List, [], ◌∷◌, codes, refl}
+use Rattle.std.proofs.Common.{ℕ, List, [], ◌∷◌, refl}
 use Rattle.sqlite.specs.Listing.{understood}
 use Rattle.sqlite_tied.specs.Compute.{everything}
-use Rattle.reg_tables.specs.Selecting.{Selects, equals, columns_of, ordered_by}
+use Rattle.reg_tables.specs.Schema.{agents_table}
+use Rattle.reg_tables.specs.Selecting.{column_names, Selects, equals, columns_of, ordered_by}
 use Rattle.reg_tables.specs.Texts.{select_agent, select_agents_of, select_principals_of}
 
 abbrev names : List (List ℕ)
-names =
-    codes "principal" ∷ codes "agent" ∷ []
+names = column_names agents_table
 
 pub agent_by_key : Selects 13 select_agent 25 (equals ((1, 0) ∷ (2, 1) ∷ [])) (columns_of 2)
     []

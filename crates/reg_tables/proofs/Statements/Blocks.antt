@@ -1,14 +1,13 @@
 -- What the queries on the table of the blocks select.
-use Rattle.std.proofs.Common.{ℕ, List, [], ◌∷◌, codes, refl}
+use Rattle.std.proofs.Common.{ℕ, List, [], ◌∷◌, refl}
 use Rattle.sqlite.specs.Listing.{understood}
 use Rattle.sqlite_tied.specs.Compute.{everything}
-use Rattle.reg_tables.specs.Selecting.{Selects, equals, columns_of, ordered_by}
+use Rattle.reg_tables.specs.Schema.{blocks_table}
+use Rattle.reg_tables.specs.Selecting.{column_names, Selects, equals, columns_of, ordered_by}
 use Rattle.reg_tables.specs.Texts.{select_block, select_blocks_of, select_blocks}
 
 abbrev names : List (List ℕ)
-names =
-    codes "first" ∷ codes "size" ∷ codes "holder" ∷ codes "organization" ∷ codes "address" ∷
-    codes "private" ∷ []
+names = column_names blocks_table
 
 pub block_by_key : Selects 10 select_block 18 (equals ((1, 0) ∷ [])) (columns_of 6)
     []

@@ -1,14 +1,13 @@
 -- What the queries on the table of the entries select.
-use Rattle.std.proofs.Common.{ℕ, List, [], ◌∷◌, codes, refl}
+use Rattle.std.proofs.Common.{ℕ, List, [], ◌∷◌, refl}
 use Rattle.sqlite.specs.Listing.{understood}
 use Rattle.sqlite_tied.specs.Compute.{everything}
-use Rattle.reg_tables.specs.Selecting.{Selects, equals, columns_of, ordered_by}
+use Rattle.reg_tables.specs.Schema.{entries_table}
+use Rattle.reg_tables.specs.Selecting.{column_names, Selects, equals, columns_of, ordered_by}
 use Rattle.reg_tables.specs.Texts.{select_entry, select_entries_of, select_entries}
 
 abbrev names : List (List ℕ)
-names =
-    codes "registry" ∷ codes "value" ∷ codes "label" ∷ codes "assignee" ∷ codes "first" ∷
-    codes "expires" ∷ codes "renewed" ∷ []
+names = column_names entries_table
 
 pub entry_by_key : Selects 5 select_entry 7 (equals ((1, 0) ∷ (2, 1) ∷ [])) (columns_of 7)
     []

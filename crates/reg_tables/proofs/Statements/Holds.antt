@@ -1,13 +1,13 @@
 -- What the queries on the table of the entries that are held select.
-use Rattle.std.proofs.Common.{ℕ, List, [], ◌∷◌, codes, refl}
+use Rattle.std.proofs.Common.{ℕ, List, [], ◌∷◌, refl}
 use Rattle.sqlite.specs.Listing.{understood}
 use Rattle.sqlite_tied.specs.Compute.{everything}
-use Rattle.reg_tables.specs.Selecting.{Selects, equals, columns_of, ordered_by}
+use Rattle.reg_tables.specs.Schema.{holds_table}
+use Rattle.reg_tables.specs.Selecting.{column_names, Selects, equals, columns_of, ordered_by}
 use Rattle.reg_tables.specs.Texts.{select_hold, select_holds_of}
 
 abbrev names : List (List ℕ)
-names =
-    codes "registry" ∷ codes "value" ∷ []
+names = column_names holds_table
 
 pub hold_by_key : Selects 11 select_hold 21 (equals ((1, 0) ∷ (2, 1) ∷ [])) (columns_of 2)
     []

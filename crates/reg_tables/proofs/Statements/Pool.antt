@@ -1,13 +1,13 @@
 -- What the queries on the table of the pool select.
-use Rattle.std.proofs.Common.{ℕ, List, [], ◌∷◌, codes, refl}
+use Rattle.std.proofs.Common.{ℕ, List, [], ◌∷◌, refl}
 use Rattle.sqlite.specs.Listing.{understood}
 use Rattle.sqlite_tied.specs.Compute.{everything}
-use Rattle.reg_tables.specs.Selecting.{Selects, equals, columns_of, ordered_by}
+use Rattle.reg_tables.specs.Schema.{pool_table}
+use Rattle.reg_tables.specs.Selecting.{column_names, Selects, equals, columns_of, ordered_by}
 use Rattle.reg_tables.specs.Texts.{select_prefix, select_pool}
 
 abbrev names : List (List ℕ)
-names =
-    codes "prefix" ∷ []
+names = column_names pool_table
 
 pub prefix_by_key : Selects 9 select_prefix 16 (equals ((1, 0) ∷ [])) (columns_of 1)
     []

@@ -1,18 +1,13 @@
 -- What the queries on the table of the requests select.
-use Rattle.std.proofs.Common.{ℕ, List, [], ◌∷◌, codes, refl}
+use Rattle.std.proofs.Common.{ℕ, List, [], ◌∷◌, refl}
 use Rattle.sqlite.specs.Listing.{understood}
 use Rattle.sqlite_tied.specs.Compute.{everything}
-use Rattle.reg_tables.specs.Selecting.{Selects, equals, columns_of, ordered_by}
+use Rattle.reg_tables.specs.Schema.{requests_table}
+use Rattle.reg_tables.specs.Selecting.{column_names, Selects, equals, columns_of, ordered_by}
 use Rattle.reg_tables.specs.Texts.{select_request, select_requests_of, select_requests}
 
 abbrev names : List (List ℕ)
-names =
-    codes "account" ∷ codes "reference" ∷ codes "kind" ∷ codes "registry" ∷ codes "value" ∷
-    codes "least" ∷ codes "label" ∷ codes "contact" ∷ codes "specification" ∷
-    codes "rfc_number" ∷ codes "rfc_stream" ∷ codes "rfc_track" ∷ codes "minute" ∷
-    codes "draft" ∷ codes "stable" ∷ codes "interest" ∷ codes "chair" ∷ codes "director" ∷
-    codes "will_be_rfc" ∷ codes "size" ∷ codes "organization" ∷ codes "address" ∷
-    codes "state" ∷ codes "given" ∷ codes "reason" ∷ []
+names = column_names requests_table
 
 pub request_by_key : Selects 6 select_request 9 (equals ((1, 0) ∷ (2, 1) ∷ [])) (columns_of 25)
     []

@@ -19,7 +19,7 @@ pub returns-clause-added : goal.returns-clause-added
 returns-clause-added g c clean blank =
     let old = state g.S.Store c.args.tx.now.conn.now in
     let new = state g.S.Store c.run.new.tx.conn.now in
-    let ran = rw c.number.ensures at (c.in_ok-run.ensures.ran clean) in
+    let ran = rw c.number.ensures at (c.in_ok-run.ensures.runs.ran clean) in
     let a = given_adds insert_version 0 office_table adds_version version_row refl
     (rw (cast_int (number_of newest)) refl) in
     let row = adds _ _ _ _ _ a old new _ blank.has ran in (
@@ -35,10 +35,10 @@ returns-clause-added g c clean blank =
 pub returns-clause-defined : goal.returns-clause-defined
 returns-clause-defined g c clean =
     written_schema _ _ (state g.S.Store c.args.tx.now.conn.now)
-    (state g.S.Store c.run.new.tx.conn.now) _ insert_version_writes (c.in_ok-run.ensures.ran clean)
+    (state g.S.Store c.run.new.tx.conn.now) _ insert_version_writes (c.in_ok-run.ensures.runs.ran clean)
 
 pub returns-clause-anywhere : goal.returns-clause-anywhere
 returns-clause-anywhere g c clean =
-    let ran = rw c.number.ensures at (c.in_ok-run.ensures.ran clean) in
+    let ran = rw c.number.ensures at (c.in_ok-run.ensures.runs.ran clean) in
     adds_version_there (state g.S.Store c.args.tx.now.conn.now)
     (state g.S.Store c.run.new.tx.conn.now) _ ran

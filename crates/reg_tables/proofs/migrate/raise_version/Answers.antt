@@ -11,7 +11,7 @@ pub returns-clause-raised : goal.returns-clause-raised
 returns-clause-raised g c clean n office version =
     let old = state g.S.Store c.args.tx.now.conn.now in
     let new = state g.S.Store c.run.new.tx.conn.now in
-    let ran = rw c.number.ensures at (c.in_ok-run.ensures.ran clean) in
+    let ran = rw c.number.ensures at (c.in_ok-run.ensures.runs.ran clean) in
     raised n old.now new.now
     (changes _ _ _ _ _ _ old new _ (version_changes (number_of newest)) office.schema office.sound
     office.tables.0 ran) office version
@@ -19,4 +19,4 @@ returns-clause-raised g c clean n office version =
 pub returns-clause-defined : goal.returns-clause-defined
 returns-clause-defined g c clean =
     written_schema _ _ (state g.S.Store c.args.tx.now.conn.now)
-    (state g.S.Store c.run.new.tx.conn.now) _ change_version_writes (c.in_ok-run.ensures.ran clean)
+    (state g.S.Store c.run.new.tx.conn.now) _ change_version_writes (c.in_ok-run.ensures.runs.ran clean)

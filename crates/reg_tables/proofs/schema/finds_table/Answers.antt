@@ -41,10 +41,8 @@ pub returns-then-same_definition-clause-all : goal.returns-then-same_definition-
 returns-then-same_definition-clause-all c bare finds =
     let schema = c.args.schema.now in
     let table = c.args.table.now in
-    let found = c.in-Some-get.found.now in
-    let named : table_named schema table.name ≡ Some c.in-Some.at = search rules in
-    let there : slice_get schema.tables c.in-Some.at ≡ Some found = search rules in
-    let same = one_found schema table found c.in-Some.at named there finds.has in
+    let same = one_found schema table c.in-Some-get.found.now c.in-Some.at (search rules) (search rules)
+    finds.has in
     eq-eqb c.count_indexes.result c.len.result
     (c.count_indexes.ensures
     ∙ subst (λ (t : Table). length (filter (λ (i : Index). i.table == t.tree) schema.indexes)
@@ -53,10 +51,6 @@ returns-then-same_definition-clause-all c bare finds =
 
 pub returns-else-same_definition-clause-all : goal.returns-else-same_definition-clause-all
 returns-else-same_definition-clause-all c bare finds =
-    let schema = c.args.schema.now in
-    let table = c.args.table.now in
-    let found = c.in-Some-get.found.now in
-    let named : table_named schema table.name ≡ Some c.in-Some.at = search rules in
-    let there : slice_get schema.tables c.in-Some.at ≡ Some found = search rules in
-    let same = one_found schema table found c.in-Some.at named there finds.has in
+    let same = one_found c.args.schema.now c.args.table.now c.in-Some-get.found.now c.in-Some.at
+    (search rules) (search rules) finds.has in
     c.same_definition.ensures.all bare (ap unplaced (sym same) ∙ finds.has.same)
