@@ -38,6 +38,11 @@ connections_rule = record (option_rule (codes "connections")) {
 abbrev pub file_app : Text → App
 file_app name = with_rule (new_app name) (place_rule (codes "FILE"))
 
+-- a command whose first words are an office's file, and two more
+abbrev pub words_app : Text → Text → Text → App
+words_app name first second =
+    with_rule (with_rule (file_app name) (place_rule first)) (place_rule second)
+
 abbrev pub script_app : App
 script_app =
     with_rule (with_rule (new_app (codes "script")) clerk_rule) (option_rule (codes "file"))
@@ -52,9 +57,7 @@ serve_app =
 
 -- the command `define` with its first words
 abbrev pub registry_app : App
-registry_app =
-    with_rule (with_rule (file_app (codes "define")) (place_rule (codes "NAME")))
-    (place_rule (codes "MAX"))
+registry_app = words_app (codes "define") (codes "NAME") (codes "MAX")
 
 abbrev pub define_app : App
 define_app = with_rule (with_rule registry_app (place_rule (codes "CSV"))) clerk_rule
@@ -64,9 +67,7 @@ listing_app = with_rule (file_app (codes "listing")) (option_rule (codes "regist
 
 -- the command `request` with its first words
 abbrev pub path_app : App
-path_app =
-    with_rule (with_rule (file_app (codes "request")) (place_rule (codes "METHOD")))
-    (place_rule (codes "PATH"))
+path_app = words_app (codes "request") (codes "METHOD") (codes "PATH")
 
 abbrev pub request_app : App
 request_app =

@@ -2,7 +2,7 @@
 ghost use Rattle.std.specs.Prelude.{◌≡◌, false, IfOk, IsOkAnd};
 ghost use Rattle.clap.specs.Words.{AddsSubcommand, app_of, new_app, rule_of};
 ghost use Rattle.clap.specs.declared.builder.command.Command.TheViews.{out-Command};
-ghost use Rattle.reg_jobs.specs.CommandLine.{asking_app, check_app, clerk_rule, connections_rule, define_app, file_app, flag_rule, init_app, last_place_rule, listing_app, office_app, option_rule, path_app, place_rule, port_rule, publish_app, registry_app, request_app, revoke_app, script_app, serve_app, serving_app, tokens_app};
+ghost use Rattle.reg_jobs.specs.CommandLine.{asking_app, check_app, clerk_rule, connections_rule, define_app, file_app, flag_rule, init_app, last_place_rule, listing_app, office_app, option_rule, path_app, place_rule, port_rule, publish_app, registry_app, request_app, revoke_app, script_app, serve_app, serving_app, tokens_app, words_app};
 
 use clap::{Arg, ArgAction, Command, value_parser};
 use std::alloc::{AllocError, Global};
@@ -188,6 +188,24 @@ fn file_command<'a>(
     command(alloc, name, about, example).arg(place(alloc, "FILE", "The office's file"))
 }
 
+// A command whose first words are an office's file, and these two, each by its name and its help.
+fn words_command<'a>(
+    alloc: Global,
+    name: &'a str,
+    about: &'a str,
+    example: &'a str,
+    first: (&'a str, &'a str),
+    second: (&'a str, &'a str),
+) -> Result<Command<'a>, AllocError>
+    ensures shape { IfOk result
+        (λ c. app_of c ≡ words_app name.entry.now first.entry.0.now second.entry.0.now) }
+    ensures local { IfOk result (λ c. (out-Command c).has_globals ≡ false) }
+{
+    file_command(alloc, name, about, example)?
+        .arg(place(alloc, first.0, first.1))?
+        .arg(place(alloc, second.0, second.1))
+}
+
 fn script<'a>(alloc: Global) -> Result<Command<'a>, AllocError>
     ensures shape { IfOk result (λ c. app_of c ≡ script_app) }
     ensures local { IfOk result (λ c. (out-Command c).has_globals ≡ false) }
@@ -232,13 +250,14 @@ fn registry_command<'a>(alloc: Global) -> Result<Command<'a>, AllocError>
     ensures shape { IfOk result (λ c. app_of c ≡ registry_app) }
     ensures local { IfOk result (λ c. (out-Command c).has_globals ≡ false) }
 {
-    file_command(alloc, "define", DEFINE_ABOUT, DEFINE_EXAMPLE)?
-        .arg(place(
-            alloc,
-            "NAME",
-            "The registry's name: letters a to z, digits and -",
-        ))?
-        .arg(place(alloc, "MAX", "The registry's largest value"))
+    words_command(
+        alloc,
+        "define",
+        DEFINE_ABOUT,
+        DEFINE_EXAMPLE,
+        ("NAME", "The registry's name: letters a to z, digits and -"),
+        ("MAX", "The registry's largest value"),
+    )
 }
 
 fn listing<'a>(alloc: Global) -> Result<Command<'a>, AllocError>
@@ -276,9 +295,14 @@ fn path_command<'a>(alloc: Global) -> Result<Command<'a>, AllocError>
     ensures shape { IfOk result (λ c. app_of c ≡ path_app) }
     ensures local { IfOk result (λ c. (out-Command c).has_globals ≡ false) }
 {
-    file_command(alloc, "request", REQUEST_ABOUT, REQUEST_EXAMPLE)?
-        .arg(place(alloc, "METHOD", "The method: GET, PUT or DELETE"))?
-        .arg(place(alloc, "PATH", "The path, as /registries"))
+    words_command(
+        alloc,
+        "request",
+        REQUEST_ABOUT,
+        REQUEST_EXAMPLE,
+        ("METHOD", "The method: GET, PUT or DELETE"),
+        ("PATH", "The path, as /registries"),
+    )
 }
 
 fn publish<'a>(alloc: Global) -> Result<Command<'a>, AllocError>

@@ -6,7 +6,8 @@ ghost use Rattle.reg_site.specs.Markup.{all_of};
 ghost use Rattle.reg_site.specs.Table.{row};
 
 use crate::document::{push_end, push_start, room_for};
-use crate::markup::{push, push_link};
+use crate::markup::Piece::{Link, Markup};
+use crate::markup::push_all;
 use crate::table;
 use crate::table::push_row;
 use reg_blocks::size::Size;
@@ -71,18 +72,22 @@ pub fn blocks_page(alloc: Global, rows: &[Listed]) -> Result<Vec<u8>, AllocError
 fn push_links(out: &mut Vec<u8>) -> Result<(), AllocError>
     ensures { OnOk result (Shown out.old.items out.new.items block_links) }
 {
-    push(out, "<p>")?;
-    push_link(out, "index.html", "All registries")?;
-    push(out, " ")?;
-    push_link(out, "blocks.csv", "CSV")?;
-    push(out, " ")?;
-    push_link(out, "oui.csv", "MA-L")?;
-    push(out, " ")?;
-    push_link(out, "mam.csv", "MA-M")?;
-    push(out, " ")?;
-    push_link(out, "oui36.csv", "MA-S")?;
-    push(out, "</p>")?;
-    Ok(())
+    push_all(
+        out,
+        &[
+            Markup("<p>"),
+            Link("index.html", "All registries"),
+            Markup(" "),
+            Link("blocks.csv", "CSV"),
+            Markup(" "),
+            Link("oui.csv", "MA-L"),
+            Markup(" "),
+            Link("mam.csv", "MA-M"),
+            Markup(" "),
+            Link("oui36.csv", "MA-S"),
+            Markup("</p>"),
+        ],
+    )
 }
 
 fn push_blocks(out: &mut Vec<u8>, alloc: Global, rows: &[Listed]) -> Result<(), AllocError>

@@ -3,8 +3,8 @@ ghost use Rattle.std.specs.Prelude.{◌≡◌, ◌++◌, ◌∷◌, [], IfOk, On
 ghost use Rattle.reg_site.specs.Appended.{Appended, Shown};
 ghost use Rattle.reg_site.specs.Document.{document, head, page, page_start, page_end};
 
-use crate::escape::push_text;
-use crate::markup::push;
+use crate::markup::Piece::{Markup, Text};
+use crate::markup::{push, push_all};
 use std::alloc::AllocError;
 
 /// How many bytes a row of a page has at most, but where its texts are long.
@@ -26,9 +26,10 @@ pub(crate) fn push_start(out: &mut Vec<u8>, style: &str, title: &str) -> Result<
 {
     push(out, "<!DOCTYPE html>\n<html lang=\"en\">")?;
     push_head(out, style, title)?;
-    push(out, "<body><main><h1>")?;
-    push_text(out, title)?;
-    push(out, "</h1>")?;
+    push_all(
+        out,
+        &[Markup("<body><main><h1>"), Text(title), Markup("</h1>")],
+    )?;
     Ok(())
 }
 
@@ -36,22 +37,22 @@ pub(crate) fn push_start(out: &mut Vec<u8>, style: &str, title: &str) -> Result<
 pub(crate) fn push_end(out: &mut Vec<u8>) -> Result<(), AllocError>
     ensures { OnOk result (Appended out.old.items out.new.items (λ rest. page_end ++ rest)) }
 {
-    push(out, "</main></body></html>\n")?;
-    Ok(())
+    push(out, "</main></body></html>\n")
 }
 
-fn push_head(out: &mut Vec<u8>, style: &str, title: &str) -> Result<(), AllocError>
+fn push_head<'a>(out: &mut Vec<u8>, style: &'a str, title: &'a str) -> Result<(), AllocError>
     ensures { OnOk result
         (Shown out.old.items out.new.items (head style.now title.now)) }
 {
-    push(out, "<head><meta charset=\"utf-8\"><meta name=\"viewport\"")?;
-    push(
+    push_all(
         out,
-        " content=\"width=device-width, initial-scale=1\"><title>",
-    )?;
-    push_text(out, title)?;
-    push(out, "</title><link rel=\"stylesheet\" href=\"")?;
-    push_text(out, style)?;
-    push(out, "\"></head>")?;
-    Ok(())
+        &[
+            Markup("<head><meta charset=\"utf-8\"><meta name=\"viewport\""),
+            Markup(" content=\"width=device-width, initial-scale=1\"><title>"),
+            Text(title),
+            Markup("</title><link rel=\"stylesheet\" href=\""),
+            Text(style),
+            Markup("\"></head>"),
+        ],
+    )
 }

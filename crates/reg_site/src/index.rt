@@ -6,8 +6,8 @@ ghost use Rattle.reg_site.specs.Markup.{all_of};
 
 use crate::blocks::count_of;
 use crate::document::{push_end, push_start};
-use crate::escape::push_text;
-use crate::markup::{push, push_link, push_number};
+use crate::markup::Piece::{Link, Markup, Number, Text};
+use crate::markup::{push, push_all};
 use crate::moment::moment_text;
 use crate::summary::{Share, Summary};
 use crate::table;
@@ -48,7 +48,7 @@ fn page_of(
     push_as_of(&mut out, alloc, moment)?;
     push_registries(&mut out, alloc, registries)?;
     push_pool(&mut out, alloc, prefixes)?;
-    push_blocks(&mut out, alloc, blocks)?;
+    push_blocks(&mut out, blocks)?;
     push_end(&mut out)?;
     Ok(out)
 }
@@ -63,10 +63,10 @@ fn push_as_of(out: &mut Vec<u8>, alloc: Global, moment: u64) -> Result<(), Alloc
 fn push_time(out: &mut Vec<u8>, text: &str) -> Result<(), AllocError>
     ensures { OnOk result (Shown out.old.items out.new.items (as_of_text text.now)) }
 {
-    push(out, "<p>As of <time>")?;
-    push_text(out, text)?;
-    push(out, "</time></p>")?;
-    Ok(())
+    push_all(
+        out,
+        &[Markup("<p>As of <time>"), Text(text), Markup("</time></p>")],
+    )
 }
 
 fn push_registries(
@@ -113,10 +113,10 @@ fn push_registry(out: &mut Vec<u8>, alloc: Global, registry: &Summary) -> Result
     push(out, "<td><ul>")?;
     push_shares(out, alloc, registry.shares.as_slice())?;
     push(out, "</ul></td>")?;
-    push_number_cell(out, alloc, registry.assigned)?;
-    push_number_cell(out, alloc, registry.temporary)?;
-    push_number_cell(out, alloc, registry.expired)?;
-    push_number_cell(out, alloc, registry.free)?;
+    push_number_cell(out, registry.assigned)?;
+    push_number_cell(out, registry.temporary)?;
+    push_number_cell(out, registry.expired)?;
+    push_number_cell(out, registry.free)?;
     push(out, "</tr>\n")?;
     Ok(())
 }
@@ -136,14 +136,11 @@ fn target_of(alloc: Global, name: &str) -> Result<String, AllocError>
     format!(in alloc; "registries/{name}.html")
 }
 
-fn push_name_texts(out: &mut Vec<u8>, target: &str, name: &str) -> Result<(), AllocError>
+fn push_name_texts<'a>(out: &mut Vec<u8>, target: &'a str, name: &'a str) -> Result<(), AllocError>
     ensures { OnOk result
         (Shown out.old.items out.new.items (linked_cell target.now name.now)) }
 {
-    push(out, "<th>")?;
-    push_link(out, target, name)?;
-    push(out, "</th>")?;
-    Ok(())
+    push_all(out, &[Markup("<th>"), Link(target, name), Markup("</th>")])
 }
 
 fn push_shares(out: &mut Vec<u8>, alloc: Global, shares: &[Share]) -> Result<(), AllocError>
@@ -164,25 +161,30 @@ fn push_share(out: &mut Vec<u8>, alloc: Global, share: &Share) -> Result<(), All
     push_share_texts(out, values.as_str(), share.treatment.word())
 }
 
-fn push_share_texts(out: &mut Vec<u8>, values: &str, policy: &str) -> Result<(), AllocError>
+fn push_share_texts<'a>(
+    out: &mut Vec<u8>,
+    values: &'a str,
+    policy: &'a str,
+) -> Result<(), AllocError>
     ensures { OnOk result
         (Shown out.old.items out.new.items (share_texts values.now policy.now)) }
 {
-    push(out, "<li>")?;
-    push_text(out, values)?;
-    push(out, " ")?;
-    push_text(out, policy)?;
-    push(out, "</li>")?;
-    Ok(())
+    push_all(
+        out,
+        &[
+            Markup("<li>"),
+            Text(values),
+            Markup(" "),
+            Text(policy),
+            Markup("</li>"),
+        ],
+    )
 }
 
-fn push_number_cell(out: &mut Vec<u8>, alloc: Global, n: u64) -> Result<(), AllocError>
+fn push_number_cell(out: &mut Vec<u8>, n: u64) -> Result<(), AllocError>
     ensures { OnOk result (Shown out.old.items out.new.items (number_cell n)) }
 {
-    push(out, "<td>")?;
-    push_number(out, alloc, n)?;
-    push(out, "</td>")?;
-    Ok(())
+    push_all(out, &[Markup("<td>"), Number(n), Markup("</td>")])
 }
 
 fn push_pool(out: &mut Vec<u8>, alloc: Global, prefixes: &[u32]) -> Result<(), AllocError>
@@ -215,56 +217,55 @@ fn push_prefix(out: &mut Vec<u8>, alloc: Global, prefix: u32) -> Result<(), Allo
 fn push_item(out: &mut Vec<u8>, words: &str) -> Result<(), AllocError>
     ensures { OnOk result (Shown out.old.items out.new.items (item words.now)) }
 {
-    push(out, "<li>")?;
-    push_text(out, words)?;
-    push(out, "</li>")?;
-    Ok(())
+    push_all(out, &[Markup("<li>"), Text(words), Markup("</li>")])
 }
 
 // How many blocks were given of each size.
-fn push_blocks(out: &mut Vec<u8>, alloc: Global, blocks: &[Listed]) -> Result<(), AllocError>
+fn push_blocks(out: &mut Vec<u8>, blocks: &[Listed]) -> Result<(), AllocError>
     ensures { OnOk result
         (Shown out.old.items out.new.items (block_counts blocks.now)) }
 {
-    push(out, "<h2>")?;
-    push_link(out, "blocks.html", "Blocks")?;
-    push(out, "</h2><ul>")?;
-    push_size(out, alloc, "oui.csv", Size::MaL, blocks)?;
-    push_size(out, alloc, "mam.csv", Size::MaM, blocks)?;
-    push_size(out, alloc, "oui36.csv", Size::MaS, blocks)?;
+    push_all(
+        out,
+        &[
+            Markup("<h2>"),
+            Link("blocks.html", "Blocks"),
+            Markup("</h2><ul>"),
+        ],
+    )?;
+    push_size(out, "oui.csv", Size::MaL, blocks)?;
+    push_size(out, "mam.csv", Size::MaM, blocks)?;
+    push_size(out, "oui36.csv", Size::MaS, blocks)?;
     push(out, "</ul>")?;
     Ok(())
 }
 
 // A file of IEEE's form, and how many blocks it has.
-fn push_size(
-    out: &mut Vec<u8>,
-    alloc: Global,
-    file: &str,
-    size: Size,
-    blocks: &[Listed],
-) -> Result<(), AllocError>
+fn push_size(out: &mut Vec<u8>, file: &str, size: Size, blocks: &[Listed]) -> Result<(), AllocError>
     ensures { OnOk result
         (Shown out.old.items out.new.items (size_item file.now size blocks.now)) }
 {
     let count = count_of(size, blocks) as u64;
-    push_counted(out, alloc, file, size.word(), count)
+    push_counted(out, file, size.word(), count)
 }
 
-fn push_counted(
+fn push_counted<'a>(
     out: &mut Vec<u8>,
-    alloc: Global,
-    file: &str,
-    word: &str,
+    file: &'a str,
+    word: &'a str,
     count: u64,
 ) -> Result<(), AllocError>
     ensures { OnOk result
         (Shown out.old.items out.new.items (counted_file file.now word.now count)) }
 {
-    push(out, "<li>")?;
-    push_link(out, file, word)?;
-    push(out, ": ")?;
-    push_number(out, alloc, count)?;
-    push(out, "</li>")?;
-    Ok(())
+    push_all(
+        out,
+        &[
+            Markup("<li>"),
+            Link(file, word),
+            Markup(": "),
+            Number(count),
+            Markup("</li>"),
+        ],
+    )
 }

@@ -8,7 +8,8 @@ ghost use Rattle.reg_site.specs.Table.{row};
 
 use crate::bar::push_bar;
 use crate::document::{push_end, push_start, room_for};
-use crate::markup::{push, push_link};
+use crate::markup::Piece::{Link, Markup};
+use crate::markup::push_all;
 use crate::summary::Summary;
 use crate::table;
 use crate::table::push_row;
@@ -49,7 +50,7 @@ fn page_of(
     let mut out = Vec::with_capacity(alloc, room_for(rows.len()))?;
     push_start(&mut out, "../style.css", name)?;
     push_links(&mut out, alloc, name)?;
-    push_bar(&mut out, alloc, summary)?;
+    push_bar(&mut out, summary)?;
     push_ranges(&mut out, alloc, ranges)?;
     push_entries(&mut out, alloc, rows)?;
     push_end(&mut out)?;
@@ -65,17 +66,21 @@ fn push_links(out: &mut Vec<u8>, alloc: Global, name: &str) -> Result<(), AllocE
     push_forms(out, listing.as_str(), tree.as_str())
 }
 
-fn push_forms(out: &mut Vec<u8>, listing: &str, tree: &str) -> Result<(), AllocError>
+fn push_forms<'a>(out: &mut Vec<u8>, listing: &'a str, tree: &'a str) -> Result<(), AllocError>
     ensures { OnOk result (Shown out.old.items out.new.items (forms listing.now tree.now)) }
 {
-    push(out, "<p>")?;
-    push_link(out, "../index.html", "All registries")?;
-    push(out, " ")?;
-    push_link(out, listing, "CSV")?;
-    push(out, " ")?;
-    push_link(out, tree, "JSON")?;
-    push(out, "</p>")?;
-    Ok(())
+    push_all(
+        out,
+        &[
+            Markup("<p>"),
+            Link("../index.html", "All registries"),
+            Markup(" "),
+            Link(listing, "CSV"),
+            Markup(" "),
+            Link(tree, "JSON"),
+            Markup("</p>"),
+        ],
+    )
 }
 
 fn push_ranges(out: &mut Vec<u8>, alloc: Global, ranges: &[Range]) -> Result<(), AllocError>

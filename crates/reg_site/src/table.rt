@@ -4,8 +4,8 @@ ghost use Rattle.reg_site.specs.Appended.{Appended, Shown};
 ghost use Rattle.reg_site.specs.Markup.{all_of, opening_then};
 ghost use Rattle.reg_site.specs.Table.{anchor, cell, column, row, table_end, table_start};
 
-use crate::escape::push_text;
-use crate::markup::push;
+use crate::markup::Piece::{Markup, Text};
+use crate::markup::{push, push_all};
 use std::alloc::AllocError;
 
 /// Begins a table: its caption, and the heads of its columns.
@@ -17,9 +17,14 @@ pub(crate) fn push_start(
     ensures { OnOk result
         (Appended out.old.items out.new.items (table_start caption.now (map (λ c. c.now) columns.now))) }
 {
-    push(out, "<table><caption>")?;
-    push_text(out, caption)?;
-    push(out, "</caption><thead><tr>")?;
+    push_all(
+        out,
+        &[
+            Markup("<table><caption>"),
+            Text(caption),
+            Markup("</caption><thead><tr>"),
+        ],
+    )?;
     push_columns(out, columns)?;
     push(out, "</tr></thead><tbody>")?;
     Ok(())
@@ -29,8 +34,7 @@ pub(crate) fn push_start(
 pub(crate) fn push_end(out: &mut Vec<u8>) -> Result<(), AllocError>
     ensures { OnOk result (Appended out.old.items out.new.items (λ rest. table_end ++ rest)) }
 {
-    push(out, "</tbody></table>")?;
-    Ok(())
+    push(out, "</tbody></table>")
 }
 
 /// Appends a row: by what it is found, its first cell, and the others.
@@ -44,9 +48,7 @@ pub(crate) fn push_row(
         (Shown out.old.items out.new.items (row (option_map (λ n. n.now) name.entry) first.now (map (λ o. o.now) others.now))) }
 {
     push_row_start(out, name)?;
-    push(out, "<th>")?;
-    push_text(out, first)?;
-    push(out, "</th>")?;
+    push_all(out, &[Markup("<th>"), Text(first), Markup("</th>")])?;
     push_cells(out, others)?;
     push(out, "</tr>\n")?;
     Ok(())
@@ -57,11 +59,7 @@ fn push_row_start(out: &mut Vec<u8>, name: Option<&str>) -> Result<(), AllocErro
         (Appended out.old.items out.new.items (opening_then (codes "tr") (anchor (option_map (λ n. n.now) name.entry)))) }
 {
     match name {
-        Some(name) => {
-            push(out, "<tr id=\"")?;
-            push_text(out, name)?;
-            push(out, "\">")
-        }
+        Some(name) => push_all(out, &[Markup("<tr id=\""), Text(name), Markup("\">")]),
         None => push(out, "<tr>"),
     }
 }
@@ -79,10 +77,10 @@ fn push_columns(out: &mut Vec<u8>, columns: &[&str]) -> Result<(), AllocError>
 fn push_column(out: &mut Vec<u8>, name: &str) -> Result<(), AllocError>
     ensures { OnOk result (Shown out.old.items out.new.items (column name.now)) }
 {
-    push(out, "<th scope=\"col\">")?;
-    push_text(out, name)?;
-    push(out, "</th>")?;
-    Ok(())
+    push_all(
+        out,
+        &[Markup("<th scope=\"col\">"), Text(name), Markup("</th>")],
+    )
 }
 
 fn push_cells(out: &mut Vec<u8>, texts: &[&str]) -> Result<(), AllocError>
@@ -98,8 +96,5 @@ fn push_cells(out: &mut Vec<u8>, texts: &[&str]) -> Result<(), AllocError>
 fn push_cell(out: &mut Vec<u8>, text: &str) -> Result<(), AllocError>
     ensures { OnOk result (Shown out.old.items out.new.items (cell text.now)) }
 {
-    push(out, "<td>")?;
-    push_text(out, text)?;
-    push(out, "</td>")?;
-    Ok(())
+    push_all(out, &[Markup("<td>"), Text(text), Markup("</td>")])
 }

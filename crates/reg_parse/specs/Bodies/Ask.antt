@@ -1,5 +1,5 @@
 -- The ask that an object is, or the first of its members at fault.
-use Rattle.std.specs.Prelude.{ℕ, List, [], ◌∷◌, Option, Some, None, Ok, if◌then◌else◌, option_and_then}
+use Rattle.std.specs.Prelude.{ℕ, List, [], ◌∷◌, ◌++◌, Option, Some, None, Ok, if◌then◌else◌, option_and_then}
 use Rattle.std.specs.Str.{bytes_eq}
 use Rattle.serde_json.specs.Data.{Data}
 use Rattle.serde_json.specs.Find.{as_str}
@@ -24,9 +24,9 @@ use Rattle.reg_core.specs.declared.item.Item.TheVariants as item
 use Rattle.reg_parse.specs.declared.bodies.value.AllocatedValue.{AllocatedValue}
 use Rattle.reg_parse.specs.declared.bodies.value.WantedValue.{WantedValue}
 use Rattle.reg_parse.specs.Bodies.Members.{Reading, ◌>>=◌, needed, optional, only, text_form}
-use Rattle.reg_parse.specs.Bodies.EarlyEvidence.{early_evidence_of}
-use Rattle.reg_parse.specs.Bodies.Evidence.{evidence_of}
-use Rattle.reg_parse.specs.Bodies.Value.{allocated_value_of, wanted_value_of}
+use Rattle.reg_parse.specs.Bodies.EarlyEvidence.{early_evidence_items, early_evidence_of}
+use Rattle.reg_parse.specs.Bodies.Evidence.{evidence_items, evidence_of}
+use Rattle.reg_parse.specs.Bodies.Value.{allocated_value_of, wanted_items, wanted_value_of}
 
 abbrev pub ask_kind_form : Data → Option AskKind
 ask_kind_form json = option_and_then read_ask_kind (as_str json)
@@ -42,9 +42,7 @@ abbrev pub size_form : Data → Option Size
 size_form json = option_and_then size_named (as_str json)
 
 abbrev pub code_items : List Item
-code_items =
-    item.Kind ∷ item.Registry ∷ item.Value ∷ item.Least ∷ item.Label ∷ item.Contact
-    ∷ item.Specification ∷ item.Rfc ∷ item.Minute ∷ []
+code_items = wanted_items ++ evidence_items
 
 abbrev pub code_with : WantedValue → Evidence → CodeAsk
 code_with wanted evidence = record {
@@ -62,9 +60,7 @@ code_of json = do
   Ok (code_with wanted evidence)
 
 abbrev pub early_items : List Item
-early_items =
-    item.Kind ∷ item.Registry ∷ item.Value ∷ item.Least ∷ item.Label ∷ item.Draft ∷ item.Stable
-    ∷ item.Interest ∷ item.Chair ∷ item.Director ∷ item.WillBeRfc ∷ []
+early_items = wanted_items ++ early_evidence_items
 
 abbrev pub early_with : WantedValue → EarlyEvidence → EarlyAsk
 early_with wanted evidence = record {
@@ -83,8 +79,7 @@ early_of json = do
 
 abbrev pub renewal_items : List Item
 renewal_items =
-    item.Kind ∷ item.Registry ∷ item.Value ∷ item.Draft ∷ item.Stable ∷ item.Interest ∷ item.Chair
-    ∷ item.Director ∷ item.WillBeRfc ∷ item.Iesg ∷ []
+    (item.Kind ∷ item.Registry ∷ item.Value ∷ item.Iesg ∷ []) ++ early_evidence_items
 
 abbrev pub renewal_with : AllocatedValue → EarlyEvidence → Option (List ℕ) → RenewalAsk
 renewal_with allocated evidence iesg = record {
@@ -103,9 +98,7 @@ renewal_of json = do
   Ok (renewal_with allocated evidence iesg)
 
 abbrev pub permanence_items : List Item
-permanence_items =
-    item.Kind ∷ item.Registry ∷ item.Value ∷ item.Contact ∷ item.Specification ∷ item.Rfc
-    ∷ item.Minute ∷ []
+permanence_items = (item.Kind ∷ item.Registry ∷ item.Value ∷ []) ++ evidence_items
 
 abbrev pub permanence_with : AllocatedValue → Evidence → PermanenceAsk
 permanence_with allocated evidence = record {

@@ -1,5 +1,5 @@
 -- Which value of a registry an ask is about.
-use Rattle.std.specs.Prelude.{Option, Some, None, Ok, Err, option_and_then, option_map}
+use Rattle.std.specs.Prelude.{List, [], ◌∷◌, Option, Some, None, Ok, Err, option_and_then, option_map}
 use Rattle.serde_json.specs.Data.{Data}
 use Rattle.serde_json.specs.Find.{get, as_str}
 use Rattle.reg_ranges.specs.Texts.{is_text}
@@ -9,6 +9,7 @@ use Rattle.reg_core.specs.Names.{is_name}
 use Rattle.reg_core.specs.Item.{item_name}
 use Rattle.reg_core.specs.declared.ask.Want.{Want}
 use Rattle.reg_core.specs.declared.ask.Want.TheVariants as want
+use Rattle.reg_core.specs.declared.item.Item.{Item}
 use Rattle.reg_core.specs.declared.item.Item.TheVariants as item
 use Rattle.reg_core.specs.declared.wire_refusal.WireRefusal.TheVariants.{Field}
 use Rattle.reg_parse.specs.declared.bodies.value.AllocatedValue.{AllocatedValue}
@@ -30,6 +31,10 @@ want_by None None = Err (Field item.Value)
 
 abbrev pub want_of : Data → Reading Want
 want_of json = want_by (get (item_name item.Value) json) (get (item_name item.Least) json)
+
+-- the kind of an ask, and what says which value it wants
+abbrev pub wanted_items : List Item
+wanted_items = item.Kind ∷ item.Registry ∷ item.Value ∷ item.Least ∷ item.Label ∷ []
 
 -- a value that is wanted
 unfoldable pub wanted_value_of : Data → Reading WantedValue

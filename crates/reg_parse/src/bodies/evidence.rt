@@ -12,6 +12,9 @@ use reg_ranges::evidence::{Evidence, Rfc, Stream, Track};
 use serde_json::Value;
 use std::alloc::Global;
 
+/// The members that are evidence.
+pub const EVIDENCE_ITEMS: [Item; 4] = [Item::Contact, Item::Specification, Item::Rfc, Item::Minute];
+
 /// The evidence among the members of this object, or the first of them that has not its form.
 #[tactic(auto, unfolding(crate::specs::Bodies::Evidence::evidence_of))]
 pub fn read_evidence(alloc: Global, json: &Value) -> Result<Evidence, ReadFault>

@@ -1,6 +1,6 @@
 //! Reads the members of a JSON object (RFC 8259 section 4). Where a name stands twice, the last one
 //! counts.
-ghost use Rattle.std.specs.Prelude.{◌≡◌};
+ghost use Rattle.std.specs.Prelude.{◌≡◌, ◌++◌};
 ghost use Rattle.std.specs.BTreeMap.{keys};
 ghost use Rattle.std.specs.List.{list_all};
 ghost use Rattle.std.specs.String.{string_bytes};
@@ -173,6 +173,41 @@ pub fn only(items: &[Item], object: &Value) -> Result<(), ReadFault>
     } else {
         Err(ReadFault::field(Item::Extra))
     }
+}
+
+/// That the object has no other members than these and those; else `Field` with `extra`.
+pub fn only_of(these: &[Item], those: &[Item], object: &Value) -> Result<(), ReadFault>
+    ensures { Gives result (only (these.now ++ those.now) (view object.now)) }
+{
+    if has_only_of(these, those, object) {
+        Ok(())
+    } else {
+        Err(ReadFault::field(Item::Extra))
+    }
+}
+
+fn has_only_of(these: &[Item], those: &[Item], object: &Value) -> bool
+    ensures { result ≡ is_among (these.now ++ those.now) (as_object (view object.now)) }
+{
+    match object.as_object() {
+        Some(members) => are_of(these, those, members),
+        None => true,
+    }
+}
+
+fn are_of(these: &[Item], those: &[Item], members: &Map<String, Value>) -> bool
+    ensures { result
+        ≡ list_all (λ key. names_any (these.now ++ those.now) (string_bytes key)) (keys members.now) }
+{
+    members
+        .keys()
+        .all(|key| names_either(these, those, key.as_str()))
+}
+
+fn names_either(these: &[Item], those: &[Item], name: &str) -> bool
+    ensures { result ≡ names_any (these.now ++ those.now) name.now }
+{
+    names_any(these, name) || names_any(those, name)
 }
 
 /// Whether it has no other members than these.

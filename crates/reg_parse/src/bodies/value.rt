@@ -33,6 +33,15 @@ pub struct AllocatedValue {
     pub value: u32,
 }
 
+/// The kind of an ask, and the members that say which value it wants.
+pub const WANTED_ITEMS: [Item; 5] = [
+    Item::Kind,
+    Item::Registry,
+    Item::Value,
+    Item::Least,
+    Item::Label,
+];
+
 /// The value that this object wants, or the first of these members at fault.
 #[tactic(auto, unfolding(crate::specs::Bodies::Value::wanted_value_of))]
 pub fn read_wanted_value(alloc: Global, json: &Value) -> Result<WantedValue, ReadFault>

@@ -3,11 +3,10 @@ ghost use Rattle.serde_json.specs.View.{view};
 ghost use Rattle.reg_parse.specs.Bodies.Members.{Gives};
 ghost use Rattle.reg_parse.specs.Bodies.Ask.{code_of};
 
-use crate::bodies::evidence::read_evidence;
+use crate::bodies::evidence::{EVIDENCE_ITEMS, read_evidence};
 use crate::bodies::members;
-use crate::bodies::value::read_wanted_value;
+use crate::bodies::value::{WANTED_ITEMS, read_wanted_value};
 use reg_core::ask::CodeAsk;
-use reg_core::item::Item;
 use reg_core::wire_refusal::ReadFault;
 use serde_json::Value;
 use std::alloc::Global;
@@ -19,20 +18,7 @@ pub fn read_code(alloc: Global, json: &Value) -> Result<CodeAsk, ReadFault>
 {
     let wanted = read_wanted_value(alloc, json)?;
     let evidence = read_evidence(alloc, json)?;
-    members::only(
-        &[
-            Item::Kind,
-            Item::Registry,
-            Item::Value,
-            Item::Least,
-            Item::Label,
-            Item::Contact,
-            Item::Specification,
-            Item::Rfc,
-            Item::Minute,
-        ],
-        json,
-    )?;
+    members::only_of(&WANTED_ITEMS, &EVIDENCE_ITEMS, json)?;
     Ok(CodeAsk {
         registry: wanted.registry,
         want: wanted.want,

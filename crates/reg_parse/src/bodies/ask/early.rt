@@ -3,11 +3,10 @@ ghost use Rattle.serde_json.specs.View.{view};
 ghost use Rattle.reg_parse.specs.Bodies.Members.{Gives};
 ghost use Rattle.reg_parse.specs.Bodies.Ask.{early_of};
 
-use crate::bodies::early_evidence::read_early_evidence;
+use crate::bodies::early_evidence::{EARLY_EVIDENCE_ITEMS, read_early_evidence};
 use crate::bodies::members;
-use crate::bodies::value::read_wanted_value;
+use crate::bodies::value::{WANTED_ITEMS, read_wanted_value};
 use reg_core::ask::EarlyAsk;
-use reg_core::item::Item;
 use reg_core::wire_refusal::ReadFault;
 use serde_json::Value;
 use std::alloc::Global;
@@ -19,22 +18,7 @@ pub fn read_early(alloc: Global, json: &Value) -> Result<EarlyAsk, ReadFault>
 {
     let wanted = read_wanted_value(alloc, json)?;
     let evidence = read_early_evidence(alloc, json)?;
-    members::only(
-        &[
-            Item::Kind,
-            Item::Registry,
-            Item::Value,
-            Item::Least,
-            Item::Label,
-            Item::Draft,
-            Item::Stable,
-            Item::Interest,
-            Item::Chair,
-            Item::Director,
-            Item::WillBeRfc,
-        ],
-        json,
-    )?;
+    members::only_of(&WANTED_ITEMS, &EARLY_EVIDENCE_ITEMS, json)?;
     Ok(EarlyAsk {
         registry: wanted.registry,
         want: wanted.want,

@@ -3,7 +3,7 @@ ghost use Rattle.serde_json.specs.View.{view};
 ghost use Rattle.reg_parse.specs.Bodies.Members.{Gives};
 ghost use Rattle.reg_parse.specs.Bodies.Ask.{permanence_of};
 
-use crate::bodies::evidence::read_evidence;
+use crate::bodies::evidence::{EVIDENCE_ITEMS, read_evidence};
 use crate::bodies::members;
 use crate::bodies::value::read_allocated_value;
 use reg_core::ask::PermanenceAsk;
@@ -19,16 +19,9 @@ pub fn read_permanence(alloc: Global, json: &Value) -> Result<PermanenceAsk, Rea
 {
     let allocated = read_allocated_value(json)?;
     let evidence = read_evidence(alloc, json)?;
-    members::only(
-        &[
-            Item::Kind,
-            Item::Registry,
-            Item::Value,
-            Item::Contact,
-            Item::Specification,
-            Item::Rfc,
-            Item::Minute,
-        ],
+    members::only_of(
+        &[Item::Kind, Item::Registry, Item::Value],
+        &EVIDENCE_ITEMS,
         json,
     )?;
     Ok(PermanenceAsk {

@@ -3,7 +3,7 @@ ghost use Rattle.serde_json.specs.View.{view};
 ghost use Rattle.reg_parse.specs.Bodies.Members.{Gives};
 ghost use Rattle.reg_parse.specs.Bodies.Ask.{renewal_of};
 
-use crate::bodies::early_evidence::read_early_evidence;
+use crate::bodies::early_evidence::{EARLY_EVIDENCE_ITEMS, read_early_evidence};
 use crate::bodies::members;
 use crate::bodies::value::read_allocated_value;
 use reg_core::ask::RenewalAsk;
@@ -20,19 +20,9 @@ pub fn read_renewal(alloc: Global, json: &Value) -> Result<RenewalAsk, ReadFault
     let allocated = read_allocated_value(json)?;
     let evidence = read_early_evidence(alloc, json)?;
     let iesg = members::text_if_there(alloc, json, Item::Iesg)?;
-    members::only(
-        &[
-            Item::Kind,
-            Item::Registry,
-            Item::Value,
-            Item::Draft,
-            Item::Stable,
-            Item::Interest,
-            Item::Chair,
-            Item::Director,
-            Item::WillBeRfc,
-            Item::Iesg,
-        ],
+    members::only_of(
+        &[Item::Kind, Item::Registry, Item::Value, Item::Iesg],
+        &EARLY_EVIDENCE_ITEMS,
         json,
     )?;
     Ok(RenewalAsk {

@@ -5,6 +5,4 @@ pub returns : goal.returns
 returns c =
     joined c.in_ok-push.ensures
     (joined c.in_ok-push_head.ensures.bytes
-    (joined c.in_ok-push-2.ensures
-    (joined c.in_ok-push_text.ensures
-    (c.in_ok-push-3.ensures))))
+    (c.in_ok-push_all.ensures))

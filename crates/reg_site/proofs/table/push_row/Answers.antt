@@ -5,8 +5,6 @@ pub returns : goal.returns
 returns c =
     shown
     (joined c.in_ok-push_row_start.ensures
-    (joined c.in_ok-push.ensures
-    (joined c.in_ok-push_text.ensures
-    (joined c.in_ok-push-2.ensures
+    (joined c.in_ok-push_all.ensures
     (joined c.in_ok-push_cells.ensures.bytes
-    (c.in_ok-push-3.ensures))))))
+    (c.in_ok-push.ensures))))

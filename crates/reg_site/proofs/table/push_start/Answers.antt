@@ -3,8 +3,6 @@ use Rattle.reg_site.proofs.table.push_start.Goals as goal
 
 pub returns : goal.returns
 returns c =
-    joined c.in_ok-push.ensures
-    (joined c.in_ok-push_text.ensures
-    (joined c.in_ok-push-2.ensures
+    joined c.in_ok-push_all.ensures
     (joined c.in_ok-push_columns.ensures.bytes
-    (c.in_ok-push-3.ensures))))
+    (c.in_ok-push.ensures))

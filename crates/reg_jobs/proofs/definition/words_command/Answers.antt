@@ -1,5 +1,5 @@
 use Rattle.reg_jobs.proofs.Adding.{added_local, added_shape, last_local, last_shape}
-use Rattle.reg_jobs.proofs.definition.registry_command.Goals as goal
+use Rattle.reg_jobs.proofs.definition.words_command.Goals as goal
 
 pub returns-clause-shape : goal.returns-clause-shape
 returns-clause-shape c =

@@ -1,9 +1,0 @@
-use Rattle.reg_site.proofs.Pieces.{joined, shown}
-use Rattle.reg_site.proofs.table.push_column.Goals as goal
-
-pub returns : goal.returns
-returns c =
-    shown
-    (joined c.in_ok-push.ensures
-    (joined c.in_ok-push_text.ensures
-    (c.in_ok-push-2.ensures)))
