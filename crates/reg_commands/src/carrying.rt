@@ -57,7 +57,7 @@ pub fn conclude<K: Keeper, T: Drop>(
 }
 
 /// Makes the change of a decision about a request, if there is one, and gives the request as it is
-/// after that.
+/// after that. A decision to leave all as it is needs no memory.
 pub fn conclude_on<K: Keeper>(
     keeper: &mut K,
     request: Request,
@@ -68,14 +68,17 @@ pub fn conclude_on<K: Keeper>(
     ensures row { IfOk result (λ row. row ≡ row_by decision request) }
     ensures change { Makes K.world K.Holds K.Sound K.FAILS keeper.old keeper.new result
         (λ w. applied_if w (change_by decision)) }
+    ensures same { decision ≡ Same → result ≡ Ok request }
 {
     let row = row_after(request, &decision);
     conclude(keeper, row, decision)
 }
 
-// A request as it is after a decision about it.
+// A request as it is after a decision about it. Where the decision leaves all as it is, that needs no
+// memory.
 fn row_after(request: Request, decision: &Decision) -> Result<Request, AllocError>
-    ensures { IfOk result (λ row. row ≡ row_by decision.now request) }
+    ensures row { IfOk result (λ row. row ≡ row_by decision.now request) }
+    ensures same { decision.now ≡ Same → result ≡ Ok request }
 {
     let Decision::Make(change) = decision else {
         return Ok(request);

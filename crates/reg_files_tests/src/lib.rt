@@ -3,12 +3,4 @@
 #![tactic(auto)]
 
 #[cfg(test)]
-mod looks;
-#[cfg(test)]
-mod outcomes;
-#[cfg(test)]
-mod requests;
-#[cfg(test)]
-mod scripts;
-#[cfg(test)]
-mod steps;
+mod tests;

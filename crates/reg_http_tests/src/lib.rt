@@ -3,16 +3,4 @@
 #![tactic(auto)]
 
 #[cfg(test)]
-mod allocations;
-#[cfg(test)]
-mod asking;
-#[cfg(test)]
-mod exchanges;
-#[cfg(test)]
-mod failures;
-#[cfg(test)]
-mod heads;
-#[cfg(test)]
-mod listening;
-#[cfg(test)]
-mod rows;
+mod tests;

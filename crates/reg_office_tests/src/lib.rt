@@ -4,8 +4,4 @@
 #![tactic(auto)]
 
 #[cfg(test)]
-mod carriers;
-#[cfg(test)]
-mod disks;
-#[cfg(test)]
-mod transcripts;
+mod tests;

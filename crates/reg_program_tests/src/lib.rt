@@ -4,26 +4,4 @@
 #![tactic(auto)]
 
 #[cfg(test)]
-mod addresses;
-#[cfg(test)]
-mod command_lines;
-#[cfg(test)]
-mod failing_devices;
-#[cfg(test)]
-mod failing_keeper;
-#[cfg(test)]
-mod file_jobs;
-#[cfg(test)]
-mod floods;
-#[cfg(test)]
-mod job_faults;
-#[cfg(test)]
-mod lines;
-#[cfg(test)]
-mod offices;
-#[cfg(test)]
-mod running;
-#[cfg(test)]
-mod stores;
-#[cfg(test)]
-mod token_jobs;
+mod tests;

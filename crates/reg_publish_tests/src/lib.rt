@@ -3,14 +3,4 @@
 #![tactic(auto)]
 
 #[cfg(test)]
-mod answers;
-#[cfg(test)]
-mod devices;
-#[cfg(test)]
-mod directories;
-#[cfg(test)]
-mod faults;
-#[cfg(test)]
-mod office;
-#[cfg(test)]
-mod sites;
+mod tests;

@@ -1,0 +1,7 @@
+//! The tests, and what they share.
+mod answers;
+mod devices;
+mod directories;
+mod faults;
+mod office;
+mod sites;
