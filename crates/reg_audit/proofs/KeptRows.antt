@@ -126,101 +126,64 @@ module _ (audit : Audit) (w : World) (keeps : Keeps audit w) where
   pub keeps_cap : (new : BTreeSet (List ℕ)) (digest : List ℕ) (cap : Cap)
       → set.Updates text_cmp audit.caps new digest true
       → Keeps (record audit { caps = new }) (with_row w (row.Cap digest cap))
-  keeps_cap new digest cap put = record {
-    caps = key_put text_keys w.caps digest cap audit.caps new put keeps.caps;
-    registries = keeps.registries;
-    standings = keeps.standings;
-    prefixes = keeps.prefixes;
-    holders = keeps.holders;
-    requests = keeps.requests;
-    assignments = keeps.assignments;
-    links = keeps.links;
-    free = keeps.free;
-  }
+  keeps_cap new digest cap put =
+      assumption (key_put text_keys w.caps digest cap audit.caps new put keeps.caps, keeps)
 
   pub keeps_registry : (new : BTreeMap (List ℕ) Table) (name : List ℕ) (table : Table)
       → tree.Updates text_cmp audit.registries new name (Some table)
       → Keeps (record audit { registries = new }) (with_row w (row.Registry name table))
-  keeps_registry new name table put = record {
-    caps = keeps.caps;
-    registries =
-        row_put text_keys w.registries name table audit.registries new put keeps.registries;
-    standings = keeps.standings;
-    prefixes = keeps.prefixes;
-    holders = keeps.holders;
-    requests = keeps.requests;
-    assignments = keeps.assignments;
-    links = keeps.links;
-    free = keeps.free;
-  }
+  keeps_registry new name table put =
+      assumption (
+        row_put text_keys w.registries name table audit.registries new put keeps.registries,
+        keeps,
+      )
 
   pub keeps_entry : (new : BTreeMap Place Standing) (entry : Entry)
       → tree.Updates place_cmp audit.standings new (place_of entry)
       (Some (standing_of (registration_in entry)))
       → (free : Option Vacancies) → MayBeOf (with_row w (row.Entry entry)) free
       → Keeps (record audit { standings = new; free = free }) (with_row w (row.Entry entry))
-  keeps_entry new entry put free left = record {
-    caps = keeps.caps;
-    registries = keeps.registries;
-    standings = part_put place_keys w.entries (place_of entry) (registration_in entry)
-        standing_of audit.standings new put keeps.standings;
-    prefixes = keeps.prefixes;
-    holders = keeps.holders;
-    requests = keeps.requests;
-    assignments = keeps.assignments;
-    links = keeps.links;
-    free = left;
-  }
+  keeps_entry new entry put free left =
+      assumption (
+        part_put place_keys w.entries (place_of entry) (registration_in entry) standing_of
+            audit.standings new put keeps.standings,
+        left,
+        keeps,
+      )
 
   pub keeps_prefix : (new : BTreeSet ℕ) (prefix : ℕ)
       → set.Updates nat_cmp audit.prefixes new prefix true
       → (free : Option Vacancies) → MayBeOf (with_row w (row.Prefix prefix)) free
       → Keeps (record audit { prefixes = new; free = free }) (with_row w (row.Prefix prefix))
-  keeps_prefix new prefix put free left = record {
-    caps = keeps.caps;
-    registries = keeps.registries;
-    standings = keeps.standings;
-    prefixes = key_put number_keys w.pool prefix tt audit.prefixes new put keeps.prefixes;
-    holders = keeps.holders;
-    requests = keeps.requests;
-    assignments = keeps.assignments;
-    links = keeps.links;
-    free = left;
-  }
+  keeps_prefix new prefix put free left =
+      assumption (
+        key_put number_keys w.pool prefix tt audit.prefixes new put keeps.prefixes,
+        left,
+        keeps,
+      )
 
   pub keeps_block : (new : BTreeMap SizedPrefix (List ℕ)) (holding : Holding)
       → tree.Updates block_cmp audit.holders new holding.block (Some holding.holder)
       → (free : Option Vacancies) → MayBeOf (with_row w (row.Block holding)) free
       → Keeps (record audit { holders = new; free = free }) (with_row w (row.Block holding))
-  keeps_block new holding put free left = record {
-    caps = keeps.caps;
-    registries = keeps.registries;
-    standings = keeps.standings;
-    prefixes = keeps.prefixes;
-    holders = part_put block_keys w.blocks holding.block (holder_in holding) account_of
-        audit.holders new put keeps.holders;
-    requests = keeps.requests;
-    assignments = keeps.assignments;
-    links = keeps.links;
-    free = left;
-  }
+  keeps_block new holding put free left =
+      assumption (
+        part_put block_keys w.blocks holding.block (holder_in holding) account_of audit.holders
+            new put keeps.holders,
+        left,
+        keeps,
+      )
 
   pub keeps_request : (new : BTreeMap RequestName Bool) (request : Request)
       → tree.Updates name_cmp audit.requests new (name_of request)
       (Some (awaits_minute (case_of request)))
       → Keeps (record audit { requests = new }) (with_row w (row.Request request))
-  keeps_request new request put = record {
-    caps = keeps.caps;
-    registries = keeps.registries;
-    standings = keeps.standings;
-    prefixes = keeps.prefixes;
-    holders = keeps.holders;
-    requests = part_put name_keys w.requests (name_of request) (case_of request) awaits_minute
-        audit.requests new put keeps.requests;
-    assignments = keeps.assignments;
-    links = keeps.links;
-    free = keeps.free;
-  }
+  keeps_request new request put =
+      assumption (
+        part_put name_keys w.requests (name_of request) (case_of request) awaits_minute
+            audit.requests new put keeps.requests,
+        keeps,
+      )
 
   -- a mark of an entry that stands: it can be held no more
   held_with : (new : BTreeMap Place Standing) (place : Place) (a : Registration)
@@ -238,18 +201,13 @@ module _ (audit : Audit) (w : World) (keeps : Keeps audit w) where
       → tree.Updates place_cmp audit.standings new (registry, value)
       (Some (record was { can_be_held = false }))
       → Keeps (record audit { standings = new }) (with_row w (row.Hold registry value))
-  keeps_hold new registry value was there put = record {
-    caps = keeps.caps;
-    registries = keeps.registries;
-    standings = by (get w.entries (registry, value)) refl
-        (sym (keeps.standings (registry, value)) ∙ there);
-    prefixes = keeps.prefixes;
-    holders = keeps.holders;
-    requests = keeps.requests;
-    assignments = keeps.assignments;
-    links = keeps.links;
-    free = marked_free w (registry, value) audit.free keeps.free;
-  }
+  keeps_hold new registry value was there put =
+      assumption (
+        by (get w.entries (registry, value)) refl
+            (sym (keeps.standings (registry, value)) ∙ there),
+        marked_free w (registry, value) audit.free keeps.free,
+        keeps,
+      )
     where
       by : (r : Option Registration) → get w.entries (registry, value) ≡ r
           → option_map standing_of r ≡ Some was → (q : Place)
@@ -283,17 +241,8 @@ module _ (audit : Audit) (w : World) (keeps : Keeps audit w) where
       → tree.Updates name_cmp audit.requests new (account, reference) (Some false)
       → IsNew w (row.Minute account reference minute)
       → Keeps (record audit { requests = new }) (with_row w (row.Minute account reference minute))
-  keeps_minute new account reference minute put new_row = record {
-    caps = keeps.caps;
-    registries = keeps.registries;
-    standings = keeps.standings;
-    prefixes = keeps.prefixes;
-    holders = keeps.holders;
-    requests = by (get w.requests (account, reference)) refl new_row;
-    assignments = keeps.assignments;
-    links = keeps.links;
-    free = keeps.free;
-  }
+  keeps_minute new account reference minute put new_row =
+      assumption (by (get w.requests (account, reference)) refl new_row, keeps)
     where
       by : (r : Option Case) → get w.requests (account, reference) ≡ r → is_unminuted r ≡ true
           → (q : RequestName) → tree.get name_cmp new q
@@ -310,17 +259,11 @@ module _ (audit : Audit) (w : World) (keeps : Keeps audit w) where
   pub keeps_link : (new : BTreeSet Link) (principal agent : List ℕ)
       → set.Updates link_cmp audit.links new (principal, agent) true
       → Keeps (record audit { links = new }) (with_row w (row.Link principal agent))
-  keeps_link new principal agent put = record {
-    caps = keeps.caps;
-    registries = keeps.registries;
-    standings = keeps.standings;
-    prefixes = keeps.prefixes;
-    holders = keeps.holders;
-    requests = keeps.requests;
-    assignments = keeps.assignments;
-    links = key_put link_keys w.agents (principal, agent) tt audit.links new put keeps.links;
-    free = keeps.free;
-  }
+  keeps_link new principal agent put =
+      assumption (
+        key_put link_keys w.agents (principal, agent) tt audit.links new put keeps.links,
+        keeps,
+      )
 
   -- nobody was assigned to it, and nobody has advised yet
   pub keeps_assignment : (new : BTreeMap Seat Bool) (account reference expert : List ℕ)
@@ -329,27 +272,23 @@ module _ (audit : Audit) (w : World) (keeps : Keeps audit w) where
       (Some false)
       → Keeps (record audit { assignments = new })
       (with_row w (row.Assignment account reference expert))
-  keeps_assignment new account reference expert turn put = record {
-    caps = keeps.caps;
-    registries = keeps.registries;
-    standings = keeps.standings;
-    prefixes = keeps.prefixes;
-    holders = keeps.holders;
-    requests = keeps.requests;
-    assignments = λ q.
-        let unadvised : is_some (get w.advice q) ≡ false =
-        ap (λ m. is_some (get m q)) turn ∙ ap is_some (get-empty seat_cmp q) in
-        put.0 q
-        ∙ (λ i.
-        cond ((eq_by_cmp_equiv seat_keys.total).symm (seat_of account reference expert) q i)
-        (Some (sym unadvised i)) (keeps.assignments q i))
-        ∙ mapped (λ there. is_some (get w.advice q))
-        (eq_by_cmp seat_cmp q (seat_of account reference expert)) tt (get w.queue q)
-        ∙ sym (ap (option_map (λ there. is_some (get w.advice q)))
-        (get-at_insert seat_keys w.queue (seat_of account reference expert) tt q));
-    links = keeps.links;
-    free = keeps.free;
-  }
+  keeps_assignment new account reference expert turn put = assumption (assigned, keeps)
+    where
+      seat : Seat
+      seat = seat_of account reference expert
+
+      assigned : (q : Seat) → tree.get seat_cmp new q
+          ≡ advised_at (with_row w (row.Assignment account reference expert)) q
+      assigned q =
+          let unadvised : is_some (get w.advice q) ≡ false =
+          ap (λ m. is_some (get m q)) turn ∙ ap is_some (get-empty seat_cmp q) in
+          put.0 q
+          ∙ (λ i. cond ((eq_by_cmp_equiv seat_keys.total).symm seat q i) (Some (sym unadvised i))
+          (keeps.assignments q i))
+          ∙ mapped (λ there. is_some (get w.advice q)) (eq_by_cmp seat_cmp q seat) tt
+          (get w.queue q)
+          ∙ sym (ap (option_map (λ there. is_some (get w.advice q)))
+          (get-at_insert seat_keys w.queue seat tt q))
 
   -- the request is assigned to the expert, who has advised now
   pub keeps_advice : (new : BTreeMap Seat Bool) (account reference expert : List ℕ)
@@ -357,55 +296,39 @@ module _ (audit : Audit) (w : World) (keeps : Keeps audit w) where
       → tree.Updates seat_cmp audit.assignments new (seat_of account reference expert) (Some true)
       → Keeps (record audit { assignments = new })
       (with_row w (row.Advice account reference expert advice))
-  keeps_advice new account reference expert advice assigned put = record {
-    caps = keeps.caps;
-    registries = keeps.registries;
-    standings = keeps.standings;
-    prefixes = keeps.prefixes;
-    holders = keeps.holders;
-    requests = keeps.requests;
-    assignments = λ q.
-        let seat = seat_of account reference expert in
-        put.0 q
-        ∙ (λ i. cond ((eq_by_cmp_equiv seat_keys.total).symm seat q i) (Some true)
-        (keeps.assignments q i))
-        ∙ marked (eq_by_cmp seat_cmp q seat) advice (get w.advice q) (get w.queue q)
-        (λ t. subst (λ (s : Seat). contains_key w.queue s ≡ true) (sym (tied seat_keys q seat t))
-        assigned)
-        ∙ sym (ap (λ o. option_map (λ there. is_some o) (get w.queue q))
-        (get-at_insert seat_keys w.advice seat advice q));
-    links = keeps.links;
-    free = keeps.free;
-  }
+  keeps_advice new account reference expert advice assigned put = assumption (advised, keeps)
+    where
+      seat : Seat
+      seat = seat_of account reference expert
+
+      advised : (q : Seat) → tree.get seat_cmp new q
+          ≡ advised_at (with_row w (row.Advice account reference expert advice)) q
+      advised q =
+          put.0 q
+          ∙ (λ i. cond ((eq_by_cmp_equiv seat_keys.total).symm seat q i) (Some true)
+          (keeps.assignments q i))
+          ∙ marked (eq_by_cmp seat_cmp q seat) advice (get w.advice q) (get w.queue q)
+          (λ t. subst (λ (s : Seat). contains_key w.queue s ≡ true) (sym (tied seat_keys q seat t))
+          assigned)
+          ∙ sym (ap (λ o. option_map (λ there. is_some o) (get w.queue q))
+          (get-at_insert seat_keys w.advice seat advice q))
 
   -- where no memory was there, what was kept is
   pub keeps_still : (new : BTreeMap Seat Bool) → tree.IsUnchanged audit.assignments new
       → Keeps (record audit { assignments = new }) w
-  keeps_still new same = record {
-    caps = keeps.caps;
-    registries = keeps.registries;
-    standings = keeps.standings;
-    prefixes = keeps.prefixes;
-    holders = keeps.holders;
-    requests = keeps.requests;
-    assignments = λ q. ap (lookup (is_at (seat_cmp q))) same ∙ keeps.assignments q;
-    links = keeps.links;
-    free = keeps.free;
-  }
+  keeps_still new same =
+      assumption (
+        λ (q : Seat). ap (lookup (is_at (seat_cmp q))) same ∙ keeps.assignments q,
+        keeps,
+      )
 
   pub keeps_requests_still : (new : BTreeMap RequestName Bool)
       → tree.IsUnchanged audit.requests new → Keeps (record audit { requests = new }) w
-  keeps_requests_still new same = record {
-    caps = keeps.caps;
-    registries = keeps.registries;
-    standings = keeps.standings;
-    prefixes = keeps.prefixes;
-    holders = keeps.holders;
-    requests = λ q. ap (lookup (is_at (name_cmp q))) same ∙ keeps.requests q;
-    assignments = keeps.assignments;
-    links = keeps.links;
-    free = keeps.free;
-  }
+  keeps_requests_still new same =
+      assumption (
+        λ (q : RequestName). ap (lookup (is_at (name_cmp q))) same ∙ keeps.requests q,
+        keeps,
+      )
 
 -- ---- No rows
 

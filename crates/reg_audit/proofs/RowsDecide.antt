@@ -2,29 +2,23 @@
 use Rattle.std.proofs.Common.{◌≡◌, ℕ, Bool, true, false, cond, ◌&&◌, List, refl, sym, ap, ◌∙◌, inl, inr}
 use Rattle.std.specs.Prelude.{Option, Some, None, IsSome, IsTrue, is_some, not, ◌⊎◌}
 use Rattle.std.specs.Cmp.{second_so}
-use Rattle.std.specs.FinMap.{FinMap, get, insert, contains_key}
+use Rattle.std.specs.FinMap.{FinMap, get, insert}
 use Rattle.std.specs.Ordering.{eq_by_cmp}
 use Rattle.std.specs.declared.cmp.Ordering.{Ordering}
 use Rattle.reg_maps.specs.Maps.{same_text}
-use Rattle.reg_maps.proofs.KeySets.{each_key, is_inserted, still_at, still_in}
-use Rattle.reg_maps.proofs.MapLaws.{IsKeyOrder, text_keys, number_keys, tied, get-at_insert, get-inserted, insert_keeps, update_keeps}
-use Rattle.reg_blocks.specs.Block.{SizedPrefix, Clash, leading_24}
+use Rattle.reg_maps.proofs.KeySets.{is_inserted, still_in}
+use Rattle.reg_maps.proofs.MapLaws.{IsKeyOrder, text_keys, number_keys, tied, get-at_insert, get-inserted}
 use Rattle.reg_ranges.specs.Texts.{is_text}
-use Rattle.reg_early.specs.Terms.{may_be_held}
 use Rattle.reg_core.specs.Entry.{registration_in, with_hold}
 use Rattle.reg_core.specs.Holding.{holder_in}
-use Rattle.reg_core.specs.Link.{has_link_form}
 use Rattle.reg_core.specs.MayBeGiven.{place_of}
 use Rattle.reg_core.specs.Minutes.{with_minute}
 use Rattle.reg_core.specs.Names.{is_name}
 use Rattle.reg_core.specs.Request.{case_of}
-use Rattle.reg_core.specs.WellKept.{WellKept, has_entry_form, has_holding_form, has_request_form, is_open_at, stands_in}
-use Rattle.reg_core.specs.World.{World, Place, RequestName, name_cmp}
-use Rattle.reg_core.specs.declared.entry.Entry.{Entry}
-use Rattle.reg_core.specs.declared.entry.Registration.{Registration}
+use Rattle.reg_core.specs.WellKept.{WellKept}
+use Rattle.reg_core.specs.World.{World, RequestName, name_cmp}
 use Rattle.reg_core.specs.declared.holding.Holding.{Holding}
 use Rattle.reg_core.specs.declared.request.Case.{Case}
-use Rattle.reg_core.specs.declared.request.Request.{Request}
 use Rattle.reg_core.proofs.Keeping.Changes.{can_grant, can_define, can_add_pool, can_assign, can_advise}
 use Rattle.reg_core.proofs.KeyOrders.{name_keys, place_keys, seat_keys, block_keys, link_keys}
 use Rattle.reg_audit.specs.Laws.{IsPart, RowsDecide}
@@ -32,7 +26,7 @@ use Rattle.reg_audit.specs.Rows.{with_row, has_row_form, is_markable, is_unminut
 use Rattle.reg_audit.specs.declared.row.Row.{Row}
 use Rattle.reg_audit.specs.declared.row.Row.TheVariants as row
 use Rattle.reg_audit.proofs.Minutes.{changed_row, named_stands, request_raised}
-use Rattle.reg_audit.proofs.Parts.{no_row, part_kept}
+use Rattle.reg_audit.proofs.Parts.{no_row, part_kept, more_caps, more_registries, more_entries, more_requests, more_queue, more_advice, more_pool, more_blocks, more_agents}
 
 -- ---- Rows that are there stay
 
@@ -65,190 +59,43 @@ minuted_row Q requests name minute case lacks (inr changed) =
 -- the rows of a world are part of those of the world with a row more
 pub part_of_next : (w : World) (next : Row) → IsInTurn w next → IsNew w next
     → IsPart w (with_row w next)
-part_of_next w (row.Cap digest cap) turn new = record {
-  caps = still_row text_keys w.caps digest cap new;
-  registries = λ name table there. there;
-  entries = λ place a there. inl there;
-  requests = λ name case there. inl there;
-  queue = λ seat there. there;
-  advice = λ seat advice there. there;
-  pool = λ prefix there. there;
-  blocks = λ block h there. there;
-  agents = λ link there. there;
-  all_registries = inr refl;
-  all_prefixes = inr refl;
-  all_given = inr (refl, refl);
-  all_requests = inr refl;
-  all_assignments = inr refl;
-}
-part_of_next w (row.Registry name table) turn new = record {
-  caps = λ digest cap there. there;
-  registries = still_row text_keys w.registries name table new;
-  entries = λ place a there. inl there;
-  requests = λ name case there. inl there;
-  queue = λ seat there. there;
-  advice = λ seat advice there. there;
-  pool = λ prefix there. there;
-  blocks = λ block h there. there;
-  agents = λ link there. there;
-  all_registries = inl turn;
-  all_prefixes = inr refl;
-  all_given = inr (refl, refl);
-  all_requests = inr refl;
-  all_assignments = inr refl;
-}
-part_of_next w (row.Entry entry) turn new = record {
-  caps = λ digest cap there. there;
-  registries = λ name table there. there;
-  entries = λ place a there.
-      inl (still_row place_keys w.entries (place_of entry) (registration_in entry) new place a
-      there);
-  requests = λ name case there. inl there;
-  queue = λ seat there. there;
-  advice = λ seat advice there. there;
-  pool = λ prefix there. there;
-  blocks = λ block h there. there;
-  agents = λ link there. there;
-  all_registries = inr refl;
-  all_prefixes = inr refl;
-  all_given = inl turn;
-  all_requests = inr refl;
-  all_assignments = inr refl;
-}
-part_of_next w (row.Hold registry value) turn new = record {
-  caps = λ digest cap there. there;
-  registries = λ name table there. there;
-  entries = λ place a there.
-      marked_row (changed_row place_keys w.entries (registry, value) (with_hold true) place a there);
-  requests = λ name case there. inl there;
-  queue = λ seat there. there;
-  advice = λ seat advice there. there;
-  pool = λ prefix there. there;
-  blocks = λ block h there. there;
-  agents = λ link there. there;
-  all_registries = inr refl;
-  all_prefixes = inr refl;
-  all_given = inl turn;
-  all_requests = inr refl;
-  all_assignments = inr refl;
-}
-part_of_next w (row.Prefix prefix) turn new = record {
-  caps = λ digest cap there. there;
-  registries = λ name table there. there;
-  entries = λ place a there. inl there;
-  requests = λ name case there. inl there;
-  queue = λ seat there. there;
-  advice = λ seat advice there. there;
-  pool = still_in number_keys w.pool prefix tt;
-  blocks = λ block h there. there;
-  agents = λ link there. there;
-  all_registries = inr refl;
-  all_prefixes = inl turn;
-  all_given = inr (refl, refl);
-  all_requests = inr refl;
-  all_assignments = inr refl;
-}
-part_of_next w (row.Block holding) turn new = record {
-  caps = λ digest cap there. there;
-  registries = λ name table there. there;
-  entries = λ place a there. inl there;
-  requests = λ name case there. inl there;
-  queue = λ seat there. there;
-  advice = λ seat advice there. there;
-  pool = λ prefix there. there;
-  blocks = still_row block_keys w.blocks holding.block (holder_in holding) new;
-  agents = λ link there. there;
-  all_registries = inr refl;
-  all_prefixes = inr refl;
-  all_given = inl turn;
-  all_requests = inr refl;
-  all_assignments = inr refl;
-}
-part_of_next w (row.Request request) turn new = record {
-  caps = λ digest cap there. there;
-  registries = λ name table there. there;
-  entries = λ place a there. inl there;
-  requests = λ name case there.
-      inl (still_row name_keys w.requests (name_of request) (case_of request) new name case there);
-  queue = λ seat there. there;
-  advice = λ seat advice there. there;
-  pool = λ prefix there. there;
-  blocks = λ block h there. there;
-  agents = λ link there. there;
-  all_registries = inr refl;
-  all_prefixes = inr refl;
-  all_given = inr (refl, refl);
-  all_requests = inl turn;
-  all_assignments = inr refl;
-}
-part_of_next w (row.Minute account reference minute) turn new = record {
-  caps = λ digest cap there. there;
-  registries = λ name table there. there;
-  entries = λ place a there. inl there;
-  requests = λ name case there.
-      minuted_row (λ other. get (with_row w (row.Minute account reference minute)).requests name
-      ≡ Some (with_minute (Some other) case)) w.requests (account, reference) minute case new
-      (changed_row name_keys w.requests (account, reference) (with_minute (Some minute)) name case
-      there);
-  queue = λ seat there. there;
-  advice = λ seat advice there. there;
-  pool = λ prefix there. there;
-  blocks = λ block h there. there;
-  agents = λ link there. there;
-  all_registries = inr refl;
-  all_prefixes = inr refl;
-  all_given = inr (refl, refl);
-  all_requests = inl turn;
-  all_assignments = inr refl;
-}
-part_of_next w (row.Assignment account reference expert) turn new = record {
-  caps = λ digest cap there. there;
-  registries = λ name table there. there;
-  entries = λ place a there. inl there;
-  requests = λ name case there. inl there;
-  queue = still_in seat_keys w.queue (seat_of account reference expert) tt;
-  advice = λ seat advice there. there;
-  pool = λ prefix there. there;
-  blocks = λ block h there. there;
-  agents = λ link there. there;
-  all_registries = inr refl;
-  all_prefixes = inr refl;
-  all_given = inr (refl, refl);
-  all_requests = inr refl;
-  all_assignments = inl turn;
-}
-part_of_next w (row.Advice account reference expert advice) turn new = record {
-  caps = λ digest cap there. there;
-  registries = λ name table there. there;
-  entries = λ place a there. inl there;
-  requests = λ name case there. inl there;
-  queue = λ seat there. there;
-  advice = still_row seat_keys w.advice (seat_of account reference expert) advice new;
-  pool = λ prefix there. there;
-  blocks = λ block h there. there;
-  agents = λ link there. there;
-  all_registries = inr refl;
-  all_prefixes = inr refl;
-  all_given = inr (refl, refl);
-  all_requests = inr refl;
-  all_assignments = inr refl;
-}
-part_of_next w (row.Link principal agent) turn new = record {
-  caps = λ digest cap there. there;
-  registries = λ name table there. there;
-  entries = λ place a there. inl there;
-  requests = λ name case there. inl there;
-  queue = λ seat there. there;
-  advice = λ seat advice there. there;
-  pool = λ prefix there. there;
-  blocks = λ block h there. there;
-  agents = still_in link_keys w.agents (principal, agent) tt;
-  all_registries = inr refl;
-  all_prefixes = inr refl;
-  all_given = inr (refl, refl);
-  all_requests = inr refl;
-  all_assignments = inr refl;
-}
+part_of_next w (row.Cap digest cap) turn new =
+    more_caps w (insert w.caps digest cap) (still_row text_keys w.caps digest cap new)
+part_of_next w (row.Registry name table) turn new =
+    more_registries w (insert w.registries name table) turn
+    (still_row text_keys w.registries name table new)
+part_of_next w (row.Entry entry) turn new =
+    let a = registration_in entry in
+    more_entries w (insert w.entries (place_of entry) a) turn (λ place old there.
+    inl (still_row place_keys w.entries (place_of entry) a new place old there))
+part_of_next w (row.Hold registry value) turn new =
+    more_entries w (update w.entries (registry, value) (with_hold true)) turn (λ place a there.
+    marked_row (changed_row place_keys w.entries (registry, value) (with_hold true) place a there))
+part_of_next w (row.Prefix prefix) turn new =
+    more_pool w (insert w.pool prefix tt) turn (still_in number_keys w.pool prefix tt)
+part_of_next w (row.Block holding) turn new =
+    more_blocks w (insert w.blocks holding.block (holder_in holding)) turn
+    (still_row block_keys w.blocks holding.block (holder_in holding) new)
+part_of_next w (row.Request request) turn new =
+    let case = case_of request in
+    more_requests w (insert w.requests (name_of request) case) turn (λ name old there.
+    inl (still_row name_keys w.requests (name_of request) case new name old there))
+part_of_next w (row.Minute account reference minute) turn new =
+    let after = update w.requests (account, reference) (with_minute (Some minute)) in
+    more_requests w after turn (λ name case there.
+    minuted_row (λ other. get after name ≡ Some (with_minute (Some other) case)) w.requests
+    (account, reference) minute case new
+    (changed_row name_keys w.requests (account, reference) (with_minute (Some minute)) name case
+    there))
+part_of_next w (row.Assignment account reference expert) turn new =
+    let seat = seat_of account reference expert in
+    more_queue w (insert w.queue seat tt) turn (still_in seat_keys w.queue seat tt)
+part_of_next w (row.Advice account reference expert advice) turn new =
+    let seat = seat_of account reference expert in
+    more_advice w (insert w.advice seat advice) (still_row seat_keys w.advice seat advice new)
+part_of_next w (row.Link principal agent) turn new =
+    more_agents w (insert w.agents (principal, agent) tt)
+    (still_in link_keys w.agents (principal, agent) tt)
 
 -- ---- A row of a well kept world fits
 
@@ -298,180 +145,6 @@ next_fits w (row.Link principal agent) new kept =
 
 -- ---- A row that fits leaves a world well kept
 
-entry_kept : (w : World) (entry : Entry) → WellKept w
-    → has_entry_form (place_of entry) (registration_in entry) ≡ true
-    → IsInTurn w (row.Entry entry) → Fits w (row.Entry entry)
-    → WellKept (with_row w (row.Entry entry))
-entry_kept w entry kept form turn fits = record {
-  caps = kept.caps;
-  registries = kept.registries;
-  entries = insert_keeps place_keys (λ place a. has_entry_form place a ≡ true) w.entries
-      (place_of entry) (registration_in entry) kept.entries form;
-  open_values = insert_keeps place_keys
-      (λ place a. is_open_at (get w.registries place.0) place.1 ≡ true) w.entries
-      (place_of entry) (registration_in entry) kept.open_values fits.0;
-  held = insert_keeps place_keys (λ place a. may_be_held a.term ≡ true) w.entries
-      (place_of entry) (registration_in entry) kept.held fits.1;
-  requests = kept.requests;
-  given = λ name case there. no_row w.requests turn name case there;
-  queue = kept.queue;
-  queued = kept.queued;
-  advice = kept.advice;
-  advised = kept.advised;
-  pool = kept.pool;
-  blocks = kept.blocks;
-  in_pool = kept.in_pool;
-  apart = kept.apart;
-  agents = kept.agents;
-}
-
--- the entry expires
-hold_kept : (w : World) (registry : List ℕ) (value : ℕ) → WellKept w
-    → IsInTurn w (row.Hold registry value) → IsNew w (row.Hold registry value)
-    → WellKept (with_row w (row.Hold registry value))
-hold_kept w registry value kept turn new =
-    let place : Place = (registry, value) in
-    let mark : Registration → Registration = with_hold true in record {
-      caps = kept.caps;
-      registries = kept.registries;
-      entries = update_keeps place_keys (λ place a. has_entry_form place a ≡ true) w.entries place
-          mark kept.entries (λ a there. kept.entries place a there);
-      open_values = update_keeps place_keys
-          (λ place a. is_open_at (get w.registries place.0) place.1 ≡ true) w.entries place mark
-          kept.open_values (λ a there. kept.open_values place a there);
-      held = update_keeps place_keys (λ place a. may_be_held a.term ≡ true) w.entries place mark
-          kept.held
-          (λ a there. second_so (not a.term.held) (is_some a.term.expires)
-          (sym (ap is_markable there) ∙ new));
-      requests = kept.requests;
-      given = λ name case there. no_row w.requests turn name case there;
-      queue = kept.queue;
-      queued = kept.queued;
-      advice = kept.advice;
-      advised = kept.advised;
-      pool = kept.pool;
-      blocks = kept.blocks;
-      in_pool = kept.in_pool;
-      apart = kept.apart;
-      agents = kept.agents;
-    }
-
-block_kept : (w : World) (holding : Holding) → WellKept w
-    → has_holding_form holding.block (holder_in holding) ≡ true
-    → IsInTurn w (row.Block holding) → Fits w (row.Block holding)
-    → WellKept (with_row w (row.Block holding))
-block_kept w holding kept form turn fits =
-    let block = holding.block in
-    let h = holder_in holding in
-    let after = insert w.blocks block h in record {
-      caps = kept.caps;
-      registries = kept.registries;
-      entries = kept.entries;
-      open_values = kept.open_values;
-      held = kept.held;
-      requests = kept.requests;
-      given = λ name case there. no_row w.requests turn name case there;
-      queue = kept.queue;
-      queued = kept.queued;
-      advice = kept.advice;
-      advised = kept.advised;
-      pool = kept.pool;
-      blocks = insert_keeps block_keys (λ block h. has_holding_form block h ≡ true) w.blocks
-          block h kept.blocks form;
-      in_pool = insert_keeps block_keys
-          (λ block h. contains_key w.pool (leading_24 block) ≡ true) w.blocks block h
-          kept.in_pool fits.0;
-      apart = λ a b in_a in_b.
-          each_key block_keys w.blocks block
-          (λ a. (b : SizedPrefix) → IsSome (get after b) → Clash a b → a ≡ b) h
-          (λ a there. each_key block_keys w.blocks block (λ b. Clash a b → a ≡ b) h
-          (λ b then. kept.apart a b there then)
-          (λ clash. absurd (fits.1 a there (clash.0, clash.2, clash.1))))
-          (each_key block_keys w.blocks block (λ b. Clash block b → block ≡ b) h
-          (λ b there clash. absurd (fits.1 b there clash)) (λ clash. refl))
-          a in_a b in_b;
-      agents = kept.agents;
-    }
-
-request_kept : (w : World) (request : Request) → WellKept w
-    → has_request_form (name_of request) (case_of request) ≡ true
-    → Fits w (row.Request request) → WellKept (with_row w (row.Request request))
-request_kept w request kept form fits = record {
-  caps = kept.caps;
-  registries = kept.registries;
-  entries = kept.entries;
-  open_values = kept.open_values;
-  held = kept.held;
-  requests = insert_keeps name_keys (λ name case. has_request_form name case ≡ true) w.requests
-      (name_of request) (case_of request) kept.requests form;
-  given = insert_keeps name_keys
-      (λ name case. stands_in w.entries w.blocks name.0 case.ask case.state ≡ true) w.requests
-      (name_of request) (case_of request) kept.given fits;
-  queue = kept.queue;
-  queued = λ seat there.
-      still_in name_keys w.requests (name_of request) (case_of request) seat.0
-      (kept.queued seat there);
-  advice = kept.advice;
-  advised = kept.advised;
-  pool = kept.pool;
-  blocks = kept.blocks;
-  in_pool = kept.in_pool;
-  apart = kept.apart;
-  agents = kept.agents;
-}
-
-minute_kept : (w : World) (account reference minute : List ℕ) → WellKept w
-    → is_text minute ≡ true → WellKept (with_row w (row.Minute account reference minute))
-minute_kept w account reference minute kept text =
-    let name : RequestName = (account, reference) in
-    let names : Case → Case = with_minute (Some minute) in record {
-      caps = kept.caps;
-      registries = kept.registries;
-      entries = kept.entries;
-      open_values = kept.open_values;
-      held = kept.held;
-      requests = update_keeps name_keys (λ name case. has_request_form name case ≡ true)
-          w.requests name names kept.requests
-          (λ case there. request_raised name minute case text (kept.requests name case there));
-      given = update_keeps name_keys
-          (λ name case. stands_in w.entries w.blocks name.0 case.ask case.state ≡ true)
-          w.requests name names kept.given
-          (λ case there. named_stands w.entries w.blocks account minute case.ask case.state
-          ∙ kept.given name case there);
-      queue = kept.queue;
-      queued = λ seat there.
-          still_at name_keys w.requests name names seat.0 (kept.queued seat there);
-      advice = kept.advice;
-      advised = kept.advised;
-      pool = kept.pool;
-      blocks = kept.blocks;
-      in_pool = kept.in_pool;
-      apart = kept.apart;
-      agents = kept.agents;
-    }
-
-link_kept : (w : World) (principal agent : List ℕ) → WellKept w
-    → has_link_form (principal, agent) ≡ true → WellKept (with_row w (row.Link principal agent))
-link_kept w principal agent kept form = record {
-  caps = kept.caps;
-  registries = kept.registries;
-  entries = kept.entries;
-  open_values = kept.open_values;
-  held = kept.held;
-  requests = kept.requests;
-  given = kept.given;
-  queue = kept.queue;
-  queued = kept.queued;
-  advice = kept.advice;
-  advised = kept.advised;
-  pool = kept.pool;
-  blocks = kept.blocks;
-  in_pool = kept.in_pool;
-  apart = kept.apart;
-  agents = each_key link_keys w.agents (principal, agent) (λ link. has_link_form link ≡ true) tt
-      kept.agents form;
-}
-
 assignment_kept : (w : World) (account reference expert : List ℕ) → WellKept w
     → is_name expert ≡ true → IsNew w (row.Assignment account reference expert)
     → same_text expert account ≡ false → (o : Option Case)
@@ -491,18 +164,29 @@ next_kept w (row.Cap digest cap) form turn new kept fits =
     (can_grant w digest cap kept form new).1
 next_kept w (row.Registry name table) form turn new kept fits =
     (can_define w name table kept form new).1
-next_kept w (row.Entry entry) form turn new kept fits = entry_kept w entry kept form turn fits
+next_kept w (row.Entry entry) form turn new kept fits =
+    with_entry w kept (place_of entry) (registration_in entry) form fits.0 fits.1
+    (λ name case. no_row w.requests turn name case)
 next_kept w (row.Hold registry value) form turn new kept fits =
-    hold_kept w registry value kept turn new
+    with_hold_set w kept (registry, value) true
+    (λ a there. second_so (not a.term.held) (is_some a.term.expires)
+    (sym (ap is_markable there) ∙ new))
+    (λ name case. no_row w.requests turn name case)
 next_kept w (row.Prefix prefix) form turn new kept fits =
     (can_add_pool w prefix kept fits new).1
 next_kept w (row.Block holding) form turn new kept fits =
-    block_kept w holding kept form turn fits
+    with_block w kept holding.block (holder_in holding) form fits.0 fits.1
+    (λ name case. no_row w.requests turn name case)
 next_kept w (row.Request request) form turn new kept fits =
-    request_kept w request kept form fits
+    with_request w kept (name_of request) (case_of request) form fits
 next_kept w (row.Minute account reference minute) form turn new kept fits =
-    minute_kept w account reference minute kept
-    (second_so (is_name account && is_name reference) (is_text minute) form)
+    let name : RequestName = (account, reference) in
+    let text = second_so (is_name account && is_name reference) (is_text minute) form in
+    with_change w kept name (with_minute (Some minute))
+    (λ case there. request_raised name minute case text (kept.requests name case there))
+    (λ case there.
+    named_stands w.entries w.blocks account minute case.ask case.state
+    ∙ kept.given name case there)
 next_kept w (row.Assignment account reference expert) form turn new kept fits =
     assignment_kept w account reference expert kept
     (second_so (is_name account && is_name reference) (is_name expert) form) new
@@ -511,7 +195,7 @@ next_kept w (row.Advice account reference expert advice) form turn new kept fits
     (can_advise w (account, reference) expert advice kept fits
     (second_so (is_name account && is_name reference && is_name expert) _ form)).1
 next_kept w (row.Link principal agent) form turn new kept fits =
-    link_kept w principal agent kept
+    with_link w kept (principal, agent)
     (ap (λ named. named && not (same_text agent principal)) form ∙ fits)
 
 pub rows_decide : RowsDecide
