@@ -19,6 +19,7 @@ use Rattle.reg_core.proofs.MapLaws.{All-entries, IsKeyOrder, get-at_insert, get-
 use Rattle.reg_core.proofs.MapLaws.{place_keys, same_at, text_keys, tied}
 use Rattle.reg_statements.specs.Content.{ranges_of, registries_in, registry_table}
 use Rattle.reg_content.specs.Registries.{with_range}
+use Rattle.reg_content.proofs.Found.{each_passes, none_passes}
 use Rattle.reg_statements.specs.RowMaps.{AreAscending}
 use Rattle.reg_statements.proofs.RegistryRows.{registry-at}
 use Rattle.reg_statements.proofs.RowMaps.Ascending.{ascending_from_is_sorted, entries_are}
@@ -29,14 +30,6 @@ same_name a b t = tied text_keys a b (sym (text_test a b) ∙ t)
 
 itself : (a : List ℕ) → same_text a a ≡ true
 itself a = text_test a a ∙ (eq_by_cmp_equiv text_keys.total).refl a
-
-none_passes : {X : Type 0} (r : Option X) → option_and_then (λ x. only_if false x) r ≡ None
-none_passes None = refl
-none_passes (Some x) = refl
-
-each_passes : {X : Type 0} (r : Option X) → option_and_then (λ x. only_if true x) r ≡ r
-each_passes None = refl
-each_passes (Some x) = refl
 
 missing : {X Y : Type 0} (r : Option X) (s : Option Y) → (IsSome r → IsSome s) → s ≡ None → r ≡ None
 missing None s h none = refl
