@@ -119,12 +119,12 @@ looks_still {seen = seen} {s = s} keeping gives =
     (record { worked = λ h. h; unchanged = λ h. refl })
     (λ h. gives (seen s.now))
 
--- two calls that look, one after the other, look as one
-pub looks_then : {W T U V E : Type 0} {seen : Database → W} {a b c : State} {x : T} {y : U} {z : V}
-    {F : W → T → Type 0} {G : W → U → Type 0} {H : W → V → Type 0}
-    → LooksAt {E = E} seen a b (Ok x) F → LooksAt {E = E} seen b c (Ok y) G
-    → ((w : W) → F w x → G w y → H w z) → LooksAt {E = E} seen a c (Ok z) H
-looks_then {seen = seen} {a = a} {b = b} {c = c} {y = y} {G = G} first second joins = record {
+-- two calls that look, one after the other, look as one, of whatever comes of the second
+looks_both : {W T U V E : Type 0} {seen : Database → W} {a b c : State} {x : T}
+    {told : Result U E} {result : Result V E} {F : W → T → Type 0} {G : W → U → Type 0}
+    {H : W → V → Type 0} → LooksAt {E = E} seen a b (Ok x) F → LooksAt seen b c told G
+    → ((w : W) → F w x → IfOk told (G w) → IfOk result (H w)) → LooksAt seen a c result H
+looks_both {seen = seen} {a = a} {b = b} {c = c} {told = told} {G = G} first second joins = record {
   keeping = second.keeping;
   endures = endures_then a b c first.endures second.endures;
   stays = stays_then a b c first.stays second.stays;
@@ -132,27 +132,23 @@ looks_then {seen = seen} {a = a} {b = b} {c = c} {y = y} {G = G} first second jo
   value = λ h.
       let held = stays_held second.stays h in
       let same : seen b.now ≡ seen a.now = ap seen (stays_same first.stays held) in
-      joins (seen a.now) (first.value held) (subst (λ w. G w y) same (second.value h));
+      joins (seen a.now) (first.value held) (subst (λ w. IfOk told (G w)) same (second.value h));
 }
 
--- and so does a call after one that looks
+-- of a value that both tell of
+pub looks_then : {W T U V E : Type 0} {seen : Database → W} {a b c : State} {x : T} {y : U} {z : V}
+    {F : W → T → Type 0} {G : W → U → Type 0} {H : W → V → Type 0}
+    → LooksAt {E = E} seen a b (Ok x) F → LooksAt {E = E} seen b c (Ok y) G
+    → ((w : W) → F w x → G w y → H w z) → LooksAt {E = E} seen a c (Ok z) H
+looks_then first second joins = looks_both first second joins
+
+-- of the result of the second
 pub looks_before : {W T U E : Type 0} {seen : Database → W} {a b c : State} {x : T}
     {result : Result U E} {F : W → T → Type 0} {G H : W → U → Type 0}
     → LooksAt {E = E} seen a b (Ok x) F → LooksAt seen b c result G
     → ((w : W) (y : U) → F w x → G w y → H w y) → LooksAt seen a c result H
-looks_before {seen = seen} {a = a} {b = b} {c = c} {result = result} {G = G} {H = H} first second
-    joins = record {
-      keeping = second.keeping;
-      endures = endures_then a b c first.endures second.endures;
-      stays = stays_then a b c first.stays second.stays;
-      on = holds_then a b c second.endures first.on second.on;
-      value = λ h.
-          let held = stays_held second.stays h in
-          let same : seen b.now ≡ seen a.now = ap seen (stays_same first.stays held) in
-          IfOk-weaker result (G (seen a.now)) (H (seen a.now))
-          (λ y. joins (seen a.now) y (first.value held))
-          (subst (λ w. IfOk result (G w)) same (second.value h));
-    }
+looks_before {result = result} {G = G} {H = H} first second joins =
+    looks_both first second (λ w f. IfOk-weaker result (G w) (H w) (λ y. joins w y f))
 
 -- and where the second was given up, nothing is told
 pub looks_failed : {W T U V E : Type 0} {seen : Database → W} {a b c : State} {first : Result T E}

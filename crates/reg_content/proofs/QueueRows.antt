@@ -8,6 +8,7 @@ use Rattle.reg_core.specs.World.{RequestName, World}
 use Rattle.reg_core.specs.declared.request.Case.{Case}
 use Rattle.reg_core.proofs.Queues.{get-queue_of}
 use Rattle.reg_content.specs.Seats.{assigned_to}
+use Rattle.reg_content.proofs.Found.{each_passes, none_passes}
 
 -- a request is in the queue where it is assigned
 queued_at : (w : World) (expert : List ℕ) (name : RequestName)
@@ -24,14 +25,6 @@ queued_at w expert name =
         (option_map (as_queued (get w.advice (name, expert))) o)
     by None = refl
     by (Some case) = refl
-
-none_passes : {X : Type 0} (r : Option X) → option_and_then (λ x. only_if false x) r ≡ None
-none_passes None = refl
-none_passes (Some x) = refl
-
-each_passes : {X : Type 0} (r : Option X) → option_and_then (λ x. only_if true x) r ≡ r
-each_passes None = refl
-each_passes (Some x) = refl
 
 pub not_assigned : (w : World) (expert : List ℕ) (name : RequestName)
     → contains_key w.queue (name, expert) ≡ false → get (queue_of expert w) name ≡ None

@@ -1,7 +1,5 @@
 -- What one registry more, and one range more, make of the registries that two maps hold.
-use Rattle.std.proofs.Common.{◌≡◌, ℕ, ◌<◌, List, [], ◌∷◌, ◌++◌, Bool, true, false, cond}
-use Rattle.std.proofs.Common.{Some, None, Option, IsSome, map, refl, sym, ap, subst}
-use Rattle.std.proofs.Common.{◌∙◌, option_map, option_and_then}
+use Rattle.std.proofs.Common.{◌≡◌, ℕ, ◌<◌, List, [], ◌∷◌, ◌++◌, Bool, true, false, cond, Some, None, Option, IsSome, map, refl, sym, ap, subst, ◌∙◌, option_map, option_and_then}
 use Rattle.std.specs.declared.cmp.Ordering.{Ordering}
 use Rattle.std.specs.declared.cmp.Ordering.TheVariants.{Less, Equal, Greater}
 use Rattle.std.specs.FinMap.{FinMap, get, insert, entries, entries_sorted, find, get-entries}
@@ -29,14 +27,6 @@ same_name a b t = tied text_keys a b (sym (text_test a b) ∙ t)
 
 itself : (a : List ℕ) → same_text a a ≡ true
 itself a = text_test a a ∙ (eq_by_cmp_equiv text_keys.total).refl a
-
-none_passes : {X : Type 0} (r : Option X) → option_and_then (λ x. only_if false x) r ≡ None
-none_passes None = refl
-none_passes (Some x) = refl
-
-each_passes : {X : Type 0} (r : Option X) → option_and_then (λ x. only_if true x) r ≡ r
-each_passes None = refl
-each_passes (Some x) = refl
 
 missing : {X Y : Type 0} (r : Option X) (s : Option Y) → (IsSome r → IsSome s) → s ≡ None → r ≡ None
 missing None s h none = refl

@@ -1,6 +1,6 @@
 -- Writes inside a transaction, one after the other, and the ranges that are written so.
 use Rattle.std.proofs.Common.{◌≡◌, ℕ, zero, suc, ◌+◌, ◌<◌, ◌≤◌, List, [], ◌∷◌, ◌++◌, length, map}
-use Rattle.std.proofs.Common.{take, get_or, true, false, cond, Some, Ok, Err, Result}
+use Rattle.std.proofs.Common.{take, get_or, true, false, cond, Some, Ok, Result}
 use Rattle.std.proofs.Common.{option_map, refl, sym, ap, subst, ◌∙◌, arith}
 use Rattle.std.specs.FinMap.{FinMap, get, insert}
 use Rattle.std.specs.List.{AllByRecursion}
@@ -14,6 +14,7 @@ use Rattle.reg_ranges.specs.declared.range.Range.{Range}
 use Rattle.reg_ranges.proofs.Increasing.{Rises, rises_any}
 use Rattle.reg_core.specs.World.{World}
 use Rattle.reg_tables.proofs.Enduring.{endures_then}
+use Rattle.reg_tables.proofs.MakeLemmas.{on_ok}
 use Rattle.reg_content.specs.Calls.{Steps}
 use Rattle.reg_content.specs.Registries.{CanFollow, with_range}
 
@@ -21,10 +22,10 @@ use Rattle.reg_content.specs.Registries.{CanFollow, with_range}
 
 module _ {T U E : Type 0} {a b c : State} {x : T} {F G : World → Type 0} {f g : World → World}
     (first : Steps {T = T} {E = E} a b (Ok x) F f) where
-  -- the second fits what the first leaves, and the two together make one change
-  pub steps_then : {h : World → World} (y : U) → Steps {T = U} {E = E} b c (Ok y) G g
-      → ((w : World) → F w → G (f w) × (g (f w) ≡ h w)) → Steps {T = U} {E = E} a c (Ok y) F h
-  steps_then y second joins = record {
+  -- the second fits what the first leaves, and where it goes through, the two make one change
+  pub steps_last : {h : World → World} (result : Result U E) → Steps b c result G g
+      → ((w : World) → F w → G (f w) × (g (f w) ≡ h w)) → Steps a c result F h
+  steps_last result second joins = record {
     endures = endures_then a b c first.endures second.endures;
     kept = λ clean.
         let one = first.kept (second.endures.clean clean) in
@@ -35,38 +36,25 @@ module _ {T U E : Type 0} {a b c : State} {x : T} {F G : World → Type 0} {f g 
         };
     went = λ clean.
         let one = first.went (second.endures.clean clean) in
-        let two = second.went clean in
-        record {
+        on_ok result (λ two. record {
           was_open = one.was_open;
           is_open = two.is_open;
           committed = two.committed ∙ one.committed;
           live = two.live;
-        };
-    tables = λ clean. second.tables clean ∙ first.tables (second.endures.clean clean);
-    turns = λ clean stored fits.
+        }) (second.went clean);
+    tables = λ clean.
+        on_ok result (λ same. same ∙ first.tables (second.endures.clean clean)) (second.tables clean);
+    turns = λ clean.
+        on_ok result (λ turns stored fits.
         let one = first.turns (second.endures.clean clean) stored fits in
         let both = joins _ fits in
-        let two = second.turns clean one.0 (subst G (sym one.1) both.0) in
-        (two.0, two.1 ∙ ap g one.1 ∙ both.1);
+        let two = turns one.0 (subst G (sym one.1) both.0) in
+        (two.0, two.1 ∙ ap g one.1 ∙ both.1)) (second.turns clean);
   }
 
-  -- and so where the second may fail
-  pub steps_last : {h : World → World} (result : Result U E) → Steps b c result G g
-      → ((w : World) → F w → G (f w) × (g (f w) ≡ h w)) → Steps a c result F h
-  steps_last (Ok y) second joins = steps_then y second joins
-  steps_last (Err e) second joins = record {
-    endures = endures_then a b c first.endures second.endures;
-    kept = λ clean.
-        let one = first.kept (second.endures.clean clean) in
-        let two = second.kept clean in
-        record {
-          was_open = λ is_open. one.was_open (two.was_open is_open);
-          committed = λ is_open. two.committed is_open ∙ one.committed (two.was_open is_open);
-        };
-    went = λ clean. tt;
-    tables = λ clean. tt;
-    turns = λ clean. tt;
-  }
+  pub steps_then : {h : World → World} (y : U) → Steps {T = U} {E = E} b c (Ok y) G g
+      → ((w : World) → F w → G (f w) × (g (f w) ≡ h w)) → Steps {T = U} {E = E} a c (Ok y) F h
+  steps_then y second joins = steps_last (Ok y) second joins
 
 -- ---- The ranges of a table
 

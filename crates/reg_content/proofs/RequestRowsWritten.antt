@@ -14,7 +14,6 @@ use Rattle.reg_core.specs.declared.ask.Want.TheVariants as want
 use Rattle.reg_core.specs.declared.request.State.{State}
 use Rattle.reg_core.specs.declared.request.Request.{Request}
 use Rattle.reg_records.specs.Requests.Values.{ask_values, request_values, state_values, value_wanted, least_wanted}
-use Rattle.reg_records.specs.Requests.Values.{given_text, reason_text}
 use Rattle.reg_records.specs.Columns.{flag_value, whole_value}
 use Rattle.reg_tables.specs.Schema.{requests_table}
 use Rattle.reg_tables.proofs.Library.Casts.{cast_int, cast_null}
@@ -54,6 +53,18 @@ least_kept (want.Least policy) = refl
 flag_kept : (b : Bool) → cast kind.Integer (flag_value b) ≡ flag_value b
 flag_kept b = cast_int (pos (if b then 1 else 0))
 
+ruleset kept = (
+  cast_int,
+  cast_null,
+  text_kept,
+  number_kept,
+  stream_kept,
+  track_kept,
+  value_kept,
+  least_kept,
+  flag_kept,
+)
+
 -- a column for each of the table's
 pub request_long : (a : Ask) (r : Request) → r.ask ≡ a
     → length (request_values r) ≡ length requests_table.columns
@@ -67,63 +78,8 @@ pub request_kept : (account reference : List ℕ) (a : Ask) (s : State)
     → cast_all requests_table.columns
     (Text account ∷ Text reference ∷ ask_values a ++ state_values s)
     ≡ Text account ∷ Text reference ∷ ask_values a ++ state_values s
-request_kept account reference (ask.Code a) s =
-    let e = a.evidence in
-    rw (
-      value_kept a.want,
-      least_kept a.want,
-      text_kept e.contact,
-      text_kept e.spec,
-      number_kept e.rfc,
-      stream_kept e.rfc,
-      track_kept e.rfc,
-      text_kept e.minute,
-      cast_null,
-      text_kept (given_text s),
-      text_kept (reason_text s),
-    ) refl
-request_kept account reference (ask.Early a) s =
-    let e = a.evidence in
-    rw (
-      value_kept a.want,
-      least_kept a.want,
-      text_kept e.draft,
-      flag_kept e.stable,
-      flag_kept e.interest,
-      text_kept e.chair,
-      text_kept e.director,
-      flag_kept e.will_be_rfc,
-      cast_null,
-      text_kept (given_text s),
-      text_kept (reason_text s),
-    ) refl
-request_kept account reference (ask.Renew a) s =
-    let e = a.evidence in
-    rw (
-      cast_int (pos a.value),
-      text_kept e.draft,
-      flag_kept e.stable,
-      flag_kept e.interest,
-      text_kept e.chair,
-      text_kept e.director,
-      flag_kept e.will_be_rfc,
-      cast_null,
-      text_kept (given_text s),
-      text_kept (reason_text s),
-    ) refl
-request_kept account reference (ask.Permanent a) s =
-    let e = a.evidence in
-    rw (
-      cast_int (pos a.value),
-      text_kept e.contact,
-      text_kept e.spec,
-      number_kept e.rfc,
-      stream_kept e.rfc,
-      track_kept e.rfc,
-      text_kept e.minute,
-      cast_null,
-      text_kept (given_text s),
-      text_kept (reason_text s),
-    ) refl
-request_kept account reference (ask.Block a) s =
-    rw (cast_null, text_kept (given_text s), text_kept (reason_text s)) refl
+request_kept account reference (ask.Code a) s = simp kept
+request_kept account reference (ask.Early a) s = simp kept
+request_kept account reference (ask.Renew a) s = simp kept
+request_kept account reference (ask.Permanent a) s = simp kept
+request_kept account reference (ask.Block a) s = simp kept

@@ -177,7 +177,7 @@ puts_advice = record {
   index = puts.advice_index;
   project = puts.put_advice_terms;
   puts = λ a.
-      puts.advice_puts a.account a.reference a.expert (verdict_word a.advice.verdict)
+      puts.advice_puts a.seat.account a.seat.reference a.seat.expert (verdict_word a.advice.verdict)
       a.advice.text;
   keeps = λ row a. refl;
 }

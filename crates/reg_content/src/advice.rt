@@ -14,6 +14,7 @@ use reg_keeper::keeper::Fault;
 use reg_ranges::formed::Formed;
 use reg_records::advice::ExpertAdvice;
 use reg_records::column::{name_value, printable_value, word_value};
+use reg_records::queue::Seat;
 use reg_tables::texts::{PUT_ADVICE, SELECT_ADVICE_ROW};
 use sqlite::types::ValueRef;
 use sqlite::{Alter, Connection, Transaction};
@@ -60,44 +61,33 @@ pub fn put_advice<S: Alter>(
           advice = insert w.advice ((account.now, reference.now), expert.now) advice.now;
         }) }
 {
-    formed(account, reference, expert, advice);
-    put::<S, ExpertAdvice>(tx, PUT_ADVICE, &values(account, reference, expert, advice))
+    let seat = Seat {
+        account: *account,
+        reference: *reference,
+        expert: *expert,
+    };
+    formed(&seat, advice);
+    put::<S, ExpertAdvice>(tx, PUT_ADVICE, &values(&seat, advice))
 }
 
-/// The row that is written for an expert's advice on a request.
-fn values<'a>(
-    account: &'a Account,
-    reference: &'a Ref,
-    expert: &'a Account,
-    advice: &'a Advice,
-) -> [ValueRef<'a>; 5]
-    ensures { bound result ≡ advice_values (record {
-      account = account.now;
-      reference = reference.now;
-      expert = expert.now;
-      advice = advice.now;
-    }) }
+/// The row that is written for the advice of a seat's expert.
+fn values<'a>(seat: &'a Seat, advice: &'a Advice) -> [ValueRef<'a>; 5]
+    ensures { bound result ≡ advice_values (record { seat = seat.now; advice = advice.now }) }
 {
+    let [account, reference, expert] = seat.values();
     [
-        name_value(account),
-        name_value(reference),
-        name_value(expert),
+        account,
+        reference,
+        expert,
         word_value(&advice.verdict),
         printable_value(&advice.text),
     ]
 }
 
 /// Does nothing: the parts of an advice have their forms.
-fn formed(account: &Account, reference: &Ref, expert: &Account, advice: &Advice)
-    ensures { is_expert_advice (record {
-      account = account.now;
-      reference = reference.now;
-      expert = expert.now;
-      advice = advice.now;
-    }) ≡ true }
+fn formed(seat: &Seat, advice: &Advice)
+    ensures { is_expert_advice (record { seat = seat.now; advice = advice.now }) ≡ true }
 {
-    account.formed();
-    reference.formed();
-    expert.formed();
+    seat.formed();
     advice.formed();
 }

@@ -24,6 +24,7 @@ use reg_keeper::keeper::Fault;
 use reg_ranges::formed::Formed;
 use reg_records::column::{name_value, number_value};
 use reg_records::entries::entry_values;
+use reg_records::holds::Hold;
 use reg_statements::select::all;
 use reg_tables::texts::{PUT_ENTRY, SELECT_ENTRIES, SELECT_ENTRIES_OF, SELECT_ENTRY};
 use sqlite::{Alter, Connection, Transaction};
@@ -101,10 +102,14 @@ pub fn put_entry<S: Alter>(tx: &mut Transaction<'_, S>, entry: &Entry) -> Result
               (registration_in entry.now);
         }) }
 {
-    take_hold(tx, &entry.registry, entry.value)?;
+    let hold = Hold {
+        registry: entry.registry,
+        value: entry.value,
+    };
+    take_hold(tx, &hold)?;
     put_unheld(tx, entry)?;
     if entry.term.held {
-        return add_hold(tx, &entry.registry, entry.value);
+        return add_hold(tx, &hold);
     }
     Ok(())
 }

@@ -70,52 +70,40 @@ pub(crate) fn set_hold<S: Alter>(
           entries = update w.entries (registry.now, value) (with_hold held);
         }) }
 {
-    if held {
-        add_hold(tx, registry, value)
-    } else {
-        take_hold(tx, registry, value)
-    }
-}
-
-/// Marks an entry that expires and is not held.
-pub(crate) fn add_hold<S: Alter>(
-    tx: &mut Transaction<'_, S>,
-    registry: &Name,
-    value: u32,
-) -> Result<(), Fault>
-    ensures same_reference { tx.new.conn.ghost_name ≡ tx.old.conn.ghost_name }
-    ensures steps { Steps (state S.Store tx.old.conn.now) (state S.Store tx.new.conn.now) result
-        (IsHeldSo false (registry.now, value))
-        (λ (w : World). record w {
-          entries = update w.entries (registry.now, value) (with_hold true);
-        }) }
-{
     let hold = Hold {
         registry: *registry,
         value,
     };
+    if held {
+        add_hold(tx, &hold)
+    } else {
+        take_hold(tx, &hold)
+    }
+}
+
+/// Marks an entry that expires and is not held.
+pub(crate) fn add_hold<S: Alter>(tx: &mut Transaction<'_, S>, hold: &Hold) -> Result<(), Fault>
+    ensures same_reference { tx.new.conn.ghost_name ≡ tx.old.conn.ghost_name }
+    ensures steps { Steps (state S.Store tx.old.conn.now) (state S.Store tx.new.conn.now) result
+        (IsHeldSo false (hold.now.registry, hold.now.value))
+        (λ (w : World). record w {
+          entries = update w.entries (hold.now.registry, hold.now.value) (with_hold true);
+        }) }
+{
     hold.formed();
     add::<S, Hold>(tx, INSERT_HOLDS, &hold.values())
 }
 
 /// Takes the mark of an entry away, if it has one.
-pub(crate) fn take_hold<S: Alter>(
-    tx: &mut Transaction<'_, S>,
-    registry: &Name,
-    value: u32,
-) -> Result<(), Fault>
+pub(crate) fn take_hold<S: Alter>(tx: &mut Transaction<'_, S>, hold: &Hold) -> Result<(), Fault>
     ensures same_reference { tx.new.conn.ghost_name ≡ tx.old.conn.ghost_name }
     ensures steps { Steps (state S.Store tx.old.conn.now) (state S.Store tx.new.conn.now) result
         (λ (w : World). Unit {0})
         (λ (w : World). record w {
-          entries = update w.entries (registry.now, value) (with_hold false);
+          entries = update w.entries (hold.now.registry, hold.now.value) (with_hold false);
         }) }
 {
-    take::<S, Hold>(
-        tx,
-        DELETE_HOLD,
-        &[name_value(registry), number_value(value)],
-    )
+    take::<S, Hold>(tx, DELETE_HOLD, &hold.values())
 }
 
 /// Whether an entry has a mark. One that does not expire has none, and is not looked up.

@@ -7,6 +7,7 @@ ghost use Rattle.reg_maps.specs.Maps.{update};
 ghost use Rattle.reg_core.specs.World.{World};
 ghost use Rattle.reg_core.specs.declared.request.Case.{Case};
 ghost use Rattle.reg_core.specs.Minutes.{ask_with, is_renewal, with_minute};
+ghost use Rattle.reg_statements.specs.Parts.{Parts};
 ghost use Rattle.reg_content.specs.Calls.{IsKeeping, LooksIn, Steps};
 ghost use Rattle.reg_content.specs.Marks.{CanName, request_minuted};
 
@@ -22,21 +23,38 @@ use reg_tables::texts::{INSERT_MINUTES, SELECT_MINUTE};
 use sqlite::{Alter, Connection, Transaction};
 use std::alloc::{AllocError, Global};
 
-/// A request with the minute that it names, if it names one. Only for a renewal is it looked up.
-pub(crate) fn minuted<S: Alter>(
-    alloc: Global,
-    conn: &mut Connection<S>,
-    request: Request,
-) -> Result<Request, Fault>
-    requires { IsKeeping (state S.Store conn.old) }
-    ensures { LooksIn (state S.Store conn.old) (state S.Store conn.new) result
-        (λ p minuted. minuted ≡ request_minuted p request) }
-{
-    match minute_if(alloc, conn, &request) {
-        Ok(minute) => Ok(with_minute(request, minute)),
-        Err(fault) => {
-            drop(request);
-            Err(fault)
+/// What names a request, which may name a minute.
+pub(crate) trait Minuted: Drop {
+    /// What it is with the minute.
+    type Whole: Drop;
+
+    /// It with the minute that the request names, if it names one.
+    ghost minuted: { Parts → Self → Self.Whole };
+
+    /// It with the minute that the request names, if it names one.
+    fn minuted<S: Alter>(
+        self,
+        alloc: Global,
+        conn: &mut Connection<S>,
+    ) -> Result<Self::Whole, Fault>
+        requires { IsKeeping (state S.Store conn.old) }
+        ensures { LooksIn (state S.Store conn.old) (state S.Store conn.new) result
+            (λ p whole. whole ≡ minuted p self) };
+}
+
+impl Minuted for Request {
+    type Whole = Request;
+
+    ghost minuted = { request_minuted };
+
+    // Only for a renewal is the minute looked up.
+    fn minuted<S: Alter>(self, alloc: Global, conn: &mut Connection<S>) -> Result<Request, Fault> {
+        match minute_if(alloc, conn, &self) {
+            Ok(minute) => Ok(with_minute(self, minute)),
+            Err(fault) => {
+                drop(self);
+                Err(fault)
+            }
         }
     }
 }
@@ -122,25 +140,25 @@ fn minute<S: Alter>(
 }
 
 /// Requests with the minutes that they name, looked up one by one.
-fn minuted_each<S: Alter>(
+pub(crate) fn minuted_each<S: Alter, T: Minuted>(
     alloc: Global,
     conn: &mut Connection<S>,
-    requests: Vec<Request>,
-) -> Result<Vec<Request>, Fault>
+    requests: Vec<T>,
+) -> Result<Vec<T::Whole>, Fault>
     requires { IsKeeping (state S.Store conn.old) }
     ensures { LooksIn (state S.Store conn.old) (state S.Store conn.new) result
-        (λ p minuted. minuted.items ≡ map (request_minuted p) requests.items) }
+        (λ p minuted. minuted.items ≡ map (T.minuted p) requests.items) }
 {
     let mut rows = Vec::new(alloc);
     for request in requests {
-        let row = minuted(alloc, conn, request)?;
+        let row = request.minuted(alloc, conn)?;
         rows = with_row(rows, row)?;
     }
     Ok(rows)
 }
 
 /// Rows with one more.
-fn with_row(mut rows: Vec<Request>, row: Request) -> Result<Vec<Request>, AllocError>
+fn with_row<T: Drop>(mut rows: Vec<T>, row: T) -> Result<Vec<T>, AllocError>
     ensures { IfOk result (λ more. more.items ≡ rows.items ++ row ∷ []) }
 {
     rows.push(row)?;

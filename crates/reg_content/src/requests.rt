@@ -17,7 +17,7 @@ ghost use Rattle.reg_records.specs.Requests.Values.{given_text, state_values};
 ghost use Rattle.reg_content.specs.Calls.{IsKeeping, Looks, Steps};
 
 use crate::kept::{add, change, find, list};
-use crate::minutes::{minuted, minuted_all};
+use crate::minutes::{Minuted, minuted_all};
 use reg_core::request::{Request, State};
 use reg_core::rows::Rows;
 use reg_core::text::{Account, Ref};
@@ -51,7 +51,7 @@ pub fn own_one<S: Alter>(
         &[name_value(account), name_value(reference)],
     )?;
     match found {
-        Some(request) => Ok(Some(minuted(alloc, conn, request)?)),
+        Some(request) => Ok(Some(request.minuted(alloc, conn)?)),
         None => Ok(None),
     }
 }

@@ -1,17 +1,17 @@
 //! Requests with what experts say of them.
-ghost use Rattle.std.specs.Prelude.{◌≡◌, ◌++◌, ◌∷◌, [], IfOk, filter_map, map, option_map};
+ghost use Rattle.std.specs.Prelude.{◌≡◌, IfOk, filter_map, map, option_map};
 ghost use Rattle.std.specs.FinMap.{get};
 ghost use Rattle.sqlite.specs.Held.{state};
 ghost use Rattle.reg_core.specs.File.{experts_of, file as file_of, opinions_of};
 ghost use Rattle.reg_core.specs.Queue.{queue_row, queue_rows};
 ghost use Rattle.reg_core.specs.Request.{case_of};
 ghost use Rattle.reg_core.specs.View.{as_queued, queue_of};
-ghost use Rattle.reg_content.specs.Calls.{IsKeeping, Looks, LooksIn};
+ghost use Rattle.reg_content.specs.Calls.{IsKeeping, Looks};
 ghost use Rattle.reg_content.specs.Marks.{seen_minuted};
-ghost use Rattle.reg_content.specs.Seats.{assigned_to, opinion_at};
+ghost use Rattle.reg_content.specs.Seats.{opinion_at};
 
 use crate::advice::advice;
-use crate::minutes::minuted;
+use crate::minutes::{Minuted, minuted_each};
 use crate::queue::is_queued;
 use crate::requests::own_one;
 use reg_core::advice::{Advice, Opinion};
@@ -87,7 +87,7 @@ pub fn queue<S: Alter>(
         (λ w rows. rows ≡ queue_rows (queue_of expert.now w)) }
 {
     let requests = all::<S, QueuedRequest>(alloc, conn, SELECT_QUEUED, &[name_value(expert)])?;
-    Ok(Rows::from_vec(seen_all(alloc, conn, requests)?))
+    Ok(Rows::from_vec(minuted_each(alloc, conn, requests)?))
 }
 
 /// The request of an account under a reference, with the expert's own advice, if it is assigned to
@@ -107,23 +107,6 @@ pub fn queue_one<S: Alter>(
     if !is_queued(alloc, conn, account, reference, expert)? {
         return Ok(None);
     }
-    assigned(alloc, conn, expert, account, reference)
-}
-
-/// The request of an account under a reference, if there is one, as an expert sees it to whom it is
-/// assigned.
-fn assigned<S: Alter>(
-    alloc: Global,
-    conn: &mut Connection<S>,
-    expert: &Account,
-    account: &Account,
-    reference: &Ref,
-) -> Result<Option<QueueRow>, Fault>
-    requires { IsKeeping (state S.Store conn.old) }
-    ensures { Looks (state S.Store conn.old) (state S.Store conn.new) result
-        (λ w row. row ≡ option_map (queue_row (account.now, reference.now))
-        (assigned_to expert.now w (account.now, reference.now))) }
-{
     let advice = advice(alloc, conn, account, reference, expert)?;
     let request = own_one(alloc, conn, account, reference)?;
     Ok(request.map(|request| queued(request, advice)))
@@ -166,45 +149,17 @@ fn queued(request: Request, advice: Option<Advice>) -> QueueRow
     }
 }
 
-/// Requests that are assigned, as their expert sees them, with the minutes that they name.
-fn seen_all<S: Alter>(
-    alloc: Global,
-    conn: &mut Connection<S>,
-    requests: Vec<QueuedRequest>,
-) -> Result<Vec<QueueRow>, Fault>
-    requires { IsKeeping (state S.Store conn.old) }
-    ensures { LooksIn (state S.Store conn.old) (state S.Store conn.new) result
-        (λ p rows. rows.items ≡ map (seen_minuted p) requests.items) }
-{
-    let mut rows = Vec::new(alloc);
-    for request in requests {
-        let row = seen(alloc, conn, request)?;
-        rows = with_row(rows, row)?;
-    }
-    Ok(rows)
-}
+/// A request that is assigned, as its expert sees it.
+impl Minuted for QueuedRequest {
+    type Whole = QueueRow;
 
-/// A request that is assigned, as its expert sees it, with the minute that it names.
-fn seen<S: Alter>(
-    alloc: Global,
-    conn: &mut Connection<S>,
-    row: QueuedRequest,
-) -> Result<QueueRow, Fault>
-    requires { IsKeeping (state S.Store conn.old) }
-    ensures { LooksIn (state S.Store conn.old) (state S.Store conn.new) result
-        (λ p seen. seen ≡ seen_minuted p row) }
-{
-    let advice = row.advice;
-    match minuted(alloc, conn, row.request) {
-        Ok(request) => Ok(queued(request, advice)),
-        Err(fault) => Err(fault),
-    }
-}
+    ghost minuted = { seen_minuted };
 
-/// Rows with one more.
-fn with_row(mut rows: Vec<QueueRow>, row: QueueRow) -> Result<Vec<QueueRow>, AllocError>
-    ensures { IfOk result (λ more. more.items ≡ rows.items ++ row ∷ []) }
-{
-    rows.push(row)?;
-    Ok(rows)
+    fn minuted<S: Alter>(self, alloc: Global, conn: &mut Connection<S>) -> Result<QueueRow, Fault> {
+        let advice = self.advice;
+        match self.request.minuted(alloc, conn) {
+            Ok(request) => Ok(queued(request, advice)),
+            Err(fault) => Err(fault),
+        }
+    }
 }

@@ -1,16 +1,21 @@
 -- The queries of all rows of a table, each with its rowid.
-use Rattle.std.proofs.Common.{List, ℕ, [], ◌∷◌, codes, refl}
+use Rattle.std.proofs.Common.{List, ℕ, [], ◌∷◌, ◌++◌, codes, refl}
 use Rattle.sqlite.specs.Listing.{understood}
+use Rattle.sqlite.specs.Table.{Table}
 use Rattle.sqlite.specs.Term.{Term}
 use Rattle.sqlite_value.specs.declared.keys.Key.{Key}
 use Rattle.sqlite_tied.specs.Compute.{everything}
-use Rattle.reg_tables.specs.Selecting.{ordered_by}
+use Rattle.reg_tables.specs.Selecting.{column_names, ordered_by}
 use Rattle.reg_statements.specs.Office as office
 use Rattle.reg_opening.specs.Numbered.{ShowsNumbered}
 
 -- in the order of the rowids
 abbrev by_rowid : List (Term × Key)
 by_rowid = ordered_by (0 ∷ [])
+
+-- the names of the columns, and of the rowid behind them
+abbrev numbered_names : Table → List (List ℕ)
+numbered_names table = column_names table ++ codes "rowid" ∷ []
 
 abbrev pub caps_text : List ℕ
 caps_text = codes "SELECT digest, account, kind, until, rowid FROM caps ORDER BY rowid"
@@ -20,8 +25,7 @@ unfolding understood everything
 shows_caps = record {
   order = by_rowid;
   selects = record {
-    names =
-        codes "digest" ∷ codes "account" ∷ codes "kind" ∷ codes "until" ∷ codes "rowid" ∷ [];
+    names = numbered_names office.caps.table;
     is = λ more indexes. refl;
     plain = (refl, refl);
     unlisted = λ more indexes. refl;
@@ -36,9 +40,7 @@ unfolding understood everything
 shows_entries = record {
   order = by_rowid;
   selects = record {
-    names =
-        codes "registry" ∷ codes "value" ∷ codes "label" ∷ codes "assignee" ∷ codes "first" ∷
-        codes "expires" ∷ codes "renewed" ∷ codes "rowid" ∷ [];
+    names = numbered_names office.entries.table;
     is = λ more indexes. refl;
     plain = (refl, refl);
     unlisted = λ more indexes. refl;
@@ -53,8 +55,7 @@ unfolding understood everything
 shows_pool = record {
   order = by_rowid;
   selects = record {
-    names =
-        codes "prefix" ∷ codes "rowid" ∷ [];
+    names = numbered_names office.pool.table;
     is = λ more indexes. refl;
     plain = (refl, refl);
     unlisted = λ more indexes. refl;
@@ -69,9 +70,7 @@ unfolding understood everything
 shows_blocks = record {
   order = by_rowid;
   selects = record {
-    names =
-        codes "first" ∷ codes "size" ∷ codes "holder" ∷ codes "organization" ∷ codes "address" ∷
-        codes "private" ∷ codes "rowid" ∷ [];
+    names = numbered_names office.blocks.table;
     is = λ more indexes. refl;
     plain = (refl, refl);
     unlisted = λ more indexes. refl;
@@ -86,13 +85,7 @@ unfolding understood everything
 shows_requests = record {
   order = by_rowid;
   selects = record {
-    names =
-        codes "account" ∷ codes "reference" ∷ codes "kind" ∷ codes "registry" ∷ codes "value" ∷
-        codes "least" ∷ codes "label" ∷ codes "contact" ∷ codes "specification" ∷
-        codes "rfc_number" ∷ codes "rfc_stream" ∷ codes "rfc_track" ∷ codes "minute" ∷
-        codes "draft" ∷ codes "stable" ∷ codes "interest" ∷ codes "chair" ∷ codes "director" ∷
-        codes "will_be_rfc" ∷ codes "size" ∷ codes "organization" ∷ codes "address" ∷
-        codes "state" ∷ codes "given" ∷ codes "reason" ∷ codes "rowid" ∷ [];
+    names = numbered_names office.requests.table;
     is = λ more indexes. refl;
     plain = (refl, refl);
     unlisted = λ more indexes. refl;
@@ -107,8 +100,7 @@ unfolding understood everything
 shows_queue = record {
   order = by_rowid;
   selects = record {
-    names =
-        codes "account" ∷ codes "reference" ∷ codes "expert" ∷ codes "rowid" ∷ [];
+    names = numbered_names office.queue.table;
     is = λ more indexes. refl;
     plain = (refl, refl);
     unlisted = λ more indexes. refl;
@@ -123,9 +115,7 @@ unfolding understood everything
 shows_advice = record {
   order = by_rowid;
   selects = record {
-    names =
-        codes "account" ∷ codes "reference" ∷ codes "expert" ∷ codes "verdict" ∷ codes "text" ∷
-        codes "rowid" ∷ [];
+    names = numbered_names office.advice.table;
     is = λ more indexes. refl;
     plain = (refl, refl);
     unlisted = λ more indexes. refl;
@@ -140,7 +130,7 @@ unfolding understood everything
 shows_holds = record {
   order = by_rowid;
   selects = record {
-    names = codes "registry" ∷ codes "value" ∷ codes "rowid" ∷ [];
+    names = numbered_names office.holds.table;
     is = λ more indexes. refl;
     plain = (refl, refl);
     unlisted = λ more indexes. refl;
@@ -155,7 +145,7 @@ unfolding understood everything
 shows_minutes = record {
   order = by_rowid;
   selects = record {
-    names = codes "account" ∷ codes "reference" ∷ codes "minute" ∷ codes "rowid" ∷ [];
+    names = numbered_names office.minutes.table;
     is = λ more indexes. refl;
     plain = (refl, refl);
     unlisted = λ more indexes. refl;
@@ -170,7 +160,7 @@ unfolding understood everything
 shows_agents = record {
   order = by_rowid;
   selects = record {
-    names = codes "principal" ∷ codes "agent" ∷ codes "rowid" ∷ [];
+    names = numbered_names office.agents.table;
     is = λ more indexes. refl;
     plain = (refl, refl);
     unlisted = λ more indexes. refl;

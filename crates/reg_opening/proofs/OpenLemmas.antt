@@ -1,5 +1,5 @@
 -- What the version and the rows of tables tell of a store.
-use Rattle.std.proofs.Common.{◌≡◌, ◌⊎◌, ℤ, List, [], ◌∷◌, map, length, refl, sym, ap, subst, ◌∙◌, arith, inl, inr}
+use Rattle.std.proofs.Common.{◌≡◌, ℤ, List, [], ◌∷◌, map, length, refl, sym, ap, subst, ◌∙◌, arith, inl, inr}
 use Rattle.std.proofs.Common.{IsPermutation, Option, Some, None, IsSome, is_some}
 use Rattle.std.specs.Prelude.{IfOk, Ok, Result}
 use Rattle.std.specs.List.{AllByRecursion}
@@ -31,7 +31,7 @@ use Rattle.reg_statements.specs.Content.{HasVersion, content, content_at}
 use Rattle.reg_statements.specs.Loading.{ReadAs}
 use Rattle.reg_statements.specs.Tables.{Tables, tables_in}
 use Rattle.reg_opening.specs.Feeding.{FeedsTable, tables_at}
-use Rattle.reg_opening.specs.Opening.{AreRowsOf, Finds, HasVersionTables, IsFirst, IsFoundAs, IsFree, IsFreeBy}
+use Rattle.reg_opening.specs.Opening.{HasVersionTable, AreRowsOf, Finds, HasVersionTables, IsFirst, IsFoundAs, IsFree, IsFreeBy}
 use Rattle.reg_opening.specs.Opening.{IsOurs, IsReadAs, IsVersionOf, LeaveFree, Reads, only, verdict_of}
 use Rattle.reg_opening.specs.Partitions.{AreRegistries}
 use Rattle.reg_opening.specs.Parts.{AreParts, IsBlank, with_parts}
@@ -426,9 +426,7 @@ none_finds old new rest endures stays none = record {
 pub other_finds : {E : Type 0} (n : ℤ) (old new : State) → IsIdle new → Endures old new
     → Stays old new → IsOther n
     → (BeginsWith 1 old.now.schema → Works new → HasVersion n (tables_in old.now.trees).office)
-    → (BeginsWith 1 old.now.schema ⊎ ((¬ BeginsWith 1 old.now.schema)
-    × HasTable old.now.schema office_table))
-    → Finds {E = E} old new (Ok (found.OtherVersion n))
+    → HasVersionTable old.now.schema → Finds {E = E} old new (Ok (found.OtherVersion n))
 other_finds n old new rest endures stays other version at = record {
   rest = rest;
   endures = endures;
@@ -437,9 +435,7 @@ other_finds n old new rest endures stays other version at = record {
   free = λ works. tt;
 }
   where
-    found_at : Works new → (BeginsWith 1 old.now.schema ⊎ ((¬ BeginsWith 1 old.now.schema)
-        × HasTable old.now.schema office_table))
-        → IsFoundAs old.now (verdict.OtherVersion n)
+    found_at : Works new → HasVersionTable old.now.schema → IsFoundAs old.now (verdict.OtherVersion n)
     found_at works (inl begins) = inl ((begins, version begins works), other)
     found_at works (inr beside) = inr (other, beside.0, beside.1)
 

@@ -91,7 +91,7 @@ first_all P zero tables all = tt
 first_all P (suc n) [] all = tt
 first_all P (suc n) (t ∷ tables) all = (all.0, first_all P n tables all.1)
 
-both_all : (P : Table → Type 0) (tables others : List Table) → AllByRecursion P tables
+pub both_all : (P : Table → Type 0) (tables others : List Table) → AllByRecursion P tables
     → AllByRecursion P others → AllByRecursion P (tables ++ others)
 both_all P [] others all more = more
 both_all P (t ∷ tables) others all more = (all.0, both_all P tables others all.1 more)

@@ -95,7 +95,7 @@ queue t = record {
   turn = λ w m x h. h.1;
 }
 
-pub advice : (t : Tables) → IsPart office.advice.pair (λ x. row.Advice x.account x.reference x.expert x.advice)
+pub advice : (t : Tables) → IsPart office.advice.pair (λ x. row.Advice x.seat.account x.seat.reference x.seat.expert x.advice)
     (λ (w : World) m. record w { advice = m }) (λ w. w.advice ≡ empty) Untied
 advice t = record {
   none = λ w h. ap (λ m. record w { advice = m }) (sym h);

@@ -3,6 +3,7 @@ use Rattle.std.specs.Prelude.{◌≡◌, ◌⊎◌, ℤ, List, [], ◌∷◌, Op
 use Rattle.std.specs.List.{AllByRecursion}
 use Rattle.sqlite.specs.Effect.{Database}
 use Rattle.sqlite.specs.Order.{Row}
+use Rattle.sqlite.specs.Schema.{Schema}
 use Rattle.sqlite.specs.State.{State}
 use Rattle.sqlite.specs.Table.{Table}
 use Rattle.reg_core.specs.WellKept.{WellKept}
@@ -123,6 +124,11 @@ IsReadAs v db (found.Ours w free) =
 IsReadAs v db (found.OtherVersion n) = ⊥
 IsReadAs v db found.NotOurs =
     HasVersionTables v db → BeginsWith (table_count v) db.schema → AreRowsOf v db None
+
+-- the first table is that of the version, and there are no views; or it is beside other tables or views
+abbrev pub HasVersionTable : Schema → Type 0
+HasVersionTable schema =
+    BeginsWith 1 schema ⊎ ((¬ BeginsWith 1 schema) × HasTable schema office_table)
 
 -- A call that reads the rows of a store of a version. The store stays as it was.
 pub record Reads {E : Type 0} (v : Version) (old new : State) (result : Result Found E) : Type 0 where

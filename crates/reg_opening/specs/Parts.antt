@@ -11,8 +11,8 @@ use Rattle.reg_core.specs.declared.entry.Registration.{Registration}
 use Rattle.reg_core.specs.declared.request.Case.{Case}
 use Rattle.reg_core.specs.Minutes.{is_renewal}
 use Rattle.reg_statements.specs.Content.{cap_at, registration_at, case_at, seat_at, advice_at, prefix_at}
-use Rattle.reg_statements.specs.Content.{hold_at, link_at, minute_at, marked, minuted}
-use Rattle.reg_statements.specs.Content.{content, holder_at, maxes_in, ranges_in, registries_in}
+use Rattle.reg_statements.specs.Content.{hold_at, link_at, minute_at}
+use Rattle.reg_statements.specs.Content.{content, holder_at}
 use Rattle.reg_opening.specs.Feeding.{IsTiedTable, Untied}
 use Rattle.reg_opening.specs.Partitions.{AreRegistries}
 use Rattle.reg_statements.specs.Tables.{Tables}
@@ -30,24 +30,9 @@ AreEntered t =
     IsTiedTable place_cmp registration_at t.entries Untied
     × IsTiedTable place_cmp hold_at t.holds (ExpiresIn t)
 
-abbrev pub with_entered : Tables → World → World
-with_entered t w = record w {
-  entries = marked (held_in hold_at t.holds) (held_in registration_at t.entries);
-}
-
-abbrev pub NoneEntered : World → Type 0
-NoneEntered w = (w.entries ≡ empty) × (w.requests ≡ empty)
-
 abbrev pub AreAssigned : Tables → Type 0
 AreAssigned t =
     IsTiedTable text_cmp cap_at t.caps Untied × (AreRegistries t × AreEntered t)
-
-abbrev pub with_assigned : Tables → World → World
-with_assigned t w = record w {
-  caps = held_in cap_at t.caps;
-  registries = registries_in (maxes_in t) (ranges_in t);
-  entries = marked (held_in hold_at t.holds) (held_in registration_at t.entries);
-}
 
 -- none is there, and none of what is judged by them
 pub record NoneAssigned (w : World) : Type 0 where
@@ -74,25 +59,10 @@ AreRequested t =
     IsTiedTable name_cmp case_at t.requests Untied
     × IsTiedTable name_cmp minute_at t.minutes (RenewsIn t)
 
-abbrev pub with_requested : Tables → World → World
-with_requested t w = record w {
-  requests = minuted (held_in minute_at t.minutes) (held_in case_at t.requests);
-}
-
-abbrev pub NoneRequested : World → Type 0
-NoneRequested w = (w.requests ≡ empty) × (w.queue ≡ empty)
-
 abbrev pub AreGiven : Tables → Type 0
 AreGiven t =
     IsTiedTable nat_cmp prefix_at t.pool Untied
     × (IsTiedTable block_cmp holder_at t.blocks Untied × AreRequested t)
-
-abbrev pub with_given : Tables → World → World
-with_given t w = record w {
-  pool = held_in prefix_at t.pool;
-  blocks = held_in holder_at t.blocks;
-  requests = minuted (held_in minute_at t.minutes) (held_in case_at t.requests);
-}
 
 pub record NoneGiven (w : World) : Type 0 where
   pub pool : w.pool ≡ empty
@@ -112,13 +82,6 @@ AreReviewed t =
     IsTiedTable seat_cmp seat_at t.queue Untied
     × (IsTiedTable seat_cmp advice_at t.advice Untied
     × IsTiedTable link_cmp link_at t.agents Untied)
-
-abbrev pub with_reviewed : Tables → World → World
-with_reviewed t w = record w {
-  queue = held_in seat_at t.queue;
-  advice = held_in advice_at t.advice;
-  agents = held_in link_at t.agents;
-}
 
 pub record NoneReviewed (w : World) : Type 0 where
   pub queue : w.queue ≡ empty

@@ -77,10 +77,12 @@ impl Fed for Seat {
 }
 
 impl Fed for ExpertAdvice {
-    ghost row_of = { λ given. row.Advice given.account given.reference given.expert given.advice };
+    ghost row_of = { λ given. row.Advice given.seat.account given.seat.reference given.seat.expert
+        given.advice };
 
     fn row(self) -> Row {
-        Row::Advice(self.account, self.reference, self.expert, self.advice)
+        let seat = self.seat;
+        Row::Advice(seat.account, seat.reference, seat.expert, self.advice)
     }
 }
 

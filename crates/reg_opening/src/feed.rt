@@ -82,6 +82,36 @@ pub trait FedRow: Record + Fed {
     ghost fed: { (t : Tables) → IsPart table.pair Self.row_of put (Before t) (IsTied t) };
 }
 
+/// How the tables of an office are read.
+#[derive(Clone, Copy)]
+pub struct Reading {
+    pub alloc: Global,
+    /// Whose tables they are.
+    pub version: Version,
+}
+
+/// A part of an office, whose rows an audit is fed.
+pub trait Part {
+    /// What the world has before any of the rows is fed.
+    ghost Before: { Tables → World → Type 0 };
+
+    /// That the rows are the part.
+    ghost IsHeld: { Tables → Type 0 };
+
+    /// The world with the part.
+    ghost filled: { Tables → World → World };
+
+    /// Feeds the rows to an audit, where each has its form, and tells whether each has.
+    fn feed<S: Alter>(
+        reading: Reading,
+        conn: &mut Connection<S>,
+        audit: &mut Audit,
+    ) -> Result<bool, Fault>
+        requires { IsIdle (state S.Store conn.old) }
+        ensures { FeedsPart reading.version Before IsHeld filled (state S.Store conn.old)
+            (state S.Store conn.new) audit.old audit.new result };
+}
+
 /// Feeds values to an audit, from the last to the first.
 pub fn feed_all<T: Fed>(audit: &mut Audit, mut values: Vec<T>) -> Result<(), AllocError>
     ensures { IfOk result (λ _. FeedsRows audit.old audit.new (map T.row_of values.items)) }
@@ -120,22 +150,23 @@ fn feed_table<S: Alter, T: FedRow>(
     Ok(true)
 }
 
-/// Feeds the rows of a table to an audit, where each has its form, and tells whether each has; a
-/// table that the version lacks has none. Rows whose rowids do not rise are a fault of the store.
-pub fn feed<S: Alter, T: FedRow>(
-    alloc: Global,
-    conn: &mut Connection<S>,
-    audit: &mut Audit,
-    version: Version,
-) -> Result<bool, Fault>
-    requires { IsIdle (state S.Store conn.old) }
-    ensures { FeedsPart version T.Before
-        (λ t. IsTiedTable T.table.key.order T.table.at (T.table.rows t) (T.IsTied t))
-        (λ t w. T.put w (held_in T.table.at (T.table.rows t)))
-        (state S.Store conn.old) (state S.Store conn.new) audit.old audit.new result }
-{
-    if version.tables() <= T::slot() {
-        return Ok(true);
+/// The rows of a table. A table that the version lacks has none; rows whose rowids do not rise are a
+/// fault of the store.
+impl<T: FedRow> Part for Vec<T> {
+    ghost Before = { T.Before };
+
+    ghost IsHeld = { λ t. IsTiedTable T.table.key.order T.table.at (T.table.rows t) (T.IsTied t) };
+
+    ghost filled = { λ t w. T.put w (held_in T.table.at (T.table.rows t)) };
+
+    fn feed<S: Alter>(
+        reading: Reading,
+        conn: &mut Connection<S>,
+        audit: &mut Audit,
+    ) -> Result<bool, Fault> {
+        if reading.version.tables() <= T::slot() {
+            return Ok(true);
+        }
+        feed_table::<S, T>(reading.alloc, conn, audit, T::all())
     }
-    feed_table::<S, T>(alloc, conn, audit, T::all())
 }

@@ -8,9 +8,10 @@ ghost use Rattle.reg_tables.specs.Selecting.{BeginsWith};
 ghost use Rattle.reg_tables.specs.Version.{table_count};
 ghost use Rattle.reg_tables.specs.declared.version.Version.{Version as OfVersion};
 ghost use Rattle.reg_statements.specs.Tables.{tables_in};
-ghost use Rattle.reg_opening.specs.Opening.{AreRowsOf, Decides, Finds, IsFreeBy, IsNumberOf, IsVersionOf};
+ghost use Rattle.reg_opening.specs.Opening.{AreRowsOf, Decides, Finds, HasVersionTable, IsFreeBy, IsNumberOf, IsVersionOf};
 ghost use Rattle.reg_opening.specs.Opening.{Reads, only, verdict_of};
 
+use crate::feed::Reading;
 use crate::office::feed_parts;
 use crate::rowids::check_rowids;
 use reg_audit::audit::Audit;
@@ -78,25 +79,9 @@ pub fn find<S: Alter>(alloc: Global, conn: &mut Connection<S>) -> Result<Found, 
     ensures { Finds (state S.Store conn.old) (state S.Store conn.new) result }
 {
     match begins_with_office(alloc, conn.schema()) {
-        Ok(true) => find_first(alloc, conn),
+        Ok(true) => find_version(alloc, conn),
         Ok(false) => find_beside(alloc, conn),
         Err(error) => Err(fault(&error)),
-    }
-}
-
-/// Tells what a store is whose first table is that of the version, and which has no view.
-fn find_first<S: Alter>(alloc: Global, conn: &mut Connection<S>) -> Result<Found, Fault>
-    requires idle { IsIdle (state S.Store conn.old) }
-    requires live { IsLive (state S.Store conn.old) }
-    requires first { BeginsWith 1 (state S.Store conn.old).now.schema }
-    ensures { Finds (state S.Store conn.old) (state S.Store conn.new) result }
-{
-    let Some(number) = version(alloc, conn)? else {
-        return Ok(Found::NotOurs);
-    };
-    match version_of(number) {
-        Some(version) => find_office(alloc, conn, version),
-        None => Ok(Found::OtherVersion(number)),
     }
 }
 
@@ -108,9 +93,21 @@ fn find_beside<S: Alter>(alloc: Global, conn: &mut Connection<S>) -> Result<Foun
     requires beside { ¬ BeginsWith 1 (state S.Store conn.old).now.schema }
     ensures { Finds (state S.Store conn.old) (state S.Store conn.new) result }
 {
-    if !has_any(alloc, conn)? {
-        return Ok(Found::NotOurs);
+    if has_any(alloc, conn)? {
+        find_version(alloc, conn)
+    } else {
+        Ok(Found::NotOurs)
     }
+}
+
+/// Tells what a store is that has the table of the version: as its first table, and no view, or
+/// beside others.
+fn find_version<S: Alter>(alloc: Global, conn: &mut Connection<S>) -> Result<Found, Fault>
+    requires idle { IsIdle (state S.Store conn.old) }
+    requires live { IsLive (state S.Store conn.old) }
+    requires there { HasVersionTable (state S.Store conn.old).now.schema }
+    ensures { Finds (state S.Store conn.old) (state S.Store conn.new) result }
+{
     let Some(number) = version(alloc, conn)? else {
         return Ok(Found::NotOurs);
     };
@@ -221,7 +218,8 @@ fn read_rows<S: Alter>(
 {
     check_rowids(alloc, conn)?;
     let mut audit = Audit::new(alloc);
-    if !feed_parts(alloc, conn, &mut audit, version)? {
+    let reading = Reading { alloc, version };
+    if !feed_parts(reading, conn, &mut audit)? {
         return Ok(None);
     }
     free_of(audit)

@@ -1,15 +1,11 @@
 //! Registries with their ranges, fed to an audit from their tables.
 ghost use Rattle.std.specs.Prelude.{◌≡◌, IfOk, false};
 ghost use Rattle.std.specs.FinMap.{empty};
-ghost use Rattle.sqlite.specs.Held.{state};
-ghost use Rattle.reg_tables.specs.Connection.{IsIdle};
-ghost use Rattle.reg_tables.specs.declared.version.Version.{Version};
 ghost use Rattle.reg_statements.specs.Content.{maxes_in, ranges_in, registries_in};
-ghost use Rattle.reg_opening.specs.Feeding.{FeedsPart};
 ghost use Rattle.reg_opening.specs.Partitions.{ArePartitions, AreRegistries, IsFedPartitions, leading};
 ghost use Rattle.reg_opening.specs.Partitions.{is_named, left_over, partition_row, shared_out, trailing};
 
-use crate::feed::{Fed, feed_all};
+use crate::feed::{Fed, Part, Reading, feed_all};
 use reg_audit::audit::Audit;
 use reg_audit::row::Row;
 use reg_core::text::Name;
@@ -122,25 +118,31 @@ fn is_named(registries: &[Registry], name: &Name) -> bool
     registries.iter().any(|registry| registry.name == *name)
 }
 
-/// Feeds the registries. Rows that the store does not give in their order are a fault of it.
-pub fn feed_registries<S: Alter>(
-    alloc: Global,
-    conn: &mut Connection<S>,
-    audit: &mut Audit,
-) -> Result<bool, Fault>
-    requires { IsIdle (state S.Store conn.old) }
-    ensures { (v : Version) → FeedsPart v
-        (λ t w. (w.registries ≡ empty) × (w.entries ≡ empty)) AreRegistries
-        (λ t w. record w { registries = registries_in (maxes_in t) (ranges_in t) })
-        (state S.Store conn.old) (state S.Store conn.new) audit.old audit.new result }
-{
-    let Some(registries) = load::<S, Registry>(alloc, conn, SELECT_REGISTRIES, &[])? else {
-        return Ok(false);
-    };
-    let Some(rows) = load::<S, RegistryRange>(alloc, conn, SELECT_RANGES, &[])? else {
-        return Ok(false);
-    };
-    feed_partitions(alloc, audit, registries.as_slice(), rows.as_slice())
+/// The registries with their ranges. Rows that the store does not give in their order are a fault of
+/// it.
+pub(crate) struct Registries;
+
+impl Part for Registries {
+    ghost Before = { λ t w. (w.registries ≡ empty) × (w.entries ≡ empty) };
+
+    ghost IsHeld = { AreRegistries };
+
+    ghost filled = { λ t w. record w { registries = registries_in (maxes_in t) (ranges_in t) } };
+
+    fn feed<S: Alter>(
+        reading: Reading,
+        conn: &mut Connection<S>,
+        audit: &mut Audit,
+    ) -> Result<bool, Fault> {
+        let alloc = reading.alloc;
+        let Some(registries) = load::<S, Registry>(alloc, conn, SELECT_REGISTRIES, &[])? else {
+            return Ok(false);
+        };
+        let Some(rows) = load::<S, RegistryRange>(alloc, conn, SELECT_RANGES, &[])? else {
+            return Ok(false);
+        };
+        feed_partitions(alloc, audit, registries.as_slice(), rows.as_slice())
+    }
 }
 
 /// Of a range that no registry took: where it has one, the rows did not come in their order.

@@ -10,9 +10,11 @@ put-requires g c = puts_advice
 pub returns-clause-steps : goal.returns-clause-steps
 returns-clause-steps g c =
     let row : ExpertAdvice = record {
-      account = c.args.account.now;
-      reference = c.args.reference.now;
-      expert = c.args.expert.now;
+      seat = record {
+        account = c.args.account.now;
+        reference = c.args.reference.now;
+        expert = c.args.expert.now;
+      };
       advice = c.args.advice.now;
     } in
     steps_in (c.put.ensures.steps row c.formed.ensures c.values.ensures)

@@ -1,4 +1,3 @@
-use Rattle.reg_records.specs.declared.holds.Hold.{Hold}
 use Rattle.reg_statements.specs.Content.{parts_of}
 use Rattle.reg_content.proofs.Joining.{steps_in}
 use Rattle.reg_content.proofs.MarksWritten.{mark_added}
@@ -10,6 +9,6 @@ add-requires g c = adds_hold
 
 pub returns-clause-steps : goal.returns-clause-steps
 returns-clause-steps g c =
-    let hold : Hold = record { registry = c.args.registry.now; value = c.args.value } in
+    let hold = c.args.hold.now in
     steps_in (c.add.ensures.steps hold c.formed.ensures c.values.ensures)
     (λ db was fits. mark_added (parts_of db) was.kept.tied hold fits)

@@ -1,4 +1,3 @@
-use Rattle.std.proofs.Common.{refl}
 use Rattle.reg_core.specs.World.{Place}
 use Rattle.reg_statements.specs.Content.{parts_of}
 use Rattle.reg_content.proofs.Joining.{steps_in}
@@ -11,6 +10,6 @@ take-requires g c = takes_hold
 
 pub returns-clause-steps : goal.returns-clause-steps
 returns-clause-steps g c =
-    let place : Place = (c.args.registry.now, c.args.value) in
-    steps_in (c.take.ensures.steps place (rw (c.name_value.ensures, c.number_value.ensures) refl))
+    let place : Place = (c.args.hold.now.registry, c.args.hold.now.value) in
+    steps_in (c.take.ensures.steps place c.values.ensures)
     (λ db was any. mark_taken (parts_of db) place)

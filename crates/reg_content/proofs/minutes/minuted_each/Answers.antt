@@ -2,7 +2,6 @@ use Rattle.std.proofs.Common.{◌≡◌, ◌++◌, ◌∷◌, [], map, sym, ap, 
 use Rattle.std.proofs.lemmas.List.{map-append, map-id}
 use Rattle.std.proofs.lemmas.Iterator.Adapters.{YieldsList-from_vec}
 use Rattle.std.proofs.lemmas.Iterator.Consumers.{YieldsList-end}
-use Rattle.reg_content.specs.Marks.{request_minuted}
 use Rattle.reg_content.proofs.Looking.{looks_failed, looks_still, looks_then, looks_told}
 use Rattle.reg_content.proofs.minutes.minuted_each.Goals as goal
 
@@ -13,11 +12,11 @@ pub loop-request-preserved : goal.loop-request-preserved
 loop-request-preserved g c =
     looks_then c.loop-request.invariant c.in_ok-row.ensures (λ p so_far one.
     let more : c.in_ok-rows.rows.items
-    ≡ map (request_minuted p) (c.loop-request.yielded ++ c.in-Some.request ∷ []) =
+    ≡ map (g.T.Minuted.minuted p) (c.loop-request.yielded ++ c.in-Some.request ∷ []) =
     c.in_ok-rows.ensures
     ∙ ap (λ row. c.loop-request.rows.items ++ row ∷ []) one
-    ∙ ap (λ rows. rows ++ request_minuted p c.in-Some.request ∷ []) so_far
-    ∙ sym (map-append (request_minuted p) c.loop-request.yielded (c.in-Some.request ∷ [])) in
+    ∙ ap (λ rows. rows ++ g.T.Minuted.minuted p c.in-Some.request ∷ []) so_far
+    ∙ sym (map-append (g.T.Minuted.minuted p) c.loop-request.yielded (c.in-Some.request ∷ [])) in
     more)
 
 pub returns-in_err-row : goal.returns-in_err-row
@@ -37,4 +36,4 @@ returns g c =
     c.next.new.self c.in-None.is c.next.ensures.steps in
     let whole : c.loop-request.yielded ≡ c.args.requests.items =
     sym (map-id c.loop-request.yielded) ∙ all.0 in
-    looks_told c.loop-request.invariant (λ p is. is ∙ ap (map (request_minuted p)) whole)
+    looks_told c.loop-request.invariant (λ p is. is ∙ ap (map (g.T.Minuted.minuted p)) whole)

@@ -29,8 +29,8 @@ returns g c =
     let shown = rw c.name_value.ensures at rows.1 in
     queue_found old read rows.0 was expert c.in_ok-requests.requests.items
     c.in_ok-requests.ensures.ascending shown rows.2) in
-    let both : LooksIn {E = Fault} _ _ (Ok c.in_ok-seen_all.field-0)
+    let both : LooksIn {E = Fault} _ _ (Ok c.in_ok-minuted_each.field-0)
     (λ p rows. rows.items ≡ queue_rows (queue_of expert (assembled p))) =
-    looks_then first c.in_ok-seen_all.ensures
+    looks_then first c.in_ok-minuted_each.ensures
     (λ p is seen. seen ∙ queue_minuted p expert c.in_ok-requests.requests.items is) in
     looks_made both (λ p is. c.from_vec.ensures ∙ is)

@@ -1,9 +1,12 @@
-use Rattle.std.proofs.Common.{sym, ap, ◌∙◌, option_map}
+use Rattle.std.proofs.Common.{◌≡◌, Ok, sym, ap, ◌∙◌, option_map, rules}
 use Rattle.sqlite.specs.Held.{state}
 use Rattle.reg_core.specs.Queue.{queue_row}
 use Rattle.reg_core.specs.World.{RequestName}
 use Rattle.reg_statements.specs.Content.{world_in}
-use Rattle.reg_content.proofs.Looking.{looks, looks_before}
+use Rattle.reg_keeper.specs.declared.keeper.Fault.{Fault}
+use Rattle.reg_content.specs.Calls.{Looks}
+use Rattle.reg_content.specs.Seats.{assigned_to}
+use Rattle.reg_content.proofs.Looking.{looks, looks_then}
 use Rattle.reg_content.proofs.QueueRows.{is_assigned, not_assigned}
 use Rattle.reg_content.proofs.reviews.queue_one.Goals as goal
 
@@ -19,7 +22,10 @@ returns-then-not-branch g c =
 pub returns : goal.returns
 returns g c =
     let name : RequestName = (c.args.account.now, c.args.reference.now) in
-    looks_before c.in_ok-is_queued.ensures c.assigned.ensures (λ w row seat is.
-    is
-    ∙ ap (option_map (queue_row name))
-    (sym (is_assigned w c.args.expert.now name (sym seat ∙ c.if-not-branch.false))))
+    let expert = c.args.expert.now in
+    let assigned : Looks {E = Fault} (state g.S.Store c.is_queued.new.conn)
+    (state g.S.Store c.own_one.new.conn) (Ok c.map.result)
+    (λ w row. row ≡ option_map (queue_row name) (assigned_to expert w name)) = search rules in
+    looks_then c.in_ok-is_queued.ensures assigned (λ w seat is.
+    is ∙ ap (option_map (queue_row name))
+    (sym (is_assigned w expert name (sym seat ∙ c.if-not-branch.false))))

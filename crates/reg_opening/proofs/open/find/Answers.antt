@@ -1,11 +1,11 @@
-use Rattle.std.proofs.Common.{IsTrue, subst, sym, rules}
+use Rattle.std.proofs.Common.{IsTrue, inl, subst, sym, rules}
 use Rattle.reg_tables.specs.Selecting.{BeginsWith}
 use Rattle.reg_opening.proofs.open.find.Goals as goal
 
-pub find_first-requires-clause-first : goal.find_first-requires-clause-first
-find_first-requires-clause-first g c =
+pub find_version-requires-clause-there : goal.find_version-requires-clause-there
+find_version-requires-clause-there g c =
     let told : IsTrue c.in-Ok-true.field-0 = search rules in
-    subst (BeginsWith 1) c.schema.ensures.value (c.in-Ok-true.ensures.sure told)
+    inl (subst (BeginsWith 1) c.schema.ensures.value (c.in-Ok-true.ensures.sure told))
 
 pub find_beside-requires-clause-beside : goal.find_beside-requires-clause-beside
 find_beside-requires-clause-beside g c = λ first.

@@ -2,11 +2,11 @@ use Rattle.std.proofs.Common.{ap, ◌∙◌}
 use Rattle.reg_content.proofs.Looking.{looks_told}
 use Rattle.reg_content.proofs.MinutedRows.{minute_read}
 use Rattle.reg_core.specs.Minutes.{ask_with}
-use Rattle.reg_content.proofs.minutes.minuted.Goals as goal
+use Rattle.reg_content.proofs.minutes.RequestMinuted.minuted.Goals as goal
 
 pub returns-in-Ok : goal.returns-in-Ok
 returns-in-Ok g c =
-    let request = c.args.request in
+    let request = c.args.self in
     looks_told c.in-Ok.ensures (λ p read.
     c.with_minute.ensures
     ∙ ap (λ minute. record request { ask = ask_with minute request.ask }) read

@@ -1,10 +1,10 @@
-use Rattle.std.proofs.Common.{inl, subst, rules, FitsSigned, w64}
+use Rattle.std.proofs.Common.{subst, rules, FitsSigned, w64}
 use Rattle.std.proofs.lemmas.Int.{to_z-of_z}
 use Rattle.sqlite.specs.Held.{state}
 use Rattle.reg_statements.specs.Content.{HasVersion}
 use Rattle.reg_statements.specs.Tables.{tables_in}
 use Rattle.reg_opening.proofs.OpenLemmas.{none_finds, other_finds, read_finds}
-use Rattle.reg_opening.proofs.open.find_first.Goals as goal
+use Rattle.reg_opening.proofs.open.find_version.Goals as goal
 
 pub returns-in_default : goal.returns-in_default
 returns-in_default g c =
@@ -39,4 +39,4 @@ returns-in-None g c =
     simp to_z-of_z
     (other_finds c.in-Some.number old new read.idle read.endures read.stays
     other
-    (λ first works. rw c.in-Some.is at (read.version first works)) (inl c.requires.first))
+    (λ first works. rw c.in-Some.is at (read.version first works)) c.requires.there)

@@ -4,18 +4,18 @@ use Rattle.std.specs.Prelude.{nat_lt}
 use Rattle.sqlite.specs.Held.{state}
 use Rattle.reg_tables.specs.Version.{table_count}
 use Rattle.reg_opening.proofs.FedTables.{feeds_nothing, feeds_part}
-use Rattle.reg_opening.proofs.feed.feed.Goals as goal
+use Rattle.reg_opening.proofs.feed.VecPart.feed.Goals as goal
 
 pub feed_table-requires-clause-plain : goal.feed_table-requires-clause-plain
 feed_table-requires-clause-plain g c = c.all.ensures.selects.plain
 
 pub returns-then-tables-slot : goal.returns-then-tables-slot
 returns-then-tables-slot g c =
-    let lacks : nat_lt g.T.FedRow.table.slot (table_count c.args.version) ≡ false =
+    let lacks : nat_lt g.T.FedRow.table.slot (table_count c.args.reading.version) ≡ false =
     grind (arith, nat_tests) in
     feeds_nothing g.T.FedRow.table g.met.T.FedRow.defined g.T.Record.of g.met.T.FedRow.reads
     g.met.T.FedRow.behind g.met.T.FedRow.placed g.T.Fed.row_of g.T.FedRow.put g.T.FedRow.Before
-    g.T.FedRow.IsTied g.met.T.FedRow.fed c.args.version (state g.S.Store c.args.conn.now)
+    g.T.FedRow.IsTied g.met.T.FedRow.fed c.args.reading.version (state g.S.Store c.args.conn.now)
     c.args.audit.now lacks c.requires
 
 pub returns : goal.returns
@@ -23,10 +23,10 @@ returns g c =
     let old = state g.S.Store c.args.conn.now in
     let new = state g.S.Store c.feed_table.new.conn in
     let fed = c.feed_table.ensures in
-    let has : nat_lt g.T.FedRow.table.slot (table_count c.args.version) ≡ true =
+    let has : nat_lt g.T.FedRow.table.slot (table_count c.args.reading.version) ≡ true =
     grind (arith, nat_tests) in
     feeds_part g.T.FedRow.table g.met.T.FedRow.defined g.T.Record.of g.met.T.FedRow.reads
     g.met.T.FedRow.behind g.met.T.FedRow.placed g.T.Fed.row_of g.T.FedRow.put g.T.FedRow.Before
-    g.T.FedRow.IsTied g.met.T.FedRow.fed c.args.version old new c.args.audit.now
+    g.T.FedRow.IsTied g.met.T.FedRow.fed c.args.reading.version old new c.args.audit.now
     c.feed_table.new.audit _ c.all.ensures has c.feed_table.result fed.idle fed.endures fed.stays
     fed.rows
