@@ -8,8 +8,8 @@ use reg_core::page::{Page, PageEntries};
 use reg_core::rows::Rows;
 use reg_core::text::Name;
 use reg_early::term::Status;
-use reg_print::listing::rows::Run;
-use reg_ranges::policy::{Policy, Treatment};
+use reg_print::listing::rows::{Run, closed_status};
+use reg_ranges::policy::Treatment;
 use reg_ranges::range::Range;
 use reg_ranges::table::RangeTable;
 use std::alloc::{AllocError, Global};
@@ -172,19 +172,9 @@ impl Share {
 pub fn rest_of(treatment: Treatment) -> Rest
     ensures { result ≡ rest_of treatment }
 {
-    match treatment {
-        Treatment::Reserved => Rest::Reserved,
-        Treatment::Under(
-            Policy::PrivateUse | Policy::ExperimentalUse | Policy::HierarchicalAllocation,
-        ) => Rest::SetAside,
-        Treatment::Under(
-            Policy::FirstComeFirstServed
-            | Policy::ExpertReview
-            | Policy::SpecificationRequired
-            | Policy::RfcRequired
-            | Policy::IetfReview
-            | Policy::StandardsAction
-            | Policy::IesgApproval,
-        ) => Rest::Free,
+    match (treatment, closed_status(treatment)) {
+        (Treatment::Reserved, _) => Rest::Reserved,
+        (Treatment::Under(_), Some(_)) => Rest::SetAside,
+        (Treatment::Under(_), None) => Rest::Free,
     }
 }

@@ -1,9 +1,10 @@
 -- The JSON of an ask.
-use Rattle.std.specs.Prelude.{[], ◌∷◌, Option, None, option_map, codes}
+use Rattle.std.specs.Prelude.{[], ◌∷◌, ◌++◌, Option, None, option_map, codes}
 use Rattle.serde_json.specs.Data.{Data}
 use Rattle.reg_blocks.specs.Size.{word_of}
 use Rattle.reg_ranges.specs.Rfcs.{PublishedRfc}
 use Rattle.reg_ranges.specs.Words.{policy_word, stream_word, track_word}
+use Rattle.reg_early.specs.declared.evidence.EarlyEvidence.{EarlyEvidence}
 use Rattle.reg_core.specs.AskKind.{ask_kind_word}
 use Rattle.reg_core.specs.declared.ask.Ask.{Ask}
 use Rattle.reg_core.specs.declared.ask.Ask.TheVariants.{Code, Early, Renew, Permanent, Block}
@@ -56,12 +57,18 @@ code_members ask =
 abbrev pub code_tree : CodeAsk → Data
 code_tree ask = object_with (code_members ask)
 
+-- the texts among the evidence for an early allocation
+abbrev pub early_text_members : EarlyEvidence → Listed
+early_text_members evidence =
+    (codes "chair", text_if evidence.chair)
+    ∷ (codes "director", text_if evidence.director)
+    ∷ (codes "draft", text_if evidence.draft)
+    ∷ []
+
 abbrev pub early_members : EarlyAsk → Listed
 early_members ask =
-    (codes "chair", text_if ask.evidence.chair)
-    ∷ (codes "director", text_if ask.evidence.director)
-    ∷ (codes "draft", text_if ask.evidence.draft)
-    ∷ (codes "interest", true_if ask.evidence.interest)
+    early_text_members ask.evidence
+    ++ (codes "interest", true_if ask.evidence.interest)
     ∷ (codes "kind", text (ask_kind_word kind.Early))
     ∷ (codes "label", text ask.label)
     ∷ (codes "least", least_if ask.want)
@@ -76,10 +83,8 @@ early_tree ask = object_with (early_members ask)
 
 abbrev pub renewal_members : RenewalAsk → Listed
 renewal_members ask =
-    (codes "chair", text_if ask.evidence.chair)
-    ∷ (codes "director", text_if ask.evidence.director)
-    ∷ (codes "draft", text_if ask.evidence.draft)
-    ∷ (codes "iesg", text_if ask.iesg)
+    early_text_members ask.evidence
+    ++ (codes "iesg", text_if ask.iesg)
     ∷ (codes "interest", true_if ask.evidence.interest)
     ∷ (codes "kind", text (ask_kind_word kind.Renew))
     ∷ (codes "registry", text ask.registry)

@@ -1,11 +1,12 @@
 //! Prints asks. Members that are absent, and marks that are not set, are not printed.
 ghost use Rattle.std.specs.Prelude.{[], ◌∷◌, codes, OnOk};
 ghost use Rattle.reg_print.specs.Printed.{PrintedMembers};
-ghost use Rattle.reg_print.specs.Trees.Ask.{ask_tree, block_tree, code_tree, early_tree, least_if, permanence_tree, renewal_tree, rfc_tree, value_if};
+ghost use Rattle.reg_print.specs.Trees.Ask.{ask_tree, block_tree, code_tree, early_text_members, early_tree, least_if, permanence_tree, renewal_tree, rfc_tree, value_if};
 
 use crate::printing::{Itself, Print, Printer};
 use reg_core::ask::{Ask, BlockAsk, CodeAsk, EarlyAsk, PermanenceAsk, RenewalAsk, Want};
 use reg_core::ask_kind::AskKind;
+use reg_early::evidence::EarlyEvidence;
 use reg_ranges::evidence::Rfc;
 use std::alloc::AllocError;
 
@@ -54,9 +55,7 @@ impl Print<Itself> for EarlyAsk {
 
     fn print(&self, out: &mut Printer) -> Result<(), AllocError> {
         out.open_object()?;
-        out.put_if("chair", &self.evidence.chair)?;
-        out.put_if("director", &self.evidence.director)?;
-        out.put_if("draft", &self.evidence.draft)?;
+        put_early_texts(out, &self.evidence)?;
         out.put_true_if("interest", self.evidence.interest)?;
         out.put_text("kind", AskKind::Early.word())?;
         out.put("label", &self.label)?;
@@ -77,9 +76,7 @@ impl Print<Itself> for RenewalAsk {
 
     fn print(&self, out: &mut Printer) -> Result<(), AllocError> {
         out.open_object()?;
-        out.put_if("chair", &self.evidence.chair)?;
-        out.put_if("director", &self.evidence.director)?;
-        out.put_if("draft", &self.evidence.draft)?;
+        put_early_texts(out, &self.evidence)?;
         out.put_if("iesg", &self.iesg)?;
         out.put_true_if("interest", self.evidence.interest)?;
         out.put_text("kind", AskKind::Renew.word())?;
@@ -140,6 +137,17 @@ impl Print<Itself> for Rfc {
         out.close_object()?;
         Ok(())
     }
+}
+
+// The texts among the evidence for an early allocation.
+fn put_early_texts(out: &mut Printer, evidence: &EarlyEvidence) -> Result<(), AllocError>
+    ensures { OnOk result
+        (PrintedMembers out.old.json out.new.json 0 (early_text_members evidence.now)) }
+{
+    out.put_if("chair", &evidence.chair)?;
+    out.put_if("director", &evidence.director)?;
+    out.put_if("draft", &evidence.draft)?;
+    Ok(())
 }
 
 fn put_value_if(out: &mut Printer, want: Want) -> Result<(), AllocError>

@@ -10,6 +10,13 @@ use reg_core::holding::Listed;
 use std::alloc::{AllocError, Global};
 use std::io::Write;
 
+const HEADER: [&[u8]; 4] = [
+    b"Registry",
+    b"Assignment",
+    b"Organization Name",
+    b"Organization Address",
+];
+
 /// These blocks as a listing. One writer writes all of its records.
 pub fn block_listing(alloc: Global, rows: &[Listed]) -> Result<Vec<u8>, AllocError>
     ensures { IfOk result (λ v. v.items ≡ block_listing_text rows.now) }
@@ -25,15 +32,7 @@ pub fn block_listing(alloc: Global, rows: &[Listed]) -> Result<Vec<u8>, AllocErr
 fn write_header<W: Write + Drop>(writer: &mut Writer<W>) -> Result<(), AllocError>
     ensures { OnOk result (Adds W.contents writer.old writer.new block_header) }
 {
-    write_record(
-        writer,
-        &[
-            b"Registry".as_slice(),
-            b"Assignment".as_slice(),
-            b"Organization Name".as_slice(),
-            b"Organization Address".as_slice(),
-        ],
-    )
+    write_record(writer, &HEADER)
 }
 
 fn write_row<W: Write + Drop>(writer: &mut Writer<W>, row: &Listed) -> Result<(), AllocError>

@@ -13,6 +13,16 @@ use reg_ranges::policy::Policy;
 use std::alloc::{AllocError, Global};
 use std::io::Write;
 
+const HEADER: [&[u8]; 7] = [
+    b"Value",
+    b"Description",
+    b"Status",
+    b"Policy",
+    b"First",
+    b"Expires",
+    b"Assignee",
+];
+
 /// A registry as a listing. One writer writes all of its records, and one text has the values of
 /// each in turn.
 pub fn listing(alloc: Global, page: &Page) -> Result<Vec<u8>, AllocError>
@@ -31,18 +41,7 @@ pub fn listing(alloc: Global, page: &Page) -> Result<Vec<u8>, AllocError>
 fn write_header<W: Write + Drop>(writer: &mut Writer<W>) -> Result<(), AllocError>
     ensures { OnOk result (Adds W.contents writer.old writer.new header) }
 {
-    write_record(
-        writer,
-        &[
-            b"Value".as_slice(),
-            b"Description".as_slice(),
-            b"Status".as_slice(),
-            b"Policy".as_slice(),
-            b"First".as_slice(),
-            b"Expires".as_slice(),
-            b"Assignee".as_slice(),
-        ],
-    )
+    write_record(writer, &HEADER)
 }
 
 // A record of a row. `values` has room for its values, and those of an earlier row.

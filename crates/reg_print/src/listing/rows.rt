@@ -208,8 +208,8 @@ fn policy_of(treatment: Treatment) -> Option<Policy>
     }
 }
 
-// How all values of a range stand in which no values are assigned one by one.
-fn closed_status(treatment: Treatment) -> Option<Status>
+/// How all values of a range stand in which no values are assigned one by one; none where they are.
+pub fn closed_status(treatment: Treatment) -> Option<Status>
     ensures { result ≡ closed_status treatment }
 {
     match treatment {

@@ -8,8 +8,7 @@ returns c =
     let kind = rw c.word.ensures at c.in_ok-put_text.ensures in
     printed_within (lit≤ tt)
     (prints_object (early_members c.args.self.now) refl c.in_ok-open_object.ensures
-    (c.in_ok-put_if.ensures ▸ c.in_ok-put_if-2.ensures ▸ c.in_ok-put_if-3.ensures
-    ▸ c.in_ok-put_true_if.ensures ▸ kind ▸ c.in_ok-put.ensures
+    (c.in_ok-put_early_texts.ensures ▸ c.in_ok-put_true_if.ensures ▸ kind ▸ c.in_ok-put.ensures
     ▸ c.in_ok-put_least_if.ensures ▸ c.in_ok-put-2.ensures ▸ c.in_ok-put_true_if-2.ensures
     ▸ c.in_ok-put_value_if.ensures ▸ c.in_ok-put_true_if-3.ensures)
     c.in_ok-close_object.ensures)

@@ -9,7 +9,6 @@ returns c =
     let value = rw c.from.ensures at c.in_ok-put_number.ensures in
     printed_within (lit≤ tt)
     (prints_object (renewal_members c.args.self.now) refl c.in_ok-open_object.ensures
-    (c.in_ok-put_if.ensures ▸ c.in_ok-put_if-2.ensures ▸ c.in_ok-put_if-3.ensures
-    ▸ c.in_ok-put_if-4.ensures ▸ c.in_ok-put_true_if.ensures ▸ kind
+    (c.in_ok-put_early_texts.ensures ▸ c.in_ok-put_if.ensures ▸ c.in_ok-put_true_if.ensures ▸ kind
     ▸ c.in_ok-put.ensures ▸ c.in_ok-put_true_if-2.ensures ▸ value ▸ c.in_ok-put_true_if-3.ensures)
     c.in_ok-close_object.ensures)
