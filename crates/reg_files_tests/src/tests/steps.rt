@@ -137,6 +137,22 @@ struct Outcome {
     errors: Vec<u8>,
 }
 
+impl Outcome {
+    // The line was done, and printed this and nothing else.
+    fn assert_printed(&self, line: &str, wanted: &str) -> Result<(), Fail> {
+        ensure(self.errors.is_empty(), line)?;
+        ensure(self.output.as_slice() == wanted.as_bytes(), line)?;
+        ensure(self.status == 0, line)
+    }
+
+    // The line was not done, and this was said on standard error.
+    fn assert_undone(&self, line: &str, wanted: &str) -> Result<(), Fail> {
+        ensure(self.errors.as_slice() == wanted.as_bytes(), line)?;
+        ensure(self.output.is_empty(), line)?;
+        ensure(self.status == 1, line)
+    }
+}
+
 // The job of a command line, its words apart by a space each.
 fn job_of(alloc: Global, paths: &Paths, line: &str) -> Result<Job, Fail> {
     let mut words = Vec::new(alloc);
@@ -172,32 +188,6 @@ fn done(rt: &HostRuntime, paths: &Paths, line: &str, input: &[u8]) -> Result<Out
     })
 }
 
-fn assert_prints(
-    rt: &HostRuntime,
-    paths: &Paths,
-    line: &str,
-    input: &[u8],
-    wanted: &str,
-) -> Result<(), Fail> {
-    let given = done(rt, paths, line, input)?;
-    ensure(given.errors.is_empty(), line)?;
-    ensure(given.output.as_slice() == wanted.as_bytes(), line)?;
-    ensure(given.status == 0, line)
-}
-
-fn assert_undone(
-    rt: &HostRuntime,
-    paths: &Paths,
-    line: &str,
-    input: &[u8],
-    wanted: &str,
-) -> Result<(), Fail> {
-    let given = done(rt, paths, line, input)?;
-    ensure(given.errors.as_slice() == wanted.as_bytes(), line)?;
-    ensure(given.output.is_empty(), line)?;
-    ensure(given.status == 1, line)
-}
-
 // The office's file and its log are what they were.
 fn assert_kept(rt: &HostRuntime, paths: &Paths, before: &Kept) -> Result<(), Fail> {
     let after = Kept::at(rt, paths)?;
@@ -206,7 +196,7 @@ fn assert_kept(rt: &HostRuntime, paths: &Paths, before: &Kept) -> Result<(), Fai
 
 fn assert_looks(rt: &HostRuntime, paths: &Paths, line: &str, wanted: &str) -> Result<(), Fail> {
     let before = Kept::at(rt, paths)?;
-    assert_prints(rt, paths, line, b"", wanted)?;
+    done(rt, paths, line, b"")?.assert_printed(line, wanted)?;
     assert_kept(rt, paths, &before)
 }
 
@@ -217,7 +207,7 @@ fn assert_looks_in_vain(
     wanted: &str,
 ) -> Result<(), Fail> {
     let before = Kept::at(rt, paths)?;
-    assert_undone(rt, paths, line, b"", wanted)?;
+    done(rt, paths, line, b"")?.assert_undone(line, wanted)?;
     assert_kept(rt, paths, &before)
 }
 
@@ -237,7 +227,7 @@ const OPENINGS: [&str; 10] = [
 
 fn assert_unopened(rt: &HostRuntime, paths: &Paths, wanted: &str) -> Result<(), Fail> {
     for line in OPENINGS {
-        assert_undone(rt, paths, line, b"", wanted)?;
+        done(rt, paths, line, b"")?.assert_undone(line, wanted)?;
     }
     Ok(())
 }
@@ -281,19 +271,19 @@ fn assert_has(rt: &HostRuntime, path: &str, text: &str) -> Result<(), Fail> {
 fn take_step(rt: &HostRuntime, paths: &Paths, step: &Step) -> Result<(), Fail> {
     let (office, ranges) = (paths.office.as_str(), paths.ranges.as_str());
     match step {
-        Step::Prints(line, wanted) => assert_prints(rt, paths, line, b"", wanted),
+        Step::Prints(line, wanted) => done(rt, paths, line, b"")?.assert_printed(line, wanted),
         Step::Answers(line, input, wanted) => {
-            assert_prints(rt, paths, line, input.as_bytes(), wanted)
+            done(rt, paths, line, input.as_bytes())?.assert_printed(line, wanted)
         }
         Step::TooMuch(line, count, wanted) => {
             let input = many(rt.alloc(), *count)?;
-            assert_undone(rt, paths, line, input.as_slice(), wanted)
+            done(rt, paths, line, input.as_slice())?.assert_undone(line, wanted)
         }
         Step::Private => {
             assert_private(rt, office)?;
             assert_private(rt, paths.log.as_str())
         }
-        Step::Undone(line, wanted) => assert_undone(rt, paths, line, b"", wanted),
+        Step::Undone(line, wanted) => done(rt, paths, line, b"")?.assert_undone(line, wanted),
         Step::Looks(line, wanted) => assert_looks(rt, paths, line, wanted),
         Step::LooksInVain(line, wanted) => assert_looks_in_vain(rt, paths, line, wanted),
         Step::Unopened(wanted) => assert_unopened(rt, paths, wanted),

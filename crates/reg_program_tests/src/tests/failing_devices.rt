@@ -1,8 +1,6 @@
 //! Scripts whose reader fails before a byte or never ends, and whose writer fails after a byte.
-use crate::tests::running::{CLERK, InLists};
+use crate::tests::running::{CLERK, status_of};
 use reg_jobs::jobs::Job;
-use reg_program::console::Console;
-use reg_program::performing::perform;
 use reg_testing::devices::{FailsAfter, FailsBefore, NeverEnds};
 use reg_testing::facts::ensure;
 use std::alloc::{AllocError, Global};
@@ -24,13 +22,7 @@ fn done<R: Read, W: Write>(
 ) -> Result<u8, Fail> {
     let clerk = String::from_str(rt.alloc(), CLERK)?;
     let job = Job::Script { clerk, file: None };
-    let mut console = Console {
-        input,
-        output,
-        errors,
-        is_watched: false,
-    };
-    Ok(perform(rt, &InLists, job, &mut console))
+    Ok(status_of(rt, job, input, output, errors))
 }
 
 // The answers to the lines whose line feed is among these bytes.

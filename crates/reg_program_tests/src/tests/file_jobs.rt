@@ -1,11 +1,11 @@
 //! The jobs over an office that stays open.
-use crate::tests::running::CLERK;
+use crate::tests::running::{CLERK, MOMENT, list_in};
 use reg_carriers::exercise::{Exercise, over_lists};
 use reg_jobs::jobs::Definition;
 use reg_keeper::keeper::Keeper;
 use reg_office::Office;
 use reg_program::console::Console;
-use reg_program::desk::{Form, ask_in, definition, listing};
+use reg_program::desk::{Form, ask_in, definition};
 use reg_program::faults::{JobFailure, Undone};
 use reg_program::serving::serve_in;
 use reg_program::tasks::found_in;
@@ -16,8 +16,6 @@ use std::io::{Read, Write};
 use std::net::{Ipv4Addr, Net, Shutdown, SocketAddr, TcpListener, TcpStream};
 use std::test::Fail;
 use std::time::Clock;
-
-const MOMENT: u64 = 1_700_000_000;
 
 const LOGGED: &[u8] = b"Z GET /registries 200 2\n";
 
@@ -69,20 +67,9 @@ fn defined<R: AllocGlobal, K: Keeper>(
 // What a listing of the registry `codes` prints.
 fn listed<R: AllocGlobal, K: Keeper>(rt: &R, office: &mut Office<K>) -> Result<Vec<u8>, Undone> {
     let alloc = rt.alloc();
-    let name = String::from_str(alloc, "codes")?;
-    let command = listing(alloc, &Some(name))?;
+    let name = Some(String::from_str(alloc, "codes")?);
     let mut output = Vec::new(alloc);
-    let done = ask_in(
-        alloc,
-        office,
-        MOMENT,
-        None,
-        &command,
-        Form::Body,
-        &mut output,
-    );
-    drop(command);
-    done?;
+    list_in(alloc, office, &name, &mut output)?;
     Ok(output)
 }
 

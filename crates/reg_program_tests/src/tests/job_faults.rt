@@ -1,23 +1,18 @@
 //! Jobs whose output nobody takes, whose standard input cannot be read, and whose store fails.
 use crate::tests::failing_keeper::FailingKeeper;
-use crate::tests::running::InLists;
+use crate::tests::running::{MOMENT, list_in, status_of};
 use reg_carriers::exercise::{Exercise, over_lists};
 use reg_jobs::command_line::job;
 use reg_jobs::jobs::Job;
 use reg_keeper::keeper::Keeper;
 use reg_office::{Choice, Office};
-use reg_program::console::Console;
-use reg_program::desk::{Form, ask_in, listing};
 use reg_program::faults::{JobFailure, Undone};
-use reg_program::performing::perform;
 use reg_program::tokens::{revoke_in, tokens_in};
 use reg_testing::devices::{FailsAfter, FailsBefore};
 use reg_testing::facts::ensure;
 use std::alloc::Global;
 use std::io::{Read, Write};
 use std::test::Fail;
-
-const MOMENT: u64 = 1_700_000_000;
 
 /// A line of a script, for the jobs that read standard input.
 const LINE: &[u8] = b"1700000000 - GET /registries\n";
@@ -51,24 +46,6 @@ fn job_of(alloc: Global, line: &str) -> Result<Job, Fail> {
     }
 }
 
-// The exit status of the job of a command line.
-fn status_of<R: Read, W: Write>(
-    rt: &HostRuntime,
-    line: &str,
-    input: &mut R,
-    output: &mut W,
-    errors: &mut Vec<u8>,
-) -> Result<u8, Fail> {
-    let job = job_of(rt.alloc(), line)?;
-    let mut console = Console {
-        input,
-        output,
-        errors,
-        is_watched: false,
-    };
-    Ok(perform(rt, &InLists, job, &mut console))
-}
-
 // The job of a command line ends with the status 1, and says this.
 fn assert_undone<R: Read, W: Write>(
     rt: &HostRuntime,
@@ -78,7 +55,8 @@ fn assert_undone<R: Read, W: Write>(
     said: &[u8],
 ) -> Result<(), Fail> {
     let mut errors = Vec::new(rt.alloc());
-    let status = status_of(rt, line, input, output, &mut errors)?;
+    let job = job_of(rt.alloc(), line)?;
+    let status = status_of(rt, job, input, output, &mut errors);
     ensure(status == 1 && errors.as_slice() == said, line)
 }
 
@@ -115,21 +93,8 @@ fn is_of_store(done: &Result<(), Undone>) -> bool {
 }
 
 fn assert_not_listed<K: Keeper>(rt: &HostRuntime, office: &mut Office<K>) -> Result<(), Fail> {
-    let alloc = rt.alloc();
-    let mut output = Vec::new(alloc);
-    let Ok(command) = listing(alloc, &None) else {
-        return Err("no command".into());
-    };
-    let done = ask_in(
-        alloc,
-        office,
-        MOMENT,
-        None,
-        &command,
-        Form::Body,
-        &mut output,
-    );
-    drop(command);
+    let mut output = Vec::new(rt.alloc());
+    let done = list_in(rt.alloc(), office, &None, &mut output);
     ensure(is_of_store(&done) && output.is_empty(), "a listing")
 }
 

@@ -4,6 +4,7 @@ use reg_keeper::keeper::Keeper;
 use reg_office::Office;
 use reg_program::checking::check_in;
 use reg_program::console::Console;
+use reg_program::desk::{Form, ask_in, listing};
 use reg_program::faults::Undone;
 use reg_program::performing::perform;
 use reg_program::scripts::found_and_run;
@@ -16,6 +17,9 @@ use std::test::Fail;
 
 /// The token of the clerk for whom offices are founded.
 pub const CLERK: &str = "clerk-token-00001";
+
+/// The moment at which an open office is asked.
+pub const MOMENT: u64 = 1_700_000_000;
 
 /// Offices that are new at each path, in lists.
 pub struct InLists;
@@ -84,18 +88,42 @@ pub fn performed(rt: &HostRuntime, job: Job, input: &[u8]) -> Given {
     let mut output = Vec::new(rt.alloc());
     let mut errors = Vec::new(rt.alloc());
     let mut reader = input;
-    let mut console = Console {
-        input: &mut reader,
-        output: &mut output,
-        errors: &mut errors,
-        is_watched: false,
-    };
-    let status = perform(rt, &InLists, job, &mut console);
+    let status = status_of(rt, job, &mut reader, &mut output, &mut errors);
     Given {
         status,
         output,
         errors,
     }
+}
+
+/// The exit status of a job over this standard input, output and error.
+pub fn status_of<R: Read, W: Write>(
+    rt: &HostRuntime,
+    job: Job,
+    input: &mut R,
+    output: &mut W,
+    errors: &mut Vec<u8>,
+) -> u8 {
+    let mut console = Console {
+        input,
+        output,
+        errors,
+        is_watched: false,
+    };
+    perform(rt, &InLists, job, &mut console)
+}
+
+/// Lists the registry of this name, or all, in an office that is open.
+pub fn list_in<K: Keeper>(
+    alloc: Global,
+    office: &mut Office<K>,
+    name: &Option<String>,
+    output: &mut Vec<u8>,
+) -> Result<(), Undone> {
+    let command = listing(alloc, name)?;
+    let done = ask_in(alloc, office, MOMENT, None, &command, Form::Body, output);
+    drop(command);
+    done
 }
 
 /// What the lines of a script are answered by an office over this keeper, once it is founded.

@@ -1,6 +1,6 @@
 //! Jobs about the capabilities of an office, and the job that counts what is in one.
 use crate::tests::failing_keeper::FailingKeeper;
-use crate::tests::running::CLERK;
+use crate::tests::running::{CLERK, MOMENT};
 use reg_carriers::exercise::{Exercise, over_lists};
 use reg_core::capability::{Cap, Kind, Until};
 use reg_core::command::{ClerkCommand, Command};
@@ -13,8 +13,6 @@ use reg_program::tokens::{account_of, revoke_in, tokens_in};
 use reg_testing::devices::FailsAfter;
 use reg_testing::facts::ensure;
 use std::test::Fail;
-
-const MOMENT: u64 = 1_700_000_000;
 
 const HEADER: &str = "Account,Kind,Until,Digest\n";
 
