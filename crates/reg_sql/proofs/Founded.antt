@@ -81,43 +81,7 @@ none {R = R} {of = of} = (empty_table R of).0
 
 bare_kept : (rows : List Row) → HasVersion (number_of newest) rows → AreKept newest (bare rows)
 bare_kept rows version = record {
-  whole = (
-    version,
-    (
-      none,
-      (
-        none,
-        (
-          none,
-          (
-            none,
-            (
-              none,
-              (
-                none,
-                (
-                  none,
-                  (
-                    none,
-                    (
-                      none,
-                      (
-                        none,
-                        (
-                          none,
-                          none,
-                        ),
-                      ),
-                    ),
-                  ),
-                ),
-              ),
-            ),
-          ),
-        ),
-      ),
-    ),
-  );
+  whole = (version, search none);
   tied = record {
     ranges = λ place some. absent _ (get-empty place_cmp place) some;
     holds = λ place marked. absent _ (get-empty place_cmp place) marked;

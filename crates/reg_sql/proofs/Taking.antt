@@ -2,6 +2,7 @@
 use Rattle.std.proofs.Common.{◌≡◌, ℕ, ℤ, Bool, List, [], ◌∷◌, inl, inr, true, Ok, Err, Result, refl, sym, ap, subst, ◌∙◌}
 use Rattle.std.specs.Prelude.{◌≢◌, IfErr, IfOk, IsTrue, Some}
 use Rattle.std.specs.List.{AllByRecursion}
+use Rattle.std.proofs.lemmas.List.{take-append-drop}
 use Rattle.sqlite.specs.Effect.{Database}
 use Rattle.sqlite.specs.Schema.{Schema}
 use Rattle.sqlite.specs.Table.{Table}
@@ -26,7 +27,7 @@ use Rattle.reg_tables.proofs.RestLemmas.{stays_held, stays_same}
 use Rattle.reg_statements.specs.Content.{IsStoredAs, content_at, content_of, world_in}
 use Rattle.reg_statements.proofs.Migrated.{migrated_same}
 use Rattle.reg_opening.specs.Opening.{Finds, HasVersionTables, IsFirst, IsFoundAs, IsFree, IsOurs, verdict_of}
-use Rattle.reg_opening.proofs.Versions.{schema_first}
+use Rattle.reg_opening.proofs.Versions.{both_all, schema_first}
 use Rattle.reg_opening.specs.declared.open.Found.{Found}
 use Rattle.reg_opening.specs.declared.open.Found.TheVariants as finding
 use Rattle.reg_vacancies.specs.Vacancies.{AreVacanciesOf}
@@ -176,62 +177,10 @@ all_still (t ∷ all) grows has = (still_has t grows has.0, all_still all grows 
 -- the tables that were there and those that came are an office's
 brought : (v : Version) (old new : Schema) → FindsTablesOf v old
     → GainsTables (later_than v) old new → HasTables new
-brought v old new finds gained = go v
-    (all_still (tables_of v) gained.extends (all_has old (tables_of v) finds)) gained.has
-  where
-    go : (v : Version) → AllByRecursion (HasTable new) (tables_of v)
-        → AllByRecursion (HasTable new) (later_than v) → HasTables new
-    go First a b = (
-      a.0,
-      (
-        a.1.0,
-        (
-          a.1.1.0,
-          (
-            a.1.1.1.0,
-            (
-              a.1.1.1.1.0,
-              (
-                a.1.1.1.1.1.0,
-                (a.1.1.1.1.1.1.0, (a.1.1.1.1.1.1.1.0, (a.1.1.1.1.1.1.1.1.0, (a.1.1.1.1.1.1.1.1.1.0, b)))),
-              ),
-            ),
-          ),
-        ),
-      ),
-    )
-    go Second a b = (
-      a.0,
-      (
-        a.1.0,
-        (
-          a.1.1.0,
-          (
-            a.1.1.1.0,
-            (
-              a.1.1.1.1.0,
-              (
-                a.1.1.1.1.1.0,
-                (
-                  a.1.1.1.1.1.1.0,
-                  (
-                    a.1.1.1.1.1.1.1.0,
-                    (
-                      a.1.1.1.1.1.1.1.1.0,
-                      (
-                        a.1.1.1.1.1.1.1.1.1.0,
-                        (a.1.1.1.1.1.1.1.1.1.1.0, (a.1.1.1.1.1.1.1.1.1.1.1.0, b)),
-                      ),
-                    ),
-                  ),
-                ),
-              ),
-            ),
-          ),
-        ),
-      ),
-    )
-    go Third a b = a
+brought v old new finds gained =
+    subst (AllByRecursion (HasTable new)) (take-append-drop (table_count v) office_schema.tables)
+    (both_all (HasTable new) (tables_of v) (later_than v)
+    (all_still (tables_of v) gained.extends (all_has old (tables_of v) finds)) gained.has)
 
 none_there : (v : Version) (schema : Schema) → schema ≡ no_schema → ¬ FindsTablesOf v schema
 none_there First schema is finds =

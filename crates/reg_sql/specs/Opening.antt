@@ -170,6 +170,13 @@ module _ {D : Type 0} {g : disk.Ghosts D} where
   IsRefusedAt fresh image refusal (Err left) =
       (error : Error) × IsUnopened image left error × (refusal ≡ refusal_of error)
 
+  -- the office that was opened in them: what it is of what was found there, and when it is one
+  pub record IsOpenedFrom (fresh : Bool) (image : Image) (conn : Held (FileStore D g)) : Type 0 where
+    pub opened : Holds (file_state conn)
+        → (found : Database) × IsFoundIn image found × IsOpened fresh found (world_in (file_state conn))
+    pub live : IsHonest (file_state conn)
+        → (found : Database) × IsFoundIn image found × (StandsAlone found → Holds (file_state conn))
+
   -- so it is of a call that gives a keeper over such files, or the error alone: what was opened is
   -- dropped
   abbrev pub IsRefusedOf : {K : Type 0} → Result K OpenFault → (K → Held (FileStore D g)) → Bool

@@ -1,8 +1,6 @@
 //! Stores that an office is opened from.
 ghost use Rattle.std.specs.Prelude.{◌≡◌, true, false, IfErr, IfOk, IsTrue, Some};
 ghost use Rattle.std.specs.Bool.{Decides};
-ghost use Rattle.sqlite.specs.Effect.{Database};
-ghost use Rattle.sqlite.specs.Files.{file_state};
 ghost use Rattle.sqlite.specs.Held.{state};
 ghost use Rattle.sqlite.specs.State.{HasCleanDisk};
 ghost use Rattle.sqlite.specs.Steps.{IsEmpty, over_memory};
@@ -16,7 +14,7 @@ ghost use Rattle.reg_tables.specs.Schema.{office_schema};
 ghost use Rattle.reg_tables.specs.Version.{newest};
 ghost use Rattle.reg_statements.specs.Content.{world_in};
 ghost use Rattle.reg_sql.specs.Keeping.{IsHonest, KeepsOffice};
-ghost use Rattle.reg_sql.specs.Opening.{Brings, HasNoTables, IsAsItWas, IsFoundIn, IsOpened, IsRefused};
+ghost use Rattle.reg_sql.specs.Opening.{Brings, HasNoTables, IsAsItWas, IsOpened, IsOpenedFrom, IsRefused};
 ghost use Rattle.reg_sql.specs.Opening.{IsRefusedAt, IsRefusedOf, IsTakenOver, StandsAlone, TakesOver};
 ghost use Rattle.reg_sql.specs.Opening.{refusal_of};
 ghost use Rattle.reg_sql.specs.declared.open.OpenFault.TheVariants as refusals;
@@ -220,12 +218,8 @@ pub fn from_path<T: Start>(
     fresh: bool,
     start: T,
 ) -> Result<SqlKeeper<FileStore<FileFrom<T>>>, OpenFault>
-    ensures opened { IfOk result (λ keeper. Holds (file_state keeper.tables)
-        → (found : Database) × IsFoundIn (image_at T.Start) found
-        × IsOpened fresh found (world_in (file_state keeper.tables))) }
-    ensures live { IfOk result (λ keeper. IsHonest (file_state keeper.tables)
-        → (found : Database) × IsFoundIn (image_at T.Start) found
-        × (StandsAlone found → Holds (file_state keeper.tables))) }
+    ensures office { IfOk result (λ keeper.
+        IsOpenedFrom fresh (image_at T.Start) keeper.tables) }
     ensures refused { IsRefusedOf result (λ keeper. keeper.tables) fresh (image_at T.Start) }
 {
     match open_path(rt, path, fresh, start) {
@@ -245,12 +239,8 @@ pub fn open_path<T: Start>(
     fresh: bool,
     start: T,
 ) -> Result<SqlKeeper<FileStore<FileFrom<T>>>, (OpenFault, Opened<T>)>
-    ensures opened { IfOk result (λ keeper. Holds (file_state keeper.tables)
-        → (found : Database) × IsFoundIn (image_at T.Start) found
-        × IsOpened fresh found (world_in (file_state keeper.tables))) }
-    ensures live { IfOk result (λ keeper. IsHonest (file_state keeper.tables)
-        → (found : Database) × IsFoundIn (image_at T.Start) found
-        × (StandsAlone found → Holds (file_state keeper.tables))) }
+    ensures office { IfOk result (λ keeper.
+        IsOpenedFrom fresh (image_at T.Start) keeper.tables) }
     ensures refused { IfErr result (λ refusal.
         IsRefusedAt fresh (image_at T.Start) refusal.0 refusal.1) }
 {

@@ -191,7 +191,7 @@ fn trouble_in_reviews<S: Alter>(
     }
     let advice = "SELECT account, reference, expert, verdict, text FROM advice";
     let fit = feed(alloc, conn, audit, advice, |a: ExpertAdvice| {
-        Row::Advice(a.account, a.reference, a.expert, a.advice)
+        Row::Advice(a.seat.account, a.seat.reference, a.seat.expert, a.advice)
     })?;
     if let Some(trouble) = fit.trouble("advice") {
         return Ok(Some(trouble));

@@ -4,7 +4,7 @@ use Rattle.sqlite.specs.Effect.{Database}
 use Rattle.sqlite.specs.Files.{AreFoundIn, FailsToOpenFiles, IsCleanLeft, file_state, image_of}
 use Rattle.sqlite.specs.Opening.{is_open_error}
 use Rattle.sqlite.specs.Start.{FindsIn}
-use Rattle.sqlite.specs.State.{State, IsLive, Opens}
+use Rattle.sqlite.specs.State.{HasCleanDisk, State, IsLive, Opens}
 use Rattle.sqlite.specs.declared.error.Error.{Error}
 use Rattle.sqlite.specs.declared.error.Error.TheVariants.{SqliteFailure}
 use Rattle.sqlite.specs.declared.error.ErrorCode.TheVariants.{CannotOpen, DatabaseBusy, OutOfMemory}
@@ -26,24 +26,20 @@ found_first image s store finds = record {
   sound = (store.1 store.0.is_open).0;
 }
 
-pub returns-in-Ok-adopt-clause-opened : goal.returns-in-Ok-adopt-clause-opened
-returns-in-Ok-adopt-clause-opened g c h =
-    let opened = c.in-Ok-adopt.ensures.opened h in
-    let clean = opened.0.clean in
-    let store = c.in-Ok.ensures.opened clean in (
-      (file_state c.in-Ok.conn).now,
-      found_first (image_at g.T.Start) (file_state c.in-Ok.conn) store (c.in-Ok.ensures.found clean),
-      opened.1,
-    )
-
-pub returns-in-Ok-adopt-clause-live : goal.returns-in-Ok-adopt-clause-live
-returns-in-Ok-adopt-clause-live g c honest =
-    let live = c.in-Ok-adopt.ensures.live honest in
-    let store = c.in-Ok.ensures.opened live.0 in (
-      (file_state c.in-Ok.conn).now,
-      found_first (image_at g.T.Start) (file_state c.in-Ok.conn) store (c.in-Ok.ensures.found live.0),
-      live.1 store.0.is_open,
-    )
+pub returns-in-Ok-adopt-clause-office : goal.returns-in-Ok-adopt-clause-office
+returns-in-Ok-adopt-clause-office g c =
+    let s = file_state c.in-Ok.conn in
+    let first : HasCleanDisk s → IsFoundIn (image_at g.T.Start) s.now =
+    λ clean. found_first (image_at g.T.Start) s (c.in-Ok.ensures.opened clean)
+    (c.in-Ok.ensures.found clean) in
+    record {
+      opened = λ h.
+          let opened = c.in-Ok-adopt.ensures.opened h in
+          (s.now, first opened.0.clean, opened.1);
+      live = λ honest.
+          let live = c.in-Ok-adopt.ensures.live honest in
+          (s.now, first live.0, live.1 (c.in-Ok.ensures.opened live.0).0.is_open);
+    }
 
 -- ---- Where there is no office
 
