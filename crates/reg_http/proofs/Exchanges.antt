@@ -38,25 +38,31 @@ dropped x xs h = rw h refl
 
 module _ (x : Exchange) (xs : List Exchange) (first now last : World)
     (rest : OfCalls now last xs) where
+  -- by what was asked
+  by_asked : (asked : Result Request Malformed) → x.asked ≡ asked
+      → x.told ∷ told_of xs
+      ≡ next_told asked (answers_to first (cons_option (call_in x.moment asked) (calls_of xs)))
+      (told_with xs)
+      → last ≡ world_after_calls first (cons_option (call_in x.moment asked) (calls_of xs))
+      → OfCalls first last (x ∷ xs)
+  by_asked asked e told world =
+      let Told = λ (a : Result Request Malformed). x.told ∷ told_of xs
+      ≡ next_told a (answers_to first (cons_option (call_in x.moment a) (calls_of xs)))
+      (told_with xs) in
+      let Then = λ (a : Result Request Malformed). last
+      ≡ world_after_calls first (cons_option (call_in x.moment a) (calls_of xs)) in
+      record { told = subst Told (sym e) told; world = subst Then (sym e) world }
+
   -- bytes that are no request
   no_request : (why : Malformed) → x.asked ≡ Err why → x.told ≡ response.Malformed why
       → now ≡ first → OfCalls first last (x ∷ xs)
   no_request why e is same =
       let rest_first : OfCalls first last xs =
       subst (λ (w : World). OfCalls w last xs) same rest in
-      record {
-        told =
-            let P = λ (a : Result Request Malformed). x.told ∷ told_of xs
-            ≡ next_told a (answers_to first (cons_option (call_in x.moment a) (calls_of xs)))
-            (told_with xs) in
-            subst P (sym e)
-            (ap (λ t. t ∷ told_of xs) is
-            ∙ ap (λ ts. response.Malformed why ∷ ts) rest_first.told);
-        world =
-            let P = λ (a : Result Request Malformed). last
-            ≡ world_after_calls first (cons_option (call_in x.moment a) (calls_of xs)) in
-            subst P (sym e) rest_first.world;
-      }
+      by_asked (Err why) e
+      (ap (λ t. t ∷ told_of xs) is
+      ∙ ap (λ ts. response.Malformed why ∷ ts) rest_first.told)
+      rest_first.world
 
   -- a request
   a_request : (request : Request) → x.asked ≡ Ok request
@@ -66,19 +72,10 @@ module _ (x : Exchange) (xs : List Exchange) (first now last : World)
       let call = call_at x.moment request in
       let rest_then : OfCalls (world_then first call) last xs =
       subst (λ (w : World). OfCalls w last xs) moved rest in
-      record {
-        told =
-            let P = λ (a : Result Request Malformed). x.told ∷ told_of xs
-            ≡ next_told a (answers_to first (cons_option (call_in x.moment a) (calls_of xs)))
-            (told_with xs) in
-            subst P (sym e)
-            (ap (λ t. t ∷ told_of xs) is
-            ∙ ap (λ ts. response.Answer (answer_to first call) ∷ ts) rest_then.told);
-        world =
-            let P = λ (a : Result Request Malformed). last
-            ≡ world_after_calls first (cons_option (call_in x.moment a) (calls_of xs)) in
-            subst P (sym e) rest_then.world;
-      }
+      by_asked (Ok request) e
+      (ap (λ t. t ∷ told_of xs) is
+      ∙ ap (λ ts. response.Answer (answer_to first call) ∷ ts) rest_then.told)
+      rest_then.world
 
 module _ (x : Exchange) (xs : List Exchange) (first now last : World)
     (rest : OfCalls now last (faultless xs)) where

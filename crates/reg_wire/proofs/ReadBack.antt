@@ -1,5 +1,5 @@
 -- An ask is read back from its JSON.
-use Rattle.std.proofs.Common.{◌≡◌, ◌∙◌, ℕ, ◌^◌, List, Bool, true, false, Option, Some, None, Ok, refl, ap, nat_lt, arith, option_and_then}
+use Rattle.std.proofs.Common.{◌≡◌, ◌∙◌, ℕ, ◌^◌, List, [], ◌∷◌, get_or, map, Bool, true, false, Option, Some, None, Ok, refl, ap, nat_lt, arith, option_and_then}
 use Rattle.std.specs.Prelude.{⊤}
 use Rattle.std.specs.Cmp.{first_so, second_so}
 use Rattle.std.proofs.lemmas.Bool.Decides.{nat_tests}
@@ -42,7 +42,7 @@ use Rattle.reg_parse.specs.declared.bodies.value.AllocatedValue.{AllocatedValue}
 use Rattle.reg_parse.specs.declared.bodies.value.WantedValue.{WantedValue}
 use Rattle.reg_parse.specs.Bodies.Members.{Reading, ◌>>=◌, needed, formed, number_form, optional, optional_truth, only, text_form, truth_by}
 use Rattle.reg_parse.specs.Bodies.Rfc.{rfc_form}
-use Rattle.reg_parse.specs.Bodies.EarlyEvidence.{early_evidence_of}
+use Rattle.reg_parse.specs.Bodies.EarlyEvidence.{early_evidence_items, early_evidence_of, early_evidence_with}
 use Rattle.reg_parse.specs.Bodies.Evidence.{evidence_of}
 use Rattle.reg_parse.specs.Bodies.Value.{allocated_value_of, want_by, want_of, wanted_value_of}
 use Rattle.reg_parse.specs.Bodies.Ask.{ask_of, ask_of_kind, ask_kind_form, block_items, block_of, size_form, size_named, code_items, code_of, code_with, early_items, early_of, early_with, permanence_items, permanence_of, permanence_with, renewal_items, renewal_of, renewal_with}
@@ -174,12 +174,13 @@ evidence_back ms e l h =
 -- these members list this evidence for an early allocation
 record ListEarlyEvidence (ms : Listed) (e : EarlyEvidence) : Type 0 where
   ascending : ascends ms ≡ true
-  draft : find_listed (item_name item.Draft) ms ≡ text_if e.draft
-  stable : find_listed (item_name item.Stable) ms ≡ true_if e.stable
-  interest : find_listed (item_name item.Interest) ms ≡ true_if e.interest
-  chair : find_listed (item_name item.Chair) ms ≡ text_if e.chair
-  director : find_listed (item_name item.Director) ms ≡ text_if e.director
-  will_be_rfc : find_listed (item_name item.WillBeRfc) ms ≡ true_if e.will_be_rfc
+  found : map (λ part. find_listed (item_name part) ms) early_evidence_items
+      ≡ text_if e.draft ∷ true_if e.stable ∷ true_if e.interest ∷ text_if e.chair
+      ∷ text_if e.director ∷ true_if e.will_be_rfc ∷ []
+
+found_at : {found listed : List (Option Data)} (i : ℕ) → found ≡ listed
+    → get_or found i None ≡ get_or listed i None
+found_at i h = ap (λ os. get_or os i None) h
 
 early_joined : (e : EarlyEvidence) (d c a : Reading (Option (List ℕ))) (s i p : Reading Bool)
     → d ≡ Ok e.draft → s ≡ Ok e.stable → i ≡ Ok e.interest → c ≡ Ok e.chair → a ≡ Ok e.director
@@ -189,15 +190,7 @@ early_joined : (e : EarlyEvidence) (d c a : Reading (Option (List ℕ))) (s i p 
     >>= (λ interest. c
     >>= (λ chair. a
     >>= (λ director. p
-    >>= (λ promise. Ok
-    (record {
-      draft = draft;
-      stable = stable;
-      interest = interest;
-      chair = chair;
-      director = director;
-      will_be_rfc = promise;
-    })))))))) ≡ Ok e
+    >>= (λ promise. Ok (early_evidence_with draft stable interest chair director promise)))))))) ≡ Ok e
 early_joined e d c a s i p hd hs hi hc ha hp = rw (hd, hs, hi, hc, ha, hp) refl
 
 early_evidence_back : (ms : Listed) (e : EarlyEvidence) → ListEarlyEvidence ms e
@@ -210,15 +203,15 @@ early_evidence_back ms e l h =
     (optional item.Director (text_form is_text) (object_with ms))
     (optional_truth item.Stable (object_with ms)) (optional_truth item.Interest (object_with ms))
     (optional_truth item.WillBeRfc (object_with ms))
-    (optional_back item.Draft (text_form is_text) e.draft (text_if e.draft) ms l.ascending l.draft
-    (note_back item.Draft e.draft shown.draft))
-    (truth_back item.Stable e.stable ms l.ascending l.stable)
-    (truth_back item.Interest e.interest ms l.ascending l.interest)
-    (optional_back item.Chair (text_form is_text) e.chair (text_if e.chair) ms l.ascending l.chair
-    (note_back item.Chair e.chair shown.chair))
+    (optional_back item.Draft (text_form is_text) e.draft (text_if e.draft) ms l.ascending
+    (found_at 0 l.found) (note_back item.Draft e.draft shown.draft))
+    (truth_back item.Stable e.stable ms l.ascending (found_at 1 l.found))
+    (truth_back item.Interest e.interest ms l.ascending (found_at 2 l.found))
+    (optional_back item.Chair (text_form is_text) e.chair (text_if e.chair) ms l.ascending
+    (found_at 3 l.found) (note_back item.Chair e.chair shown.chair))
     (optional_back item.Director (text_form is_text) e.director (text_if e.director) ms l.ascending
-    l.director (note_back item.Director e.director shown.director))
-    (truth_back item.WillBeRfc e.will_be_rfc ms l.ascending l.will_be_rfc)
+    (found_at 4 l.found) (note_back item.Director e.director shown.director))
+    (truth_back item.WillBeRfc e.will_be_rfc ms l.ascending (found_at 5 l.found))
 
 -- ---- values
 
@@ -327,15 +320,7 @@ early_back ask h =
     (record { ascending = refl; registry = refl; value = refl; least = refl; label = refl })
     parts.wanted)
     (early_evidence_back ms ask.evidence
-    (record {
-      ascending = refl;
-      draft = refl;
-      stable = refl;
-      interest = refl;
-      chair = refl;
-      director = refl;
-      will_be_rfc = refl;
-    })
+    (record { ascending = refl; found = refl })
     parts.evidence)
     (only-object_with early_items ms refl refl)
 
@@ -363,15 +348,7 @@ renewal_back ask h =
     (allocated_back ms allocated (record { ascending = refl; registry = refl; value = refl })
     parts.registry parts.value)
     (early_evidence_back ms ask.evidence
-    (record {
-      ascending = refl;
-      draft = refl;
-      stable = refl;
-      interest = refl;
-      chair = refl;
-      director = refl;
-      will_be_rfc = refl;
-    })
+    (record { ascending = refl; found = refl })
     parts.evidence)
     (optional_back item.Iesg (text_form is_text) ask.iesg (text_if ask.iesg) ms refl refl
     (note_back item.Iesg ask.iesg parts.iesg))

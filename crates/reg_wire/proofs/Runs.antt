@@ -11,8 +11,8 @@ use Rattle.reg_wire.specs.declared.wire_fault.WireFault.{WireFault}
 use Rattle.reg_wire.specs.declared.wire_fault.WireFault.TheVariants as fault
 use Rattle.reg_wire.specs.Exchange.{Call}
 use Rattle.reg_wire.specs.Script.Line.{line_of, most_bytes}
-use Rattle.reg_wire.specs.Script.Lines.{refusal, most_reads, Answered, Ran, IsOneLine, ended, Cut, rest_line, AreLines, BeginWith, AnswersAll, StopsAt}
-use Rattle.reg_wire.specs.Script.LineBuffer.{IsBuffered, CutShort, Progress, WroteSome, Whole, Halted, HaltedLast}
+use Rattle.reg_wire.specs.Script.Lines.{refusal, most_reads, Answered, Ran, IsOneLine, ended, Cut, rest_line, AreLines, BeginWith, LinesBefore, Wrote, AnswersAll, StopsAt}
+use Rattle.reg_wire.specs.Script.LineBuffer.{IsBuffered, CutShort, Progress, WroteSome, RanOver, Whole, Halted, HaltedLast}
 
 -- ---- A line
 
@@ -182,7 +182,7 @@ module _ {S : Type 0} (Serves : S → Call → List ℕ → S → Type 0) (first
       record {
         lines = p.lines ++ p.rest ∷ [];
         answers = p.answers ++ got.0 ∷ [];
-        begins = ([], cut.whole, cut.each);
+        over = ([], cut.whole, cut.each);
         ran = ran_more Serves p.lines p.rest first p.answers got.0 w v p.ran got.1;
         wrote = wrote_short why p.answers got.0 sent had has now p.wrote p.count got.2;
       }
@@ -194,7 +194,7 @@ module _ {S : Type 0} (Serves : S → Call → List ℕ → S → Type 0) (first
   halted_memory bytes buffered more sent w has p = record {
     lines = p.lines;
     answers = p.answers;
-    begins = begins bytes p.lines p.rest more p.cut;
+    over = begins bytes p.lines p.rest more p.cut;
     ran = p.ran;
     wrote = inl p.wrote;
   }
@@ -205,7 +205,7 @@ module _ {S : Type 0} (Serves : S → Call → List ℕ → S → Type 0) (first
   halted_more why bytes more w has h = record {
     lines = h.lines;
     answers = h.answers;
-    begins = begins_more bytes more h.lines h.begins;
+    over = begins_more bytes more h.lines h.over;
     ran = h.ran;
     wrote = h.wrote;
   }
@@ -230,7 +230,7 @@ module _ {S : Type 0} (Serves : S → Call → List ℕ → S → Type 0) (first
       record {
         lines = p.lines;
         answers = p.answers;
-        cut = (p.lines, p.rest, p.cut, rw empty (sym (append-nil p.lines)));
+        over = (p.lines, p.rest, p.cut, rw empty (sym (append-nil p.lines)));
         ran = p.ran;
         wrote = p.wrote;
       }
@@ -255,6 +255,20 @@ module _ {S : Type 0} (Serves : S → Call → List ℕ → S → Type 0) (first
         (some_buffered (most_bytes + 1) p.rest buffered p.is_buffered some))),
   )
 
+  -- the last line was answered, and this went out
+  last_answered : (Went : List (List ℕ) → Type 0) (bytes buffered : List ℕ) (sent : ℕ) (w v : S)
+      (has : Option (List ℕ))
+      → length buffered ≢ 0 → (p : Progress Serves first had bytes buffered sent w has)
+      → (answer : List ℕ) → Answered Serves w p.rest answer v → Went (p.answers ++ answer ∷ [])
+      → RanOver Serves first (AreLines bytes) Went v
+  last_answered Went bytes buffered sent w v has some p answer answered went = record {
+    lines = p.lines ++ p.rest ∷ [];
+    answers = p.answers ++ answer ∷ [];
+    over = last_line bytes buffered sent w has some p;
+    ran = ran_more Serves p.lines p.rest first p.answers answer w v p.ran answered;
+    wrote = went;
+  }
+
   pub whole_line : (bytes buffered : List ℕ) (sent n : ℕ) (w v : S) (has now : Option (List ℕ))
       → length buffered ≢ 0
       → Progress Serves first had bytes buffered sent w has
@@ -264,13 +278,9 @@ module _ {S : Type 0} (Serves : S → Call → List ℕ → S → Type 0) (first
       → Whole Serves first had bytes v now
   whole_line bytes buffered sent n w v has now some p h =
       let got = h p.rest p.is_buffered in
-      record {
-        lines = p.lines ++ p.rest ∷ [];
-        answers = p.answers ++ got.0 ∷ [];
-        cut = last_line bytes buffered sent w has some p;
-        ran = ran_more Serves p.lines p.rest first p.answers got.0 w v p.ran got.1;
-        wrote = rw (ended_more p.answers got.0) (Appends-trans had has now _ _ p.wrote got.2);
-      }
+      last_answered (λ answers. Appends had now (flat_map ended answers)) bytes buffered sent w v has
+      some p got.0 got.1
+      (rw (ended_more p.answers got.0) (Appends-trans had has now _ _ p.wrote got.2))
 
   pub halted_last : (why : WireFault) (bytes buffered : List ℕ) (sent : ℕ) (w v : S)
       (has now : Option (List ℕ))
@@ -281,13 +291,8 @@ module _ {S : Type 0} (Serves : S → Call → List ℕ → S → Type 0) (first
       → HaltedLast Serves why first had bytes v now
   halted_last why bytes buffered sent w v has now some p h =
       let got = h p.rest p.is_buffered in
-      record {
-        lines = p.lines ++ p.rest ∷ [];
-        answers = p.answers ++ got.0 ∷ [];
-        cut = last_line bytes buffered sent w has some p;
-        ran = ran_more Serves p.lines p.rest first p.answers got.0 w v p.ran got.1;
-        wrote = wrote_short why p.answers got.0 sent had has now p.wrote p.count got.2;
-      }
+      last_answered (λ answers. WroteSome why answers had now) bytes buffered sent w v has some p
+      got.0 got.1 (wrote_short why p.answers got.0 sent had has now p.wrote p.count got.2)
 
   -- ---- Whole runs
 
@@ -300,9 +305,23 @@ module _ {S : Type 0} (Serves : S → Call → List ℕ → S → Type 0) (first
     answers = h.answers;
     is_read = got;
     at_end = end;
-    cut = h.cut;
+    cut = h.over;
     ran = h.ran;
     wrote = h.wrote;
+  }
+
+  stopped : (why : WireFault) (bytes : List ℕ) (lines answers : List (List ℕ)) (w : S)
+      (unread left has : Option (List ℕ)) → Consumes unread left bytes
+      → LinesBefore why left bytes lines → Ran Serves first lines answers w
+      → Wrote why answers had has → StopsAt Serves why first w unread left had has
+  stopped why bytes lines answers w unread left has got before ran wrote = record {
+    bytes = bytes;
+    lines = lines;
+    answers = answers;
+    is_read = got;
+    before = before;
+    ran = ran;
+    wrote = wrote;
   }
 
   -- after so many reads that each gave a byte
@@ -311,15 +330,9 @@ module _ {S : Type 0} (Serves : S → Call → List ℕ → S → Type 0) (first
       → Consumes unread left bytes → Progress Serves first had bytes buffered sent w has
       → most_reads ≤ length bytes
       → StopsAt Serves fault.TooManyReads first w unread left had has
-  stops_after_reads bytes buffered sent w unread left has got p many = record {
-    bytes = bytes;
-    lines = p.lines;
-    answers = p.answers;
-    is_read = got;
-    before = (p.rest, p.cut, many);
-    ran = p.ran;
-    wrote = p.wrote;
-  }
+  stops_after_reads bytes buffered sent w unread left has got p many =
+      stopped fault.TooManyReads bytes p.lines p.answers w unread left has got (p.rest, p.cut, many)
+      p.ran p.wrote
 
   pub stops_at : (why : WireFault) (bytes : List ℕ) (w : S) (unread left has : Option (List ℕ))
       → Consumes unread left bytes → Halted Serves why first had bytes w has
@@ -327,27 +340,11 @@ module _ {S : Type 0} (Serves : S → Call → List ℕ → S → Type 0) (first
   stops_at fault.Read bytes w unread left has got h = absurd h.wrote
   stops_at fault.TooManyReads bytes w unread left has got h = absurd h.wrote
   stops_at fault.Memory bytes w unread left has got h =
-      record {
-        bytes = bytes;
-        lines = h.lines;
-        answers = h.answers;
-        is_read = got;
-        before =
-            inl h.begins;
-        ran = h.ran;
-        wrote = h.wrote;
-      }
+      stopped fault.Memory bytes h.lines h.answers w unread left has got (inl h.over) h.ran
+      h.wrote
   stops_at (fault.Write n) bytes w unread left has got h =
-      record {
-        bytes = bytes;
-        lines = h.lines;
-        answers = h.answers;
-        is_read = got;
-        before =
-            inl h.begins;
-        ran = h.ran;
-        wrote = h.wrote;
-      }
+      stopped (fault.Write n) bytes h.lines h.answers w unread left has got (inl h.over) h.ran
+      h.wrote
 
   pub stops_last : (why : WireFault) (bytes : List ℕ) (w : S) (unread left has : Option (List ℕ))
       → Consumes unread left bytes → IsAtEnd left → HaltedLast Serves why first had bytes w has
@@ -355,27 +352,11 @@ module _ {S : Type 0} (Serves : S → Call → List ℕ → S → Type 0) (first
   stops_last fault.Read bytes w unread left has got end h = absurd h.wrote
   stops_last fault.TooManyReads bytes w unread left has got end h = absurd h.wrote
   stops_last fault.Memory bytes w unread left has got end h =
-      record {
-        bytes = bytes;
-        lines = h.lines;
-        answers = h.answers;
-        is_read = got;
-        before =
-            inr (end, h.cut);
-        ran = h.ran;
-        wrote = h.wrote;
-      }
+      stopped fault.Memory bytes h.lines h.answers w unread left has got (inr (end, h.over)) h.ran
+      h.wrote
   stops_last (fault.Write n) bytes w unread left has got end h =
-      record {
-        bytes = bytes;
-        lines = h.lines;
-        answers = h.answers;
-        is_read = got;
-        before =
-            inr (end, h.cut);
-        ran = h.ran;
-        wrote = h.wrote;
-      }
+      stopped (fault.Write n) bytes h.lines h.answers w unread left has got (inr (end, h.over)) h.ran
+      h.wrote
 
 -- before any byte
 pub stops_before : {S : Type 0} (Serves : S → Call → List ℕ → S → Type 0) (first : S)

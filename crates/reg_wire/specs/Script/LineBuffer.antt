@@ -49,31 +49,29 @@ WroteSome TooManyReads answers had has = ⊥
 WroteSome Memory answers had has = Wrote Memory answers had has
 WroteSome (Write n) answers had has = Wrote (Write n) answers had has
 
--- all lines of the bytes were answered
-pub record Whole {S : Type 0} (Serves : S → Call → List ℕ → S → Type 0) (first : S)
-    (had : Option (List ℕ)) (bytes : List ℕ) (now : S) (has : Option (List ℕ)) : Type 0 where
+-- the first lines of some bytes were answered in turn: `Lines` says which, and `Went` what went out
+pub record RanOver {S : Type 0} (Serves : S → Call → List ℕ → S → Type 0) (first : S)
+    (Lines Went : List (List ℕ) → Type 0) (now : S) : Type 0 where
   pub lines : List (List ℕ)
   pub answers : List (List ℕ)
-  pub cut : AreLines bytes lines
+  pub over : Lines lines
   pub ran : Ran Serves first lines answers now
-  pub wrote : Appends had has (flat_map ended answers)
+  pub wrote : Went answers
+
+-- all lines of the bytes were answered
+abbrev pub Whole : {S : Type 0} → (S → Call → List ℕ → S → Type 0) → S → Option (List ℕ) → List ℕ
+    → S → Option (List ℕ) → Type 0
+Whole Serves first had bytes now has =
+    RanOver Serves first (AreLines bytes) (λ answers. Appends had has (flat_map ended answers)) now
 
 -- a fault after the first lines of the bytes
-pub record Halted {S : Type 0} (Serves : S → Call → List ℕ → S → Type 0) (fault : WireFault)
-    (first : S) (had : Option (List ℕ)) (bytes : List ℕ) (now : S) (has : Option (List ℕ)) :
-    Type 0 where
-  pub lines : List (List ℕ)
-  pub answers : List (List ℕ)
-  pub begins : BeginWith bytes lines
-  pub ran : Ran Serves first lines answers now
-  pub wrote : WroteSome fault answers had has
+abbrev pub Halted : {S : Type 0} → (S → Call → List ℕ → S → Type 0) → WireFault → S
+    → Option (List ℕ) → List ℕ → S → Option (List ℕ) → Type 0
+Halted Serves fault first had bytes now has =
+    RanOver Serves first (BeginWith bytes) (λ answers. WroteSome fault answers had has) now
 
 -- a fault in the answer to the last line of the bytes, which lacks its line feed
-pub record HaltedLast {S : Type 0} (Serves : S → Call → List ℕ → S → Type 0) (fault : WireFault)
-    (first : S) (had : Option (List ℕ)) (bytes : List ℕ) (now : S) (has : Option (List ℕ)) :
-    Type 0 where
-  pub lines : List (List ℕ)
-  pub answers : List (List ℕ)
-  pub cut : AreLines bytes lines
-  pub ran : Ran Serves first lines answers now
-  pub wrote : WroteSome fault answers had has
+abbrev pub HaltedLast : {S : Type 0} → (S → Call → List ℕ → S → Type 0) → WireFault → S
+    → Option (List ℕ) → List ℕ → S → Option (List ℕ) → Type 0
+HaltedLast Serves fault first had bytes now has =
+    RanOver Serves first (AreLines bytes) (λ answers. WroteSome fault answers had has) now

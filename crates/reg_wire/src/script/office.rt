@@ -2,8 +2,7 @@
 ghost use Rattle.std.specs.Prelude.{◌≡◌, ◌++◌, ◌∷◌, map, IfOk};
 ghost use Rattle.std.specs.Cow.{cow_slice_items};
 ghost use Rattle.std.specs.Fmt.{decimal};
-ghost use Rattle.reg_keeper.specs.Keeper.{Makes};
-ghost use Rattle.reg_wire.specs.Exchange.{answer_to, world_then, IsAnswered};
+ghost use Rattle.reg_wire.specs.Exchange.{Gives};
 ghost use Rattle.reg_wire.specs.Script.Answers.{ServesOver, answer_line, tab_of as tab};
 ghost use Rattle.reg_wire.specs.Script.Line.{call_of, line_feed_of as line_feed};
 ghost use Rattle.reg_wire.specs.Script.Lines.{ended};
@@ -47,11 +46,7 @@ fn answer_to_line<K: Keeper>(
     routes: &Routes,
     line: &Line<'_>,
 ) -> Result<Answer, Fault>
-    ensures answer { K.Holds office.new → IfOk result
-        (λ a. a ≡ answer_to (K.world office.old) (call_of line.now)) }
-    ensures world { Makes K.world K.Holds K.Sound K.FAILS office.old office.new result
-        (λ w. world_then w (call_of line.now)) }
-    ensures is_answered { IfOk result IsAnswered }
+    ensures { Gives K.world K.Holds K.Sound K.FAILS office.old (call_of line.now) result office.new }
 {
     let body = with_line_feeds(alloc, line.body)?;
     let call = Call {
