@@ -3,7 +3,6 @@ ghost use Rattle.std.specs.Prelude.{◌≡◌, map, IfOk};
 ghost use Rattle.reg_core.specs.Answer.{public_answer};
 ghost use Rattle.reg_core.specs.Page.{page_entries};
 ghost use Rattle.reg_core.specs.View.{published};
-ghost use Rattle.reg_core.specs.declared.command.PublicCommand.TheVariants.{Registries, Registry, RegistryListing, PoolList, BlockListing};
 ghost use Rattle.reg_keeper.specs.Keeper.{Selects};
 ghost use Rattle.reg_commands.specs.Pages.{page_on, shown_on};
 ghost use Rattle.reg_commands.specs.Performs.{Finds, Performs};
@@ -29,63 +28,15 @@ pub fn perform<K: Keeper>(
     ensures { Performs K.world K.Holds K.Sound K.FAILS keeper.old keeper.new result
         (λ w. public_answer (published w) today command.now) }
 {
-    match command {
-        PublicCommand::Registries => list_registries(keeper),
-        PublicCommand::Registry(name) => show_registry(alloc, keeper, today, name),
-        PublicCommand::RegistryListing(name) => show_listing(alloc, keeper, today, name),
-        PublicCommand::PoolList => list_pool(keeper),
-        PublicCommand::BlockListing => list_blocks(keeper),
-    }
-}
-
-// The names of all registries.
-fn list_registries<K: Keeper>(keeper: &mut K) -> Result<Content, Stop>
-    ensures { Performs K.world K.Holds K.Sound K.FAILS keeper.old keeper.new result
-        (λ w. public_answer (published w) 0 Registries) }
-{
-    Ok(Content::Names(keeper.names()?))
-}
-
-// A registry.
-fn show_registry<K: Keeper>(
-    alloc: Global,
-    keeper: &mut K,
-    today: Day,
-    name: &Name,
-) -> Result<Content, Stop>
-    ensures { Performs K.world K.Holds K.Sound K.FAILS keeper.old keeper.new result
-        (λ w. public_answer (published w) today (Registry name.now)) }
-{
-    Ok(Content::Page(page(alloc, keeper, today, name)?))
-}
-
-// A registry as it is listed.
-fn show_listing<K: Keeper>(
-    alloc: Global,
-    keeper: &mut K,
-    today: Day,
-    name: &Name,
-) -> Result<Content, Stop>
-    ensures { Performs K.world K.Holds K.Sound K.FAILS keeper.old keeper.new result
-        (λ w. public_answer (published w) today (RegistryListing name.now)) }
-{
-    Ok(Content::Listing(page(alloc, keeper, today, name)?))
-}
-
-// The prefixes of the pool.
-fn list_pool<K: Keeper>(keeper: &mut K) -> Result<Content, Stop>
-    ensures { Performs K.world K.Holds K.Sound K.FAILS keeper.old keeper.new result
-        (λ w. public_answer (published w) 0 PoolList) }
-{
-    Ok(Content::Pool(keeper.pool()?))
-}
-
-// The blocks that were given, as the public sees them.
-fn list_blocks<K: Keeper>(keeper: &mut K) -> Result<Content, Stop>
-    ensures { Performs K.world K.Holds K.Sound K.FAILS keeper.old keeper.new result
-        (λ w. public_answer (published w) 0 BlockListing) }
-{
-    Ok(Content::Blocks(keeper.blocks()?))
+    Ok(match command {
+        PublicCommand::Registries => Content::Names(keeper.names()?),
+        PublicCommand::Registry(name) => Content::Page(page(alloc, keeper, today, name)?),
+        PublicCommand::RegistryListing(name) => {
+            Content::Listing(page(alloc, keeper, today, name)?)
+        }
+        PublicCommand::PoolList => Content::Pool(keeper.pool()?),
+        PublicCommand::BlockListing => Content::Blocks(keeper.blocks()?),
+    })
 }
 
 // The registry of this name as it is on a day.
