@@ -14,8 +14,7 @@ use Rattle.reg_core.specs.declared.decide.Deny.{Deny}
 use Rattle.reg_core.specs.declared.decide.Deny.TheVariants as deny
 use Rattle.reg_core.specs.declared.refusal.Refusal.{Refusal}
 use Rattle.reg_core.specs.declared.reply.Reply.TheVariants.{Accepted}
-use Rattle.reg_keeper.specs.Keeper.{GoesOn, MayFault, Makes, Selects}
-use Rattle.reg_keeper.specs.declared.keeper.Fault.{Fault as KeeperFault}
+use Rattle.reg_keeper.specs.Keeper.{GoesOn, Makes, Selects}
 use Rattle.reg_keeper.proofs.Premises.{goes_on_anyway, goes_on_then}
 use Rattle.reg_commands.specs.Decisions.{CanMake}
 use Rattle.reg_commands.specs.Performs.{Finds, Performs}
@@ -189,23 +188,6 @@ pub performs_decided : {S T : Type 0} {world : S → World} {Holds Sound : S →
     → Performs world Holds Sound fails old new (Ok content) answer
 performs_decided {rule = rule} decision decides follows =
     performs_found decision decides (λ h. decided rule decision follows)
-
--- a fault leaves a command undone
-pub performs_faulted : {S : Type 0} {world : S → World} {Holds Sound : S → Type 0} {fails : Bool}
-    {old new : S} {result : Result Content Stop} {answer : World → Answer} (fault : KeeperFault)
-    → IsErrAnd result (λ stop. stop ≡ Fault fault) → MayFault fails fault
-    → (Holds new → world new ≡ world old) → GoesOn Holds Sound old new (MayFault false fault)
-    → Performs world Holds Sound fails old new result answer
-performs_faulted {result = result} fault stops may same premise =
-    let p = err_from_is_err_and result stops in
-    rw (p.1, p.2) (record {
-      content = λ h. tt;
-      made = λ h. tt;
-      refused = λ h. tt;
-      kept = same;
-      premise = premise;
-      fault = may;
-    })
 
 -- ---- A decision that is found
 
