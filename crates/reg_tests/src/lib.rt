@@ -5,16 +5,4 @@
 #![tactic(auto)]
 
 #[cfg(test)]
-mod blocks;
-#[cfg(test)]
-mod digits;
-#[cfg(test)]
-mod early;
-#[cfg(test)]
-mod expecting;
-#[cfg(test)]
-mod free_values;
-#[cfg(test)]
-mod places;
-#[cfg(test)]
-mod range_files;
+mod tests;

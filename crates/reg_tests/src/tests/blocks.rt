@@ -1,8 +1,8 @@
 //! Blocks, prefixes and the pool, and the block that is due by trial of each.
 ghost use Rattle.std.specs.Prelude.{◌≤◌};
 
-use crate::digits::{block, block_if, is_free};
-use crate::expecting::{expect, expect_at, expect_text, expect_true};
+use crate::tests::digits::{block, block_if, is_free};
+use crate::tests::expecting::{expect, expect_at, expect_text, expect_true};
 use reg_blocks::block::Block;
 use reg_blocks::due::{ascends, least_free};
 use reg_blocks::pool::{Add, Pool, is_pool_prefix};

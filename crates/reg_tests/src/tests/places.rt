@@ -1,6 +1,6 @@
 //! The block due by free places: worked by hand, and against the sweep over all given blocks.
-use crate::digits::{block, block_if, is_free};
-use crate::expecting::{expect, expect_true};
+use crate::tests::digits::{block, block_if, is_free};
+use crate::tests::expecting::{expect, expect_true};
 use reg_blocks::block::Block;
 use reg_blocks::due::{ascends, least_free};
 use reg_blocks::pool::{Add, Pool, is_pool_prefix};

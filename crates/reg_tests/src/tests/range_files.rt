@@ -1,5 +1,5 @@
 //! Range files with bytes that a line of a script does not hold, worked by hand.
-use crate::expecting::expect_text;
+use crate::tests::expecting::expect_text;
 use reg_ranges::range_file::read_ranges;
 use reg_ranges::table::RangeTable;
 use std::alloc::Global;
