@@ -96,7 +96,7 @@ mark_of None None assigned = refl
 mark_of None (Some advice) assigned = let there = assigned refl in absurd (cc)
 mark_of (Some there) advice assigned = refl
 
--- advice is on assignments
+-- advice is on seats
 assigned_of : (w : World) → WellKept w → (seat : Seat) → (o : Option Advice)
     → get w.advice seat ≡ o → IsSome o → IsSome (get w.queue seat)
 assigned_of w kept seat None is there = absurd (cc)
@@ -225,23 +225,23 @@ module _ (audit : Audit) (w : World) (keeps : Keeps audit w) where
       fails r (contains_key w.agents (principal, agent)) (is ∙ keeps.links (principal, agent))
 
   module _ (account reference expert : List ℕ) (found : Option Bool)
-      (is : found ≡ tree.get seat_cmp audit.assignments (seat_of account reference expert)) where
+      (is : found ≡ tree.get seat_cmp audit.seats (seat_of account reference expert)) where
     seat : Seat
     seat = seat_of account reference expert
 
     pub new_assignment : (r : Bool) → is_some found ≡ not r
-        → IsTrue r ↔ IsNew w (row.Assignment account reference expert)
+        → IsTrue r ↔ IsNew w (row.Seat account reference expert)
     unfolding seat
     new_assignment r none =
         unmade (λ there. is_some (get w.advice seat)) r (get w.queue seat)
-        (sym (ap is_some (is ∙ keeps.assignments seat)) ∙ none)
+        (sym (ap is_some (is ∙ keeps.seats seat)) ∙ none)
 
     pub new_advice : WellKept w → (advice : Advice) (r : Bool) → r ≡ unwrap_or found false
         → IsTrue (not r) ↔ IsNew w (row.Advice account reference expert advice)
     unfolding seat
     new_advice kept advice r marked =
         missing r (get w.advice seat)
-        (marked ∙ ap (λ o. unwrap_or o false) (is ∙ keeps.assignments seat)
+        (marked ∙ ap (λ o. unwrap_or o false) (is ∙ keeps.seats seat)
         ∙ mark_of (get w.queue seat) (get w.advice seat)
         (assigned_of w kept seat (get w.advice seat) refl))
 
@@ -250,5 +250,5 @@ module _ (audit : Audit) (w : World) (keeps : Keeps audit w) where
     unfolding seat
     advice_fits advice r there =
         same_truth r _
-        (there ∙ ap is_some (is ∙ keeps.assignments seat)
+        (there ∙ ap is_some (is ∙ keeps.seats seat)
         ∙ is_some-mapped (λ there. is_some (get w.advice seat)) (get w.queue seat))

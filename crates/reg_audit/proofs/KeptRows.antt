@@ -268,23 +268,23 @@ module _ (audit : Audit) (w : World) (keeps : Keeps audit w) where
   -- nobody was assigned to it, and nobody has advised yet
   pub keeps_assignment : (new : BTreeMap Seat Bool) (account reference expert : List ℕ)
       → w.advice ≡ map.empty
-      → tree.Updates seat_cmp audit.assignments new (seat_of account reference expert)
+      → tree.Updates seat_cmp audit.seats new (seat_of account reference expert)
       (Some false)
-      → Keeps (record audit { assignments = new })
-      (with_row w (row.Assignment account reference expert))
+      → Keeps (record audit { seats = new })
+      (with_row w (row.Seat account reference expert))
   keeps_assignment new account reference expert turn put = assumption (assigned, keeps)
     where
       seat : Seat
       seat = seat_of account reference expert
 
       assigned : (q : Seat) → tree.get seat_cmp new q
-          ≡ advised_at (with_row w (row.Assignment account reference expert)) q
+          ≡ advised_at (with_row w (row.Seat account reference expert)) q
       assigned q =
           let unadvised : is_some (get w.advice q) ≡ false =
           ap (λ m. is_some (get m q)) turn ∙ ap is_some (get-empty seat_cmp q) in
           put.0 q
           ∙ (λ i. cond ((eq_by_cmp_equiv seat_keys.total).symm seat q i) (Some (sym unadvised i))
-          (keeps.assignments q i))
+          (keeps.seats q i))
           ∙ mapped (λ there. is_some (get w.advice q)) (eq_by_cmp seat_cmp q seat) tt
           (get w.queue q)
           ∙ sym (ap (option_map (λ there. is_some (get w.advice q)))
@@ -293,8 +293,8 @@ module _ (audit : Audit) (w : World) (keeps : Keeps audit w) where
   -- the request is assigned to the expert, who has advised now
   pub keeps_advice : (new : BTreeMap Seat Bool) (account reference expert : List ℕ)
       (advice : Advice) → IsTrue (contains_key w.queue (seat_of account reference expert))
-      → tree.Updates seat_cmp audit.assignments new (seat_of account reference expert) (Some true)
-      → Keeps (record audit { assignments = new })
+      → tree.Updates seat_cmp audit.seats new (seat_of account reference expert) (Some true)
+      → Keeps (record audit { seats = new })
       (with_row w (row.Advice account reference expert advice))
   keeps_advice new account reference expert advice assigned put = assumption (advised, keeps)
     where
@@ -306,7 +306,7 @@ module _ (audit : Audit) (w : World) (keeps : Keeps audit w) where
       advised q =
           put.0 q
           ∙ (λ i. cond ((eq_by_cmp_equiv seat_keys.total).symm seat q i) (Some true)
-          (keeps.assignments q i))
+          (keeps.seats q i))
           ∙ marked (eq_by_cmp seat_cmp q seat) advice (get w.advice q) (get w.queue q)
           (λ t. subst (λ (s : Seat). contains_key w.queue s ≡ true) (sym (tied seat_keys q seat t))
           assigned)
@@ -314,11 +314,11 @@ module _ (audit : Audit) (w : World) (keeps : Keeps audit w) where
           (get-at_insert seat_keys w.advice seat advice q))
 
   -- where no memory was there, what was kept is
-  pub keeps_still : (new : BTreeMap Seat Bool) → tree.IsUnchanged audit.assignments new
-      → Keeps (record audit { assignments = new }) w
+  pub keeps_still : (new : BTreeMap Seat Bool) → tree.IsUnchanged audit.seats new
+      → Keeps (record audit { seats = new }) w
   keeps_still new same =
       assumption (
-        λ (q : Seat). ap (lookup (is_at (seat_cmp q))) same ∙ keeps.assignments q,
+        λ (q : Seat). ap (lookup (is_at (seat_cmp q))) same ∙ keeps.seats q,
         keeps,
       )
 
@@ -343,9 +343,9 @@ none_in_set R s none q = ap (list_any (is_at (R q))) none
 -- maps and sets without rows keep a world without rows
 pub keeps_none : (audit : Audit) → set.IsEmpty audit.caps → tree.IsEmpty audit.registries
     → tree.IsEmpty audit.standings → set.IsEmpty audit.prefixes → tree.IsEmpty audit.holders
-    → tree.IsEmpty audit.requests → tree.IsEmpty audit.assignments → set.IsEmpty audit.links
+    → tree.IsEmpty audit.requests → tree.IsEmpty audit.seats → set.IsEmpty audit.links
     → MayBeOf empty_world audit.free → Keeps audit empty_world
-keeps_none audit caps registries standings prefixes holders requests assignments links free = record {
+keeps_none audit caps registries standings prefixes holders requests seats links free = record {
   caps = λ q. none_in_set text_cmp audit.caps caps q ∙ sym (ap is_some (get-empty text_cmp q));
   registries = λ q.
       none_in_map text_cmp audit.registries registries q ∙ sym (get-empty text_cmp q);
@@ -360,8 +360,8 @@ keeps_none audit caps registries standings prefixes holders requests assignments
   requests = λ q.
       none_in_map name_cmp audit.requests requests q
       ∙ sym (ap (option_map awaits_minute) (get-empty name_cmp q));
-  assignments = λ q.
-      none_in_map seat_cmp audit.assignments assignments q
+  seats = λ q.
+      none_in_map seat_cmp audit.seats seats q
       ∙ sym (ap (option_map (λ there. is_some (get empty_world.advice q)))
       (get-empty seat_cmp q));
   links = λ q. none_in_set link_cmp audit.links links q ∙ sym (ap is_some (get-empty link_cmp q));

@@ -131,7 +131,7 @@ module _ (part whole : World) (rows : IsPart part whole) (kept : WellKept whole)
     queue = λ seat there. kept.queue seat (rows.queue seat there);
     queued = requested rows.all_requests;
     advice = λ seat advice there. kept.advice seat advice (rows.advice seat advice there);
-    advised = assigned rows.all_assignments;
+    advised = assigned rows.all_seats;
     pool = λ prefix there. kept.pool prefix (rows.pool prefix there);
     blocks = λ block h there. kept.blocks block h (rows.blocks block h there);
     in_pool = pooled rows.all_prefixes;
@@ -159,7 +159,7 @@ part_itself w = record {
   all_prefixes = inr refl;
   all_given = inr (refl, refl);
   all_requests = inr refl;
-  all_assignments = inr refl;
+  all_seats = inr refl;
 }
 
 -- and of those of a world with more of them in one map, where there is no row yet that is judged by

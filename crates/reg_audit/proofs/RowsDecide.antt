@@ -87,7 +87,7 @@ part_of_next w (row.Minute account reference minute) turn new =
     (account, reference) minute case new
     (changed_row name_keys w.requests (account, reference) (with_minute (Some minute)) name case
     there))
-part_of_next w (row.Assignment account reference expert) turn new =
+part_of_next w (row.Seat account reference expert) turn new =
     let seat = seat_of account reference expert in
     more_queue w (insert w.queue seat tt) turn (still_in seat_keys w.queue seat tt)
 part_of_next w (row.Advice account reference expert advice) turn new =
@@ -130,7 +130,7 @@ next_fits w (row.Request request) new kept =
     kept.given (name_of request) (case_of request)
     (get-inserted name_keys w.requests (name_of request) (case_of request))
 next_fits w (row.Minute account reference minute) new kept = tt
-next_fits w (row.Assignment account reference expert) new kept =
+next_fits w (row.Seat account reference expert) new kept =
     let seat = seat_of account reference expert in
     let there = is_inserted seat_keys w.queue seat tt in (
       second_so (is_name expert) (not (same_text expert account)) (kept.queue seat there),
@@ -146,10 +146,10 @@ next_fits w (row.Link principal agent) new kept =
 -- ---- A row that fits leaves a world well kept
 
 assignment_kept : (w : World) (account reference expert : List ℕ) → WellKept w
-    → is_name expert ≡ true → IsNew w (row.Assignment account reference expert)
+    → is_name expert ≡ true → IsNew w (row.Seat account reference expert)
     → same_text expert account ≡ false → (o : Option Case)
     → get w.requests (account, reference) ≡ o → IsSome o
-    → WellKept (with_row w (row.Assignment account reference expert))
+    → WellKept (with_row w (row.Seat account reference expert))
 assignment_kept w account reference expert kept form new other None is there = absurd (cc)
 assignment_kept w account reference expert kept form new other (Some case) is there =
     (can_assign w (account, reference) case expert kept is form other new).1
@@ -187,7 +187,7 @@ next_kept w (row.Minute account reference minute) form turn new kept fits =
     (λ case there.
     named_stands w.entries w.blocks account minute case.ask case.state
     ∙ kept.given name case there)
-next_kept w (row.Assignment account reference expert) form turn new kept fits =
+next_kept w (row.Seat account reference expert) form turn new kept fits =
     assignment_kept w account reference expert kept
     (second_so (is_name account && is_name reference) (is_name expert) form) new
     (not_so (same_text expert account) fits.0) (get w.requests (account, reference)) refl fits.1

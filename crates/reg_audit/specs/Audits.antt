@@ -33,7 +33,7 @@ advised_at w seat = option_map (λ there. is_some (get w.advice seat)) (get w.qu
 
 -- the keys of the world's capabilities, its registries, its pool and its links, the assignees of its
 -- entries and which of them can be held, the accounts that hold its blocks, which of its requests
--- await a minute and which of its assignments were advised, and what is free in it, where there was
+-- await a minute and which of its seats were advised, and what is free in it, where there was
 -- memory for that
 pub record Keeps (audit : Audit) (w : World) : Type 0 where
   pub caps : (digest : List ℕ)
@@ -48,8 +48,8 @@ pub record Keeps (audit : Audit) (w : World) : Type 0 where
       → tree.get block_cmp audit.holders block ≡ option_map account_of (get w.blocks block)
   pub requests : (name : RequestName)
       → tree.get name_cmp audit.requests name ≡ option_map awaits_minute (get w.requests name)
-  pub assignments : (seat : Seat)
-      → tree.get seat_cmp audit.assignments seat ≡ advised_at w seat
+  pub seats : (seat : Seat)
+      → tree.get seat_cmp audit.seats seat ≡ advised_at w seat
   pub links : (link : Link)
       → set.contains link_cmp audit.links link ≡ contains_key w.agents link
   pub free : MayBeOf w audit.free

@@ -52,7 +52,7 @@ pub record IsPart (part whole : World) : Type 0 where
   pub all_given : (part.requests ≡ map.empty)
       ⊎ ((part.entries ≡ whole.entries) × (part.blocks ≡ whole.blocks))
   pub all_requests : (part.queue ≡ map.empty) ⊎ (part.requests ≡ whole.requests)
-  pub all_assignments : (part.advice ≡ map.empty) ⊎ (part.queue ≡ whole.queue)
+  pub all_seats : (part.advice ≡ map.empty) ⊎ (part.queue ≡ whole.queue)
 
 -- rows that are read later mend nothing
 abbrev pub PartsAreWellKept : Type 0

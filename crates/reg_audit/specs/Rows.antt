@@ -66,7 +66,7 @@ with_row w (row.Request request) =
     record w { requests = insert w.requests (name_of request) (case_of request) }
 with_row w (row.Minute account reference minute) =
     record w { requests = update w.requests (account, reference) (with_minute (Some minute)) }
-with_row w (row.Assignment account reference expert) =
+with_row w (row.Seat account reference expert) =
     record w { queue = insert w.queue (seat_of account reference expert) tt }
 with_row w (row.Advice account reference expert advice) =
     record w { advice = insert w.advice (seat_of account reference expert) advice }
@@ -85,7 +85,7 @@ IsNew w (row.Block holding) = get w.blocks holding.block ≡ None
 IsNew w (row.Request request) = get w.requests (name_of request) ≡ None
 IsNew w (row.Minute account reference minute) =
     IsTrue (is_unminuted (get w.requests (account, reference)))
-IsNew w (row.Assignment account reference expert) =
+IsNew w (row.Seat account reference expert) =
     contains_key w.queue (seat_of account reference expert) ≡ false
 IsNew w (row.Advice account reference expert advice) =
     get w.advice (seat_of account reference expert) ≡ None
@@ -101,7 +101,7 @@ IsInTurn w (row.Prefix prefix) = w.blocks ≡ map.empty
 IsInTurn w (row.Block holding) = w.requests ≡ map.empty
 IsInTurn w (row.Request request) = w.queue ≡ map.empty
 IsInTurn w (row.Minute account reference minute) = w.queue ≡ map.empty
-IsInTurn w (row.Assignment account reference expert) = w.advice ≡ map.empty
+IsInTurn w (row.Seat account reference expert) = w.advice ≡ map.empty
 IsInTurn w (row.Advice account reference expert advice) = Unit {0}
 IsInTurn w (row.Link principal agent) = Unit {0}
 
@@ -116,7 +116,7 @@ has_row_form (row.Block holding) = has_holding_form holding.block (holder_in hol
 has_row_form (row.Request request) = has_request_form (name_of request) (case_of request)
 has_row_form (row.Minute account reference minute) =
     is_name account && is_name reference && is_text minute
-has_row_form (row.Assignment account reference expert) =
+has_row_form (row.Seat account reference expert) =
     is_name account && is_name reference && is_name expert
 has_row_form (row.Advice account reference expert advice) =
     is_name account && is_name reference && is_name expert && has_advice_form advice
@@ -142,7 +142,7 @@ Fits w (row.Block holding) =
 Fits w (row.Request request) =
     IsTrue (stands_in w.entries w.blocks request.account request.ask request.state)
 Fits w (row.Minute account reference minute) = Unit {0}
-Fits w (row.Assignment account reference expert) =
+Fits w (row.Seat account reference expert) =
     IsTrue (not (same_text expert account)) × IsSome (get w.requests (account, reference))
 Fits w (row.Advice account reference expert advice) =
     IsTrue (contains_key w.queue (seat_of account reference expert))

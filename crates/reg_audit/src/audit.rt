@@ -30,7 +30,7 @@ use std::collections::{BTreeMap, BTreeSet};
 /// only what later rows are judged by, and after a row that does not fit nothing more.
 ///
 /// Registries come before entries, and these before marks; prefixes before blocks; entries, marks and
-/// blocks before requests, and these before minutes; requests and minutes before assignments, and
+/// blocks before requests, and these before minutes; requests and minutes before seats, and
 /// these before advice.
 #[derive(Drop)]
 pub struct Audit {
@@ -42,7 +42,7 @@ pub struct Audit {
     // Whether it is for a renewal that names no minute, so that one may come.
     requests: BTreeMap<(Account, Ref), bool>,
     // Whether the expert gave an advice.
-    assignments: BTreeMap<((Account, Ref), Account), bool>,
+    seats: BTreeMap<((Account, Ref), Account), bool>,
     links: BTreeSet<(Account, Account)>,
     // What the entries, the prefixes and the blocks leave free; none where there was no memory.
     free: Option<Vacancies>,
@@ -64,7 +64,7 @@ impl Audit {
             prefixes: BTreeSet::new(alloc),
             holders: BTreeMap::new(alloc),
             requests: BTreeMap::new(alloc),
-            assignments: BTreeMap::new(alloc),
+            seats: BTreeMap::new(alloc),
             links: BTreeSet::new(alloc),
             free: Some(Vacancies::new(alloc)),
             well_kept: true,
@@ -134,7 +134,7 @@ impl Audit {
                 .requests
                 .contains_key(&(request.account, request.reference)),
             Row::Minute(account, reference, _) => self.awaits_minute(account, reference),
-            Row::Assignment(account, reference, expert) => {
+            Row::Seat(account, reference, expert) => {
                 self.advised(account, reference, expert).is_none()
             }
             Row::Advice(account, reference, expert, _) => {
@@ -160,7 +160,7 @@ impl Audit {
                     && is_apart(&self.holders, &holding.block)
             }
             Row::Request(request) => stands(&self.standings, &self.holders, request),
-            Row::Assignment(account, reference, expert) => {
+            Row::Seat(account, reference, expert) => {
                 expert != account && self.requests.contains_key(&(*account, *reference))
             }
             Row::Advice(account, reference, expert, _) => {
@@ -184,11 +184,9 @@ impl Audit {
     // Whether an expert gave an advice on a request, if it is assigned to the expert.
     fn advised(&self, account: &Account, reference: &Ref, expert: &Account) -> Option<bool>
         ensures { result
-            ≡ get seat_cmp self.now.assignments (seat_of account.now reference.now expert.now) }
+            ≡ get seat_cmp self.now.seats (seat_of account.now reference.now expert.now) }
     {
-        self.assignments
-            .get(&((*account, *reference), *expert))
-            .copied()
+        self.seats.get(&((*account, *reference), *expert)).copied()
     }
 
     // Keeps of a row that is in turn, and fits, what later rows are judged by.
@@ -209,11 +207,11 @@ impl Audit {
             Row::Minute(account, reference, _) => {
                 set_row(&mut self.requests, (account, reference), false)
             }
-            Row::Assignment(account, reference, expert) => {
-                set_row(&mut self.assignments, ((account, reference), expert), false)
+            Row::Seat(account, reference, expert) => {
+                set_row(&mut self.seats, ((account, reference), expert), false)
             }
             Row::Advice(account, reference, expert, _) => {
-                set_row(&mut self.assignments, ((account, reference), expert), true)
+                set_row(&mut self.seats, ((account, reference), expert), true)
             }
             Row::Link(principal, agent) => add_key(&mut self.links, (principal, agent)),
         }

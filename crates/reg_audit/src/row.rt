@@ -36,7 +36,7 @@ pub enum Row {
     /// A minute of the IESG that a renewal names: the request's account and reference, the minute.
     Minute(Account, Ref, Text),
     /// An expert to whom a request is assigned: the request's account and reference, the expert.
-    Assignment(Account, Ref, Account),
+    Seat(Account, Ref, Account),
     /// What an expert says of a request: the request's account and reference, the expert, the
     /// advice.
     Advice(Account, Ref, Account, Advice),
@@ -75,7 +75,7 @@ impl Formed for Row {
                 reference.formed();
                 minute.formed();
             }
-            Row::Assignment(account, reference, expert) => {
+            Row::Seat(account, reference, expert) => {
                 account.formed();
                 reference.formed();
                 expert.formed();

@@ -7,7 +7,7 @@ use Rattle.reg_core.specs.Rules.{Follows}
 use Rattle.reg_core.specs.WellKept.{WellKept, CanApply}
 use Rattle.reg_core.specs.World.{World, applied_if}
 use Rattle.reg_core.specs.declared.change.Change.{Change}
-use Rattle.reg_core.specs.declared.content.Content.{Content}
+use Rattle.reg_core.specs.declared.told.Told.{Told}
 use Rattle.reg_core.specs.declared.decide.Decision.{Decision}
 use Rattle.reg_core.specs.declared.decide.Decision.TheVariants.{Make, Same}
 use Rattle.reg_core.specs.declared.decide.Deny.{Deny}
@@ -50,7 +50,7 @@ denies (Ok (Make change)) (deny.Refused refusal) h = absurd (cc)
 denies (Err other) (deny.Refused refusal) h = let e : other ≡ refusal = cc in ap Err e
 
 -- by which the command is refused too
-refuses : (rule : Result Decision Refusal) (told : Decision → Content) (stop : Stop)
+refuses : (rule : Result Decision Refusal) (told : Decision → Told) (stop : Stop)
     → Refuses rule stop → Refuses (by_rule rule told) stop
 refuses rule told (Refused refusal) h = ap (λ rule. by_rule rule told) h
 refuses rule told (Fault fault) h = tt
@@ -80,7 +80,7 @@ can_make w rule (Make change) follows fits = fits change (decided rule (Make cha
 -- between these two states of the keeper all was looked up over which the rule decides, by which
 -- the command is answered
 pub record Decides {S : Type 0} (world : S → World) (Holds Sound : S → Type 0) (old mid : S)
-    (answer : World → Answer) (rule : Result Decision Refusal) (told : Decision → Content)
+    (answer : World → Answer) (rule : Result Decision Refusal) (told : Decision → Told)
     : Type 0 where
   pub answered : Holds mid → answer (world mid) ≡ by_rule rule told
   pub fits : Holds mid → WellKept (world mid)
@@ -90,7 +90,7 @@ pub record Decides {S : Type 0} (world : S → World) (Holds Sound : S → Type 
 
 -- the decision's change can be made, where the rule has it
 pub makes_found : {S : Type 0} {world : S → World} {Holds Sound : S → Type 0} {old mid : S}
-    {answer : World → Answer} {rule : Result Decision Refusal} {told : Decision → Content}
+    {answer : World → Answer} {rule : Result Decision Refusal} {told : Decision → Told}
     (decision : Decision) → Decides world Holds Sound old mid answer rule told
     → (Holds mid → rule ≡ Ok decision) → Holds mid → WellKept (world mid)
     → CanMake (world mid) decision
@@ -98,7 +98,7 @@ makes_found {world = world} {mid = mid} {rule = rule} decision decides is h kept
     can_make (world mid) rule decision (follows rule decision (is h)) (decides.fits h kept)
 
 pub makes_fitting : {S : Type 0} {world : S → World} {Holds Sound : S → Type 0} {old mid : S}
-    {answer : World → Answer} {rule : Result Decision Refusal} {told : Decision → Content}
+    {answer : World → Answer} {rule : Result Decision Refusal} {told : Decision → Told}
     (decision : Decision) → Decides world Holds Sound old mid answer rule told
     → Follows rule (Ok decision) → Holds mid → WellKept (world mid) → CanMake (world mid) decision
 makes_fitting {rule = rule} decision decides follows =
@@ -106,8 +106,8 @@ makes_fitting {rule = rule} decision decides follows =
 
 -- a command that the rule refuses is refused as it is answered
 pub performs_refused : {S : Type 0} {world : S → World} {Holds Sound : S → Type 0} {fails : Bool}
-    {old new : S} {result : Result Content Stop} {answer : World → Answer}
-    (rule : Result Decision Refusal) (told : Decision → Content) (stop : Stop)
+    {old new : S} {result : Result Told Stop} {answer : World → Answer}
+    (rule : Result Decision Refusal) (told : Decision → Told) (stop : Stop)
     → (Holds new → answer (world new) ≡ by_rule rule told) → (Holds new → world new ≡ world old)
     → GoesOn Holds Sound old new (MayStop false stop) → (Holds new → Refuses rule stop)
     → MayStop fails stop → IsErrAnd result (λ s. s ≡ stop)
@@ -116,7 +116,7 @@ performs_refused {result = result} {answer = answer} rule told stop answered sam
     stops =
     let p = err_from_is_err_and result stops in
     rw (p.1, p.2) (record {
-      content = λ h. tt;
+      told = λ h. tt;
       made = λ h. tt;
       refused = λ h.
           subst (λ a. Refuses a stop) (sym (answered h) ∙ ap answer (same h))
@@ -127,8 +127,8 @@ performs_refused {result = result} {answer = answer} rule told stop answered sam
     })
 
 pub performs_denied : {S : Type 0} {world : S → World} {Holds Sound : S → Type 0} {fails : Bool}
-    {old new : S} {result : Result Content Stop} {answer : World → Answer}
-    {rule : Result Decision Refusal} {told : Decision → Content} (deny : Deny)
+    {old new : S} {result : Result Told Stop} {answer : World → Answer}
+    {rule : Result Decision Refusal} {told : Decision → Told} (deny : Deny)
     → Decides world Holds Sound old new answer rule told → Follows rule (Err deny)
     → IsErrAnd result (λ stop. stop ≡ stop_of deny)
     → Performs world Holds Sound fails old new result answer
@@ -138,8 +138,8 @@ performs_denied {fails = fails} {rule = rule} {told = told} deny decides follows
 
 -- so is one that is decided without memory
 pub performs_declined : {S : Type 0} {world : S → World} {Holds Sound : S → Type 0} {fails : Bool}
-    {old new : S} {result : Result Content Stop} {answer : World → Answer}
-    {rule : Result Decision Refusal} {told : Decision → Content} (refusal : Refusal)
+    {old new : S} {result : Result Told Stop} {answer : World → Answer}
+    {rule : Result Decision Refusal} {told : Decision → Told} (refusal : Refusal)
     → Decides world Holds Sound old new answer rule told → rule ≡ Err refusal
     → IsErrAnd result (λ stop. stop ≡ Refused refusal)
     → Performs world Holds Sound fails old new result answer
@@ -149,15 +149,15 @@ performs_declined {rule = rule} {told = told} refusal decides is stops =
 
 -- and one whose decision was carried out did what it is answered
 pub performs_found : {S T : Type 0} {world : S → World} {Holds Sound : S → Type 0} {fails : Bool}
-    {old mid new : S} {content : Content} {answer : World → Answer} {x : T}
-    {rule : Result Decision Refusal} {told : Decision → Content} (decision : Decision)
+    {old mid new : S} {shown : Told} {answer : World → Answer} {x : T}
+    {rule : Result Decision Refusal} {told : Decision → Told} (decision : Decision)
     → Decides world Holds Sound old mid answer rule told → (Holds mid → rule ≡ Ok decision)
-    → told decision ≡ content
+    → told decision ≡ shown
     → Makes world Holds Sound fails mid new (Ok x) (λ w. applied_if w (change_by decision))
-    → Performs world Holds Sound fails old new (Ok content) answer
+    → Performs world Holds Sound fails old new (Ok shown) answer
 performs_found {world = world} {Holds = Holds} {old = old} {mid = mid} {answer = answer}
     {rule = rule} {told = told} decision decides is tells makes = record {
-      content = λ h. ap reply_of (answer_is (makes.premise.before h)) ∙ ap Accepted tells;
+      told = λ h. ap reply_of (answer_is (makes.premise.before h)) ∙ ap Accepted tells;
       made = λ h.
           makes.made h
           ∙ ap (λ w. applied_if w (change_by decision)) (decides.same (makes.premise.before h))
@@ -170,19 +170,19 @@ performs_found {world = world} {Holds = Holds} {old = old} {mid = mid} {answer =
     }
   where
     outcome : Outcome
-    outcome = record { content = told decision; change = change_by decision }
+    outcome = record { told = told decision; change = change_by decision }
 
     answer_is : Holds mid → answer (world old) ≡ Ok outcome
     answer_is h =
         sym (ap answer (decides.same h)) ∙ decides.answered h ∙ ap (λ r. by_rule r told) (is h)
 
 pub performs_decided : {S T : Type 0} {world : S → World} {Holds Sound : S → Type 0} {fails : Bool}
-    {old mid new : S} {content : Content} {answer : World → Answer} {x : T}
-    {rule : Result Decision Refusal} {told : Decision → Content} (decision : Decision)
+    {old mid new : S} {shown : Told} {answer : World → Answer} {x : T}
+    {rule : Result Decision Refusal} {told : Decision → Told} (decision : Decision)
     → Decides world Holds Sound old mid answer rule told → Follows rule (Ok decision)
-    → told decision ≡ content
+    → told decision ≡ shown
     → Makes world Holds Sound fails mid new (Ok x) (λ w. applied_if w (change_by decision))
-    → Performs world Holds Sound fails old new (Ok content) answer
+    → Performs world Holds Sound fails old new (Ok shown) answer
 performs_decided {rule = rule} decision decides follows =
     performs_found decision decides (λ h. decided rule decision follows)
 
@@ -228,7 +228,7 @@ finds_denied {fails = fails} {rule = rule} {found = found} {result = result}
 
 -- over the content of this state, the rule decides the command
 pub record Rules {S : Type 0} (world : S → World) (Holds : S → Type 0) (mid : S)
-    (answer : World → Answer) (rule : Result Decision Refusal) (told : Decision → Content)
+    (answer : World → Answer) (rule : Result Decision Refusal) (told : Decision → Told)
     : Type 0 where
   pub answered : Holds mid → answer (world mid) ≡ by_rule rule told
   pub fits : Holds mid → WellKept (world mid)
@@ -236,7 +236,7 @@ pub record Rules {S : Type 0} (world : S → World) (Holds : S → Type 0) (mid 
 
 module _ {S T : Type 0} {world : S → World} {Holds Sound : S → Type 0} {fails : Bool}
     {old mid new : S} {x : T} {Gives : World → T → Type 0}
-    {answer : World → Answer} {told : Decision → Content}
+    {answer : World → Answer} {told : Decision → Told}
     {found : World → Result Decision Refusal} where
   -- what was selected and then found is what the command is decided over
   pub decides_found : (decision : Decision) → Rules world Holds mid answer (found (world mid)) told
@@ -253,7 +253,7 @@ module _ {S T : Type 0} {world : S → World} {Holds Sound : S → Type 0} {fail
   }
 
   -- and a command that was stopped there is refused as it is answered, or met a fault
-  pub performs_stopped_at : {result : Result Content Stop} (stop : Stop)
+  pub performs_stopped_at : {result : Result Told Stop} (stop : Stop)
       → Rules world Holds mid answer (found (world mid)) told
       → Selects world Holds Sound fails old mid (Ok x) Gives
       → Finds world Holds Sound fails mid new (Err stop) found

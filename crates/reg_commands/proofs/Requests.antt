@@ -8,7 +8,7 @@ use Rattle.reg_core.specs.Request.{case_of, request_row}
 use Rattle.reg_core.specs.WellKept.{WellKept, CanApply}
 use Rattle.reg_core.specs.World.{World, RequestName}
 use Rattle.reg_core.specs.declared.change.Change.{Change}
-use Rattle.reg_core.specs.declared.content.Content.{Content}
+use Rattle.reg_core.specs.declared.told.Told.{Told}
 use Rattle.reg_core.specs.declared.decide.Decision.{Decision}
 use Rattle.reg_core.specs.declared.decide.Decision.TheVariants.{Make}
 use Rattle.reg_core.specs.declared.refusal.Refusal.{Refusal}
@@ -21,7 +21,7 @@ use Rattle.reg_commands.proofs.Rows.{IsRowOf, answer_about, selected_after, ther
 
 -- what a command is answered by a rule about the request of a name
 abbrev pub answer_by_rule : RequestName → (RequestName → Case → Result Decision Refusal)
-    → (RequestName → Case → Decision → Content) → World → Answer
+    → (RequestName → Case → Decision → Told) → World → Answer
 answer_by_rule asked rule told w =
     or_refusal no.Request (get w.requests asked)
     >>= (λ case. by_rule (rule asked case) (told asked case))
@@ -30,7 +30,7 @@ answer_by_rule asked rule told w =
 pub decides_about : {S : Type 0} {world : S → World} {Holds Sound : S → Type 0} {fails : Bool}
     {old mid : S} {found : Option Request} (asked : RequestName) (row : Request)
     (rule : RequestName → Case → Result Decision Refusal)
-    (told : RequestName → Case → Decision → Content)
+    (told : RequestName → Case → Decision → Told)
     → Selects world Holds Sound fails old mid (Ok found)
     (λ w found. found ≡ option_map (request_row asked) (get w.requests asked))
     → found ≡ Some row

@@ -14,7 +14,7 @@ use Rattle.reg_core.specs.View.{Queued}
 use Rattle.reg_core.specs.World.{World, Place, RequestName}
 use Rattle.reg_core.specs.declared.entry.Entry.{Entry}
 use Rattle.reg_core.specs.declared.entry.Registration.{Registration}
-use Rattle.reg_core.specs.declared.file.File.{File}
+use Rattle.reg_core.specs.declared.case_file.CaseFile.{CaseFile}
 use Rattle.reg_core.specs.declared.holding.Holder.{Holder}
 use Rattle.reg_core.specs.declared.holding.Holding.{Holding}
 use Rattle.reg_core.specs.declared.queue.QueueRow.{QueueRow}
@@ -79,12 +79,12 @@ there w name row is =
 -- ---- Files
 
 -- the file is of the request of this name, with its experts and all advice on it
-pub record IsFileOf (w : World) (name : RequestName) (found : File) : Type 0 where
+pub record IsFileOf (w : World) (name : RequestName) (found : CaseFile) : Type 0 where
   pub request : IsRowOf w name found.request
   pub experts : found.experts ≡ experts_of w (found.request.account, found.request.reference)
   pub advice : found.advice ≡ opinions_of w (found.request.account, found.request.reference)
 
-pub file_is : (w : World) (name : RequestName) (found : File)
+pub file_is : (w : World) (name : RequestName) (found : CaseFile)
     → Some found ≡ option_map (file w name) (get w.requests name) → IsFileOf w name found
 file_is w name found is = from (get w.requests name) is (λ request. request)
   where
@@ -94,11 +94,11 @@ file_is w name found is = from (get w.requests name) is (λ request. request)
     from None e request = absurd (cc)
     from (Some case) e request =
         let same : found ≡ file w name case = cc in
-        let names = ap (λ (f : File). (f.request.account, f.request.reference)) (sym same) in
+        let names = ap (λ (f : CaseFile). (f.request.account, f.request.reference)) (sym same) in
         record {
-          request = request (ap (λ (f : File). Some f.request) same);
-          experts = ap (λ (f : File). f.experts) same ∙ ap (experts_of w) names;
-          advice = ap (λ (f : File). f.advice) same ∙ ap (opinions_of w) names;
+          request = request (ap (λ (f : CaseFile). Some f.request) same);
+          experts = ap (λ (f : CaseFile). f.experts) same ∙ ap (experts_of w) names;
+          advice = ap (λ (f : CaseFile). f.advice) same ∙ ap (opinions_of w) names;
         }
 
 -- ---- Queues

@@ -16,17 +16,17 @@ use Rattle.reg_core.specs.declared.refusal.Refusal.{Refusal}
 use Rattle.reg_core.specs.declared.request.Case.{Case}
 use Rattle.reg_core.specs.declared.request.Given.{Given}
 use Rattle.reg_core.specs.declared.request.Request.{Request}
-use Rattle.reg_commands.specs.Answers.{answer_to_account, content_made}
+use Rattle.reg_commands.specs.Answers.{answer_to_account, told_made}
 
 case_of-row : (name : RequestName) (found : Option Case)
     → option_map case_of (option_map (request_row name) found) ≡ found
 case_of-row name None = refl
 case_of-row name (Some case) = refl
 
-content_made-row : (name : RequestName) (ask : Ask) (found : Option Case)
-    → content_made name ask (option_map (request_row name) found) ≡ made_row name ask found
-content_made-row name ask None = refl
-content_made-row name ask (Some case) = refl
+told_made-row : (name : RequestName) (ask : Ask) (found : Option Case)
+    → told_made name ask (option_map (request_row name) found) ≡ made_row name ask found
+told_made-row name ask None = refl
+told_made-row name ask (Some case) = refl
 
 -- a row that was looked up under a name, without that name
 pub case_looked_up : (name : RequestName) (existing : Option Request) (found : Option Case)
@@ -52,7 +52,7 @@ pub submission_answered : (account reference : List ℕ) (ask : Ask) (w : World)
     → existing ≡ option_map (request_row (account, reference)) (get w.requests (account, reference))
     → answer_to_account account (Submit reference ask) w
     ≡ by_rule (submission w (account, reference) ask existing)
-    (λ decision. content_made (account, reference) ask existing)
+    (λ decision. told_made (account, reference) ask existing)
 submission_answered account reference ask w existing is =
     let name : RequestName = (account, reference) in
     let found = get w.requests name in
@@ -60,4 +60,4 @@ submission_answered account reference ask w existing is =
     ap (λ o. by_rule (submit_rule allowed_there name ask o) (λ decision. made_row name ask found))
     (sym (case_looked_up name existing found is))
     ∙ ap (λ told. by_rule (submission w name ask existing) (λ decision. told))
-    (sym (ap (content_made name ask) is ∙ content_made-row name ask found))
+    (sym (ap (told_made name ask) is ∙ told_made-row name ask found))

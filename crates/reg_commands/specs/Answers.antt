@@ -13,8 +13,8 @@ use Rattle.reg_core.specs.declared.command.ApplicantCommand.{ApplicantCommand}
 use Rattle.reg_core.specs.declared.command.ApplicantCommand.TheVariants.{Own, OwnOne, Submit, Withdraw, Holdings, SetListing, SetAgent, Agents, Principals, PrincipalRows}
 use Rattle.reg_core.specs.declared.command.ClerkCommand.{ClerkCommand}
 use Rattle.reg_core.specs.declared.command.ExpertCommand.{ExpertCommand}
-use Rattle.reg_core.specs.declared.content.Content.{Content}
-use Rattle.reg_core.specs.declared.content.Content.TheVariants.{Made, Row, Rows}
+use Rattle.reg_core.specs.declared.told.Told.{Told}
+use Rattle.reg_core.specs.declared.told.Told.TheVariants.{Made, Row, Rows}
 use Rattle.reg_core.specs.declared.refusal.Refusal.TheVariants as no
 use Rattle.reg_core.specs.declared.request.Request.{Request}
 use Rattle.reg_commands.specs.Caller.{token_digest}
@@ -53,9 +53,9 @@ answer_to_account account (PrincipalRows principal) w = do
   unchanged (Rows rows)
 
 -- what is told of a request that is made, or that is there already
-abbrev pub content_made : RequestName → Ask → Option Request → Content
-content_made name ask None = Made (request_row name (pending ask))
-content_made name ask (Some row) = Row row
+abbrev pub told_made : RequestName → Ask → Option Request → Told
+told_made name ask None = Made (request_row name (pending ask))
+told_made name ask (Some row) = Row row
 
 -- ---- An expert
 

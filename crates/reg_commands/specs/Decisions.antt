@@ -10,7 +10,7 @@ use Rattle.reg_core.specs.WellKept.{CanApply}
 use Rattle.reg_core.specs.World.{World}
 use Rattle.reg_core.specs.declared.decide.Decision.{Decision}
 use Rattle.reg_core.specs.declared.decide.Decision.TheVariants.{Make, Same}
-use Rattle.reg_core.specs.declared.file.File.{File}
+use Rattle.reg_core.specs.declared.case_file.CaseFile.{CaseFile}
 use Rattle.reg_core.specs.declared.refusal.Refusal.{Refusal}
 use Rattle.reg_core.specs.declared.request.Request.{Request}
 
@@ -24,7 +24,7 @@ abbrev pub row_by : Decision → Request → Request
 row_by decision row = request_row (row.account, row.reference) (case_by decision (case_of row))
 
 -- what is decided of an approval, over the published registers and the request's file
-abbrev pub approval_of : Published → File → ℕ → Result Decision Refusal
+abbrev pub approval_of : Published → CaseFile → ℕ → Result Decision Refusal
 approval_of p file today =
     let row = file.request in
     approve_rule (ground_of p row.ask) (is_advised file.experts file.advice)

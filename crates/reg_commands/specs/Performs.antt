@@ -2,7 +2,7 @@
 use Rattle.std.specs.Prelude.{◌≡◌, Bool, false, Result, Ok, IfOk, IfErr, OnOk, OnErr}
 use Rattle.reg_core.specs.Answer.{Answer, reply_of, change_of}
 use Rattle.reg_core.specs.World.{World, applied_if}
-use Rattle.reg_core.specs.declared.content.Content.{Content}
+use Rattle.reg_core.specs.declared.told.Told.{Told}
 use Rattle.reg_core.specs.declared.refusal.Refusal.{Refusal}
 use Rattle.reg_core.specs.declared.reply.Reply.TheVariants.{Accepted}
 use Rattle.reg_keeper.specs.Keeper.{GoesOn}
@@ -21,8 +21,8 @@ pub record Finds {S T : Type 0} (world : S → World) (Holds Sound : S → Type 
 -- a command's function: it tells what the model answers and makes the change, or refuses as the
 -- model does
 pub record Performs {S : Type 0} (world : S → World) (Holds Sound : S → Type 0) (fails : Bool)
-    (old new : S) (result : Result Content Stop) (answer : World → Answer) : Type 0 where
-  pub content : Holds new → IfOk result (λ c. reply_of (answer (world old)) ≡ Accepted c)
+    (old new : S) (result : Result Told Stop) (answer : World → Answer) : Type 0 where
+  pub told : Holds new → IfOk result (λ c. reply_of (answer (world old)) ≡ Accepted c)
   pub made : Holds new →
       OnOk result (world new ≡ applied_if (world old) (change_of (answer (world old))))
   pub refused : Holds new → IfErr result (Refuses (answer (world old)))

@@ -5,9 +5,9 @@ ghost use Rattle.reg_commands.specs.Performs.{Performs};
 
 use crate::carrying::conclude;
 use crate::stop::Stop;
-use reg_core::content::Content;
 use reg_core::refusal::Refusal;
 use reg_core::text::Account;
+use reg_core::told::Told;
 use reg_decisions::decide_agent;
 use reg_keeper::keeper::Keeper;
 use reg_ranges::formed::Formed;
@@ -19,7 +19,7 @@ pub fn set_agent<K: Keeper>(
     account: &Account,
     agent: &Account,
     reads: bool,
-) -> Result<Content, Stop>
+) -> Result<Told, Stop>
     ensures { Performs K.world K.Holds K.Sound K.FAILS keeper.old keeper.new result
         (answer_to_account account.now (command.SetAgent agent.now reads)) }
 {
@@ -27,23 +27,23 @@ pub fn set_agent<K: Keeper>(
     account.formed();
     agent.formed();
     let decision = decide_agent(account, agent, reads, there)?;
-    Ok(conclude(keeper, Ok(Content::Agent(*agent, reads)), decision)?)
+    Ok(conclude(keeper, Ok(Told::Agent(*agent, reads)), decision)?)
 }
 
 /// The applicant's agents.
-pub fn list_agents<K: Keeper>(keeper: &mut K, account: &Account) -> Result<Content, Stop>
+pub fn list_agents<K: Keeper>(keeper: &mut K, account: &Account) -> Result<Told, Stop>
     ensures { Performs K.world K.Holds K.Sound K.FAILS keeper.old keeper.new result
         (answer_to_account account.now command.Agents) }
 {
-    Ok(Content::Accounts(keeper.agents(account)?))
+    Ok(Told::Accounts(keeper.agents(account)?))
 }
 
 /// The applicant's principals.
-pub fn list_principals<K: Keeper>(keeper: &mut K, account: &Account) -> Result<Content, Stop>
+pub fn list_principals<K: Keeper>(keeper: &mut K, account: &Account) -> Result<Told, Stop>
     ensures { Performs K.world K.Holds K.Sound K.FAILS keeper.old keeper.new result
         (answer_to_account account.now command.Principals) }
 {
-    Ok(Content::Accounts(keeper.principals(account)?))
+    Ok(Told::Accounts(keeper.principals(account)?))
 }
 
 /// The requests of one of the applicant's principals.
@@ -51,12 +51,12 @@ pub fn list_principal_rows<K: Keeper>(
     keeper: &mut K,
     account: &Account,
     principal: &Account,
-) -> Result<Content, Stop>
+) -> Result<Told, Stop>
     ensures { Performs K.world K.Holds K.Sound K.FAILS keeper.old keeper.new result
         (answer_to_account account.now (command.PrincipalRows principal.now)) }
 {
     let rows = keeper
         .principal_rows(principal, account)?
         .ok_or(Refusal::Principal)?;
-    Ok(Content::Rows(rows))
+    Ok(Told::Rows(rows))
 }

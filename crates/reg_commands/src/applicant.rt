@@ -8,7 +8,7 @@ ghost use Rattle.reg_core.specs.View.{published};
 ghost use Rattle.reg_core.specs.WellKept.{has_request_form};
 ghost use Rattle.reg_core.specs.World.{RequestName, pending as pending_case};
 ghost use Rattle.reg_core.specs.declared.command.ApplicantCommand.TheVariants as command;
-ghost use Rattle.reg_commands.specs.Answers.{answer_to_account, content_made};
+ghost use Rattle.reg_commands.specs.Answers.{answer_to_account, told_made};
 ghost use Rattle.reg_commands.specs.Performs.{Finds, Performs};
 
 use crate::agents::{list_agents, list_principal_rows, list_principals, set_agent};
@@ -18,11 +18,11 @@ use crate::holdings::{list_holdings, set_listing};
 use crate::stop::Stop;
 use reg_core::ask::Ask;
 use reg_core::command::ApplicantCommand;
-use reg_core::content::Content;
 use reg_core::decide::Decision;
 use reg_core::refusal::Refusal;
 use reg_core::request::{Request, State};
 use reg_core::text::{Account, Ref};
+use reg_core::told::Told;
 use reg_decisions::{decide_submit, decide_withdraw};
 use reg_keeper::keeper::Keeper;
 use reg_ranges::formed::Formed;
@@ -33,7 +33,7 @@ pub fn perform<K: Keeper>(
     keeper: &mut K,
     account: &Account,
     command: &ApplicantCommand,
-) -> Result<Content, Stop>
+) -> Result<Told, Stop>
     ensures { Performs K.world K.Holds K.Sound K.FAILS keeper.old keeper.new result
         (answer_to_account account.now command.now) }
 {
@@ -56,20 +56,20 @@ pub fn perform<K: Keeper>(
 }
 
 // The applicant's own requests.
-fn list_own<K: Keeper>(keeper: &mut K, account: &Account) -> Result<Content, Stop>
+fn list_own<K: Keeper>(keeper: &mut K, account: &Account) -> Result<Told, Stop>
     ensures { Performs K.world K.Holds K.Sound K.FAILS keeper.old keeper.new result
         (answer_to_account account.now command.Own) }
 {
-    Ok(Content::Rows(keeper.own(account)?))
+    Ok(Told::Rows(keeper.own(account)?))
 }
 
 // One of the applicant's own requests.
-fn show_own<K: Keeper>(keeper: &mut K, account: &Account, reference: &Ref) -> Result<Content, Stop>
+fn show_own<K: Keeper>(keeper: &mut K, account: &Account, reference: &Ref) -> Result<Told, Stop>
     ensures { Performs K.world K.Holds K.Sound K.FAILS keeper.old keeper.new result
         (answer_to_account account.now (command.OwnOne reference.now)) }
 {
     let request = keeper.own_one(account, reference)?.ok_or(Refusal::Request)?;
-    Ok(Content::Row(request))
+    Ok(Told::Row(request))
 }
 
 // A request of the applicant's.
@@ -78,7 +78,7 @@ fn submit<K: Keeper>(
     account: &Account,
     reference: &Ref,
     ask: &Ask,
-) -> Result<Content, Stop>
+) -> Result<Told, Stop>
     ensures { Performs K.world K.Holds K.Sound K.FAILS keeper.old keeper.new result
         (answer_to_account account.now (command.Submit reference.now ask.now)) }
 {
@@ -112,24 +112,24 @@ fn told_of(
     account: &Account,
     reference: &Ref,
     ask: &Ask,
-) -> Result<Content, AllocError>
+) -> Result<Told, AllocError>
     ensures { IfOk result
-        (λ content. content ≡ content_made (account.now, reference.now) ask.now existing) }
+        (λ told. told ≡ told_made (account.now, reference.now) ask.now existing) }
 {
     match existing {
-        Some(request) => Ok(Content::Row(request)),
-        None => Ok(Content::Made(pending(account, reference, ask)?)),
+        Some(request) => Ok(Told::Row(request)),
+        None => Ok(Told::Made(pending(account, reference, ask)?)),
     }
 }
 
 // Takes a request of the applicant's back.
-fn withdraw<K: Keeper>(keeper: &mut K, account: &Account, reference: &Ref) -> Result<Content, Stop>
+fn withdraw<K: Keeper>(keeper: &mut K, account: &Account, reference: &Ref) -> Result<Told, Stop>
     ensures { Performs K.world K.Holds K.Sound K.FAILS keeper.old keeper.new result
         (answer_to_account account.now (command.Withdraw reference.now)) }
 {
     let request = keeper.own_one(account, reference)?.ok_or(Refusal::Request)?;
     let decision = decide_withdraw(&request)?;
-    Ok(Content::Row(conclude_on(keeper, request, decision)?))
+    Ok(Told::Row(conclude_on(keeper, request, decision)?))
 }
 
 fn pending(account: &Account, reference: &Ref, ask: &Ask) -> Result<Request, AllocError>

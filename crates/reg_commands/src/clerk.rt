@@ -3,7 +3,7 @@
 ghost use Rattle.std.specs.Prelude.{◌≡◌};
 ghost use Rattle.std.specs.Result.{result_map_both};
 ghost use Rattle.reg_core.specs.declared.command.ClerkCommand.TheVariants.{Grant, Revoke};
-ghost use Rattle.reg_core.specs.declared.content.Content.TheVariants.{Granted};
+ghost use Rattle.reg_core.specs.declared.told.Told.TheVariants.{Granted};
 ghost use Rattle.reg_commands.specs.Answers.{answer_to_clerk, answer_at_desk};
 ghost use Rattle.reg_commands.specs.Performs.{Performs};
 
@@ -13,8 +13,8 @@ use crate::stop::Stop;
 use crate::{desk, registers};
 use reg_core::capability::Cap;
 use reg_core::command::ClerkCommand;
-use reg_core::content::Content;
 use reg_core::text::{Digest, Token};
+use reg_core::told::Told;
 use reg_decisions::{decide_grant, decide_revoke};
 use reg_early::day::Day;
 use reg_keeper::keeper::Keeper;
@@ -26,7 +26,7 @@ pub fn perform<K: Keeper>(
     in_use: &Digest,
     today: Day,
     command: &ClerkCommand,
-) -> Result<Content, Stop>
+) -> Result<Told, Stop>
     ensures { Performs K.world K.Holds K.Sound K.FAILS keeper.old keeper.new result
         (answer_to_clerk in_use.now today command.now) }
 {
@@ -53,11 +53,11 @@ pub fn perform<K: Keeper>(
 }
 
 // Gives a token a capability.
-fn tell_grant<K: Keeper>(keeper: &mut K, token: &Token, cap: &Cap) -> Result<Content, Stop>
+fn tell_grant<K: Keeper>(keeper: &mut K, token: &Token, cap: &Cap) -> Result<Told, Stop>
     ensures { Performs K.world K.Holds K.Sound K.FAILS keeper.old keeper.new result
         (answer_at_desk (Grant token.now cap.now)) }
 {
-    Ok(Content::Granted(grant(keeper, token, cap)?))
+    Ok(Told::Granted(grant(keeper, token, cap)?))
 }
 
 /// Gives a token a capability, and gives what is told of it.
@@ -73,12 +73,12 @@ pub fn grant<K: Keeper>(keeper: &mut K, token: &Token, cap: &Cap) -> Result<Cap,
 }
 
 // Takes a token's capability away; in_use is the digest of the clerk's own token.
-fn revoke<K: Keeper>(keeper: &mut K, in_use: &Digest, token: &Token) -> Result<Content, Stop>
+fn revoke<K: Keeper>(keeper: &mut K, in_use: &Digest, token: &Token) -> Result<Told, Stop>
     ensures { Performs K.world K.Holds K.Sound K.FAILS keeper.old keeper.new result
         (answer_to_clerk in_use.now 0 (Revoke token.now)) }
 {
     let digest = digest_of(token.as_str().as_bytes());
     let existing = keeper.cap(&digest)?;
     let decision = decide_revoke(in_use, existing.as_ref(), &digest)?;
-    Ok(conclude(keeper, Ok(Content::Revoked), decision)?)
+    Ok(conclude(keeper, Ok(Told::Revoked), decision)?)
 }

@@ -10,36 +10,32 @@ ghost use Rattle.reg_commands.specs.Performs.{Finds, Performs};
 use crate::carrying::conclude_on;
 use crate::ground::ground_if;
 use crate::stop::Stop;
-use reg_core::content::Content;
+use reg_core::case_file::CaseFile;
 use reg_core::decide::Decision;
-use reg_core::file::File;
 use reg_core::refusal::Refusal;
 use reg_core::request::State;
 use reg_core::text::{Account, Ref, Text};
+use reg_core::told::Told;
 use reg_decisions::{decide_approve, decide_assign, decide_decline};
 use reg_early::day::Day;
 use reg_keeper::keeper::Keeper;
 use reg_ranges::formed::Formed;
 
 /// All requests.
-pub fn list_all<K: Keeper>(keeper: &mut K) -> Result<Content, Stop>
+pub fn list_all<K: Keeper>(keeper: &mut K) -> Result<Told, Stop>
     ensures { Performs K.world K.Holds K.Sound K.FAILS keeper.old keeper.new result
         (answer_at_desk command.AllRequests) }
 {
-    Ok(Content::Desks(keeper.all()?))
+    Ok(Told::Desks(keeper.all()?))
 }
 
 /// A request, with its experts and all advice on it.
-pub fn show_one<K: Keeper>(
-    keeper: &mut K,
-    account: &Account,
-    reference: &Ref,
-) -> Result<Content, Stop>
+pub fn show_one<K: Keeper>(keeper: &mut K, account: &Account, reference: &Ref) -> Result<Told, Stop>
     ensures { Performs K.world K.Holds K.Sound K.FAILS keeper.old keeper.new result
         (answer_at_desk (command.OneRequest account.now reference.now)) }
 {
     let file = keeper.file(account, reference)?.ok_or(Refusal::Request)?;
-    Ok(Content::Filed(file))
+    Ok(Told::Filed(file))
 }
 
 /// Assigns a request to an expert.
@@ -48,14 +44,14 @@ pub fn assign<K: Keeper>(
     account: &Account,
     reference: &Ref,
     expert: &Account,
-) -> Result<Content, Stop>
+) -> Result<Told, Stop>
     ensures { Performs K.world K.Holds K.Sound K.FAILS keeper.old keeper.new result
         (answer_at_desk (command.AssignExpert account.now reference.now expert.now)) }
 {
     let file = keeper.file(account, reference)?.ok_or(Refusal::Request)?;
     expert.formed();
     let decision = decide_assign(&file.request, file.experts.as_slice(), expert)?;
-    Ok(Content::Desk(conclude_on(keeper, file.request, decision)?))
+    Ok(Told::Desk(conclude_on(keeper, file.request, decision)?))
 }
 
 /// Approves a request on a day, over its experts and all advice on it.
@@ -64,18 +60,18 @@ pub fn approve<K: Keeper>(
     account: &Account,
     reference: &Ref,
     today: Day,
-) -> Result<Content, Stop>
+) -> Result<Told, Stop>
     ensures { Performs K.world K.Holds K.Sound K.FAILS keeper.old keeper.new result
         (answer_to_clerk [] today (command.Approve account.now reference.now)) }
 {
     let file = keeper.file(account, reference)?.ok_or(Refusal::Request)?;
     today.formed();
     let decision = approval(keeper, &file, today)?;
-    Ok(Content::Desk(conclude_on(keeper, file.request, decision)?))
+    Ok(Told::Desk(conclude_on(keeper, file.request, decision)?))
 }
 
 // What is decided of an approval. No registry is looked at for a request that is not pending.
-fn approval<K: Keeper>(keeper: &mut K, file: &File, today: Day) -> Result<Decision, Stop>
+fn approval<K: Keeper>(keeper: &mut K, file: &CaseFile, today: Day) -> Result<Decision, Stop>
     ensures { Finds K.world K.Holds K.Sound K.FAILS keeper.old keeper.new result
         (λ w. approval_of (published w) file.now today) }
 {
@@ -91,14 +87,14 @@ pub fn decline<K: Keeper>(
     account: &Account,
     reference: &Ref,
     reason: &Text,
-) -> Result<Content, Stop>
+) -> Result<Told, Stop>
     ensures { Performs K.world K.Holds K.Sound K.FAILS keeper.old keeper.new result
         (answer_at_desk (command.Decline account.now reference.now reason.now)) }
 {
     let request = keeper.own_one(account, reference)?.ok_or(Refusal::Request)?;
     reason.formed();
     let decision = decide_decline(&request, reason)?;
-    Ok(Content::Desk(conclude_on(keeper, request, decision)?))
+    Ok(Told::Desk(conclude_on(keeper, request, decision)?))
 }
 
 fn is_pending(state: &State) -> bool

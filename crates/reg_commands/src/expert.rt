@@ -9,10 +9,10 @@ use crate::carrying::conclude;
 use crate::stop::Stop;
 use reg_core::advice::Advice;
 use reg_core::command::ExpertCommand;
-use reg_core::content::Content;
 use reg_core::queue::QueueRow;
 use reg_core::refusal::Refusal;
 use reg_core::text::{Account, Ref};
+use reg_core::told::Told;
 use reg_decisions::decide_advise;
 use reg_keeper::keeper::Keeper;
 use reg_ranges::formed::Formed;
@@ -23,7 +23,7 @@ pub fn perform<K: Keeper>(
     keeper: &mut K,
     expert: &Account,
     command: &ExpertCommand,
-) -> Result<Content, Stop>
+) -> Result<Told, Stop>
     ensures { Performs K.world K.Holds K.Sound K.FAILS keeper.old keeper.new result
         (answer_to_expert expert.now command.now) }
 {
@@ -36,11 +36,11 @@ pub fn perform<K: Keeper>(
 }
 
 // The requests that are queued to the expert.
-fn list_queue<K: Keeper>(keeper: &mut K, expert: &Account) -> Result<Content, Stop>
+fn list_queue<K: Keeper>(keeper: &mut K, expert: &Account) -> Result<Told, Stop>
     ensures { Performs K.world K.Holds K.Sound K.FAILS keeper.old keeper.new result
         (answer_to_expert expert.now command.Queue) }
 {
-    Ok(Content::Items(keeper.queue(expert)?))
+    Ok(Told::Queue(keeper.queue(expert)?))
 }
 
 // Advice on a request that is queued to the expert. Whether there is one that is not is never
@@ -51,7 +51,7 @@ fn advise<K: Keeper>(
     account: &Account,
     reference: &Ref,
     advice: &Advice,
-) -> Result<Content, Stop>
+) -> Result<Told, Stop>
     ensures { Performs K.world K.Holds K.Sound K.FAILS keeper.old keeper.new result
         (answer_to_expert expert.now (command.Advise account.now reference.now advice.now)) }
 {
@@ -61,7 +61,7 @@ fn advise<K: Keeper>(
     advice.formed();
     let decision = decide_advise(&row, expert, advice)?;
     let advised = with_advice(row, advice);
-    Ok(Content::Item(conclude(keeper, advised, decision)?))
+    Ok(Told::Queued(conclude(keeper, advised, decision)?))
 }
 
 // A queued request after its expert gave this advice.

@@ -8,19 +8,19 @@ ghost use Rattle.reg_commands.specs.Rows.{marked_row};
 use crate::carrying::conclude;
 use crate::stop::Stop;
 use reg_blocks::block::Block;
-use reg_core::content::Content;
 use reg_core::holding::Holding;
 use reg_core::refusal::Refusal;
 use reg_core::text::Account;
-use reg_decisions::decide_listing;
+use reg_core::told::Told;
+use reg_decisions::decide_private;
 use reg_keeper::keeper::Keeper;
 
 /// The applicant's own blocks.
-pub fn list_holdings<K: Keeper>(keeper: &mut K, account: &Account) -> Result<Content, Stop>
+pub fn list_holdings<K: Keeper>(keeper: &mut K, account: &Account) -> Result<Told, Stop>
     ensures { Performs K.world K.Holds K.Sound K.FAILS keeper.old keeper.new result
         (answer_to_account account.now command.Holdings) }
 {
-    Ok(Content::Holdings(keeper.holdings(account)?))
+    Ok(Told::Holdings(keeper.holdings(account)?))
 }
 
 /// Says of one of the applicant's own blocks whether its holder is private.
@@ -29,14 +29,14 @@ pub fn set_listing<K: Keeper>(
     account: &Account,
     block: &Block,
     private: bool,
-) -> Result<Content, Stop>
+) -> Result<Told, Stop>
     ensures { Performs K.world K.Holds K.Sound K.FAILS keeper.old keeper.new result
         (answer_to_account account.now (command.SetListing block.now private)) }
 {
     let held = keeper.holding(account, block)?.ok_or(Refusal::Holding)?;
-    let decision = decide_listing(&held, private);
+    let decision = decide_private(&held, private);
     let row = marked(held, private);
-    Ok(Content::Held(conclude(keeper, Ok(row), decision)?))
+    Ok(Told::Held(conclude(keeper, Ok(row), decision)?))
 }
 
 // A holding with this mark.

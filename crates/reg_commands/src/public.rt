@@ -9,11 +9,11 @@ ghost use Rattle.reg_commands.specs.Performs.{Finds, Performs};
 
 use crate::stop::Stop;
 use reg_core::command::PublicCommand;
-use reg_core::content::Content;
 use reg_core::entry::{Entry, PageEntry};
 use reg_core::page::{Page, PageEntries};
 use reg_core::refusal::Refusal;
 use reg_core::text::Name;
+use reg_core::told::Told;
 use reg_early::day::Day;
 use reg_keeper::keeper::{Fault, Keeper};
 use std::alloc::{AllocError, Global};
@@ -24,18 +24,16 @@ pub fn perform<K: Keeper>(
     keeper: &mut K,
     today: Day,
     command: &PublicCommand,
-) -> Result<Content, Stop>
+) -> Result<Told, Stop>
     ensures { Performs K.world K.Holds K.Sound K.FAILS keeper.old keeper.new result
         (λ w. public_answer (published w) today command.now) }
 {
     Ok(match command {
-        PublicCommand::Registries => Content::Names(keeper.names()?),
-        PublicCommand::Registry(name) => Content::Page(page(alloc, keeper, today, name)?),
-        PublicCommand::RegistryListing(name) => {
-            Content::Listing(page(alloc, keeper, today, name)?)
-        }
-        PublicCommand::PoolList => Content::Pool(keeper.pool()?),
-        PublicCommand::BlockListing => Content::Blocks(keeper.blocks()?),
+        PublicCommand::Registries => Told::Names(keeper.names()?),
+        PublicCommand::Registry(name) => Told::Page(page(alloc, keeper, today, name)?),
+        PublicCommand::RegistryListing(name) => { Told::Listing(page(alloc, keeper, today, name)?) }
+        PublicCommand::PoolList => Told::Pool(keeper.pool()?),
+        PublicCommand::BlockListing => Told::Blocks(keeper.blocks()?),
     })
 }
 

@@ -9,10 +9,10 @@ ghost use Rattle.reg_commands.specs.Rows.{held_row};
 use crate::carrying::conclude;
 use crate::public::show;
 use crate::stop::Stop;
-use reg_core::content::Content;
 use reg_core::entry::Entry;
 use reg_core::refusal::Refusal;
 use reg_core::text::Name;
+use reg_core::told::Told;
 use reg_decisions::{decide_define, decide_hold, decide_pool};
 use reg_early::day::Day;
 use reg_keeper::keeper::Keeper;
@@ -20,7 +20,7 @@ use reg_ranges::formed::Formed;
 use reg_ranges::table::RangeTable;
 
 /// Opens a registry.
-pub fn define<K: Keeper>(keeper: &mut K, name: &Name, table: &RangeTable) -> Result<Content, Stop>
+pub fn define<K: Keeper>(keeper: &mut K, name: &Name, table: &RangeTable) -> Result<Told, Stop>
     ensures { Performs K.world K.Holds K.Sound K.FAILS keeper.old keeper.new result
         (answer_at_desk (Define name.now table.now)) }
 {
@@ -28,17 +28,17 @@ pub fn define<K: Keeper>(keeper: &mut K, name: &Name, table: &RangeTable) -> Res
     let decision = decide_define(existing.as_ref(), name, table)?;
     name.formed();
     table.formed();
-    Ok(Content::Defined(conclude(keeper, Ok(*name), decision)?))
+    Ok(Told::Defined(conclude(keeper, Ok(*name), decision)?))
 }
 
 /// Adds a prefix to the pool.
-pub fn add_pool<K: Keeper>(keeper: &mut K, prefix: u32) -> Result<Content, Stop>
+pub fn add_pool<K: Keeper>(keeper: &mut K, prefix: u32) -> Result<Told, Stop>
     ensures { Performs K.world K.Holds K.Sound K.FAILS keeper.old keeper.new result
         (answer_at_desk (AddPool prefix)) }
 {
     let there = keeper.is_pooled(prefix)?;
     let decision = decide_pool(there, prefix)?;
-    Ok(conclude(keeper, Ok(Content::Pooled(prefix)), decision)?)
+    Ok(conclude(keeper, Ok(Told::Pooled(prefix)), decision)?)
 }
 
 /// Says of an entry whether it is held, and tells how it stands then on a day.
@@ -48,7 +48,7 @@ pub fn set_hold<K: Keeper>(
     value: u32,
     held: bool,
     today: Day,
-) -> Result<Content, Stop>
+) -> Result<Told, Stop>
     ensures { Performs K.world K.Holds K.Sound K.FAILS keeper.old keeper.new result
         (answer_to_clerk [] today (SetHold name.now value held)) }
 {
@@ -56,7 +56,7 @@ pub fn set_hold<K: Keeper>(
     let row = keeper.entry(name, value)?.ok_or(Refusal::Entry)?;
     let decision = decide_hold(&row, held, today)?;
     let shown = show(marked(row, held), today);
-    Ok(Content::Marked(conclude(keeper, Ok(shown), decision)?))
+    Ok(Told::Marked(conclude(keeper, Ok(shown), decision)?))
 }
 
 // An entry with this mark.

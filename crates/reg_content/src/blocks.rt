@@ -82,7 +82,7 @@ pub fn add_block<S: Alter>(tx: &mut Transaction<'_, S>, holding: &Holding) -> Re
 }
 
 /// Marks a block that was given as private or not. No other block shares an address with it.
-pub fn set_mark<S: Alter>(
+pub fn set_private<S: Alter>(
     tx: &mut Transaction<'_, S>,
     block: &Block,
     private: bool,

@@ -11,7 +11,7 @@ ghost use Rattle.reg_statements.specs.Content.{world_in};
 
 use crate::advice::put_advice;
 use crate::agents::set_agent;
-use crate::blocks::set_mark;
+use crate::blocks::set_private;
 use crate::caps::{add_cap, take_cap};
 use crate::give::{give_block, give_value, submit};
 use crate::holds::set_hold;
@@ -95,7 +95,7 @@ fn make<S: Alter>(alloc: Global, tx: &mut Transaction<'_, S>, change: &Change) -
         Change::GiveBlock(account, reference, holding) => {
             give_block(alloc, tx, account, reference, holding)
         }
-        Change::SetPrivate(block, private) => set_mark(tx, block, *private),
+        Change::SetPrivate(block, private) => set_private(tx, block, *private),
         Change::SetHold(name, value, held) => set_hold(tx, name, *value, *held),
         Change::SetAgent(principal, agent, reads) => set_agent(tx, principal, agent, *reads),
     }

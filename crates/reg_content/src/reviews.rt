@@ -15,7 +15,7 @@ use crate::minutes::{Minuted, minuted_each};
 use crate::queue::is_queued;
 use crate::requests::own_one;
 use reg_core::advice::{Advice, Opinion};
-use reg_core::file::File;
+use reg_core::case_file::CaseFile;
 use reg_core::queue::QueueRow;
 use reg_core::request::Request;
 use reg_core::rows::Rows;
@@ -35,7 +35,7 @@ pub fn file<S: Alter>(
     conn: &mut Connection<S>,
     account: &Account,
     reference: &Ref,
-) -> Result<Option<File>, Fault>
+) -> Result<Option<CaseFile>, Fault>
     requires { IsKeeping (state S.Store conn.old) }
     ensures { Looks (state S.Store conn.old) (state S.Store conn.new) result
         (λ w row. row ≡ option_map (file_of w (account.now, reference.now))
@@ -45,7 +45,7 @@ pub fn file<S: Alter>(
     let Some(request) = own_one(alloc, conn, account, reference)? else {
         return Ok(None);
     };
-    Ok(Some(File {
+    Ok(Some(CaseFile {
         request,
         experts,
         advice,

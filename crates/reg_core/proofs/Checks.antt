@@ -16,8 +16,8 @@ use Rattle.reg_ranges.proofs.Treatments.{treatment_above}
 use Rattle.reg_ranges.specs.declared.policy.Policy.{Policy}
 use Rattle.reg_ranges.specs.declared.policy.Treatment.{Treatment}
 use Rattle.reg_ranges.specs.declared.policy.Treatment.TheVariants.{Under, Reserved}
-use Rattle.reg_ranges.specs.declared.evidence.Item.{Item}
-use Rattle.reg_ranges.specs.declared.evidence.Item.TheVariants as item
+use Rattle.reg_ranges.specs.declared.evidence.EvidenceItem.{EvidenceItem}
+use Rattle.reg_ranges.specs.declared.evidence.EvidenceItem.TheVariants as item
 use Rattle.reg_core.specs.Allowance.{◌>>=◌, or_refusal, open_policy, policy_for, is_met, is_met_early, own_entry}
 use Rattle.reg_core.specs.Ask.{has_note_form}
 use Rattle.reg_core.specs.MayBeGiven.{IsUnder}
@@ -101,16 +101,16 @@ least_policy table least policy =
     (λ gone h. absurd (cc))
 
 -- where no item is the first that is missing, none is
-pub all_met : (items : List Item) (met : Unit {0}) → is_met (first_item items) ≡ Ok met → items ≡ []
+pub all_met : (items : List EvidenceItem) (met : Unit {0}) → is_met (first_item items) ≡ Ok met → items ≡ []
 all_met [] met h = refl
 all_met (i ∷ rest) met h = absurd (cc)
 
-pub all_met_early : (items : List Item) (met : Unit {0}) → is_met_early (first_item items) ≡ Ok met
+pub all_met_early : (items : List EvidenceItem) (met : Unit {0}) → is_met_early (first_item items) ≡ Ok met
     → items ≡ []
 all_met_early [] met h = refl
 all_met_early (i ∷ rest) met h = absurd (missing i h)
   where
-    missing : (i : Item) → is_met_early (Some i) ≡ Ok met → ⊥
+    missing : (i : EvidenceItem) → is_met_early (Some i) ≡ Ok met → ⊥
     missing item.Policy h = absurd (cc)
     missing other h = absurd (cc)
 

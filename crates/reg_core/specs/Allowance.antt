@@ -14,8 +14,8 @@ use Rattle.reg_early.specs.declared.term.SettleFault.TheVariants as settle_fault
 use Rattle.reg_ranges.specs.Requirements.{first_item, is_closed_policy, is_expert_policy, unmet}
 use Rattle.reg_ranges.specs.Sameness.{same_treatment}
 use Rattle.reg_ranges.specs.Tables.{Table, treatment_of}
-use Rattle.reg_ranges.specs.declared.evidence.Item.{Item}
-use Rattle.reg_ranges.specs.declared.evidence.Item.TheVariants as item
+use Rattle.reg_ranges.specs.declared.evidence.EvidenceItem.{EvidenceItem}
+use Rattle.reg_ranges.specs.declared.evidence.EvidenceItem.TheVariants as item
 use Rattle.reg_ranges.specs.declared.policy.Policy.{Policy}
 use Rattle.reg_ranges.specs.declared.policy.Treatment.{Treatment}
 use Rattle.reg_ranges.specs.declared.policy.Treatment.TheVariants.{Under, Reserved}
@@ -75,13 +75,13 @@ policy_for table (Value v) =
 policy_for table (Least policy) = open_policy (policy_in table policy)
 
 -- nothing is missing of the evidence that the policy asks for
-abbrev pub is_met : Option Item → Result (Unit {0}) Refusal
+abbrev pub is_met : Option EvidenceItem → Result (Unit {0}) Refusal
 is_met None = Ok tt
 is_met (Some item) = Err (no.Evidence item)
 
 -- nothing is missing of the evidence of an early allocation; under a policy by which none is made,
 -- that is what is wrong
-abbrev pub is_met_early : Option Item → Result (Unit {0}) Refusal
+abbrev pub is_met_early : Option EvidenceItem → Result (Unit {0}) Refusal
 is_met_early None = Ok tt
 is_met_early (Some item.Policy) = Err no.Early
 is_met_early (Some other) = Err (no.Evidence other)

@@ -9,7 +9,7 @@ use Rattle.reg_core.specs.Holding.{holding_row, holding_rows, listed_rows, with_
 use Rattle.reg_core.specs.Page.{page}
 use Rattle.reg_core.specs.Queue.{queue_row, queue_rows, with_advice}
 use Rattle.reg_core.specs.Request.{request_row, request_rows, after}
-use Rattle.reg_core.specs.Rules.{submit_rule, withdraw_rule, listing_rule, agent_rule, advise_rule}
+use Rattle.reg_core.specs.Rules.{submit_rule, withdraw_rule, private_rule, agent_rule, advise_rule}
 use Rattle.reg_core.specs.View.{Published, Queued, Personal, View, requests_by}
 use Rattle.reg_core.specs.World.{RequestName, pending}
 use Rattle.reg_core.specs.declared.ask.Ask.{Ask}
@@ -25,8 +25,8 @@ use Rattle.reg_core.specs.declared.command.ExpertCommand.{ExpertCommand}
 use Rattle.reg_core.specs.declared.command.ExpertCommand.TheVariants.{Queue, Advise}
 use Rattle.reg_core.specs.declared.command.PublicCommand.{PublicCommand}
 use Rattle.reg_core.specs.declared.command.PublicCommand.TheVariants.{Registries, Registry, RegistryListing, PoolList, BlockListing}
-use Rattle.reg_core.specs.declared.content.Content.{Content}
-use Rattle.reg_core.specs.declared.content.Content.TheVariants as content
+use Rattle.reg_core.specs.declared.told.Told.{Told}
+use Rattle.reg_core.specs.declared.told.Told.TheVariants as tells
 use Rattle.reg_core.specs.declared.decide.Decision.{Decision}
 use Rattle.reg_core.specs.declared.decide.Decision.TheVariants.{Make, Same}
 use Rattle.reg_core.specs.declared.refusal.Refusal.{Refusal}
@@ -37,7 +37,7 @@ use Rattle.reg_core.specs.declared.request.Case.{Case}
 
 -- what an accepted command comes to: what the caller is told, and the change, if there is one
 pub record Outcome : Type 0 where
-  pub content : Content
+  pub told : Told
   pub change : Option Change
 
 -- an answer is a refusal, or what the accepted command comes to
@@ -45,7 +45,7 @@ abbrev pub Answer : Type 0
 Answer = Result Outcome Refusal
 
 abbrev pub reply_of : Answer → Reply
-reply_of (Ok outcome) = Accepted outcome.content
+reply_of (Ok outcome) = Accepted outcome.told
 reply_of (Err refusal) = Refused refusal
 
 -- a refusal changes nothing
@@ -54,8 +54,8 @@ change_of (Ok outcome) = outcome.change
 change_of (Err refusal) = None
 
 -- the caller is told something, and nothing changes
-abbrev pub unchanged : Content → Answer
-unchanged content = Ok (record { content = content; change = None })
+abbrev pub unchanged : Told → Answer
+unchanged told = Ok (record { told = told; change = None })
 
 -- the change of a decision, if there is one
 abbrev pub change_by : Decision → Option Change
@@ -63,9 +63,9 @@ change_by Same = None
 change_by (Make change) = Some change
 
 -- a rule's refusal; or what its decision comes to, and the caller is told what goes with it
-abbrev pub by_rule : Result Decision Refusal → (Decision → Content) → Answer
+abbrev pub by_rule : Result Decision Refusal → (Decision → Told) → Answer
 by_rule (Err refusal) told = Err refusal
-by_rule (Ok decision) told = Ok (record { content = told decision; change = change_by decision })
+by_rule (Ok decision) told = Ok (record { told = told decision; change = change_by decision })
 
 -- a request after a decision about it
 abbrev pub case_by : Decision → Case → Case
@@ -73,24 +73,24 @@ case_by Same case = case
 case_by (Make change) case = after change case
 
 -- a request as its applicant sees it, and as the desk does
-abbrev pub own_row : RequestName → Case → Content
-own_row name case = content.Row (request_row name case)
+abbrev pub own_row : RequestName → Case → Told
+own_row name case = tells.Row (request_row name case)
 
-abbrev pub desk_row : RequestName → Case → Content
-desk_row name case = content.Desk (request_row name case)
+abbrev pub desk_row : RequestName → Case → Told
+desk_row name case = tells.Desk (request_row name case)
 
 -- ---- Anybody
 
 abbrev pub public_answer : Published → ℕ → PublicCommand → Answer
-public_answer p today Registries = unchanged (content.Names (keys p.registries))
+public_answer p today Registries = unchanged (tells.Names (keys p.registries))
 public_answer p today (Registry name) = do
   table ← or_refusal no.Registry (get p.registries name)
-  unchanged (content.Page (page p name table today))
+  unchanged (tells.Page (page p name table today))
 public_answer p today (RegistryListing name) = do
   table ← or_refusal no.Registry (get p.registries name)
-  unchanged (content.Listing (page p name table today))
-public_answer p today PoolList = unchanged (content.Pool (keys p.pool))
-public_answer p today BlockListing = unchanged (content.Blocks (listed_rows p.blocks))
+  unchanged (tells.Listing (page p name table today))
+public_answer p today PoolList = unchanged (tells.Pool (keys p.pool))
+public_answer p today BlockListing = unchanged (tells.Blocks (listed_rows p.blocks))
 
 -- ---- Admission
 
@@ -112,12 +112,12 @@ as_kind kind (Some me) moment f = do
 -- ---- An applicant
 
 -- what is told of a request that its applicant makes, or made before
-abbrev pub made_row : RequestName → Ask → Option Case → Content
-made_row name ask None = content.Made (request_row name (pending ask))
+abbrev pub made_row : RequestName → Ask → Option Case → Told
+made_row name ask None = tells.Made (request_row name (pending ask))
 made_row name ask (Some case) = own_row name case
 
 abbrev pub own_answer : Published → List ℕ → Personal → ApplicantCommand → Answer
-own_answer p account my Own = unchanged (content.Rows (request_rows my.requests))
+own_answer p account my Own = unchanged (tells.Rows (request_rows my.requests))
 own_answer p account my (OwnOne reference) = do
   case ← or_refusal no.Request (get my.requests (account, reference))
   unchanged (own_row (account, reference) case)
@@ -125,19 +125,19 @@ own_answer p account my (Withdraw reference) = do
   case ← or_refusal no.Request (get my.requests (account, reference))
   by_rule (withdraw_rule (account, reference) case.state)
       (λ decision. own_row (account, reference) (case_by decision case))
-own_answer p account my Holdings = unchanged (content.Holdings (holding_rows my.holdings))
+own_answer p account my Holdings = unchanged (tells.Holdings (holding_rows my.holdings))
 own_answer p account my (SetListing block private) = do
   h ← or_refusal no.Holding (get my.holdings block)
-  by_rule (Ok (listing_rule block private h.private))
-      (λ decision. content.Held (holding_row block (with_mark private h)))
+  by_rule (Ok (private_rule block private h.private))
+      (λ decision. tells.Held (holding_row block (with_mark private h)))
 own_answer p account my (SetAgent agent reads) =
     by_rule (agent_rule (account, agent) reads (contains_key my.agents (account, agent)))
-    (λ decision. content.Agent agent reads)
-own_answer p account my Agents = unchanged (content.Accounts (agent_rows my.agents))
-own_answer p account my Principals = unchanged (content.Accounts (principal_names my.principals))
+    (λ decision. tells.Agent agent reads)
+own_answer p account my Agents = unchanged (tells.Accounts (agent_rows my.agents))
+own_answer p account my Principals = unchanged (tells.Accounts (principal_names my.principals))
 own_answer p account my (PrincipalRows principal) = do
   link ← or_refusal no.Principal (get my.principals (principal, account))
-  unchanged (content.Rows (request_rows (requests_by principal my.principal_rows)))
+  unchanged (tells.Rows (request_rows (requests_by principal my.principal_rows)))
 own_answer p account my (Submit reference ask) =
     let existing = get my.requests (account, reference) in
     by_rule (submit_rule (allowed p account ask) (account, reference) ask existing)
@@ -146,11 +146,11 @@ own_answer p account my (Submit reference ask) =
 -- ---- An expert
 
 -- a queued request, as its expert sees it
-abbrev pub item : RequestName → Queued → Content
-item name queued = content.Item (queue_row name queued)
+abbrev pub item : RequestName → Queued → Told
+item name queued = tells.Queued (queue_row name queued)
 
 abbrev pub expert_answer : List ℕ → Personal → ExpertCommand → Answer
-expert_answer account my Queue = unchanged (content.Items (queue_rows my.queue))
+expert_answer account my Queue = unchanged (tells.Queue (queue_rows my.queue))
 expert_answer account my (Advise applicant reference advice) = do
   queued ← or_refusal no.Request (get my.queue (applicant, reference))
   by_rule (advise_rule (applicant, reference) account advice queued.advice queued.word)

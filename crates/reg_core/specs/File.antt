@@ -7,7 +7,7 @@ use Rattle.reg_core.specs.Request.{request_row}
 use Rattle.reg_core.specs.World.{World, RequestName, Seat, seat_cmp}
 use Rattle.reg_core.specs.declared.advice.Advice.{Advice}
 use Rattle.reg_core.specs.declared.advice.Opinion.{Opinion}
-use Rattle.reg_core.specs.declared.file.File.{File}
+use Rattle.reg_core.specs.declared.case_file.CaseFile.{CaseFile}
 use Rattle.reg_core.specs.declared.request.Case.{Case}
 
 abbrev pub same_name : RequestName → RequestName → Bool
@@ -28,7 +28,7 @@ opinion seat advice = record { expert = seat.1; advice = advice }
 abbrev pub opinions_of : World → RequestName → List Opinion
 opinions_of w name = map (λ e. opinion e.0 e.1) (entries (seats_of name w.advice))
 
-abbrev pub file : World → RequestName → Case → File
+abbrev pub file : World → RequestName → Case → CaseFile
 file w name case =
     record {
       request = request_row name case;

@@ -5,7 +5,7 @@ use Rattle.reg_early.specs.EarlyRequirements.{is_eligible, early_unmet}
 use Rattle.reg_ranges.specs.Requirements.{is_closed_policy, unmet}
 use Rattle.reg_ranges.specs.Sameness.{same_treatment}
 use Rattle.reg_ranges.specs.Tables.{Table, treatment_of}
-use Rattle.reg_ranges.specs.declared.evidence.Item.{Item}
+use Rattle.reg_ranges.specs.declared.evidence.EvidenceItem.{EvidenceItem}
 use Rattle.reg_ranges.specs.declared.policy.Policy.{Policy}
 use Rattle.reg_ranges.specs.declared.policy.Treatment.TheVariants.{Under}
 use Rattle.reg_core.specs.Allowance.{Ground, allowance_on}
@@ -80,7 +80,7 @@ IsNotEarly (Renew ask) policy = is_eligible policy ask.evidence.will_be_rfc ≡ 
 IsNotEarly ask policy = ⊥
 
 -- the item is asked for, and not met
-abbrev pub Lacks : Ask → Item → Policy → Type 0
+abbrev pub Lacks : Ask → EvidenceItem → Policy → Type 0
 Lacks (Code ask) item policy = Contains (unmet policy ask.evidence) item
 Lacks (Early ask) item policy = Contains (early_unmet policy ask.evidence) item
 Lacks (Renew ask) item policy = Contains (early_unmet policy ask.evidence) item

@@ -36,8 +36,8 @@ use Rattle.reg_core.specs.declared.command.ApplicantCommand.TheVariants.{Own, Ow
 use Rattle.reg_core.specs.declared.command.ExpertCommand.TheVariants.{Queue, Advise}
 use Rattle.reg_core.specs.declared.command.ClerkCommand.TheVariants.{AllRequests, OneRequest, AssignExpert, Approve, Decline, SetHold, Define, AddPool, Grant, Revoke}
 use Rattle.reg_core.specs.declared.command.PublicCommand.TheVariants.{Registries, Registry, RegistryListing, PoolList, BlockListing}
-use Rattle.reg_core.specs.declared.content.Content.{Content}
-use Rattle.reg_core.specs.declared.content.Content.TheVariants.{Names, Page, Listing, Pool, Blocks, Made, Row, Rows, Held, Holdings, Agent, Accounts, Item, Items, Desk, Desks, Filed, Marked, Defined, Pooled, Granted, Revoked}
+use Rattle.reg_core.specs.declared.told.Told.{Told}
+use Rattle.reg_core.specs.declared.told.Told.TheVariants.{Names, Page, Listing, Pool, Blocks, Made, Row, Rows, Held, Holdings, Agent, Accounts, Queued, Queue, Desk, Desks, Filed, Marked, Defined, Pooled, Granted, Revoked}
 use Rattle.reg_core.specs.declared.holding.Holder.{Holder}
 use Rattle.reg_core.specs.declared.refusal.Refusal.{Refusal}
 use Rattle.reg_core.specs.declared.reply.Reply.{Reply}
@@ -98,7 +98,7 @@ IsApproved state = (given : Given) × (state ≡ Approved given)
 
 -- the world after a command on a day, by a caller with this capability or with none, has what the
 -- caller is told, and that is about what was asked
-abbrev pub IsDone : (List ℕ → List ℕ) → World → Option Cap → ℕ → Command → Content → Type 0
+abbrev pub IsDone : (List ℕ → List ℕ) → World → Option Cap → ℕ → Command → Told → Type 0
 IsDone digest_of w by today (Public Registries) (Names names) = names ≡ keys w.registries
 IsDone digest_of w by today (Public (Registry name)) (Page page) = Shows w name today page
 IsDone digest_of w by today (Public (RegistryListing name)) (Listing page) =
@@ -131,9 +131,9 @@ IsDone digest_of w by today (Applicant Principals) (Accounts names) =
 IsDone digest_of w by today (Applicant (PrincipalRows principal)) (Rows rows) =
     (cap : Cap) × (by ≡ Some cap) × (contains_key w.agents (principal, cap.account) ≡ true)
     × OwnList w principal rows
-IsDone digest_of w by today (Expert Queue) (Items rows) =
+IsDone digest_of w by today (Expert Queue) (Queue rows) =
     (cap : Cap) × (by ≡ Some cap) × QueueList w cap.account rows
-IsDone digest_of w by today (Expert (Advise account reference advice)) (Item row) =
+IsDone digest_of w by today (Expert (Advise account reference advice)) (Queued row) =
     (row.advice ≡ Some advice) × (cap : Cap) × (by ≡ Some cap)
     × IsItem w cap.account account reference row
 IsDone digest_of w by today (Clerk AllRequests) (Desks rows) = rows ≡ request_rows w.requests
@@ -154,12 +154,12 @@ IsDone digest_of w by today (Clerk (AddPool prefix)) (Pooled given) =
 IsDone digest_of w by today (Clerk (Grant token cap)) (Granted given) =
     (given ≡ cap) × (get w.caps (digest_of token) ≡ Some cap)
 IsDone digest_of w by today (Clerk (Revoke token)) Revoked = get w.caps (digest_of token) ≡ None
-IsDone digest_of w by today command content = ⊥
+IsDone digest_of w by today command told = ⊥
 
 -- a refusal says nothing of the world
 abbrev pub WasDone : (List ℕ → List ℕ) → World → Option Cap → ℕ → Command → Reply → Type 0
-WasDone digest_of w by today command (Accepted content) =
-    IsDone digest_of w by today command content
+WasDone digest_of w by today command (Accepted told) =
+    IsDone digest_of w by today command told
 WasDone digest_of w by today command (Refused refusal) = Unit {0}
 
 abbrev pub AnswersAreDone : (List ℕ → List ℕ) → Type 0
@@ -238,7 +238,7 @@ RefusalsChangeNothing digest_of =
 -- ---- Repeats act once
 
 abbrev pub is_refused : Reply → Bool
-is_refused (Accepted content) = false
+is_refused (Accepted told) = false
 is_refused (Refused refusal) = true
 
 -- the caller's capability is valid, for the same account and of the same kind as it was

@@ -16,7 +16,7 @@ use Rattle.reg_core.specs.World.{World, name_cmp}
 use Rattle.reg_core.specs.declared.capability.Cap.{Cap}
 use Rattle.reg_core.specs.declared.entry.PageEntry.{PageEntry}
 use Rattle.reg_core.specs.declared.entry.Registration.{Registration}
-use Rattle.reg_core.specs.declared.file.File.{File}
+use Rattle.reg_core.specs.declared.case_file.CaseFile.{CaseFile}
 use Rattle.reg_core.specs.declared.holding.Holder.{Holder}
 use Rattle.reg_core.specs.declared.holding.Holding.{Holding}
 use Rattle.reg_core.specs.declared.holding.Listed.{Listed}
@@ -117,7 +117,7 @@ abbrev pub IsOwnRow : World → Option Cap → List ℕ → Request → Type 0
 IsOwnRow w by reference row = (cap : Cap) × (by ≡ Some cap) × IsRow w cap.account reference row
 
 -- the file is of the request of this name, with all its experts and all advice on it
-abbrev pub IsFile : World → List ℕ → List ℕ → File → Type 0
+abbrev pub IsFile : World → List ℕ → List ℕ → CaseFile → Type 0
 IsFile w account reference file =
     IsRow w account reference file.request
     × (file.experts ≡ experts_of w (account, reference))

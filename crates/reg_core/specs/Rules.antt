@@ -49,11 +49,11 @@ withdraw_rule name (Declined reason) = Err Closed
 withdraw_rule name Withdrawn = Ok Same
 
 -- a block is given the mark that is asked for, unless it has that mark
-abbrev pub listing_rule : SizedPrefix → Bool → Bool → Decision
-listing_rule block true true = Same
-listing_rule block false false = Same
-listing_rule block true false = Make (SetPrivate block true)
-listing_rule block false true = Make (SetPrivate block false)
+abbrev pub private_rule : SizedPrefix → Bool → Bool → Decision
+private_rule block true true = Same
+private_rule block false false = Same
+private_rule block true false = Make (SetPrivate block true)
+private_rule block false true = Make (SetPrivate block false)
 
 -- a link is there from now on, or is not, unless it is so already
 abbrev pub link_rule : Link → Bool → Bool → Decision

@@ -17,8 +17,8 @@ use Rattle.reg_core.specs.declared.command.Command.{Command}
 use Rattle.reg_core.specs.declared.command.Command.TheVariants as command
 use Rattle.reg_core.specs.declared.command.ClerkCommand.{ClerkCommand}
 use Rattle.reg_core.specs.declared.command.ClerkCommand.TheVariants.{AllRequests, OneRequest, AssignExpert, Approve, Decline, SetHold, Define, AddPool, Grant, Revoke}
-use Rattle.reg_core.specs.declared.content.Content.{Content}
-use Rattle.reg_core.specs.declared.content.Content.TheVariants as content
+use Rattle.reg_core.specs.declared.told.Told.{Told}
+use Rattle.reg_core.specs.declared.told.Told.TheVariants as tells
 use Rattle.reg_core.specs.declared.decide.Decision.{Decision}
 use Rattle.reg_core.specs.declared.refusal.Refusal.TheVariants as no
 use Rattle.reg_core.specs.declared.reply.Reply.{Reply}
@@ -42,17 +42,17 @@ abbrev pub stepped : World → Answer → Stepped
 stepped w a = record { reply = reply_of a; world = applied_if w (change_of a) }
 
 -- what the desk is told after a decision about a request
-abbrev pub desk_by : RequestName → Case → Decision → Content
+abbrev pub desk_by : RequestName → Case → Decision → Told
 desk_by name case decision = desk_row name (case_by decision case)
 
 module _ (digest_of : List ℕ → List ℕ) where
   -- a clerk is answered on a day over the whole world; in_use is the digest of the clerk's own
   -- token
   abbrev pub clerk_answer : World → List ℕ → ℕ → ClerkCommand → Answer
-  clerk_answer w in_use today AllRequests = unchanged (content.Desks (request_rows w.requests))
+  clerk_answer w in_use today AllRequests = unchanged (tells.Desks (request_rows w.requests))
   clerk_answer w in_use today (OneRequest account reference) = do
     case ← or_refusal no.Request (get w.requests (account, reference))
-    unchanged (content.Filed (file w (account, reference) case))
+    unchanged (tells.Filed (file w (account, reference) case))
   clerk_answer w in_use today (AssignExpert account reference expert) = do
     case ← or_refusal no.Request (get w.requests (account, reference))
     by_rule (assign_rule (account, reference) expert
@@ -71,17 +71,17 @@ module _ (digest_of : List ℕ → List ℕ) where
     table ← or_refusal no.Registry (get w.registries name)
     a ← or_refusal no.Entry (get w.entries (name, value))
     by_rule (hold_rule (name, value) held a.term today)
-        (λ decision. content.Marked (page_entry today value (with_hold held a)))
+        (λ decision. tells.Marked (page_entry today value (with_hold held a)))
   clerk_answer w in_use today (Define name table) =
-      by_rule (define_rule (get w.registries name) name table) (λ decision. content.Defined name)
+      by_rule (define_rule (get w.registries name) name table) (λ decision. tells.Defined name)
   clerk_answer w in_use today (AddPool prefix) =
-      by_rule (pool_rule (contains_key w.pool prefix) prefix) (λ decision. content.Pooled prefix)
+      by_rule (pool_rule (contains_key w.pool prefix) prefix) (λ decision. tells.Pooled prefix)
   clerk_answer w in_use today (Grant token cap) =
       by_rule (grant_rule (get w.caps (digest_of token)) (digest_of token) cap)
-      (λ decision. content.Granted cap)
+      (λ decision. tells.Granted cap)
   clerk_answer w in_use today (Revoke token) =
       by_rule (revoke_rule in_use (get w.caps (digest_of token)) (digest_of token))
-      (λ decision. content.Revoked)
+      (λ decision. tells.Revoked)
 
   -- a clerk's command; a caller who acts as no clerk is answered as any other is
   abbrev pub clerk_answer_to : World → Option (List ℕ) → ℕ → ClerkCommand → Answer

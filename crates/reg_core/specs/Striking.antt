@@ -8,8 +8,8 @@ use Rattle.reg_core.specs.Unseen.{Stage, stages, is_unseen, kept_stages, struck}
 use Rattle.reg_core.specs.View.{published, cap_at, view_of}
 use Rattle.reg_core.specs.World.{World, RequestName}
 use Rattle.reg_core.specs.declared.capability.Cap.{Cap}
-use Rattle.reg_core.specs.declared.content.Content.{Content}
-use Rattle.reg_core.specs.declared.content.Content.TheVariants as content
+use Rattle.reg_core.specs.declared.told.Told.{Told}
+use Rattle.reg_core.specs.declared.told.Told.TheVariants as tells
 use Rattle.reg_core.specs.declared.queue.QueueRow.{QueueRow}
 use Rattle.reg_core.specs.declared.reply.Reply.{Reply}
 use Rattle.reg_core.specs.declared.reply.Reply.TheVariants.{Accepted, Refused}
@@ -38,33 +38,33 @@ is_others account (Some cap) = not (same_text cap.account account)
 
 -- what is told lists all requests, or those that another account made, is assigned to, or may read as
 -- an agent
-abbrev pub lists_others : List ℕ → Option Cap → Content → Bool
-lists_others account cap (content.Names names) = false
-lists_others account cap (content.Page page) = false
-lists_others account cap (content.Listing page) = false
-lists_others account cap (content.Pool prefixes) = false
-lists_others account cap (content.Blocks rows) = false
-lists_others account cap (content.Made row) = false
-lists_others account cap (content.Row row) = false
-lists_others account cap (content.Rows rows) = is_others account cap
-lists_others account cap (content.Held row) = false
-lists_others account cap (content.Holdings rows) = false
-lists_others account cap (content.Agent agent reads) = false
-lists_others account cap (content.Accounts names) = false
-lists_others account cap (content.Item row) = false
-lists_others account cap (content.Items rows) = is_others account cap
-lists_others account cap (content.Desk row) = false
-lists_others account cap (content.Desks rows) = true
-lists_others account cap (content.Filed file) = false
-lists_others account cap (content.Marked entry) = false
-lists_others account cap (content.Defined name) = false
-lists_others account cap (content.Pooled prefix) = false
-lists_others account cap (content.Granted given) = false
-lists_others account cap content.Revoked = false
+abbrev pub lists_others : List ℕ → Option Cap → Told → Bool
+lists_others account cap (tells.Names names) = false
+lists_others account cap (tells.Page page) = false
+lists_others account cap (tells.Listing page) = false
+lists_others account cap (tells.Pool prefixes) = false
+lists_others account cap (tells.Blocks rows) = false
+lists_others account cap (tells.Made row) = false
+lists_others account cap (tells.Row row) = false
+lists_others account cap (tells.Rows rows) = is_others account cap
+lists_others account cap (tells.Held row) = false
+lists_others account cap (tells.Holdings rows) = false
+lists_others account cap (tells.Agent agent reads) = false
+lists_others account cap (tells.Accounts names) = false
+lists_others account cap (tells.Queued row) = false
+lists_others account cap (tells.Queue rows) = is_others account cap
+lists_others account cap (tells.Desk row) = false
+lists_others account cap (tells.Desks rows) = true
+lists_others account cap (tells.Filed file) = false
+lists_others account cap (tells.Marked entry) = false
+lists_others account cap (tells.Defined name) = false
+lists_others account cap (tells.Pooled prefix) = false
+lists_others account cap (tells.Granted given) = false
+lists_others account cap tells.Revoked = false
 
 -- a refusal lists nothing
 abbrev pub reply_lists_others : List ℕ → Option Cap → Reply → Bool
-reply_lists_others account cap (Accepted content) = lists_others account cap content
+reply_lists_others account cap (Accepted told) = lists_others account cap told
 reply_lists_others account cap (Refused refusal) = false
 
 -- the rows of requests that are seen, in order
@@ -75,32 +75,32 @@ abbrev pub queue_without : (RequestName → Bool) → List QueueRow → List Que
 queue_without unseen rows = filter (λ row. not (unseen (row.account, row.reference))) rows
 
 -- what is told without the rows of unseen requests, where it lists requests
-abbrev pub content_without : (RequestName → Bool) → Content → Content
-content_without unseen (content.Names names) = content.Names names
-content_without unseen (content.Page page) = content.Page page
-content_without unseen (content.Listing page) = content.Listing page
-content_without unseen (content.Pool prefixes) = content.Pool prefixes
-content_without unseen (content.Blocks rows) = content.Blocks rows
-content_without unseen (content.Made row) = content.Made row
-content_without unseen (content.Row row) = content.Row row
-content_without unseen (content.Rows rows) = content.Rows (requests_without unseen rows)
-content_without unseen (content.Held row) = content.Held row
-content_without unseen (content.Holdings rows) = content.Holdings rows
-content_without unseen (content.Agent agent reads) = content.Agent agent reads
-content_without unseen (content.Accounts names) = content.Accounts names
-content_without unseen (content.Item row) = content.Item row
-content_without unseen (content.Items rows) = content.Items (queue_without unseen rows)
-content_without unseen (content.Desk row) = content.Desk row
-content_without unseen (content.Desks rows) = content.Desks (requests_without unseen rows)
-content_without unseen (content.Filed file) = content.Filed file
-content_without unseen (content.Marked entry) = content.Marked entry
-content_without unseen (content.Defined name) = content.Defined name
-content_without unseen (content.Pooled prefix) = content.Pooled prefix
-content_without unseen (content.Granted cap) = content.Granted cap
-content_without unseen content.Revoked = content.Revoked
+abbrev pub told_without : (RequestName → Bool) → Told → Told
+told_without unseen (tells.Names names) = tells.Names names
+told_without unseen (tells.Page page) = tells.Page page
+told_without unseen (tells.Listing page) = tells.Listing page
+told_without unseen (tells.Pool prefixes) = tells.Pool prefixes
+told_without unseen (tells.Blocks rows) = tells.Blocks rows
+told_without unseen (tells.Made row) = tells.Made row
+told_without unseen (tells.Row row) = tells.Row row
+told_without unseen (tells.Rows rows) = tells.Rows (requests_without unseen rows)
+told_without unseen (tells.Held row) = tells.Held row
+told_without unseen (tells.Holdings rows) = tells.Holdings rows
+told_without unseen (tells.Agent agent reads) = tells.Agent agent reads
+told_without unseen (tells.Accounts names) = tells.Accounts names
+told_without unseen (tells.Queued row) = tells.Queued row
+told_without unseen (tells.Queue rows) = tells.Queue (queue_without unseen rows)
+told_without unseen (tells.Desk row) = tells.Desk row
+told_without unseen (tells.Desks rows) = tells.Desks (requests_without unseen rows)
+told_without unseen (tells.Filed file) = tells.Filed file
+told_without unseen (tells.Marked entry) = tells.Marked entry
+told_without unseen (tells.Defined name) = tells.Defined name
+told_without unseen (tells.Pooled prefix) = tells.Pooled prefix
+told_without unseen (tells.Granted cap) = tells.Granted cap
+told_without unseen tells.Revoked = tells.Revoked
 
 abbrev pub reply_without : (RequestName → Bool) → Reply → Reply
-reply_without unseen (Accepted content) = Accepted (content_without unseen content)
+reply_without unseen (Accepted told) = Accepted (told_without unseen told)
 reply_without unseen (Refused refusal) = Refused refusal
 
 -- ---- Striking

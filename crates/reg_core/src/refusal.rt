@@ -1,6 +1,6 @@
 //! Why the office refuses a command.
 
-use reg_ranges::evidence::Item;
+use reg_ranges::evidence::EvidenceItem;
 
 /// Why the office refuses a command. A refusal changes nothing, and each command meets its
 /// refusals in the order in which they stand here.
@@ -32,7 +32,7 @@ pub enum Refusal {
     Early,
     /// The policy asks for this item of evidence, or an early allocation does, and it is not met
     /// (RFC 8126 section 4, RFC 7120 section 2).
-    Evidence(Item),
+    Evidence(EvidenceItem),
     /// The value has no entry that is the applicant's; where a clerk marks it as held, it has none.
     Entry,
     /// The entry has no expiry: there is nothing to renew, to make permanent, or to hold.

@@ -2,14 +2,14 @@
 ghost use Rattle.std.specs.Prelude.{◌≡◌};
 ghost use Rattle.reg_core.specs.Laws.{is_refused as refused};
 
-use crate::content::Content;
 use crate::refusal::Refusal;
+use crate::told::Told;
 
 /// What the office answers to a command.
 #[derive(Drop)]
 pub enum Reply {
     /// The command was accepted.
-    Accepted(Content),
+    Accepted(Told),
     /// The command was refused.
     Refused(Refusal),
 }

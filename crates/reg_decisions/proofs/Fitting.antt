@@ -18,7 +18,7 @@ use Rattle.reg_core.specs.Capability.{last_until, has_cap_form}
 use Rattle.reg_core.specs.Entry.{has_day_form}
 use Rattle.reg_core.specs.Laws.{GivesDigests, ChangesFit, IsOfAsk}
 use Rattle.reg_core.specs.Names.{is_name, is_digest}
-use Rattle.reg_core.specs.Rules.{withdraw_rule, listing_rule, agent_rule, decline_rule, hold_rule, assign_rule, advise_rule, change_to_give, approve_rule, define_rule, pool_rule, grant_rule, revoke_rule, submit_rule}
+use Rattle.reg_core.specs.Rules.{withdraw_rule, private_rule, agent_rule, decline_rule, hold_rule, assign_rule, advise_rule, change_to_give, approve_rule, define_rule, pool_rule, grant_rule, revoke_rule, submit_rule}
 use Rattle.reg_core.specs.View.{Queued, published, cap_at}
 use Rattle.reg_core.specs.WellKept.{WellKept, CanApply, has_grant_form, has_registry_form, has_request_form}
 use Rattle.reg_core.specs.World.{World, Link, Place, RequestName, pending}
@@ -101,9 +101,9 @@ withdraw_fits w name case change kept is_there made =
 -- a mark that is to be set fits the world that has this block
 pub listing_fits : (w : World) (block : SizedPrefix) (private : Bool) (h : Holder)
     (change : Change) → WellKept w → get w.blocks block ≡ Some h
-    → listing_rule block private h.private ≡ Make change → CanApply w change
+    → private_rule block private h.private ≡ Make change → CanApply w change
 listing_fits w block private h change kept is_there made =
-    where_made (Lists block private h.private) (Ok (listing_rule block private h.private)) change
+    where_made (Lists block private h.private) (Ok (private_rule block private h.private)) change
     (listing_decides block private h.private) (ap Ok made) (CanApply w)
     (λ other. can_mark w block private h kept is_there)
 

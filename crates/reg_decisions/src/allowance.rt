@@ -22,7 +22,7 @@ use reg_core::text::Account;
 use reg_early::evidence::EarlyEvidence;
 use reg_early::requirements::early_missing;
 use reg_early::term::{RenewFault, SettleFault, Term};
-use reg_ranges::evidence::{Evidence, Item};
+use reg_ranges::evidence::{Evidence, EvidenceItem};
 use reg_ranges::policy::{Policy, Treatment};
 use reg_ranges::range::Range;
 use reg_ranges::requirements::{missing, needs_expert};
@@ -322,7 +322,7 @@ fn check_early_evidence(policy: Policy, evidence: &EarlyEvidence) -> Result<(), 
 {
     match early_missing(policy, evidence) {
         None => Ok(()),
-        Some(Item::Policy) => Err(Refusal::Early),
+        Some(EvidenceItem::Policy) => Err(Refusal::Early),
         Some(item) => Err(Refusal::Evidence(item)),
     }
 }

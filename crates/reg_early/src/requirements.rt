@@ -4,33 +4,33 @@ ghost use Rattle.reg_ranges.specs.Requirements.{first_item};
 ghost use Rattle.reg_early.specs.EarlyRequirements.{early_unmet, is_eligible};
 
 use crate::evidence::EarlyEvidence;
-use reg_ranges::evidence::Item;
+use reg_ranges::evidence::EvidenceItem;
 use reg_ranges::policy::Policy;
 
 /// The first item that an early allocation under the policy asks for and that is not met, in the
 /// order policy, draft, stable, interest, chair, director; or none where all are met. Policy is met
 /// under RFC Required, IETF Review and Standards Action, and under Specification Required where the
 /// specification will be published as an RFC.
-pub fn early_missing(policy: Policy, evidence: &EarlyEvidence) -> Option<Item>
+pub fn early_missing(policy: Policy, evidence: &EarlyEvidence) -> Option<EvidenceItem>
     ensures { result ≡ first_item (early_unmet policy evidence.now) }
 {
     if !is_eligible(policy, evidence.will_be_rfc) {
-        return Some(Item::Policy);
+        return Some(EvidenceItem::Policy);
     }
     if evidence.draft.is_none() {
-        return Some(Item::Draft);
+        return Some(EvidenceItem::Draft);
     }
     if !evidence.stable {
-        return Some(Item::Stable);
+        return Some(EvidenceItem::Stable);
     }
     if !evidence.interest {
-        return Some(Item::Interest);
+        return Some(EvidenceItem::Interest);
     }
     if evidence.chair.is_none() {
-        return Some(Item::Chair);
+        return Some(EvidenceItem::Chair);
     }
     if evidence.director.is_none() {
-        return Some(Item::Director);
+        return Some(EvidenceItem::Director);
     }
     None
 }

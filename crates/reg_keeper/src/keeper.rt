@@ -23,9 +23,9 @@ use reg_blocks::block::Block;
 use reg_blocks::pool::Pool;
 use reg_blocks::size::Size;
 use reg_core::capability::Cap;
+use reg_core::case_file::CaseFile;
 use reg_core::change::Change;
 use reg_core::entry::Entry;
-use reg_core::file::File;
 use reg_core::holding::{Holding, Listed};
 use reg_core::queue::QueueRow;
 use reg_core::request::Request;
@@ -164,7 +164,7 @@ pub trait Keeper {
 
     /// The request of an account under a reference, with its experts and all advice on it, by
     /// expert.
-    fn file(&mut self, account: &Account, reference: &Ref) -> Result<Option<File>, Fault>
+    fn file(&mut self, account: &Account, reference: &Ref) -> Result<Option<CaseFile>, Fault>
         ensures { Selects world Holds Sound FAILS self.old self.new result
             (λ w row. row ≡ option_map (file_of w (account.now, reference.now))
             (get w.requests (account.now, reference.now))) };

@@ -25,7 +25,7 @@ use Rattle.reg_core.specs.declared.capability.Cap.{Cap}
 use Rattle.reg_core.specs.declared.capability.Kind.TheVariants as kind
 use Rattle.reg_core.specs.declared.command.Command.TheVariants.{Applicant}
 use Rattle.reg_core.specs.declared.command.ApplicantCommand.TheVariants as applicant
-use Rattle.reg_core.specs.declared.content.Content.{Content}
+use Rattle.reg_core.specs.declared.told.Told.{Told}
 use Rattle.reg_core.specs.declared.decide.Decision.{Decision}
 use Rattle.reg_core.specs.declared.decide.Decision.TheVariants.{Same}
 use Rattle.reg_core.specs.declared.entry.Registration.{Registration}
@@ -195,7 +195,7 @@ submitted reference ask allowance account my =
 -- an ask that is refused changes nothing, nor does one that was submitted before
 module _ (reference : List ℕ) (ask : Ask) (allowance : Result Given Refusal)
     (vain : Refuses allowance) (moment : ℕ) where
-  no_change_by : (name : RequestName) (told : Decision → Content) (existing : Option Case)
+  no_change_by : (name : RequestName) (told : Decision → Told) (existing : Option Case)
       → change_of (by_rule (submit_rule allowance name ask existing) told) ≡ None
   no_change_by name told (Some old) =
       by_test (λ r. change_of (by_rule r told) ≡ None) (same_ask old.ask ask) (Ok Same)

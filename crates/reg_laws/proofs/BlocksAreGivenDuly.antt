@@ -15,7 +15,7 @@ use Rattle.reg_core.specs.Ask.{same_size}
 use Rattle.reg_core.specs.BlocksGiven.{BlocksAreApart, IsDueIn, IsBlockGivenDuly, BlockAsksAreServedDuly, AreHidden, PrivateHoldersAreHidden, IsNotHeld, ForeignBlocksAreHidden}
 use Rattle.reg_core.specs.Holding.{masked, masked_blocks, Shown, holding_row, with_mark}
 use Rattle.reg_core.specs.Laws.{GivesDigests}
-use Rattle.reg_core.specs.Rules.{listing_rule}
+use Rattle.reg_core.specs.Rules.{private_rule}
 use Rattle.reg_core.specs.Run.{world_after}
 use Rattle.reg_core.specs.Step.{answer_to}
 use Rattle.reg_core.specs.View.{published, Personal, personal, holdings_of, view_of, cap_at, with_personal}
@@ -28,7 +28,7 @@ use Rattle.reg_core.specs.declared.capability.Cap.{Cap}
 use Rattle.reg_core.specs.declared.capability.Kind.TheVariants as kind
 use Rattle.reg_core.specs.declared.command.Command.TheVariants.{Applicant}
 use Rattle.reg_core.specs.declared.command.ApplicantCommand.TheVariants.{SetListing}
-use Rattle.reg_core.specs.declared.content.Content.TheVariants as content
+use Rattle.reg_core.specs.declared.told.Told.TheVariants as tells
 use Rattle.reg_core.specs.declared.holding.Holder.{Holder}
 use Rattle.reg_core.specs.declared.holding.Holding.{Holding}
 use Rattle.reg_core.specs.declared.refusal.Refusal.{Refusal}
@@ -256,8 +256,8 @@ module _ (digest_of : List ℕ → List ℕ) (w : World) (caller : Option (List 
       listing : Personal → Answer
       listing my =
           or_refusal no.Holding (get my.holdings block) >>= (λ (h : Holder).
-          by_rule (Ok (listing_rule block private h.private))
-          (λ decision. content.Held (holding_row block (with_mark private h))))
+          by_rule (Ok (private_rule block private h.private))
+          (λ decision. tells.Held (holding_row block (with_mark private h))))
 
       by : (o : Option Cap) → cap_at w caller ≡ o
           → as_kind kind.Applicant (option_map (with_personal w) o) moment
@@ -270,8 +270,8 @@ module _ (digest_of : List ℕ → List ℕ) (w : World) (caller : Option (List 
           ap (λ (x : Option Holder).
           admitted (Some cap) moment kind.Applicant >>= (λ (c : Cap).
           or_refusal no.Holding x >>= (λ (h : Holder).
-          by_rule (Ok (listing_rule block private h.private))
-          (λ decision. content.Held (holding_row block (with_mark private h)))))) gone
+          by_rule (Ok (private_rule block private h.private))
+          (λ decision. tells.Held (holding_row block (with_mark private h)))))) gone
 
 pub foreign_hidden : (digest_of : List ℕ → List ℕ) → ForeignBlocksAreHidden digest_of
 foreign_hidden digest_of w caller moment a b private other not_a not_b =

@@ -22,7 +22,7 @@ use Rattle.reg_core.specs.declared.command.ClerkCommand.{ClerkCommand}
 use Rattle.reg_core.specs.declared.command.Command.{Command}
 use Rattle.reg_core.specs.declared.command.Command.TheVariants.{Public, Applicant, Expert, Clerk}
 use Rattle.reg_core.specs.declared.command.ExpertCommand.{ExpertCommand}
-use Rattle.reg_core.specs.declared.content.Content.TheVariants as content
+use Rattle.reg_core.specs.declared.told.Told.TheVariants as tells
 use Rattle.reg_core.specs.declared.refusal.Refusal.{Refusal}
 use Rattle.reg_core.specs.declared.refusal.Refusal.TheVariants as no
 use Rattle.reg_core.proofs.Links.{own_agent, own_principal, own_principal_rows}
@@ -97,19 +97,19 @@ principal_answered : (account principal : List ℕ) (w : World)
 principal_answered account principal w =
     ap (λ o. or_refusal no.Principal o
     >>= (λ link. unchanged
-    (content.Rows (request_rows (requests_by principal (principal_rows_of account w))))))
+    (tells.Rows (request_rows (requests_by principal (principal_rows_of account w))))))
     (own_principal account principal w)
     ∙ by (get w.agents (principal, account)) refl
   where
     by : (o : Option (Unit {0})) → get w.agents (principal, account) ≡ o
         → (or_refusal no.Principal o
         >>= (λ link. unchanged
-        (content.Rows (request_rows (requests_by principal (principal_rows_of account w))))))
+        (tells.Rows (request_rows (requests_by principal (principal_rows_of account w))))))
         ≡ (or_refusal no.Principal (only_if (is_some o) (request_rows (requests_of principal w)))
-        >>= (λ rows. unchanged (content.Rows rows)))
+        >>= (λ rows. unchanged (tells.Rows rows)))
     by None is = refl
     by (Some u) is =
-        ap (λ m. unchanged (content.Rows (request_rows m)))
+        ap (λ m. unchanged (tells.Rows (request_rows m)))
         (own_principal_rows account principal w (ap is_some is))
 
 -- under its own names an account's rows are those that the whole world has of it
@@ -124,7 +124,7 @@ own_rows w account Holdings = refl
 own_rows w account (SetListing block private) = refl
 own_rows w account (SetAgent agent reads) =
     ap (λ there. by_rule (agent_rule (account, agent) reads there)
-    (λ decision. content.Agent agent reads)) (own_agent account agent w)
+    (λ decision. tells.Agent agent reads)) (own_agent account agent w)
 own_rows w account Agents = refl
 own_rows w account Principals = refl
 own_rows w account (PrincipalRows principal) = principal_answered account principal w

@@ -5,7 +5,7 @@ use Rattle.std.proofs.lemmas.Result.{err_from_is_err_and}
 use Rattle.reg_core.specs.Allowance.{◌>>=◌}
 use Rattle.reg_core.specs.Answer.{Answer, reply_of, change_of}
 use Rattle.reg_core.specs.World.{World, applied_if}
-use Rattle.reg_core.specs.declared.content.Content.{Content}
+use Rattle.reg_core.specs.declared.told.Told.{Told}
 use Rattle.reg_core.specs.declared.refusal.Refusal.{Refusal}
 use Rattle.reg_core.specs.declared.reply.Reply.TheVariants.{Accepted}
 use Rattle.reg_keeper.proofs.Premises.{goes_on_then}
@@ -16,7 +16,7 @@ use Rattle.reg_commands.specs.declared.stop.Stop.TheVariants.{Refused, Fault}
 
 -- what was found, and then done by it, was done
 pub performs_then : {S T : Type 0} {world : S → World} {Holds Sound : S → Type 0} {fails : Bool}
-    {old mid new : S} {x : T} {result : Result Content Stop}
+    {old mid new : S} {x : T} {result : Result Told Stop}
     (found : World → Result T Refusal) (act : T → World → Answer) (answer : World → Answer)
     → Finds world Holds Sound fails old mid (Ok x) found
     → Performs world Holds Sound fails mid new result (act x)
@@ -24,9 +24,9 @@ pub performs_then : {S T : Type 0} {world : S → World} {Holds Sound : S → Ty
     → Performs world Holds Sound fails old new result answer
 performs_then {world = world} {Holds = Holds} {old = old} {mid = mid} {new = new} {x = x}
     {result = result} found act answer finds performs is = record {
-      content = λ h.
+      told = λ h.
           subst (λ (a : Answer). IfOk result (λ c. reply_of a ≡ Accepted c)) (answer_is h)
-          (performs.content h);
+          (performs.told h);
       made = λ h.
           subst (λ (y : World × Answer). OnOk result (world new ≡ applied_if y.0 (change_of y.1)))
           (λ i. (finds.same (performs.premise.before h) i, answer_is h i)) (performs.made h);
@@ -53,7 +53,7 @@ refuses_then found act (Refused refusal) h = ap (λ o. o >>= act) h
 refuses_then found act (Fault fault) h = tt
 
 pub performs_stopped : {S T : Type 0} {world : S → World} {Holds Sound : S → Type 0} {fails : Bool}
-    {old new : S} {result : Result Content Stop}
+    {old new : S} {result : Result Told Stop}
     (found : World → Result T Refusal) (act : T → World → Answer) (answer : World → Answer)
     (stop : Stop) → Finds world Holds Sound fails old new (Err stop) found
     → IsErrAnd result (λ s. s ≡ stop)
@@ -63,7 +63,7 @@ performs_stopped {world = world} {old = old} {result = result}
     found act answer stop finds stops is =
     let p = err_from_is_err_and result stops in
     rw (p.1, p.2) (record {
-      content = λ h. tt;
+      told = λ h. tt;
       made = λ h. tt;
       refused = λ h.
           subst (λ a. Refuses a stop) (sym is)

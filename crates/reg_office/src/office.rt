@@ -21,10 +21,10 @@ use reg_commands::stop::Stop;
 use reg_commands::{applicant, clerk, expert, public};
 use reg_core::capability::Kind;
 use reg_core::command::Command;
-use reg_core::content::Content;
 use reg_core::refusal::Refusal;
 use reg_core::reply::Reply;
 use reg_core::rows::Rows;
+use reg_core::told::Told;
 use reg_early::day::{Day, day_of};
 use reg_keeper::keeper::{Fault, Keeper};
 use reg_keeper::rows::CapRow;
@@ -137,7 +137,7 @@ impl<K: Keeper> Office<K> {
             (result ≡ Ok (Reply.Refused Refusal.Token)) × (self.new ≡ self.old) }
     {
         match answer(self.alloc, &mut self.keeper, moment, token, command) {
-            Ok(content) => Ok(Reply::Accepted(content)),
+            Ok(told) => Ok(Reply::Accepted(told)),
             Err(Stop::Refused(refusal)) => Ok(Reply::Refused(refusal)),
             Err(Stop::Fault(fault)) => Err(fault),
         }
@@ -151,7 +151,7 @@ fn answer<K: Keeper>(
     moment: u64,
     token: Option<&[u8]>,
     command: &Command,
-) -> Result<Content, Stop>
+) -> Result<Told, Stop>
     ensures answer { Performs K.world K.Holds K.Sound K.FAILS keeper.old keeper.new result
         (λ w. answer_to token_digest w (caller (option_copied token.entry)) moment command.now) }
     ensures clock { is_in_clock moment ≡ false →

@@ -40,7 +40,7 @@ use Rattle.reg_opening.specs.Partitions.{IsEither, IsFedPartitions, ranges_named
 use Rattle.reg_statements.specs.Tables.{Tables}
 use Rattle.reg_opening.specs.declared.partitions.Partition.{Partition}
 use Rattle.reg_opening.proofs.FedTables.{apart_from_new, new_from_apart, turns, untied, with_all}
-use Rattle.reg_opening.specs.Feeding.{IsPart, Untied}
+use Rattle.reg_opening.specs.Feeding.{MakesPart, Untied}
 use Rattle.reg_statements.proofs.Neighbours.{strict}
 use Rattle.reg_statements.proofs.RegistryRows.{registry-at}
 
@@ -56,7 +56,7 @@ table_of partition = (partition.name, partition.table)
 abbrev Before : World → Type 0
 Before w = (w.registries ≡ empty) × (w.entries ≡ empty)
 
-part : IsPart table_of partition_row (λ (w : World) m. record w { registries = m }) Before Untied
+part : MakesPart table_of partition_row (λ (w : World) m. record w { registries = m }) Before Untied
 part = record {
   none = λ w before. ap (λ m. record w { registries = m }) (sym before.0);
   with = λ w m x. refl;

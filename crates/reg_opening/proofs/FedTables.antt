@@ -43,7 +43,7 @@ use Rattle.reg_tables.proofs.Statements.Ranges.{all_ranges}
 use Rattle.reg_tables.proofs.Statements.Registries.{all_registries}
 use Rattle.reg_opening.proofs.Versions.{first_begins, ranges_rows, registries_rows, version_begins}
 use Rattle.reg_opening.proofs.Feeding.{feeds_none}
-use Rattle.reg_opening.specs.Feeding.{EachIsTied, IsPart, IsTiedTable, FeedsPart, FeedsRows, FeedsTable, IsFed, TellsTable}
+use Rattle.reg_opening.specs.Feeding.{EachIsTied, MakesPart, IsTiedTable, FeedsPart, FeedsRows, FeedsTable, IsFed, TellsTable}
 use Rattle.reg_opening.specs.Feeding.{AreInTurn, AreNew, tables_at, with_rows}
 
 few : (m n : ℕ) → nat_lt m n ≡ true → m + 1 ≤ n
@@ -104,7 +104,7 @@ module _ {T K X : Type 0} (pair : T → K × X) (shows : SqlRow → SqlRow)
 
 module _ {T K X : Type 0} {R : K → K → Ordering} (o : IsKeyOrder R) (pair : T → K × X)
     (row : T → Row) (put : World → FinMap R X → World) (Before : World → Type 0)
-    (IsTied : K → Type 0) (part : IsPart pair row put Before IsTied) where
+    (IsTied : K → Type 0) (part : MakesPart pair row put Before IsTied) where
   abbrev all_of : List T → FinMap R X
   all_of ts = from_entries (map pair ts)
 
@@ -193,7 +193,7 @@ module _ {T K X : Type 0} (d : TableDef T K X) (l : IsDefined d) (of : SqlRow �
     (behind : (r : SqlRow) → column (shows (numbered_columns d.width) [] r) d.width ≡ rowid r)
     (placed : IsPlaced d) (row : T → Row) (put : World → FinMap d.key.order X → World)
     (Before : Tables → World → Type 0) (IsTied : Tables → K → Type 0)
-    (part : (t : Tables) → IsPart d.pair row put (Before t) (IsTied t)) where
+    (part : (t : Tables) → MakesPart d.pair row put (Before t) (IsTied t)) where
   abbrev seen : SqlRow → SqlRow
   seen = shows (numbered_columns d.width) []
 
@@ -219,7 +219,7 @@ module _ {T K X : Type 0} (d : TableDef T K X) (l : IsDefined d) (of : SqlRow �
       without None id = refl
       without (Some value) id = refl
 
-  numbered_part : (t : Tables) → IsPart pair_of row_of put (Before t) (IsTied t)
+  numbered_part : (t : Tables) → MakesPart pair_of row_of put (Before t) (IsTied t)
   numbered_part t = record {
     none = (part t).none;
     with = λ w m n. (part t).with w m n.value;

@@ -31,14 +31,14 @@ use Rattle.reg_statements.specs.Content.{HasVersion, content, content_at}
 use Rattle.reg_statements.specs.Loading.{ReadAs}
 use Rattle.reg_statements.specs.Tables.{Tables, tables_in}
 use Rattle.reg_opening.specs.Feeding.{FeedsTable, tables_at}
-use Rattle.reg_opening.specs.Opening.{HasVersionTable, AreRowsOf, Finds, HasVersionTables, IsFirst, IsFoundAs, IsFree, IsFreeBy}
-use Rattle.reg_opening.specs.Opening.{IsOurs, IsReadAs, IsVersionOf, LeaveFree, Reads, only, verdict_of}
+use Rattle.reg_opening.specs.Opening.{HasVersionTable, AreRowsOf, FindsKind, HasVersionTables, ComesFirst, IsFoundAs, IsFree, IsFreeBy}
+use Rattle.reg_opening.specs.Opening.{IsOurs, IsReadAs, IsVersionOf, LeaveFree, Reads, only, kind_of}
 use Rattle.reg_opening.specs.Partitions.{AreRegistries}
-use Rattle.reg_opening.specs.Parts.{AreParts, IsBlank, with_parts}
+use Rattle.reg_opening.specs.Parts.{AreParts, IsBlankWorld, with_parts}
 use Rattle.reg_opening.specs.Rowids.{AreOrderedKeyed}
-use Rattle.reg_opening.specs.declared.open.Found.{Found}
-use Rattle.reg_opening.specs.declared.open.Found.TheVariants as found
-use Rattle.reg_opening.specs.declared.open.Verdict.TheVariants as verdict
+use Rattle.reg_opening.specs.declared.kind.Found.{Found}
+use Rattle.reg_opening.specs.declared.kind.Found.TheVariants as found
+use Rattle.reg_opening.specs.declared.kind.StoreKind.TheVariants as kind
 use Rattle.reg_opening.proofs.Versions.{first_begins, keyed_version, number_exact, office_rows, ranges_rows, registries_rows, schema_first, version_keyed}
 use Rattle.reg_vacancies.specs.Vacancies.{AreVacanciesOf}
 use Rattle.reg_vacancies.specs.declared.vacancies.Vacancies.{Vacancies}
@@ -103,7 +103,7 @@ one_version m n rows a b =
 
 -- ---- The rows
 
-blank : IsBlank empty_world
+blank : IsBlankWorld empty_world
 blank = record {
   assigned = record { caps = refl; registries = refl; entries = refl; requests = refl };
   given = record { pool = refl; blocks = refl; requests = refl; queue = refl };
@@ -112,7 +112,7 @@ blank = record {
 
 -- what an audit says that was fed all rows
 pub rows_leave : (t : Tables) (old new : Audit) (free : Option Vacancies) → Audits old empty_world
-    → FeedsTable IsBlank (AreParts t) (with_parts t) old new → IsFreeBy new free
+    → FeedsTable IsBlankWorld (AreParts t) (with_parts t) old new → IsFreeBy new free
     → LeaveFree t free
 rows_leave t old new None audits feeds are = λ both.
     are (content t) (feeds.audits empty_world audits blank both.0) both.1
@@ -174,7 +174,7 @@ rows_keyed v db keyed parts =
 
 pub is_first : (v : Version) (db : Database) → BeginsWith (table_count v) db.schema
     → HasVersion (number_of v) (tables_in db.trees).office → AreOrderedKeyed db.trees
-    → AreParts (tables_at v db) → WellKept (content_at v db) → IsFirst v db
+    → AreParts (tables_at v db) → WellKept (content_at v db) → ComesFirst v db
 is_first v db begins version keyed parts kept =
     let assigned = parts.0 in
     let given = parts.1.0 in
@@ -225,7 +225,7 @@ is_first v db begins version keyed parts kept =
 
 -- where there are no others it is an office's
 is_ours : (v : Version) (s : State) → IsLive s → Works s → s.now.schema ≡ schema_of v
-    → IsFirst v s.now → IsOurs v s.now
+    → ComesFirst v s.now → IsOurs v s.now
 is_ours v s live works schema first = (
   record {
     office = record {
@@ -239,7 +239,7 @@ is_ours v s live works schema first = (
 )
 
 -- and an office's alone comes first
-ours_first : (v : Version) (db : Database) → IsOurs v db → IsFirst v db
+ours_first : (v : Version) (db : Database) → IsOurs v db → ComesFirst v db
 ours_first v db ours = record {
   begins = schema_first v ours.0.office.schema;
   keyed = ours.0.office.tables;
@@ -247,7 +247,7 @@ ours_first v db ours = record {
   well = ours.1;
 }
 
-pub first_parts : (v : Version) (db : Database) → IsFirst v db
+pub first_parts : (v : Version) (db : Database) → ComesFirst v db
     → AreParts (tables_at v db) × WellKept (content_at v db)
 first_parts v db first =
     let t = first.kept.whole in
@@ -305,7 +305,7 @@ lacks_tables v s lacks has = absurd (lacks has)
 
 -- where a store says a version, it is none of another
 other_first : (v w : Version) (db : Database)
-    → HasVersion (number_of v) (tables_in db.trees).office → IsFirst w db → w ≡ v
+    → HasVersion (number_of v) (tables_in db.trees).office → ComesFirst w db → w ≡ v
 other_first v w db says first =
     number_exact w v
     (one_version (number_of w) (number_of v) (tables_in db.trees).office
@@ -320,7 +320,7 @@ module _ (v : Version) (old new : State) (stays : Stays old new) (live : IsLive 
     (version : Works new → BeginsWith 1 old.now.schema
     → HasVersion (number_of v) (tables_in old.now.trees).office) where
   as_first : (free : Vacancies) → Works new → BeginsWith (table_count v) old.now.schema
-      → AreRowsOf v old.now (Some free) → IsFirst v old.now
+      → AreRowsOf v old.now (Some free) → ComesFirst v old.now
   as_first free works begins rows =
       is_first v old.now begins (version works (schema_begins v old.now begins)) rows.0
       rows.1.0.0 rows.1.0.1
@@ -334,20 +334,20 @@ module _ (v : Version) (old new : State) (stays : Stays old new) (live : IsLive 
 
   -- an office whose tables come first was not read as none
   no_first : IsReadAs v old.now found.NotOurs → Works new → (w : Version)
-      → HasVersionTables w old.now → IsFirst w old.now → ⊥
+      → HasVersionTables w old.now → ComesFirst w old.now → ⊥
   no_first read works w tables first =
       let same = other_first v w old.now (version works (schema_begins w old.now first.begins)) first
       in
-      let mine = subst (λ (w : Version). IsFirst w old.now) same first in
+      let mine = subst (λ (w : Version). ComesFirst w old.now) same first in
       read (subst (λ (w : Version). HasVersionTables w old.now) same tables) mine.begins
       (first_parts v old.now mine)
 
   -- what the rows of a store that says this version tell
-  pub read_as : (f : Found) → Works new → IsReadAs v old.now f → IsFoundAs old.now (verdict_of f)
+  pub read_as : (f : Found) → Works new → IsReadAs v old.now f → IsFoundAs old.now (kind_of f)
   read_as (found.Ours w free) works read =
       subst (λ (w : Version). HasVersionTables w old.now
       × (old.now.schema ≡ schema_of w → IsOurs w old.now)
-      × (BeginsWith (table_count w) old.now.schema → IsFirst w old.now)) (sym read.0) (
+      × (BeginsWith (table_count w) old.now.schema → ComesFirst w old.now)) (sym read.0) (
         read.1,
         (λ is. as_ours free works is read.2),
         λ begins. as_first free works begins (read.2 begins),
@@ -377,7 +377,7 @@ pub read_finds : {E : Type 0} (v : Version) (old mid new : State) (result : Resu
     → IsLive old → Endures old mid → Stays old mid
     → (BeginsWith 1 old.now.schema → Works mid
     → HasVersion (number_of v) (tables_in old.now.trees).office)
-    → Reads v mid new result → Finds old new result
+    → Reads v mid new result → FindsKind old new result
 read_finds v old mid new result live endures stays version reads =
     let both = stays_then old mid new stays reads.stays in
     let says : Works new → BeginsWith 1 old.now.schema
@@ -390,7 +390,7 @@ read_finds v old mid new result live endures stays version reads =
       rest = reads.rest;
       endures = endures_then old mid new endures reads.endures;
       stays = both;
-      verdict = λ works.
+      kind = λ works.
           IfOk-weaker result _ _ (λ f read. read_as v old new both live says f works read)
           (found works);
       free = λ works.
@@ -402,12 +402,12 @@ read_finds v old mid new result live endures stays version reads =
 pub none_finds : {E : Type 0} (old new : State) → IsIdle new → Endures old new → Stays old new
     → (BeginsWith 1 old.now.schema → Works new
     → (n : ℤ) → ¬ HasVersion n (tables_in old.now.trees).office)
-    → Finds {E = E} old new (Ok found.NotOurs)
+    → FindsKind {E = E} old new (Ok found.NotOurs)
 none_finds old new rest endures stays none = record {
   rest = rest;
   endures = endures;
   stays = stays;
-  verdict = λ works. (
+  kind = λ works. (
     (
       (λ v ours. no_version works v (ours_first v old.now ours)),
       (λ n is. absurd (none is.0 works n is.1)),
@@ -417,7 +417,7 @@ none_finds old new rest endures stays none = record {
   free = λ works. tt;
 }
   where
-    no_version : Works new → (v : Version) → IsFirst v old.now → ⊥
+    no_version : Works new → (v : Version) → ComesFirst v old.now → ⊥
     no_version works v first =
         none (schema_begins v old.now first.begins) works (number_of v)
         (subst (HasVersion (number_of v)) (office_rows v old.now.trees) first.kept.whole.0)
@@ -426,16 +426,16 @@ none_finds old new rest endures stays none = record {
 pub other_finds : {E : Type 0} (n : ℤ) (old new : State) → IsIdle new → Endures old new
     → Stays old new → IsOther n
     → (BeginsWith 1 old.now.schema → Works new → HasVersion n (tables_in old.now.trees).office)
-    → HasVersionTable old.now.schema → Finds {E = E} old new (Ok (found.OtherVersion n))
+    → HasVersionTable old.now.schema → FindsKind {E = E} old new (Ok (found.OtherVersion n))
 other_finds n old new rest endures stays other version at = record {
   rest = rest;
   endures = endures;
   stays = stays;
-  verdict = λ works. found_at works at;
+  kind = λ works. found_at works at;
   free = λ works. tt;
 }
   where
-    found_at : Works new → HasVersionTable old.now.schema → IsFoundAs old.now (verdict.OtherVersion n)
+    found_at : Works new → HasVersionTable old.now.schema → IsFoundAs old.now (kind.OtherVersion n)
     found_at works (inl begins) = inl ((begins, version begins works), other)
     found_at works (inr beside) = inr (other, beside.0, beside.1)
 

@@ -26,7 +26,7 @@ use Rattle.reg_statements.specs.Tables.{Tables}
 use Rattle.reg_statements.proofs.Marks.{get-marked, marked-add, marked-empty}
 use Rattle.reg_statements.proofs.Minutes.{get-minuted, minuted-add, minuted-empty}
 use Rattle.reg_statements.proofs.Bare.{entries_unheld, requests_bare}
-use Rattle.reg_opening.specs.Feeding.{IsPart, Untied}
+use Rattle.reg_opening.specs.Feeding.{MakesPart, Untied}
 use Rattle.reg_opening.specs.Numbered.{numbered_columns}
 use Rattle.reg_opening.specs.Parts.{AreUnmarked, AreUnminuted, ExpiresIn, RenewsIn}
 
@@ -35,7 +35,7 @@ none_there : {X : Type 0} (r : Option X) → is_some r ≡ false → r ≡ None
 none_there None none = refl
 none_there (Some x) none = absurd (subst T none tt)
 
-pub caps : (t : Tables) → IsPart office.caps.pair (λ x. row.Cap x.digest x.cap)
+pub caps : (t : Tables) → MakesPart office.caps.pair (λ x. row.Cap x.digest x.cap)
     (λ (w : World) m. record w { caps = m }) (λ w. w.caps ≡ empty) Untied
 caps t = record {
   none = λ w h. ap (λ m. record w { caps = m }) (sym h);
@@ -45,7 +45,7 @@ caps t = record {
   turn = λ w m x h. tt;
 }
 
-pub entries : (t : Tables) → IsPart office.entries.pair row.Entry
+pub entries : (t : Tables) → MakesPart office.entries.pair row.Entry
     (λ (w : World) m. record w { entries = m }) (λ w. (w.entries ≡ empty) × (w.requests ≡ empty)) Untied
 entries t = record {
   none = λ w h. ap (λ m. record w { entries = m }) (sym h.0);
@@ -55,7 +55,7 @@ entries t = record {
   turn = λ w m x h. h.1;
 }
 
-pub pool : (t : Tables) → IsPart office.pool.pair row.Prefix
+pub pool : (t : Tables) → MakesPart office.pool.pair row.Prefix
     (λ (w : World) m. record w { pool = m }) (λ w. (w.pool ≡ empty) × (w.blocks ≡ empty)) Untied
 pool t = record {
   none = λ w h. ap (λ m. record w { pool = m }) (sym h.0);
@@ -65,7 +65,7 @@ pool t = record {
   turn = λ w m x h. h.1;
 }
 
-pub blocks : (t : Tables) → IsPart office.blocks.pair row.Block
+pub blocks : (t : Tables) → MakesPart office.blocks.pair row.Block
     (λ (w : World) m. record w { blocks = m }) (λ w. (w.blocks ≡ empty) × (w.requests ≡ empty)) Untied
 blocks t = record {
   none = λ w h. ap (λ m. record w { blocks = m }) (sym h.0);
@@ -75,7 +75,7 @@ blocks t = record {
   turn = λ w m x h. h.1;
 }
 
-pub requests : (t : Tables) → IsPart office.requests.pair row.Request
+pub requests : (t : Tables) → MakesPart office.requests.pair row.Request
     (λ (w : World) m. record w { requests = m }) (λ w. (w.requests ≡ empty) × (w.queue ≡ empty)) Untied
 requests t = record {
   none = λ w h. ap (λ m. record w { requests = m }) (sym h.0);
@@ -85,7 +85,7 @@ requests t = record {
   turn = λ w m x h. h.1;
 }
 
-pub queue : (t : Tables) → IsPart office.queue.pair (λ x. row.Assignment x.account x.reference x.expert)
+pub queue : (t : Tables) → MakesPart office.queue.pair (λ x. row.Seat x.account x.reference x.expert)
     (λ (w : World) m. record w { queue = m }) (λ w. (w.queue ≡ empty) × (w.advice ≡ empty)) Untied
 queue t = record {
   none = λ w h. ap (λ m. record w { queue = m }) (sym h.0);
@@ -95,7 +95,7 @@ queue t = record {
   turn = λ w m x h. h.1;
 }
 
-pub advice : (t : Tables) → IsPart office.advice.pair (λ x. row.Advice x.seat.account x.seat.reference x.seat.expert x.advice)
+pub advice : (t : Tables) → MakesPart office.advice.pair (λ x. row.Advice x.seat.account x.seat.reference x.seat.expert x.advice)
     (λ (w : World) m. record w { advice = m }) (λ w. w.advice ≡ empty) Untied
 advice t = record {
   none = λ w h. ap (λ m. record w { advice = m }) (sym h);
@@ -105,7 +105,7 @@ advice t = record {
   turn = λ w m x h. tt;
 }
 
-pub agents : (t : Tables) → IsPart office.agents.pair (λ x. row.Link x.principal x.agent)
+pub agents : (t : Tables) → MakesPart office.agents.pair (λ x. row.Link x.principal x.agent)
     (λ (w : World) m. record w { agents = m }) (λ w. w.agents ≡ empty) Untied
 agents t = record {
   none = λ w h. ap (λ m. record w { agents = m }) (sym h);
@@ -144,7 +144,7 @@ module _ (t : Tables) (w : World) (m : FinMap place_cmp (Unit {0})) (place : Pla
       ((ap (λ entries. get entries place) are.entries ∙ expires.1) i)))
       ∙ expires.2
 
-pub holds : (t : Tables) → IsPart office.holds.pair (λ x. row.Hold x.registry x.value)
+pub holds : (t : Tables) → MakesPart office.holds.pair (λ x. row.Hold x.registry x.value)
     (λ (w : World) m. record w { entries = marked m w.entries }) (AreUnmarked t) (ExpiresIn t)
 holds t = record {
   none = λ w h. ap (λ entries. record w { entries = entries })
@@ -203,7 +203,7 @@ module _ (t : Tables) (w : World) (m : FinMap name_cmp (List ℕ)) (name : Reque
       ∙ has_none renews.0.ask renews.2
 
 pub minutes : (t : Tables)
-    → IsPart office.minutes.pair (λ x. row.Minute x.account x.reference x.minute)
+    → MakesPart office.minutes.pair (λ x. row.Minute x.account x.reference x.minute)
     (λ (w : World) m. record w { requests = minuted m w.requests }) (AreUnminuted t) (RenewsIn t)
 minutes t = record {
   none = λ w h. ap (λ requests. record w { requests = requests })

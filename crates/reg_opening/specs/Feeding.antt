@@ -90,7 +90,7 @@ pub record FeedsPart {E : Type 0} (v : Version) (Before : Tables → World → T
 
 -- the rows that make a part of the world, in which none of them is before: each can come just where
 -- its key is new and tied to what is there
-pub record IsPart {T K X : Type 0} {R : K → K → Ordering} (pair : T → K × X) (row : T → Row)
+pub record MakesPart {T K X : Type 0} {R : K → K → Ordering} (pair : T → K × X) (row : T → Row)
     (put : World → FinMap R X → World) (Before : World → Type 0) (IsTied : K → Type 0)
     : Type 0 where
   pub none : (w : World) → Before w → put w empty ≡ w

@@ -24,10 +24,10 @@ use Rattle.reg_statements.specs.Tables.{Tables, tables_in}
 use Rattle.reg_opening.specs.Feeding.{tables_at}
 use Rattle.reg_opening.specs.Parts.{AreParts}
 use Rattle.reg_opening.specs.Rowids.{AreOrderedKeyed}
-use Rattle.reg_opening.specs.declared.open.Found.{Found}
-use Rattle.reg_opening.specs.declared.open.Found.TheVariants as found
-use Rattle.reg_opening.specs.declared.open.Verdict.{Verdict}
-use Rattle.reg_opening.specs.declared.open.Verdict.TheVariants.{Ours, OtherVersion, NotOurs}
+use Rattle.reg_opening.specs.declared.kind.Found.{Found}
+use Rattle.reg_opening.specs.declared.kind.Found.TheVariants as found
+use Rattle.reg_opening.specs.declared.kind.StoreKind.{StoreKind}
+use Rattle.reg_opening.specs.declared.kind.StoreKind.TheVariants.{Ours, OtherVersion, NotOurs}
 
 -- the version of the table's one row, or none where it has another number of rows or another form
 abbrev pub IsVersionOf : List Row → Option ℤ → Type 0
@@ -53,7 +53,7 @@ abbrev pub HasVersionTables : Version → Database → Type 0
 HasVersionTables v db = FindsTablesOf v db.schema × AreFreeLater v db.schema
 
 -- the tables of a version come first, and hold an office that is well kept, whatever tables follow
-pub record IsFirst (v : Version) (db : Database) : Type 0 where
+pub record ComesFirst (v : Version) (db : Database) : Type 0 where
   pub begins : BeginsWith (table_count v) db.schema
   pub keyed : AllByRecursion (λ (t : Table). AreKeyed (db.trees t.tree)) (tables_of v)
   pub kept : AreKept v (tables_in (rows_of v db.trees))
@@ -66,10 +66,10 @@ IsOfVersion n db = BeginsWith 1 db.schema × HasVersion n (tables_in db.trees).o
 -- what a store is whose tables stand alone: an office's of a version, with the tables of this and no
 -- others and a content that is well kept; an office's of a version that this library does not know;
 -- or neither
-abbrev pub IsVerdict : Database → Verdict → Type 0
-IsVerdict db (Ours v) = IsOurs v db
-IsVerdict db (OtherVersion n) = IsOfVersion n db × IsOther n
-IsVerdict db NotOurs =
+abbrev pub IsKind : Database → StoreKind → Type 0
+IsKind db (Ours v) = IsOurs v db
+IsKind db (OtherVersion n) = IsOfVersion n db × IsOther n
+IsKind db NotOurs =
     ((v : Version) → ¬ IsOurs v db) × ((n : ℤ) → IsOfVersion n db → ¬ IsOther n)
 
 -- the rows are those of an office that is well kept, and leave this free; or they are not
@@ -84,10 +84,10 @@ IsFreeBy audit (Some free) =
     IsTrue (is_well_kept audit) × ((w : World) → Audits audit w → WellKept w × AreVacanciesOf w free)
 
 -- what a store is that was found
-abbrev pub verdict_of : Found → Verdict
-verdict_of (found.Ours v free) = Ours v
-verdict_of (found.OtherVersion n) = OtherVersion n
-verdict_of found.NotOurs = NotOurs
+abbrev pub kind_of : Found → StoreKind
+kind_of (found.Ours v free) = Ours v
+kind_of (found.OtherVersion n) = OtherVersion n
+kind_of found.NotOurs = NotOurs
 
 -- and what is free in it, if it is an office's whose tables come first
 abbrev pub IsFree : Database → Found → Type 0
@@ -100,15 +100,15 @@ IsFree db found.NotOurs = Unit {0}
 -- they come first, or there are no others, its rows are what is told. Where it is one of a version
 -- that is not known, the first table says so; or there are other tables or views before it, and it is
 -- there. Else there is no office whose tables come first, or have no others beside them.
-abbrev pub IsFoundAs : Database → Verdict → Type 0
+abbrev pub IsFoundAs : Database → StoreKind → Type 0
 IsFoundAs db (Ours v) =
-    HasVersionTables v db × (db.schema ≡ schema_of v → IsVerdict db (Ours v))
-    × (BeginsWith (table_count v) db.schema → IsFirst v db)
+    HasVersionTables v db × (db.schema ≡ schema_of v → IsKind db (Ours v))
+    × (BeginsWith (table_count v) db.schema → ComesFirst v db)
 IsFoundAs db (OtherVersion n) =
-    IsVerdict db (OtherVersion n)
+    IsKind db (OtherVersion n)
     ⊎ (IsOther n × (¬ BeginsWith 1 db.schema) × HasTable db.schema office_table)
 IsFoundAs db NotOurs =
-    IsVerdict db NotOurs × ((v : Version) → ¬ (HasVersionTables v db × IsFirst v db))
+    IsKind db NotOurs × ((v : Version) → ¬ (HasVersionTables v db × ComesFirst v db))
 
 -- the rows are an office's that is well kept, and leave this free; or they are not
 abbrev pub AreRowsOf : Version → Database → Option Vacancies → Type 0
@@ -139,16 +139,16 @@ pub record Reads {E : Type 0} (v : Version) (old new : State) (result : Result F
 
 -- A call that finds what a store is, whatever tables it has, and what is free in it, if it is an
 -- office's whose tables come first. The store stays as it was.
-pub record Finds {E : Type 0} (old new : State) (result : Result Found E) : Type 0 where
+pub record FindsKind {E : Type 0} (old new : State) (result : Result Found E) : Type 0 where
   pub rest : IsIdle new
   pub endures : Endures old new
   pub stays : Stays old new
-  pub verdict : Works new → IfOk result (λ found. IsFoundAs old.now (verdict_of found))
+  pub kind : Works new → IfOk result (λ found. IsFoundAs old.now (kind_of found))
   pub free : Works new → IfOk result (IsFree old.now)
 
 -- A call that tells what a store is, whatever tables it has. The store stays as it was.
-pub record Decides {E : Type 0} (old new : State) (result : Result Verdict E) : Type 0 where
+pub record Decides {E : Type 0} (old new : State) (result : Result StoreKind E) : Type 0 where
   pub rest : IsIdle new
   pub endures : Endures old new
   pub stays : Stays old new
-  pub verdict : Works new → IfOk result (IsFoundAs old.now)
+  pub kind : Works new → IfOk result (IsFoundAs old.now)

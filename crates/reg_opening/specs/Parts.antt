@@ -97,7 +97,7 @@ AreParts t = AreAssigned t × (AreGiven t × AreReviewed t)
 abbrev pub with_parts : Tables → World → World
 with_parts t w = content t
 
-pub record IsBlank (w : World) : Type 0 where
+pub record IsBlankWorld (w : World) : Type 0 where
   pub assigned : NoneAssigned w
   pub given : NoneGiven w
   pub reviewed : NoneReviewed w

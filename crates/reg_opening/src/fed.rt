@@ -69,10 +69,10 @@ impl Fed for Request {
 }
 
 impl Fed for Seat {
-    ghost row_of = { λ seat. row.Assignment seat.account seat.reference seat.expert };
+    ghost row_of = { λ seat. row.Seat seat.account seat.reference seat.expert };
 
     fn row(self) -> Row {
-        Row::Assignment(self.account, self.reference, self.expert)
+        Row::Seat(self.account, self.reference, self.expert)
     }
 }
 

@@ -15,7 +15,7 @@ ghost use Rattle.reg_statements.specs.Defined.{IsDefined};
 ghost use Rattle.reg_statements.specs.Parts.{TableDef};
 ghost use Rattle.reg_statements.specs.Tables.{Tables};
 ghost use Rattle.reg_opening.specs.FedRows.{IsPlaced};
-ghost use Rattle.reg_opening.specs.Feeding.{FeedsPart, FeedsRows, IsFed, IsPart, IsTiedTable};
+ghost use Rattle.reg_opening.specs.Feeding.{FeedsPart, FeedsRows, IsFed, MakesPart, IsTiedTable};
 ghost use Rattle.reg_opening.specs.Numbered.{ShowsNumbered, numbered_columns, numbered_in};
 
 use crate::numbered::{Numbered, rise};
@@ -79,7 +79,7 @@ pub trait FedRow: Record + Fed {
 
     ghost placed: { IsPlaced table };
 
-    ghost fed: { (t : Tables) → IsPart table.pair Self.row_of put (Before t) (IsTied t) };
+    ghost fed: { (t : Tables) → MakesPart table.pair Self.row_of put (Before t) (IsTied t) };
 }
 
 /// How the tables of an office are read.

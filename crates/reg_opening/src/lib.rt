@@ -3,8 +3,8 @@
 
 mod fed;
 mod feed;
+pub mod kind;
 mod numbered;
-mod office;
-pub mod open;
 mod partitions;
+mod parts;
 mod rowids;

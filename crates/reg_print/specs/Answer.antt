@@ -1,7 +1,7 @@
 -- The status and the body of an answer.
 use Rattle.std.specs.Prelude.{ℕ, List}
-use Rattle.reg_core.specs.declared.content.Content.{Content}
-use Rattle.reg_core.specs.declared.content.Content.TheVariants.{Names, Page, Listing, Pool, Blocks, Made, Row, Rows, Held, Holdings, Agent, Accounts, Item, Items, Desk, Desks, Filed, Marked, Defined, Pooled, Granted, Revoked}
+use Rattle.reg_core.specs.declared.told.Told.{Told}
+use Rattle.reg_core.specs.declared.told.Told.TheVariants.{Names, Page, Listing, Pool, Blocks, Made, Row, Rows, Held, Holdings, Agent, Accounts, Queued, Queue, Desk, Desks, Filed, Marked, Defined, Pooled, Granted, Revoked}
 use Rattle.reg_core.specs.declared.reply.Reply.{Reply}
 use Rattle.reg_core.specs.declared.reply.Reply.TheVariants as reply
 use Rattle.reg_print.specs.declared.answer.Answer.{Answer}
@@ -21,32 +21,32 @@ use Rattle.reg_print.specs.Trees.Refusal.{error_tree}
 
 -- ---- Status
 
-abbrev pub content_status : Content → ℕ
-content_status (Names names) = 200
-content_status (Page page) = 200
-content_status (Listing page) = 200
-content_status (Pool prefixes) = 200
-content_status (Blocks rows) = 200
-content_status (Made request) = 201
-content_status (Row request) = 200
-content_status (Rows requests) = 200
-content_status (Held holding) = 200
-content_status (Holdings holdings) = 200
-content_status (Agent agent reads) = 200
-content_status (Accounts accounts) = 200
-content_status (Item row) = 200
-content_status (Items rows) = 200
-content_status (Desk request) = 200
-content_status (Desks requests) = 200
-content_status (Filed file) = 200
-content_status (Marked entry) = 200
-content_status (Defined name) = 200
-content_status (Pooled prefix) = 200
-content_status (Granted cap) = 200
-content_status Revoked = 200
+abbrev pub told_status : Told → ℕ
+told_status (Names names) = 200
+told_status (Page page) = 200
+told_status (Listing page) = 200
+told_status (Pool prefixes) = 200
+told_status (Blocks rows) = 200
+told_status (Made request) = 201
+told_status (Row request) = 200
+told_status (Rows requests) = 200
+told_status (Held holding) = 200
+told_status (Holdings holdings) = 200
+told_status (Agent agent reads) = 200
+told_status (Accounts accounts) = 200
+told_status (Queued row) = 200
+told_status (Queue rows) = 200
+told_status (Desk request) = 200
+told_status (Desks requests) = 200
+told_status (Filed file) = 200
+told_status (Marked entry) = 200
+told_status (Defined name) = 200
+told_status (Pooled prefix) = 200
+told_status (Granted cap) = 200
+told_status Revoked = 200
 
 abbrev pub reply_status : Reply → ℕ
-reply_status (reply.Accepted content) = content_status content
+reply_status (reply.Accepted told) = told_status told
 reply_status (reply.Refused refusal) = (office_row refusal).status
 
 abbrev pub status_of : Answer → ℕ
@@ -56,32 +56,32 @@ status_of answer.Storage = storage_row.status
 
 -- ---- Body
 
-abbrev pub content_body : Content → Body
-content_body (Names names) = json (names_tree names)
-content_body (Page page) = json (page_tree page)
-content_body (Listing page) = listing page
-content_body (Pool prefixes) = json (pool_tree prefixes)
-content_body (Blocks rows) = block_listing rows
-content_body (Made request) = json (request_tree request)
-content_body (Row request) = json (request_tree request)
-content_body (Rows requests) = json (requests_tree requests)
-content_body (Held holding) = json (holding_tree holding)
-content_body (Holdings holdings) = json (holdings_tree holdings)
-content_body (Agent agent reads) = json (agent_tree agent reads)
-content_body (Accounts accounts) = json (names_tree accounts)
-content_body (Item row) = json (queue_tree row)
-content_body (Items rows) = json (queues_tree rows)
-content_body (Desk request) = json (desk_tree request)
-content_body (Desks requests) = json (desks_tree requests)
-content_body (Filed file) = json (file_tree file)
-content_body (Marked entry) = json (entry_tree entry)
-content_body (Defined name) = json (defined_tree name)
-content_body (Pooled prefix) = json (pooled_tree prefix)
-content_body (Granted cap) = json (cap_tree cap)
-content_body Revoked = json revoked_tree
+abbrev pub told_body : Told → Body
+told_body (Names names) = json (names_tree names)
+told_body (Page page) = json (page_tree page)
+told_body (Listing page) = listing page
+told_body (Pool prefixes) = json (pool_tree prefixes)
+told_body (Blocks rows) = block_listing rows
+told_body (Made request) = json (request_tree request)
+told_body (Row request) = json (request_tree request)
+told_body (Rows requests) = json (requests_tree requests)
+told_body (Held holding) = json (holding_tree holding)
+told_body (Holdings holdings) = json (holdings_tree holdings)
+told_body (Agent agent reads) = json (agent_tree agent reads)
+told_body (Accounts accounts) = json (names_tree accounts)
+told_body (Queued row) = json (queue_tree row)
+told_body (Queue rows) = json (queues_tree rows)
+told_body (Desk request) = json (desk_tree request)
+told_body (Desks requests) = json (desks_tree requests)
+told_body (Filed file) = json (file_tree file)
+told_body (Marked entry) = json (entry_tree entry)
+told_body (Defined name) = json (defined_tree name)
+told_body (Pooled prefix) = json (pooled_tree prefix)
+told_body (Granted cap) = json (cap_tree cap)
+told_body Revoked = json revoked_tree
 
 abbrev pub reply_body : Reply → Body
-reply_body (reply.Accepted content) = content_body content
+reply_body (reply.Accepted told) = told_body told
 reply_body (reply.Refused refusal) = json (error_tree (office_row refusal))
 
 abbrev pub answer_body : Answer → Body

@@ -1,6 +1,6 @@
 //! Answers, and their status and body.
 ghost use Rattle.std.specs.Prelude.{◌≡◌, IfOk};
-ghost use Rattle.reg_print.specs.Answer.{status_of, reply_status, content_status, answer_body, reply_body, content_body, body_text};
+ghost use Rattle.reg_print.specs.Answer.{status_of, reply_status, told_status, answer_body, reply_body, told_body, body_text};
 ghost use Rattle.reg_print.specs.Body.{format_of, json, text_of, ReadsBack};
 ghost use Rattle.reg_print.specs.Refusal.{row_view};
 ghost use Rattle.reg_print.specs.Trees.Refusal.{error_tree};
@@ -11,11 +11,11 @@ use crate::bodies::page::Defined;
 use crate::bodies::pool::Pooled;
 use crate::bodies::request::Desk;
 use crate::listing::blocks::block_listing;
-use crate::listing::records::listing;
+use crate::listing::registry::listing;
 use crate::printing::{Itself, printed};
 use crate::refusal::{RefusalRow, office_row, storage_row, wire_row};
-use reg_core::content::Content;
 use reg_core::reply::Reply;
+use reg_core::told::Told;
 use reg_core::wire_refusal::WireRefusal;
 use std::alloc::{AllocError, Global};
 
@@ -45,7 +45,7 @@ impl Answer {
         ensures { result ≡ format_of (answer_body self.now) }
     {
         match self {
-            Answer::Reply(Reply::Accepted(Content::Listing(_) | Content::Blocks(_))) => Format::Csv,
+            Answer::Reply(Reply::Accepted(Told::Listing(_) | Told::Blocks(_))) => Format::Csv,
             Answer::Reply(_) | Answer::Wire(_) | Answer::Storage => Format::Json,
         }
     }
@@ -76,37 +76,37 @@ fn reply_status(reply: &Reply) -> u16
     ensures { result ≡ reply_status reply.now }
 {
     match reply {
-        Reply::Accepted(content) => content_status(content),
+        Reply::Accepted(told) => told_status(told),
         Reply::Refused(refusal) => office_row(*refusal).status,
     }
 }
 
-fn content_status(content: &Content) -> u16
-    ensures { result ≡ content_status content.now }
+fn told_status(told: &Told) -> u16
+    ensures { result ≡ told_status told.now }
 {
-    match content {
-        Content::Made(_) => 201,
-        Content::Names(_)
-        | Content::Page(_)
-        | Content::Listing(_)
-        | Content::Pool(_)
-        | Content::Blocks(_)
-        | Content::Row(_)
-        | Content::Rows(_)
-        | Content::Held(_)
-        | Content::Holdings(_)
-        | Content::Agent(_, _)
-        | Content::Accounts(_)
-        | Content::Item(_)
-        | Content::Items(_)
-        | Content::Desk(_)
-        | Content::Desks(_)
-        | Content::Filed(_)
-        | Content::Marked(_)
-        | Content::Defined(_)
-        | Content::Pooled(_)
-        | Content::Granted(_)
-        | Content::Revoked => 200,
+    match told {
+        Told::Made(_) => 201,
+        Told::Names(_)
+        | Told::Page(_)
+        | Told::Listing(_)
+        | Told::Pool(_)
+        | Told::Blocks(_)
+        | Told::Row(_)
+        | Told::Rows(_)
+        | Told::Held(_)
+        | Told::Holdings(_)
+        | Told::Agent(_, _)
+        | Told::Accounts(_)
+        | Told::Queued(_)
+        | Told::Queue(_)
+        | Told::Desk(_)
+        | Told::Desks(_)
+        | Told::Filed(_)
+        | Told::Marked(_)
+        | Told::Defined(_)
+        | Told::Pooled(_)
+        | Told::Granted(_)
+        | Told::Revoked => 200,
     }
 }
 
@@ -127,7 +127,7 @@ fn reply_bytes(alloc: Global, reply: &Reply) -> Result<Vec<u8>, AllocError>
     ensures reads_back { IfOk result (λ v. ReadsBack (reply_body reply.now) v.items) }
 {
     match reply {
-        Reply::Accepted(content) => content_bytes(alloc, content),
+        Reply::Accepted(told) => told_bytes(alloc, told),
         Reply::Refused(refusal) => refusal_bytes(alloc, office_row(*refusal)),
     }
 }
@@ -139,37 +139,37 @@ fn refusal_bytes(alloc: Global, row: RefusalRow) -> Result<Vec<u8>, AllocError>
     printed(alloc, &row)
 }
 
-fn content_bytes(alloc: Global, content: &Content) -> Result<Vec<u8>, AllocError>
-    ensures text { IfOk result (λ v. v.items ≡ text_of (content_body content.now)) }
-    ensures reads_back { IfOk result (λ v. ReadsBack (content_body content.now) v.items) }
+fn told_bytes(alloc: Global, told: &Told) -> Result<Vec<u8>, AllocError>
+    ensures text { IfOk result (λ v. v.items ≡ text_of (told_body told.now)) }
+    ensures reads_back { IfOk result (λ v. ReadsBack (told_body told.now) v.items) }
 {
-    match content {
-        Content::Names(names) => printed::<Itself, _>(alloc, names),
-        Content::Page(page) => printed(alloc, page),
-        Content::Listing(page) => listing(alloc, page),
-        Content::Pool(pool) => printed(alloc, pool),
-        Content::Blocks(rows) => block_listing(alloc, rows.as_slice()),
-        Content::Made(request) | Content::Row(request) => printed::<Itself, _>(alloc, request),
-        Content::Rows(requests) => printed::<Itself, _>(alloc, requests),
-        Content::Held(holding) => printed(alloc, holding),
-        Content::Holdings(holdings) => printed::<Itself, _>(alloc, holdings),
-        Content::Agent(agent, reads) => printed(
+    match told {
+        Told::Names(names) => printed::<Itself, _>(alloc, names),
+        Told::Page(page) => printed(alloc, page),
+        Told::Listing(page) => listing(alloc, page),
+        Told::Pool(pool) => printed(alloc, pool),
+        Told::Blocks(rows) => block_listing(alloc, rows.as_slice()),
+        Told::Made(request) | Told::Row(request) => printed::<Itself, _>(alloc, request),
+        Told::Rows(requests) => printed::<Itself, _>(alloc, requests),
+        Told::Held(holding) => printed(alloc, holding),
+        Told::Holdings(holdings) => printed::<Itself, _>(alloc, holdings),
+        Told::Agent(agent, reads) => printed(
             alloc,
             &Agent {
                 agent: *agent,
                 reads: *reads,
             },
         ),
-        Content::Accounts(accounts) => printed::<Itself, _>(alloc, accounts),
-        Content::Item(row) => printed(alloc, row),
-        Content::Items(rows) => printed::<Itself, _>(alloc, rows),
-        Content::Desk(request) => printed::<Desk, _>(alloc, request),
-        Content::Desks(requests) => printed::<Desk, _>(alloc, requests),
-        Content::Filed(file) => printed(alloc, file),
-        Content::Marked(entry) => printed(alloc, entry),
-        Content::Defined(name) => printed::<Defined, _>(alloc, name),
-        Content::Pooled(prefix) => printed::<Pooled, _>(alloc, prefix),
-        Content::Granted(cap) => printed(alloc, cap),
-        Content::Revoked => printed(alloc, &Revoked),
+        Told::Accounts(accounts) => printed::<Itself, _>(alloc, accounts),
+        Told::Queued(row) => printed(alloc, row),
+        Told::Queue(rows) => printed::<Itself, _>(alloc, rows),
+        Told::Desk(request) => printed::<Desk, _>(alloc, request),
+        Told::Desks(requests) => printed::<Desk, _>(alloc, requests),
+        Told::Filed(file) => printed(alloc, file),
+        Told::Marked(entry) => printed(alloc, entry),
+        Told::Defined(name) => printed::<Defined, _>(alloc, name),
+        Told::Pooled(prefix) => printed::<Pooled, _>(alloc, prefix),
+        Told::Granted(cap) => printed(alloc, cap),
+        Told::Revoked => printed(alloc, &Revoked),
     }
 }

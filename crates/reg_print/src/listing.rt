@@ -2,6 +2,6 @@
 
 pub mod blocks;
 mod digits;
-pub mod records;
+pub mod registry;
 pub mod rows;
 pub mod writing;

@@ -25,7 +25,7 @@ use Rattle.reg_core.specs.declared.command.ExpertCommand.{ExpertCommand}
 use Rattle.reg_core.specs.declared.command.ExpertCommand.TheVariants.{Queue, Advise}
 use Rattle.reg_core.specs.declared.command.ClerkCommand.{ClerkCommand}
 use Rattle.reg_core.specs.declared.command.ClerkCommand.TheVariants.{AllRequests, OneRequest, AssignExpert, Approve, Decline, SetHold, Define, AddPool, Grant, Revoke}
-use Rattle.reg_core.specs.declared.content.Content.TheVariants as content
+use Rattle.reg_core.specs.declared.told.Told.TheVariants as tells
 use Rattle.reg_core.specs.declared.refusal.Refusal.{Refusal}
 use Rattle.reg_core.specs.declared.refusal.Refusal.TheVariants as no
 use Rattle.reg_core.specs.declared.reply.Reply.{Reply}
@@ -34,7 +34,7 @@ use Rattle.reg_print.specs.declared.answer.Answer.TheVariants as answer
 use Rattle.reg_program.specs.Asking.{IsPrinted, IsUnprinted, printed}
 use Rattle.reg_program.specs.Looking.{applicant_looks, clerk_looks, expert_looks, only_looks}
 use Rattle.reg_program.specs.Undone.{IsOfPrinting, IsRefusedBy, MayUndo, answer_line}
-use Rattle.reg_program.specs.declared.desk.Form.{Form}
+use Rattle.reg_program.specs.declared.asking.Form.{Form}
 use Rattle.reg_program.specs.declared.faults.Undone.{Undone}
 use Rattle.reg_program.specs.declared.faults.Undone.TheVariants.{Fault, Explained, Refused}
 
@@ -116,10 +116,10 @@ public_stays : (p : Published) (today : ℕ) (command : PublicCommand)
 public_stays p today Registries = refl
 public_stays p today (Registry name) =
     after_found no.Registry (get p.registries name)
-    (λ table. unchanged (content.Page (page p name table today))) (λ table. refl)
+    (λ table. unchanged (tells.Page (page p name table today))) (λ table. refl)
 public_stays p today (RegistryListing name) =
     after_found no.Registry (get p.registries name)
-    (λ table. unchanged (content.Listing (page p name table today))) (λ table. refl)
+    (λ table. unchanged (tells.Listing (page p name table today))) (λ table. refl)
 public_stays p today PoolList = refl
 public_stays p today BlockListing = refl
 
@@ -138,7 +138,7 @@ applicant_stays p account my Agents h = refl
 applicant_stays p account my Principals h = refl
 applicant_stays p account my (PrincipalRows principal) h =
     after_found no.Principal (get my.principals (principal, account))
-    (λ link. unchanged (content.Rows (request_rows (requests_by principal my.principal_rows))))
+    (λ link. unchanged (tells.Rows (request_rows (requests_by principal my.principal_rows))))
     (λ link. refl)
 
 expert_stays : (account : List ℕ) (my : Personal) (command : ExpertCommand)
@@ -152,7 +152,7 @@ clerk_stays : (w : World) (in_use : List ℕ) (today : ℕ) (command : ClerkComm
 clerk_stays w in_use today AllRequests h = refl
 clerk_stays w in_use today (OneRequest account reference) h =
     after_found no.Request (get w.requests (account, reference))
-    (λ case. unchanged (content.Filed (file w (account, reference) case))) (λ case. refl)
+    (λ case. unchanged (tells.Filed (file w (account, reference) case))) (λ case. refl)
 clerk_stays w in_use today (AssignExpert account reference expert) h = cc
 clerk_stays w in_use today (Approve account reference) h = cc
 clerk_stays w in_use today (Decline account reference reason) h = cc

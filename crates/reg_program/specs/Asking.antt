@@ -15,8 +15,8 @@ use Rattle.reg_print.specs.declared.answer.Answer.TheVariants as answer
 use Rattle.reg_print.specs.declared.answer.Format.{Format}
 use Rattle.reg_print.specs.declared.answer.Format.TheVariants.{Json, Csv}
 use Rattle.reg_program.specs.Undone.{answer_line}
-use Rattle.reg_program.specs.declared.desk.Form.{Form}
-use Rattle.reg_program.specs.declared.desk.Form.TheVariants.{Body, Line}
+use Rattle.reg_program.specs.declared.asking.Form.{Form}
+use Rattle.reg_program.specs.declared.asking.Form.TheVariants.{Body, Line}
 use Rattle.reg_program.specs.declared.faults.JobFailure.TheVariants.{Memory}
 use Rattle.reg_program.specs.declared.faults.Undone.{Undone}
 use Rattle.reg_program.specs.declared.faults.Undone.TheVariants.{Fault, Explained, Refused}

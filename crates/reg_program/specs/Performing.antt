@@ -12,7 +12,7 @@ use Rattle.reg_jobs.specs.declared.jobs.Which.TheVariants as which
 use Rattle.reg_office.specs.declared.revocation.Choice.TheVariants as choice
 use Rattle.reg_parse.specs.Command.{asked}
 use Rattle.reg_program.specs.Asking.{definition_at, listing_at}
-use Rattle.reg_program.specs.declared.desk.Form.TheVariants.{Body, Line}
+use Rattle.reg_program.specs.declared.asking.Form.TheVariants.{Body, Line}
 use Rattle.reg_program.specs.declared.faults.Undone.{Undone}
 use Rattle.reg_program.specs.declared.tasks.Task.{Task}
 use Rattle.reg_program.specs.declared.tasks.Task.TheVariants.{Found, Run, Serve, Ask, Tokens, Revoke}

@@ -7,7 +7,7 @@ ghost use Rattle.reg_program.specs.Checking.{published_text as text_of_published
 ghost use Rattle.reg_program.specs.Checking.{requests_text as text_of_requests};
 ghost use Rattle.reg_program.specs.Doing.{Does};
 
-use crate::desk::print;
+use crate::asking::print;
 use crate::faults::Undone;
 use crate::tokens::refused_as;
 use reg_core::refusal::Refusal;

@@ -3,8 +3,8 @@ ghost use Rattle.std.specs.Prelude.{◌≡◌, ◌⊎◌, ⊤, Some, Ok, OnOk, o
 ghost use Rattle.std.specs.String.{string_bytes};
 ghost use Rattle.reg_program.specs.Performing.{Carries, DoesJob, IsDefinedBy, IsFounding, IsListedBy, IsRequestedBy, IsRunning, IsTakenBy, RunsIn, refused_status};
 
+use crate::asking::{Form, definition, listing, print, requested};
 use crate::console::Console;
-use crate::desk::{Form, definition, listing, print, requested};
 use crate::faults::Undone;
 use crate::inputs::{all_of, bytes_of, optional_token, token_of};
 use crate::publishing::{port_of, publish_served};

@@ -1,7 +1,7 @@
 //! The job that publishes an office.
 ghost use Rattle.std.specs.Prelude.{◌≡◌, OnOk};
 
-use crate::desk::{print, refusal_line};
+use crate::asking::{print, refusal_line};
 use crate::faults::{JobFailure, Undone};
 use reg_publish::directory::Directory;
 use reg_publish::peer::Peer;

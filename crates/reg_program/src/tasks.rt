@@ -6,12 +6,12 @@ ghost use Rattle.reg_program.specs.Founding.{IsReady, IsUnready};
 ghost use Rattle.reg_program.specs.Tasks.{Did, looks_on, streams};
 ghost use Rattle.reg_program.specs.declared.faults.JobFailure.TheVariants as failure;
 
+use crate::asking::{Form, ask_in, print};
 use crate::console::Console;
-use crate::desk::{Form, ask_in, print};
 use crate::faults::Undone;
+use crate::listening::serve_in;
 use crate::publishing::publish_in;
 use crate::scripts::run_in;
-use crate::serving::serve_in;
 use crate::tokens::{revoke_in, tokens_in};
 use reg_core::command::Command;
 use reg_keeper::keeper::Keeper;

@@ -8,7 +8,7 @@ ghost use Rattle.reg_program.specs.Revoking.{IsUnnamed, IsUnrevoked, IsUnrevoked
 ghost use Rattle.reg_program.specs.Tokens.{AddsRecord, HasRecords, IsEnd, IsListed, IsTable, header};
 ghost use Rattle.reg_program.specs.Undone.{IsOfPrinting, IsOfStoreOrPrinting, IsSaidBy, refusal_line as text_of_refusal};
 
-use crate::desk::{print, refusal_line};
+use crate::asking::{print, refusal_line};
 use crate::faults::Undone;
 use csv::Writer;
 use jiff::Timestamp;

@@ -12,8 +12,8 @@ use Rattle.reg_core.specs.World.{World, applied_if}
 use Rattle.reg_core.specs.declared.command.Command.TheVariants.{Public}
 use Rattle.reg_core.specs.declared.command.PublicCommand.{PublicCommand}
 use Rattle.reg_core.specs.declared.command.PublicCommand.TheVariants.{Registries, Registry, RegistryListing, PoolList, BlockListing}
-use Rattle.reg_core.specs.declared.content.Content.{Content}
-use Rattle.reg_core.specs.declared.content.Content.TheVariants as content
+use Rattle.reg_core.specs.declared.told.Told.{Told}
+use Rattle.reg_core.specs.declared.told.Told.TheVariants as tells
 use Rattle.reg_core.specs.declared.refusal.Refusal.TheVariants as no
 use Rattle.reg_core.specs.declared.reply.Reply.{Reply}
 use Rattle.reg_core.specs.declared.reply.Reply.TheVariants.{Accepted}
@@ -27,11 +27,11 @@ module _ (p : Published) (name : List ℕ) (today : ℕ) where
   -- the answer of a registry, and of its listing, by its table
   abbrev shown_by : Option Table → Answer
   shown_by t =
-      or_refusal no.Registry t >>= (λ table. unchanged (content.Page (page p name table today)))
+      or_refusal no.Registry t >>= (λ table. unchanged (tells.Page (page p name table today)))
 
   abbrev listed_by : Option Table → Answer
   listed_by t =
-      or_refusal no.Registry t >>= (λ table. unchanged (content.Listing (page p name table today)))
+      or_refusal no.Registry t >>= (λ table. unchanged (tells.Listing (page p name table today)))
 
   shown_changes : (t : Option Table) → change_of (shown_by t) ≡ None
   shown_changes None = refl
@@ -53,10 +53,10 @@ nothing_changes p today BlockListing = refl
 -- ---- An office
 
 -- while it is open or not
-by_clock : (is_open : Bool) (a : Answer) (content : Content)
-    → reply_of (if is_open then a else Err no.Clock) ≡ Accepted content → reply_of a ≡ Accepted content
-by_clock true a content h = h
-by_clock false a content h = cc
+by_clock : (is_open : Bool) (a : Answer) (told : Told)
+    → reply_of (if is_open then a else Err no.Clock) ≡ Accepted told → reply_of a ≡ Accepted told
+by_clock true a told h = h
+by_clock false a told h = cc
 
 stays_by_clock : (w : World) (is_open : Bool) (a : Answer) → change_of a ≡ None
     → applied_if w (change_of (if is_open then a else Err no.Clock)) ≡ w
@@ -64,11 +64,11 @@ stays_by_clock w true a h = ap (applied_if w) h
 stays_by_clock w false a h = refl
 
 -- what is told is told to all
-told_is_told_to_all : (w : World) (moment : ℕ) (command : PublicCommand) (content : Content)
-    → Accepted content ≡ (step_by w None moment (Public command)).reply
-    → told_to_all (published w) moment command ≡ Accepted content
-told_is_told_to_all w moment command content h =
-    by_clock (is_in_clock moment) (public_answer (published w) (utc_day moment) command) content
+told_is_told_to_all : (w : World) (moment : ℕ) (command : PublicCommand) (told : Told)
+    → Accepted told ≡ (step_by w None moment (Public command)).reply
+    → told_to_all (published w) moment command ≡ Accepted told
+told_is_told_to_all w moment command told h =
+    by_clock (is_in_clock moment) (public_answer (published w) (utc_day moment) command) told
     (sym h)
 
 -- nothing changes
@@ -80,14 +80,14 @@ world_stays w moment command =
 
 -- so an office is a source
 pub office_asks : {S E : Type 0} (world : S → World) (Holds : S → Type 0) (s s' : S) (moment : ℕ)
-    (command : PublicCommand) (reply : Reply) (result : Result Content E)
+    (command : PublicCommand) (reply : Reply) (result : Result Told E)
     → (Holds s' → reply ≡ (step_by (world s) None moment (Public command)).reply)
     → (Holds s' → world s' ≡ (step_by (world s) None moment (Public command)).world)
-    → (Holds s' → Holds s) → IfOk result (λ content. reply ≡ Accepted content)
+    → (Holds s' → Holds s) → IfOk result (λ told. reply ≡ Accepted told)
     → Asks (λ office. published (world office)) Holds s s'
-    (λ p. IfOk result (λ content. told_to_all p moment command ≡ Accepted content))
-office_asks world Holds s s' moment command reply (Ok content) replied changed before is = record {
-  told = λ h. told_is_told_to_all (world s) moment command content (sym is ∙ replied h);
+    (λ p. IfOk result (λ told. told_to_all p moment command ≡ Accepted told))
+office_asks world Holds s s' moment command reply (Ok told) replied changed before is = record {
+  told = λ h. told_is_told_to_all (world s) moment command told (sym is ∙ replied h);
   same = λ h. ap published (changed h ∙ world_stays (world s) moment command);
   before = before;
 }

@@ -3,8 +3,8 @@ use Rattle.std.proofs.Common.{◌≡◌, ℕ, ◌+◌, ◌<◌, List, [], ◌∷
 use Rattle.std.specs.List.{flat_map}
 use Rattle.reg_core.specs.View.{Published}
 use Rattle.reg_core.specs.declared.command.PublicCommand.TheVariants.{Registries, Registry, PoolList, BlockListing}
-use Rattle.reg_core.specs.declared.content.Content.{Content}
-use Rattle.reg_core.specs.declared.content.Content.TheVariants as content
+use Rattle.reg_core.specs.declared.told.Told.{Told}
+use Rattle.reg_core.specs.declared.told.Told.TheVariants as tells
 use Rattle.reg_core.specs.declared.holding.Listed.{Listed}
 use Rattle.reg_core.specs.declared.reply.Reply.TheVariants.{Accepted}
 use Rattle.reg_site.specs.Files.{other_files, registry_files}
@@ -24,15 +24,15 @@ module _ {S F : Type 0} (published : S → Published) (Holds : S → Type 0) (fi
   pub publishes_site : (s s1 s2 s3 s4 : S) (f f1 f2 f3 f4 : F) (names : List (List ℕ))
       (registries : List Summary) (rows : List Listed) (prefixes : List ℕ)
       → Asks published Holds s s1
-      (λ p. told_to_all p moment Registries ≡ Accepted (content.Names names))
+      (λ p. told_to_all p moment Registries ≡ Accepted (tells.Names names))
       → PublishesRegistries published Holds files s1 s2 f f1 moment names registries
       → Asks published Holds s2 s3
-      (λ p. told_to_all p moment BlockListing ≡ Accepted (content.Blocks rows))
+      (λ p. told_to_all p moment BlockListing ≡ Accepted (tells.Blocks rows))
       → Places (files f1) (files f2) (files_by_blocks rows)
       → Asks published Holds s3 s4
-      (λ p. told_to_all p moment PoolList ≡ Accepted (content.Pool prefixes))
+      (λ p. told_to_all p moment PoolList ≡ Accepted (tells.Pool prefixes))
       → Places (files f2) (files f3)
-      (one_file file.Pool (told_text (content.Pool prefixes)) ++ one_file file.Style STYLE.now)
+      (one_file file.Pool (told_text (tells.Pool prefixes)) ++ one_file file.Style STYLE.now)
       → Places (files f3) (files f4)
       (one_file file.Index (index_page registries prefixes rows moment))
       → Publishes published Holds files s s4 f f4 (λ p. site p moment)
@@ -53,9 +53,9 @@ module _ {S F : Type 0} (published : S → Published) (Holds : S → Type 0) (fi
             let Counted : Published → Type 0 =
             λ q. registries ≡ filter_map (summary_of q moment) names in
             let ToldBlocks : Published → Type 0 =
-            λ q. told_to_all q moment BlockListing ≡ Accepted (content.Blocks rows) in
+            λ q. told_to_all q moment BlockListing ≡ Accepted (tells.Blocks rows) in
             let ToldPool : Published → Type 0 =
-            λ q. told_to_all q moment PoolList ≡ Accepted (content.Pool prefixes) in
+            λ q. told_to_all q moment PoolList ≡ Accepted (tells.Pool prefixes) in
             let Listed : Published → Type 0 =
             λ q. Places (files f) (files f1) (placed q moment (flat_map registry_files names)) in
             let others = other_files_told p moment rows prefixes registries
@@ -63,11 +63,11 @@ module _ {S F : Type 0} (published : S → Published) (Holds : S → Type 0) (fi
             (subst ToldPool same3 (pooled.told holds4))
             (subst Counted same1 (counted holds2) ∙ summaries_told p moment names told_names) in
             let rest = places_both (files f1) (files f2) (files f4) (files_by_blocks rows)
-            ((one_file file.Pool (told_text (content.Pool prefixes)) ++ one_file file.Style STYLE.now)
+            ((one_file file.Pool (told_text (tells.Pool prefixes)) ++ one_file file.Style STYLE.now)
             ++ one_file file.Index (index_page registries prefixes rows moment))
             blocks
             (places_both (files f2) (files f3) (files f4)
-            (one_file file.Pool (told_text (content.Pool prefixes)) ++ one_file file.Style STYLE.now)
+            (one_file file.Pool (told_text (tells.Pool prefixes)) ++ one_file file.Style STYLE.now)
             (one_file file.Index (index_page registries prefixes rows moment)) pool index) in
             let placed_rest =
             places_as (files f1) (files f4) (others_by rows prefixes registries moment)
@@ -99,7 +99,7 @@ module _ {S F : Type 0} (published : S → Published) (Holds : S → Type 0) (fi
 
   -- one registry more
   pub registries_more : (s s' s'' : S) (f f' f'' : F) (names : List (List ℕ)) (i : ℕ)
-      (name : List ℕ) (told : Content) (registries : List Summary) (registry : Summary)
+      (name : List ℕ) (told : Told) (registries : List Summary) (registry : Summary)
       → i < length names → name ≡ get_or names i name
       → PublishesRegistries published Holds files s s' f f' moment (take i names) registries
       → Asks published Holds s' s'' (λ p. told_to_all p moment (Registry name) ≡ Accepted told)

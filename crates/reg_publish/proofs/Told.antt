@@ -14,7 +14,7 @@ use Rattle.reg_core.specs.Answer.{Answer, reply_of, unchanged}
 use Rattle.reg_core.specs.Page.{page}
 use Rattle.reg_core.specs.View.{Published}
 use Rattle.reg_core.specs.declared.command.PublicCommand.TheVariants.{Registries, Registry, RegistryListing, PoolList, BlockListing}
-use Rattle.reg_core.specs.declared.content.Content.TheVariants as content
+use Rattle.reg_core.specs.declared.told.Told.TheVariants as tells
 use Rattle.reg_core.specs.declared.holding.Listed.{Listed}
 use Rattle.reg_core.specs.declared.page.Page.{Page}
 use Rattle.reg_core.specs.declared.refusal.Refusal.TheVariants as no
@@ -39,15 +39,15 @@ module _ (p : Published) (name : List ℕ) (today : ℕ) where
   -- the answer of a registry, and of its listing, by its table
   abbrev shown_by : Option Table → Answer
   shown_by t =
-      or_refusal no.Registry t >>= (λ table. unchanged (content.Page (page p name table today)))
+      or_refusal no.Registry t >>= (λ table. unchanged (tells.Page (page p name table today)))
 
   abbrev listed_by : Option Table → Answer
   listed_by t =
-      or_refusal no.Registry t >>= (λ table. unchanged (content.Listing (page p name table today)))
+      or_refusal no.Registry t >>= (λ table. unchanged (tells.Listing (page p name table today)))
 
 -- a page that is told, as a listing
 abbrev relisted : Reply → Reply
-relisted (Accepted (content.Page shown)) = Accepted (content.Listing shown)
+relisted (Accepted (tells.Page shown)) = Accepted (tells.Listing shown)
 relisted (Accepted other) = Accepted other
 relisted (Refused refusal) = Refused refusal
 
@@ -58,8 +58,8 @@ relisted_by p name today (Some table) = refl
 
 -- a registry that is told is listed as the same page
 pub listing_is_told : (p : Published) (moment : ℕ) (name : List ℕ) (shown : Page)
-    → told_to_all p moment (Registry name) ≡ Accepted (content.Page shown)
-    → told_to_all p moment (RegistryListing name) ≡ Accepted (content.Listing shown)
+    → told_to_all p moment (Registry name) ≡ Accepted (tells.Page shown)
+    → told_to_all p moment (RegistryListing name) ≡ Accepted (tells.Listing shown)
 listing_is_told p moment name shown h =
     relisted_by p name (utc_day moment) (get p.registries name) ∙ ap relisted h
 
@@ -74,29 +74,29 @@ files_by_replies name shown listed =
 
 files_by_told : (name : List ℕ) (shown : Page)
     → files_by_page name shown
-    ≡ files_by_replies name (Accepted (content.Page shown)) (Accepted (content.Listing shown))
+    ≡ files_by_replies name (Accepted (tells.Page shown)) (Accepted (tells.Listing shown))
 unfolding body_text
 files_by_told name shown = refl
 
 -- they are of its page
 pub files_of_page : (p : Published) (moment : ℕ) (name : List ℕ) (shown : Page)
-    → told_to_all p moment (Registry name) ≡ Accepted (content.Page shown)
+    → told_to_all p moment (Registry name) ≡ Accepted (tells.Page shown)
     → files_by_page name shown ≡ placed p moment (registry_files name)
 files_of_page p moment name shown h =
     files_by_told name shown
-    ∙ ap (λ r. files_by_replies name r (Accepted (content.Listing shown))) (sym h)
+    ∙ ap (λ r. files_by_replies name r (Accepted (tells.Listing shown))) (sym h)
     ∙ ap (λ r. files_by_replies name (told_to_all p moment (Registry name)) r)
     (sym (listing_is_told p moment name shown h))
 
 -- its summary is told
 pub summary_of_page : (p : Published) (moment : ℕ) (name : List ℕ) (shown : Page)
-    → told_to_all p moment (Registry name) ≡ Accepted (content.Page shown)
+    → told_to_all p moment (Registry name) ≡ Accepted (tells.Page shown)
     → summary_of p moment name ≡ Some (summary shown)
 summary_of_page p moment name shown h = ap (λ r. option_map summary (page_in r)) h
 
 pub summary_told : {E : Type 0} (result : Result Summary E) (p : Published) (moment : ℕ)
     (name : List ℕ) (shown : Page)
-    → told_to_all p moment (Registry name) ≡ Accepted (content.Page shown)
+    → told_to_all p moment (Registry name) ≡ Accepted (tells.Page shown)
     → IfOk result (λ registry. registry ≡ summary shown)
     → IfOk result (λ registry. summary_of p moment name ≡ Some registry)
 summary_told (Ok registry) p moment name shown h is =
@@ -121,25 +121,25 @@ others_by_replies registries pooled given moment =
 abbrev pub others_by : List Listed → List ℕ → List Summary → ℕ → Files
 others_by rows prefixes registries moment =
     files_by_blocks rows
-    ++ ((one_file file.Pool (told_text (content.Pool prefixes)) ++ one_file file.Style STYLE.now)
+    ++ ((one_file file.Pool (told_text (tells.Pool prefixes)) ++ one_file file.Style STYLE.now)
     ++ one_file file.Index (index_page registries prefixes rows moment))
 
 others_by_told : (rows : List Listed) (prefixes : List ℕ) (registries : List Summary) (moment : ℕ)
     → others_by rows prefixes registries moment
-    ≡ others_by_replies registries (Accepted (content.Pool prefixes))
-    (Accepted (content.Blocks rows)) moment
+    ≡ others_by_replies registries (Accepted (tells.Pool prefixes))
+    (Accepted (tells.Blocks rows)) moment
 unfolding body_text
 others_by_told rows prefixes registries moment = refl
 
 pub other_files_told : (p : Published) (moment : ℕ) (rows : List Listed) (prefixes : List ℕ)
     (registries : List Summary)
-    → told_to_all p moment BlockListing ≡ Accepted (content.Blocks rows)
-    → told_to_all p moment PoolList ≡ Accepted (content.Pool prefixes)
+    → told_to_all p moment BlockListing ≡ Accepted (tells.Blocks rows)
+    → told_to_all p moment PoolList ≡ Accepted (tells.Pool prefixes)
     → registries ≡ summaries p moment
     → others_by rows prefixes registries moment ≡ placed p moment other_files
 other_files_told p moment rows prefixes registries blocks pool counted =
     others_by_told rows prefixes registries moment
-    ∙ ap (λ r. others_by_replies registries (Accepted (content.Pool prefixes)) r moment) (sym blocks)
+    ∙ ap (λ r. others_by_replies registries (Accepted (tells.Pool prefixes)) r moment) (sym blocks)
     ∙ ap (λ r. others_by_replies registries r (told_to_all p moment BlockListing) moment) (sym pool)
     ∙ ap (λ s. others_by_replies s (told_to_all p moment PoolList) (told_to_all p moment BlockListing) moment) counted
 
@@ -147,14 +147,14 @@ other_files_told p moment rows prefixes registries blocks pool counted =
 
 -- the summaries are those of the names that are told
 pub summaries_told : (p : Published) (moment : ℕ) (names : List (List ℕ))
-    → told_to_all p moment Registries ≡ Accepted (content.Names names)
+    → told_to_all p moment Registries ≡ Accepted (tells.Names names)
     → filter_map (summary_of p moment) names ≡ summaries p moment
 summaries_told p moment names h =
     ap (λ r. filter_map (summary_of p moment) (names_in r)) (sym h)
 
 -- the site is the files of the registries that are told, and the others
 pub site_told : (p : Published) (moment : ℕ) (names : List (List ℕ))
-    → told_to_all p moment Registries ≡ Accepted (content.Names names)
+    → told_to_all p moment Registries ≡ Accepted (tells.Names names)
     → placed p moment (flat_map registry_files names) ++ placed p moment other_files ≡ site p moment
 site_told p moment names h =
     sym (map-append (λ f. (path_of f, bytes_of p moment f)) (flat_map registry_files names) other_files)

@@ -3,8 +3,8 @@ use Rattle.std.specs.Prelude.{◌≡◌, ℕ, List, [], ◌∷◌, ◌++◌, map
 use Rattle.std.specs.List.{flat_map}
 use Rattle.reg_core.specs.View.{Published}
 use Rattle.reg_core.specs.declared.command.PublicCommand.TheVariants.{Registry}
-use Rattle.reg_core.specs.declared.content.Content.{Content}
-use Rattle.reg_core.specs.declared.content.Content.TheVariants as content
+use Rattle.reg_core.specs.declared.told.Told.{Told}
+use Rattle.reg_core.specs.declared.told.Told.TheVariants as tells
 use Rattle.reg_core.specs.declared.holding.Listed.{Listed}
 use Rattle.reg_core.specs.declared.page.Page.{Page}
 use Rattle.reg_core.specs.declared.reply.Reply.TheVariants.{Accepted}
@@ -40,7 +40,7 @@ abbrev pub one_file : File → List ℕ → Files
 one_file f bytes = (path_of f, Some bytes) ∷ []
 
 -- the body of an accepted answer
-abbrev pub told_text : Content → List ℕ
+abbrev pub told_text : Told → List ℕ
 told_text told = body_text (answer.Reply (Accepted told))
 
 -- the page of a registry, and its listing
@@ -54,13 +54,13 @@ page_files name page =
 abbrev pub files_by_page : List ℕ → Page → Files
 files_by_page name page =
     page_files name page
-    ++ ((path_of (file.RegistryTree name), Some (told_text (content.Page page))) ∷ [])
+    ++ ((path_of (file.RegistryTree name), Some (told_text (tells.Page page))) ∷ [])
 
 -- What was told is a page: its files are published, and this is its summary.
-pub record PublishesPage (old new : Option Files) (name : List ℕ) (told : Content)
+pub record PublishesPage (old new : Option Files) (name : List ℕ) (told : Told)
     (registry : Summary) : Type 0 where
   pub page : Page
-  pub told_page : told ≡ content.Page page
+  pub told_page : told ≡ tells.Page page
   pub placed : Places old new (files_by_page name page)
   pub counted : registry ≡ summary page
 

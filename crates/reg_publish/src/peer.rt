@@ -3,12 +3,12 @@ ghost use Rattle.reg_core.specs.View.{published as shown};
 ghost use Rattle.reg_core.specs.World.{empty_world};
 
 use crate::answers::{MOST_BYTES, body_of, read_answer};
-use crate::reading::content_of;
+use crate::reading::told_of;
 use crate::source::Source;
 use crate::timed::{Timed, left};
 use crate::unpublished::{Unpublished, unread};
 use reg_core::command::PublicCommand;
-use reg_core::content::Content;
+use reg_core::told::Told;
 use reg_print::answer::Format;
 use std::alloc::{AllocError, Global};
 use std::io;
@@ -39,7 +39,7 @@ impl<H: AllocGlobal + Clock + Net<Listener = TcpListener, Stream = TcpStream>> S
 
     ghost Holds = { λ _. ⊥ };
 
-    fn ask(&mut self, _moment: u64, command: &PublicCommand) -> Result<Content, Unpublished> {
+    fn ask(&mut self, _moment: u64, command: &PublicCommand) -> Result<Told, Unpublished> {
         ask_served(self.rt, self.port, command)
     }
 }
@@ -49,12 +49,12 @@ fn ask_served<H: AllocGlobal + Clock + Net<Listener = TcpListener, Stream = TcpS
     rt: &H,
     port: u16,
     command: &PublicCommand,
-) -> Result<Content, Unpublished> {
+) -> Result<Told, Unpublished> {
     let alloc = rt.alloc();
     let request = request(alloc, command)?;
     let answer = exchange(rt, port, request.as_bytes())?;
     match body_of(format_of(command), answer.as_slice()) {
-        Some(body) => content_of(alloc, command, body),
+        Some(body) => told_of(alloc, command, body),
         None => Err(Unpublished::Read),
     }
 }

@@ -1,6 +1,6 @@
 //! Publishes all files of a site.
 ghost use Rattle.std.specs.Prelude.{◌≡◌, [], ◌∷◌, ◌++◌, Some, IfOk, OnOk};
-ghost use Rattle.reg_core.specs.declared.content.Content.TheVariants as content;
+ghost use Rattle.reg_core.specs.declared.told.Told.TheVariants as tells;
 ghost use Rattle.reg_publish.specs.Folder.{Places};
 ghost use Rattle.reg_publish.specs.Publishing.{Publishes, PublishesPage, PublishesRegistries, files_by_blocks, one_file, page_files, told_text};
 ghost use Rattle.reg_site.specs.Blocks.{assignments_text};
@@ -14,14 +14,14 @@ use crate::unpublished::Unpublished;
 use reg_blocks::pool::Pool;
 use reg_blocks::size::Size;
 use reg_core::command::PublicCommand;
-use reg_core::content::Content;
 use reg_core::holding::Listed;
 use reg_core::page::Page;
 use reg_core::reply::Reply;
 use reg_core::text::Name;
+use reg_core::told::Told;
 use reg_print::answer::{Answer, body_of};
 use reg_print::listing::blocks::block_listing;
-use reg_print::listing::records::listing;
+use reg_print::listing::registry::listing;
 use reg_site::blocks::{assignments, blocks_page};
 use reg_site::files::File;
 use reg_site::index::index_page;
@@ -105,7 +105,7 @@ fn publish_registry<F: Folder>(
     alloc: Global,
     folder: &mut F,
     name: Name,
-    told: Content,
+    told: Told,
 ) -> Result<Summary, Unpublished>
     ensures { IfOk result (PublishesPage (F.files folder.old) (F.files folder.new) name told) }
 {
@@ -182,7 +182,7 @@ fn publish_size<F: Folder>(
 fn publish_pool_and_style<F: Folder>(
     alloc: Global,
     folder: &mut F,
-    pool: Content,
+    pool: Told,
 ) -> Result<(), Unpublished>
     ensures { OnOk result (Places (F.files folder.old) (F.files folder.new)
         (one_file file.Pool (told_text pool) ++ one_file file.Style STYLE.now)) }
@@ -194,44 +194,44 @@ fn publish_pool_and_style<F: Folder>(
 
 // ---- What anybody is told
 
-fn names_in(told: &Content) -> Result<&[Name], Unpublished>
-    ensures { IfOk result (λ names. told.now ≡ content.Names names.now) }
+fn names_in(told: &Told) -> Result<&[Name], Unpublished>
+    ensures { IfOk result (λ names. told.now ≡ tells.Names names.now) }
 {
     match told {
-        Content::Names(names) => Ok(names.as_slice()),
+        Told::Names(names) => Ok(names.as_slice()),
         _ => Err(Unpublished::Read),
     }
 }
 
-fn page_in(told: &Content) -> Result<&Page, Unpublished>
-    ensures { IfOk result (λ page. told.now ≡ content.Page page.now) }
+fn page_in(told: &Told) -> Result<&Page, Unpublished>
+    ensures { IfOk result (λ page. told.now ≡ tells.Page page.now) }
 {
     match told {
-        Content::Page(page) => Ok(page),
+        Told::Page(page) => Ok(page),
         _ => Err(Unpublished::Read),
     }
 }
 
-fn blocks_in(told: &Content) -> Result<&[Listed], Unpublished>
-    ensures { IfOk result (λ rows. told.now ≡ content.Blocks rows.now) }
+fn blocks_in(told: &Told) -> Result<&[Listed], Unpublished>
+    ensures { IfOk result (λ rows. told.now ≡ tells.Blocks rows.now) }
 {
     match told {
-        Content::Blocks(rows) => Ok(rows.as_slice()),
+        Told::Blocks(rows) => Ok(rows.as_slice()),
         _ => Err(Unpublished::Read),
     }
 }
 
-fn pool_in(told: &Content) -> Result<&Pool, Unpublished>
-    ensures { IfOk result (λ pool. told.now ≡ content.Pool pool.now) }
+fn pool_in(told: &Told) -> Result<&Pool, Unpublished>
+    ensures { IfOk result (λ pool. told.now ≡ tells.Pool pool.now) }
 {
     match told {
-        Content::Pool(pool) => Ok(pool),
+        Told::Pool(pool) => Ok(pool),
         _ => Err(Unpublished::Read),
     }
 }
 
 // The body by which an office answers this.
-fn text_of(alloc: Global, told: Content) -> Result<Vec<u8>, AllocError>
+fn text_of(alloc: Global, told: Told) -> Result<Vec<u8>, AllocError>
     ensures { IfOk result (λ body. body.items ≡ told_text told) }
 {
     let (_, body) = body_of(alloc, &Answer::Reply(Reply::Accepted(told)))?;

@@ -1,8 +1,8 @@
 //! Reads what anybody is told back from the bytes of answers.
 use crate::unpublished::Unpublished;
 use reg_core::command::PublicCommand;
-use reg_core::content::Content;
 use reg_core::reply::Reply;
+use reg_core::told::Told;
 use reg_print::answer::{Answer, body_of};
 use std::alloc::{AllocError, Global};
 
@@ -15,17 +15,13 @@ mod pool;
 /// What anybody is told by a command, where these bytes are the body of its answer: what is read is
 /// printed again, and has to be these bytes. `Read` where they are no such body. A listing of a
 /// registry is not read, since its page says more.
-pub fn content_of(
-    alloc: Global,
-    command: &PublicCommand,
-    body: &[u8],
-) -> Result<Content, Unpublished> {
-    let answer = Answer::Reply(Reply::Accepted(read_content(alloc, command, body)?));
+pub fn told_of(alloc: Global, command: &PublicCommand, body: &[u8]) -> Result<Told, Unpublished> {
+    let answer = Answer::Reply(Reply::Accepted(read_told(alloc, command, body)?));
     if !is_printed(alloc, &answer, body)? {
         return Err(Unpublished::Read);
     }
     match answer {
-        Answer::Reply(Reply::Accepted(content)) => Ok(content),
+        Answer::Reply(Reply::Accepted(told)) => Ok(told),
         _ => Err(Unpublished::Read),
     }
 }
@@ -35,16 +31,12 @@ fn is_printed(alloc: Global, answer: &Answer, body: &[u8]) -> Result<bool, Alloc
     Ok(printed.as_slice() == body)
 }
 
-fn read_content(
-    alloc: Global,
-    command: &PublicCommand,
-    body: &[u8],
-) -> Result<Content, Unpublished> {
+fn read_told(alloc: Global, command: &PublicCommand, body: &[u8]) -> Result<Told, Unpublished> {
     match command {
-        PublicCommand::Registries => Ok(Content::Names(names::read(alloc, body)?)),
-        PublicCommand::Registry(name) => Ok(Content::Page(page::read(alloc, name, body)?)),
+        PublicCommand::Registries => Ok(Told::Names(names::read(alloc, body)?)),
+        PublicCommand::Registry(name) => Ok(Told::Page(page::read(alloc, name, body)?)),
         PublicCommand::RegistryListing(_) => Err(Unpublished::Read),
-        PublicCommand::PoolList => Ok(Content::Pool(pool::read(alloc, body)?)),
-        PublicCommand::BlockListing => Ok(Content::Blocks(blocks::read(alloc, body)?)),
+        PublicCommand::PoolList => Ok(Told::Pool(pool::read(alloc, body)?)),
+        PublicCommand::BlockListing => Ok(Told::Blocks(blocks::read(alloc, body)?)),
     }
 }

@@ -7,7 +7,7 @@ ghost use Rattle.reg_site.specs.Site.{told_to_all};
 
 use crate::unpublished::Unpublished;
 use reg_core::command::PublicCommand;
-use reg_core::content::Content;
+use reg_core::told::Told;
 
 /// What answers anybody's commands.
 pub trait Source {
@@ -19,7 +19,7 @@ pub trait Source {
 
     /// What anybody is told by this command. An office that is served answers at the moment of its
     /// own clock; any other at this moment, in seconds since 1970-01-01T00:00:00Z.
-    fn ask(&mut self, moment: u64, command: &PublicCommand) -> Result<Content, Unpublished>
+    fn ask(&mut self, moment: u64, command: &PublicCommand) -> Result<Told, Unpublished>
         ensures { Asks published Holds self.old self.new (λ p. IfOk result
-            (λ content. told_to_all p moment command.now ≡ Accepted content)) };
+            (λ told. told_to_all p moment command.now ≡ Accepted told)) };
 }

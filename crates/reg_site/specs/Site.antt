@@ -5,7 +5,7 @@ use Rattle.reg_core.specs.Answer.{public_answer, reply_of}
 use Rattle.reg_core.specs.View.{Published}
 use Rattle.reg_core.specs.declared.command.PublicCommand.{PublicCommand}
 use Rattle.reg_core.specs.declared.command.PublicCommand.TheVariants.{Registries, Registry, RegistryListing, PoolList, BlockListing}
-use Rattle.reg_core.specs.declared.content.Content.TheVariants as content
+use Rattle.reg_core.specs.declared.told.Told.TheVariants as tells
 use Rattle.reg_core.specs.declared.holding.Listed.{Listed}
 use Rattle.reg_core.specs.declared.page.Page.{Page}
 use Rattle.reg_core.specs.declared.reply.Reply.{Reply}
@@ -30,25 +30,25 @@ told_to_all p moment command = reply_of (public_answer p (utc_day moment) comman
 
 -- the registry that is told, if one is
 abbrev pub page_in : Reply → Option Page
-page_in (Accepted (content.Page page)) = Some page
+page_in (Accepted (tells.Page page)) = Some page
 page_in (Accepted _) = None
 page_in (Refused refusal) = None
 
 -- the blocks that are told, if they are
 abbrev pub blocks_in : Reply → Option (List Listed)
-blocks_in (Accepted (content.Blocks rows)) = Some rows
+blocks_in (Accepted (tells.Blocks rows)) = Some rows
 blocks_in (Accepted _) = None
 blocks_in (Refused refusal) = None
 
 -- the prefixes of the pool that are told, if they are
 abbrev pub pool_in : Reply → Option (List ℕ)
-pool_in (Accepted (content.Pool prefixes)) = Some prefixes
+pool_in (Accepted (tells.Pool prefixes)) = Some prefixes
 pool_in (Accepted _) = None
 pool_in (Refused refusal) = None
 
 -- the names that are told
 abbrev pub names_in : Reply → List (List ℕ)
-names_in (Accepted (content.Names names)) = names
+names_in (Accepted (tells.Names names)) = names
 names_in (Accepted _) = []
 names_in (Refused refusal) = []
 

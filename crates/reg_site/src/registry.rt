@@ -14,7 +14,7 @@ use crate::summary::Summary;
 use crate::table;
 use crate::table::push_row;
 use reg_core::page::Page;
-use reg_print::listing::records::{assignee_text, expiry_text, first_text, policy_word};
+use reg_print::listing::registry::{assignee_text, expiry_text, first_text, policy_word};
 use reg_print::listing::rows::{ListingRow, Run, rows};
 use reg_print::note::note_text;
 use reg_ranges::range::Range;

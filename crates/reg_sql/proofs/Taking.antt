@@ -26,10 +26,10 @@ use Rattle.reg_tables.proofs.PartLemmas.{part_before}
 use Rattle.reg_tables.proofs.RestLemmas.{stays_held, stays_same}
 use Rattle.reg_statements.specs.Content.{IsStoredAs, content_at, content_of, world_in}
 use Rattle.reg_statements.proofs.Migrated.{migrated_same}
-use Rattle.reg_opening.specs.Opening.{Finds, HasVersionTables, IsFirst, IsFoundAs, IsFree, IsOurs, verdict_of}
+use Rattle.reg_opening.specs.Opening.{FindsKind, HasVersionTables, ComesFirst, IsFoundAs, IsFree, IsOurs, kind_of}
 use Rattle.reg_opening.proofs.Versions.{both_all, schema_first}
-use Rattle.reg_opening.specs.declared.open.Found.{Found}
-use Rattle.reg_opening.specs.declared.open.Found.TheVariants as finding
+use Rattle.reg_opening.specs.declared.kind.Found.{Found}
+use Rattle.reg_opening.specs.declared.kind.Found.TheVariants as finding
 use Rattle.reg_vacancies.specs.Vacancies.{AreVacanciesOf}
 use Rattle.reg_sql.specs.Keeping.{KeepsOffice}
 use Rattle.reg_sql.specs.Opening.{Brings, HasNoTables, IsAsItWas, IsRefused, IsTakenOver, TakesOver}
@@ -191,10 +191,10 @@ none_there Third schema is finds =
     let named = (subst (FindsTablesOf Third) is finds).0.has.named in absurd (cc)
 
 module _ (fresh : Bool) (old new : State) (idle : IsIdle old) {E : Type 0} (f : Found)
-    (finds : Finds {E = E} old new (Ok f)) where
+    (finds : FindsKind {E = E} old new (Ok f)) where
   -- what was found is told of the store as it was
-  told : (g : Found) → f ≡ g → Works new → IsFoundAs old.now (verdict_of g)
-  told g is w = subst (λ f. IsFoundAs old.now (verdict_of f)) is (finds.verdict w)
+  told : (g : Found) → f ≡ g → Works new → IsFoundAs old.now (kind_of g)
+  told g is w = subst (λ f. IsFoundAs old.now (kind_of f)) is (finds.kind w)
 
   pub version_over : (n : ℤ) → f ≡ finding.OtherVersion n
       → TakesOver fresh old new (Err (refusals.Version n))
@@ -226,9 +226,9 @@ module _ (fresh : Bool) (old new : State) (idle : IsIdle old) {E : Type 0} (f : 
 
     -- its rows are an office's where its tables come first
     first_was : Works new → (u : Version) → HasVersionTables u old.now
-        → BeginsWith (table_count u) old.now.schema → IsFirst u old.now
+        → BeginsWith (table_count u) old.now.schema → ComesFirst u old.now
     first_was w u tables =
-        subst (λ (u : Version). BeginsWith (table_count u) old.now.schema → IsFirst u old.now)
+        subst (λ (u : Version). BeginsWith (table_count u) old.now.schema → ComesFirst u old.now)
         (sym (one_version v u old.now.schema (had w) tables))
         (told (finding.Ours v free) is w).2
 

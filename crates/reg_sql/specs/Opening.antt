@@ -26,7 +26,7 @@ use Rattle.reg_tables.specs.Selecting.{BeginsWith}
 use Rattle.reg_tables.specs.Version.{IsOther, later_than, newest, schema_of, table_count}
 use Rattle.reg_tables.specs.declared.version.Version.{Version}
 use Rattle.reg_statements.specs.Content.{IsStoredAs, content_at, world_in}
-use Rattle.reg_opening.specs.Opening.{HasVersionTables, IsFirst, IsOfVersion, IsOurs}
+use Rattle.reg_opening.specs.Opening.{HasVersionTables, ComesFirst, IsOfVersion, IsOurs}
 use Rattle.reg_sql.specs.Keeping.{IsHonest, KeepsOffice}
 use Rattle.reg_sql.specs.declared.open.OpenFault.{OpenFault}
 use Rattle.reg_sql.specs.declared.open.OpenFault.TheVariants as refusals
@@ -71,7 +71,7 @@ pub record IsBegun (fresh : Bool) (old new : Database) : Type 0 where
 pub record IsTakenOver (fresh : Bool) (old new : Database) : Type 0 where
   pub has : HasTables new.schema
   pub first : (v : Version) → HasVersionTables v old → BeginsWith (table_count v) old.schema
-      → IsFirst v old
+      → ComesFirst v old
   pub from : (new ≡ old) ⊎ (IsBegun fresh old new ⊎ WasOlder old)
   pub alone : StandsAlone old → new.schema ≡ office_schema
   pub was_alone : new.schema ≡ office_schema → StandsAlone old
@@ -84,7 +84,7 @@ IsRefused fresh db (refusals.Version n) =
 IsRefused fresh db refusals.NotOurs =
     ((v : Version) → ¬ IsOurs v db) × ((n : ℤ) → IsOfVersion n db → ¬ IsOther n)
     × (fresh ≡ true → ¬ AreFree db.schema)
-    × ((v : Version) → ¬ (HasVersionTables v db × IsFirst v db))
+    × ((v : Version) → ¬ (HasVersionTables v db × ComesFirst v db))
 IsRefused fresh db (refusals.Fault fault) = Unit {0}
 
 -- the disk was honest before, and nothing has shut the store

@@ -27,9 +27,9 @@ use reg_content::requests::{all, own, own_one};
 use reg_content::reviews::{file, queue, queue_one};
 use reg_content::whole::{caps, links};
 use reg_core::capability::Cap;
+use reg_core::case_file::CaseFile;
 use reg_core::change::Change;
 use reg_core::entry::Entry;
-use reg_core::file::File;
 use reg_core::holding::{Holding, Listed};
 use reg_core::queue::QueueRow;
 use reg_core::request::Request;
@@ -234,7 +234,7 @@ impl<S: Alter> Keeper for SqlKeeper<S> {
         all(self.tables.alloc, &mut self.tables.conn)
     }
 
-    fn file(&mut self, account: &Account, reference: &Ref) -> Result<Option<File>, Fault> {
+    fn file(&mut self, account: &Account, reference: &Ref) -> Result<Option<CaseFile>, Fault> {
         file(self.tables.alloc, &mut self.tables.conn, account, reference)
     }
 

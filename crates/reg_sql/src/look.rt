@@ -12,7 +12,7 @@ use crate::copying::copies;
 use crate::keeper::SqlKeeper;
 use crate::reason::reason;
 use crate::trouble::Trouble;
-use reg_opening::open::{Found, find};
+use reg_opening::kind::{Found, find};
 use reg_tables::version::Version;
 use sqlite::{Alter, Connection, Error, ErrorCode, FileStore, Files, Options};
 use sqlite_disk::Memory;

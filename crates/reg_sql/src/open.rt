@@ -21,7 +21,7 @@ ghost use Rattle.reg_sql.specs.declared.open.OpenFault.TheVariants as refusals;
 
 use crate::keeper::SqlKeeper;
 use reg_keeper::keeper::Fault;
-use reg_opening::open::{Found, find};
+use reg_opening::kind::{Found, find};
 use reg_statements::write::fault;
 use reg_tables::make::make_office;
 use reg_tables::migrate::migrate;

@@ -184,7 +184,7 @@ fn trouble_in_reviews<S: Alter>(
 ) -> Result<Option<Trouble>, Error> {
     let queue = "SELECT account, reference, expert FROM queue";
     let fit = feed(alloc, conn, audit, queue, |s: Seat| {
-        Row::Assignment(s.account, s.reference, s.expert)
+        Row::Seat(s.account, s.reference, s.expert)
     })?;
     if let Some(trouble) = fit.trouble("queue") {
         return Ok(Some(trouble));

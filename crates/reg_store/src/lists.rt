@@ -31,9 +31,9 @@ use reg_blocks::block::Block;
 use reg_blocks::pool::Pool;
 use reg_blocks::size::Size;
 use reg_core::capability::Cap;
+use reg_core::case_file::CaseFile;
 use reg_core::change::Change;
 use reg_core::entry::Entry;
-use reg_core::file::File;
 use reg_core::holding::{Holding, Listed};
 use reg_core::queue::QueueRow;
 use reg_core::request::Request;
@@ -178,7 +178,7 @@ impl Keeper for ListKeeper {
         Ok(all_rows(self.alloc, self.reviews.requests())?)
     }
 
-    fn file(&mut self, account: &Account, reference: &Ref) -> Result<Option<File>, Fault> {
+    fn file(&mut self, account: &Account, reference: &Ref) -> Result<Option<CaseFile>, Fault> {
         Ok(self.reviews.file(self.alloc, account, reference)?)
     }
 

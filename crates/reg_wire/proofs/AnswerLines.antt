@@ -10,8 +10,8 @@ use Rattle.reg_core.specs.declared.refusal.Refusal.{Refusal}
 use Rattle.reg_core.specs.declared.refusal.Refusal.TheVariants as no
 use Rattle.reg_core.specs.declared.reply.Reply.{Reply}
 use Rattle.reg_core.specs.declared.reply.Reply.TheVariants.{Accepted, Refused}
-use Rattle.reg_core.specs.declared.content.Content.{Content}
-use Rattle.reg_core.specs.declared.content.Content.TheVariants.{Made}
+use Rattle.reg_core.specs.declared.told.Told.{Told}
+use Rattle.reg_core.specs.declared.told.Told.TheVariants.{Made}
 use Rattle.reg_print.specs.Answer.{body_text, status_of}
 use Rattle.reg_wire.specs.Exchange.{IsAnswered}
 use Rattle.reg_wire.specs.Script.Lines.{IsOneLine, refusal, storage}
@@ -39,14 +39,14 @@ refused_is_another no.Clock = refl
 refused_is_another (no.Evidence item) = refl
 refused_is_another why = refl
 
-content_is_another : (c : Content)
+told_is_another : (c : Told)
     → bytes_eq (answer_line (answer.Reply (Accepted c))) storage ≡ false
 unfolding digits
-content_is_another (Made request) = refl
-content_is_another content = refl
+told_is_another (Made request) = refl
+told_is_another told = refl
 
 pub reply_is_another : (r : Reply) → bytes_eq (answer_line (answer.Reply r)) storage ≡ false
-reply_is_another (Accepted content) = content_is_another content
+reply_is_another (Accepted told) = told_is_another told
 reply_is_another (Refused why) = refused_is_another why
 
 pub wire_is_another : (why : WireRefusal) → bytes_eq (answer_line (answer.Wire why)) storage ≡ false

@@ -7,7 +7,7 @@ pub mod laws;
 mod line;
 mod line_buffer;
 mod lines;
-mod office;
+mod office_responder;
 mod responder;
 mod sending;
 

@@ -17,7 +17,7 @@ use Rattle.reg_core.specs.Link.{agent_rows, principal_names}
 use Rattle.reg_core.specs.Page.{page}
 use Rattle.reg_core.specs.Queue.{queue_rows, with_advice}
 use Rattle.reg_core.specs.Request.{request_rows, word_of}
-use Rattle.reg_core.specs.Rules.{listing_rule, advise_rule}
+use Rattle.reg_core.specs.Rules.{private_rule, advise_rule}
 use Rattle.reg_core.specs.Step.{is_clerk, acts_as_clerk, desk_by, clerk_answer, answer_to}
 use Rattle.reg_core.specs.View.{as_queued, Personal, published, requests_of, holdings_of, queue_of, agents_of, principals_of, personal, cap_at, with_personal, view_of}
 use Rattle.reg_core.specs.World.{World, RequestName}
@@ -34,8 +34,8 @@ use Rattle.reg_core.specs.declared.command.ClerkCommand.{ClerkCommand}
 use Rattle.reg_core.specs.declared.command.ClerkCommand.TheVariants.{AllRequests, OneRequest, AssignExpert, Approve, Decline, SetHold, Define, AddPool, Grant, Revoke}
 use Rattle.reg_core.specs.declared.command.PublicCommand.{PublicCommand}
 use Rattle.reg_core.specs.declared.command.PublicCommand.TheVariants.{Registries, Registry, RegistryListing, PoolList, BlockListing}
-use Rattle.reg_core.specs.declared.content.Content.{Content}
-use Rattle.reg_core.specs.declared.content.Content.TheVariants as content
+use Rattle.reg_core.specs.declared.told.Told.{Told}
+use Rattle.reg_core.specs.declared.told.Told.TheVariants as tells
 use Rattle.reg_core.specs.declared.decide.Decision.{Decision}
 use Rattle.reg_core.specs.declared.refusal.Refusal.{Refusal}
 use Rattle.reg_core.specs.declared.refusal.Refusal.TheVariants as no
@@ -52,15 +52,15 @@ use Rattle.reg_decisions.proofs.Stepping.{own_request}
 -- ---- The forms of an outcome
 
 -- the caller is told this, and nothing changes
-abbrev pub Tells : Content → Outcome → Type 0
-Tells content outcome = outcome ≡ record { content = content; change = None }
+abbrev pub Tells : Told → Outcome → Type 0
+Tells told outcome = outcome ≡ record { told = told; change = None }
 
 -- the outcome of a decision of which this is so, and the caller is told what goes with the
 -- decision
-pub record Comes (rule : Rule) (told : Decision → Content) (outcome : Outcome) : Type 0 where
+pub record Comes (rule : Rule) (told : Decision → Told) (outcome : Outcome) : Type 0 where
   pub decision : Decision
   pub so : Decides rule decision
-  pub is : outcome ≡ record { content = told decision; change = change_by decision }
+  pub is : outcome ≡ record { told = told decision; change = change_by decision }
 
 -- a row was there
 pub record Row {A : Type 0} (existing : Option A) (So : A → Type 0) : Type 0 where
@@ -71,15 +71,15 @@ pub record Row {A : Type 0} (existing : Option A) (So : A → Type 0) : Type 0 w
 -- ---- What was so, a line for each command
 
 abbrev pub PublicSo : World → ℕ → PublicCommand → Outcome → Type 0
-PublicSo w today Registries o = Tells (content.Names (keys w.registries)) o
+PublicSo w today Registries o = Tells (tells.Names (keys w.registries)) o
 PublicSo w today (Registry name) o =
     Row (get w.registries name)
-    (λ table. Tells (content.Page (page (published w) name table today)) o)
+    (λ table. Tells (tells.Page (page (published w) name table today)) o)
 PublicSo w today (RegistryListing name) o =
     Row (get w.registries name)
-    (λ table. Tells (content.Listing (page (published w) name table today)) o)
-PublicSo w today PoolList o = Tells (content.Pool (keys w.pool)) o
-PublicSo w today BlockListing o = Tells (content.Blocks (listed_rows (published w).blocks)) o
+    (λ table. Tells (tells.Listing (page (published w) name table today)) o)
+PublicSo w today PoolList o = Tells (tells.Pool (keys w.pool)) o
+PublicSo w today BlockListing o = Tells (tells.Blocks (listed_rows (published w).blocks)) o
 
 -- the block is there, and the account holds it
 pub record Holds (w : World) (block : SizedPrefix) (account : List ℕ)
@@ -90,7 +90,7 @@ pub record Holds (w : World) (block : SizedPrefix) (account : List ℕ)
   pub so : So holder
 
 abbrev pub OwnSo : World → List ℕ → ApplicantCommand → Outcome → Type 0
-OwnSo w account Own o = Tells (content.Rows (request_rows (requests_of account w))) o
+OwnSo w account Own o = Tells (tells.Rows (request_rows (requests_of account w))) o
 OwnSo w account (OwnOne reference) o =
     Row (get w.requests (account, reference)) (λ case. Tells (own_row (account, reference) case) o)
 OwnSo w account (Submit reference ask) o =
@@ -101,20 +101,20 @@ OwnSo w account (Withdraw reference) o =
     Row (get w.requests (account, reference)) (λ case.
     Comes (Withdraws (account, reference) case.state)
     (λ decision. own_row (account, reference) (case_by decision case)) o)
-OwnSo w account Holdings o = Tells (content.Holdings (holding_rows (holdings_of account w))) o
+OwnSo w account Holdings o = Tells (tells.Holdings (holding_rows (holdings_of account w))) o
 OwnSo w account (SetListing block private) o =
     Holds w block account (λ h.
     Comes (Lists block private h.private)
-    (λ decision. content.Held (holding_row block (with_mark private h))) o)
+    (λ decision. tells.Held (holding_row block (with_mark private h))) o)
 OwnSo w account (SetAgent agent reads) o =
     Comes (Links (account, agent) reads (contains_key w.agents (account, agent)))
-    (λ decision. content.Agent agent reads) o
-OwnSo w account Agents o = Tells (content.Accounts (agent_rows (agents_of account w))) o
+    (λ decision. tells.Agent agent reads) o
+OwnSo w account Agents o = Tells (tells.Accounts (agent_rows (agents_of account w))) o
 OwnSo w account Principals o =
-    Tells (content.Accounts (principal_names (principals_of account w))) o
+    Tells (tells.Accounts (principal_names (principals_of account w))) o
 OwnSo w account (PrincipalRows principal) o =
     Row (get w.agents (principal, account))
-    (λ link. Tells (content.Rows (request_rows (requests_of principal w))) o)
+    (λ link. Tells (tells.Rows (request_rows (requests_of principal w))) o)
 
 -- the request is there, and assigned to the account
 pub record Assigned (w : World) (name : RequestName) (account : List ℕ)
@@ -125,7 +125,7 @@ pub record Assigned (w : World) (name : RequestName) (account : List ℕ)
   pub so : So case
 
 abbrev pub ExpertSo : World → List ℕ → ExpertCommand → Outcome → Type 0
-ExpertSo w account Queue o = Tells (content.Items (queue_rows (queue_of account w))) o
+ExpertSo w account Queue o = Tells (tells.Queue (queue_rows (queue_of account w))) o
 ExpertSo w account (Advise applicant reference advice) o =
     Assigned w (applicant, reference) account (λ case.
     let old = get w.advice ((applicant, reference), account) in
@@ -134,10 +134,10 @@ ExpertSo w account (Advise applicant reference advice) o =
 
 -- a clerk whose own token has the digest in_use
 abbrev pub ClerkSo : (List ℕ → List ℕ) → World → List ℕ → ℕ → ClerkCommand → Outcome → Type 0
-ClerkSo digest_of w in_use today AllRequests o = Tells (content.Desks (request_rows w.requests)) o
+ClerkSo digest_of w in_use today AllRequests o = Tells (tells.Desks (request_rows w.requests)) o
 ClerkSo digest_of w in_use today (OneRequest account reference) o =
     Row (get w.requests (account, reference))
-    (λ case. Tells (content.Filed (file w (account, reference) case)) o)
+    (λ case. Tells (tells.Filed (file w (account, reference) case)) o)
 ClerkSo digest_of w in_use today (AssignExpert account reference expert) o =
     Row (get w.requests (account, reference)) (λ case.
     Comes (Assigns (account, reference) expert
@@ -156,17 +156,17 @@ ClerkSo digest_of w in_use today (SetHold name value held) o =
     Row (get w.registries name) (λ table.
     Row (get w.entries (name, value)) (λ a.
     Comes (HoldsEntry (name, value) held a.term today)
-    (λ decision. content.Marked (page_entry today value (with_hold held a))) o))
+    (λ decision. tells.Marked (page_entry today value (with_hold held a))) o))
 ClerkSo digest_of w in_use today (Define name table) o =
-    Comes (Defines (get w.registries name) name table) (λ decision. content.Defined name) o
+    Comes (Defines (get w.registries name) name table) (λ decision. tells.Defined name) o
 ClerkSo digest_of w in_use today (AddPool prefix) o =
-    Comes (Pools (contains_key w.pool prefix) prefix) (λ decision. content.Pooled prefix) o
+    Comes (Pools (contains_key w.pool prefix) prefix) (λ decision. tells.Pooled prefix) o
 ClerkSo digest_of w in_use today (Grant token cap) o =
     Comes (Grants (get w.caps (digest_of token)) (digest_of token) cap)
-    (λ decision. content.Granted cap) o
+    (λ decision. tells.Granted cap) o
 ClerkSo digest_of w in_use today (Revoke token) o =
     Comes (Revokes in_use (get w.caps (digest_of token)) (digest_of token))
-    (λ decision. content.Revoked) o
+    (λ decision. tells.Revoked) o
 
 -- ---- Whose command it was
 
@@ -219,7 +219,7 @@ row_so refusal existing f So each =
     (λ o so. record { row = row; is = is; so = so }) (each row is))
 
 -- a rule's decision comes to the outcome
-rule_so : (r : Result Decision Refusal) (rule : Rule) (told : Decision → Content)
+rule_so : (r : Result Decision Refusal) (rule : Rule) (told : Decision → Told)
     → IfOk r (Decides rule) → IfOk (by_rule r told) (Comes rule told)
 rule_so (Err refusal) rule told h = tt
 rule_so (Ok decision) rule told h = record { decision = decision; so = h; is = refl }
@@ -262,7 +262,7 @@ module _ (w : World) (today : ℕ) where
         is_there = is.0;
         own = is.1;
         so = record {
-          decision = listing_rule block private h.private;
+          decision = private_rule block private h.private;
           so = listing_decides block private h.private;
           is = refl;
         };
@@ -276,7 +276,7 @@ module _ (w : World) (today : ℕ) where
   own_so account (PrincipalRows principal) =
       rw own_principal
       (row_so no.Principal (get w.agents (principal, account)) _ _ (λ link is.
-      ap (λ m. record { content = content.Rows (request_rows m); change = None })
+      ap (λ m. record { told = tells.Rows (request_rows m); change = None })
       (own_principal_rows account principal w (ap is_some is))))
 
   expert_so : (account : List ℕ) (command : ExpertCommand)

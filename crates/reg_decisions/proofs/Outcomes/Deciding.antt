@@ -19,7 +19,7 @@ use Rattle.reg_core.specs.Advice.{is_given}
 use Rattle.reg_core.specs.Laws.{IsApproved}
 use Rattle.reg_core.specs.Ask.{same_ask}
 use Rattle.reg_core.specs.Capability.{same_cap}
-use Rattle.reg_core.specs.Rules.{withdraw_rule, listing_rule, link_rule, agent_rule, new_hold_rule, mark_rule, hold_rule, decline_rule, assign_rule, new_advice_rule, advise_rule, change_to_give, give_rule, approve_rule, define_rule, pool_rule, grant_rule, revoke_rule, submit_rule}
+use Rattle.reg_core.specs.Rules.{withdraw_rule, private_rule, link_rule, agent_rule, new_hold_rule, mark_rule, hold_rule, decline_rule, assign_rule, new_advice_rule, advise_rule, change_to_give, give_rule, approve_rule, define_rule, pool_rule, grant_rule, revoke_rule, submit_rule}
 use Rattle.reg_core.specs.World.{RequestName, Place, Link}
 use Rattle.reg_core.specs.declared.advice.Advice.{Advice as AdviceOf}
 use Rattle.reg_core.specs.declared.ask.Ask.{Ask}
@@ -212,7 +212,7 @@ Lists block private old = record {
 }
 
 pub listing_decides : (block : SizedPrefix) (private old : Bool)
-    → Decides (Lists block private old) (listing_rule block private old)
+    → Decides (Lists block private old) (private_rule block private old)
 listing_decides block true true = refl
 listing_decides block false false = refl
 listing_decides block true false = (refl, refl)

@@ -42,7 +42,7 @@ use Rattle.reg_core.specs.declared.command.ApplicantCommand.TheVariants as appli
 use Rattle.reg_core.specs.declared.command.ExpertCommand.TheVariants as expert
 use Rattle.reg_core.specs.declared.command.ClerkCommand.TheVariants as clerk
 use Rattle.reg_core.specs.declared.command.PublicCommand.TheVariants as public
-use Rattle.reg_core.specs.declared.content.Content.{Content}
+use Rattle.reg_core.specs.declared.told.Told.{Told}
 use Rattle.reg_core.specs.declared.decide.Decision.{Decision}
 use Rattle.reg_core.specs.declared.decide.Decision.TheVariants.{Make, Same}
 use Rattle.reg_core.specs.declared.entry.Entry.{Entry}
@@ -218,12 +218,12 @@ pub record IsDue (digest_of : List ℕ → List ℕ) (w : World) (caller : Optio
 
 -- ---- The change of an outcome
 
-nothing_made : {content : Content} {outcome : Outcome} {change : Change} → Tells content outcome
+nothing_made : {told : Told} {outcome : Outcome} {change : Change} → Tells told outcome
     → outcome.change ≡ Some change → ⊥
 nothing_made is made = let none = ap (λ (o : Outcome). o.change) is in cc
 
 -- where a change was made, what is so of making it
-pub makes : (rule : Rule) (told : Decision → Content) (outcome : Outcome) (change : Change)
+pub makes : (rule : Rule) (told : Decision → Told) (outcome : Outcome) (change : Change)
     → Comes rule told outcome → outcome.change ≡ Some change → Decides rule (Make change)
 makes rule told outcome change comes made =
     by comes.decision comes.so (sym made ∙ ap (λ (o : Outcome). o.change) comes.is)
@@ -250,7 +250,7 @@ module _ (digest_of : List ℕ → List ℕ) (w : World) (caller : Option (List 
 
   -- a change of an accepted command is due where, by what is so where the rule makes it, it is due,
   -- made by the command and about what that is about, and has its forms from the command
-  due_by : {rule : Rule} {told : Decision → Content} {o : Outcome} {change : Change}
+  due_by : {rule : Rule} {told : Decision → Told} {o : Outcome} {change : Change}
       {command : Command} → is_in_clock moment ≡ true → Comes rule told o
       → o.change ≡ Some change
       → ((facts : rule.made) → Due w caller moment (rule.change facts)

@@ -8,8 +8,8 @@ use Rattle.reg_early.specs.declared.evidence.EarlyEvidence.{EarlyEvidence}
 use Rattle.reg_ranges.specs.Requirements.{first_item, is_closed_policy}
 use Rattle.reg_ranges.specs.Sameness.{same_treatment}
 use Rattle.reg_ranges.specs.Tables.{Table, treatment_of}
-use Rattle.reg_ranges.specs.declared.evidence.Item.{Item}
-use Rattle.reg_ranges.specs.declared.evidence.Item.TheVariants as item
+use Rattle.reg_ranges.specs.declared.evidence.EvidenceItem.{EvidenceItem}
+use Rattle.reg_ranges.specs.declared.evidence.EvidenceItem.TheVariants as item
 use Rattle.reg_ranges.specs.declared.policy.Policy.{Policy}
 use Rattle.reg_ranges.specs.declared.policy.Treatment.{Treatment}
 use Rattle.reg_ranges.specs.declared.policy.Treatment.TheVariants.{Under, Reserved}
@@ -123,26 +123,26 @@ policy_decides table want policy h =
 -- ---- Evidence
 
 -- the first item of a list is in it
-first_is_in : (items : List Item) (i : Item) → first_item items ≡ Some i → Contains items i
+first_is_in : (items : List EvidenceItem) (i : EvidenceItem) → first_item items ≡ Some i → Contains items i
 first_is_in [] i h = absurd (cc)
 first_is_in (j ∷ rest) i h = let same : j ≡ i = cc in (0, omega arith, same)
 
-none_is_first : (items : List Item) → first_item items ≡ None → items ≡ []
+none_is_first : (items : List EvidenceItem) → first_item items ≡ None → items ≡ []
 none_is_first [] h = refl
 none_is_first (j ∷ rest) h = absurd (cc)
 
-none_is_in : (items : List Item) (i : Item) → items ≡ [] → ¬ (Contains items i)
+none_is_in : (items : List EvidenceItem) (i : EvidenceItem) → items ≡ [] → ¬ (Contains items i)
 none_is_in [] i h has = let below = has.1 in omega arith
 none_is_in (j ∷ rest) i h has = absurd (cc)
 
 -- the first that is kept passes the test
-first_kept : (test : Item → Bool) (j : Item) (kept : List Item) (i : Item)
+first_kept : (test : EvidenceItem → Bool) (j : EvidenceItem) (kept : List EvidenceItem) (i : EvidenceItem)
     → (first_item kept ≡ Some i → test i ≡ true) → (b : Bool) → test j ≡ b
     → first_item (cond b (j ∷ kept) kept) ≡ Some i → test i ≡ true
 first_kept test j kept i more true t h = let same : j ≡ i = cc in ap test (sym same) ∙ t
 first_kept test j kept i more false t h = more h
 
-first_passes : (test : Item → Bool) (items : List Item) (i : Item)
+first_passes : (test : EvidenceItem → Bool) (items : List EvidenceItem) (i : EvidenceItem)
     → first_item (filter test items) ≡ Some i → test i ≡ true
 first_passes test [] i h = absurd (cc)
 first_passes test (j ∷ rest) i h =
@@ -160,7 +160,7 @@ not_eligible policy e h =
     not_true false t = refl
 
 -- the items after it
-abbrev other_items : List Item
+abbrev other_items : List EvidenceItem
 other_items = item.Draft ∷ item.Stable ∷ item.Interest ∷ item.Chair ∷ item.Director ∷ []
 
 pub first_not_eligible : (policy : Policy) (e : EarlyEvidence) → is_eligible policy e.will_be_rfc ≡ false
@@ -220,8 +220,8 @@ module _ (rows : Ground) (account : List ℕ) (ask : Ask) (want : Want) (table :
     to_policy P so =
         in_table rows account ask want table wants is_there (UnderPolicy P) (policy, decides, so)
 
-    module _ (items : List Item) (lacks : (i : Item) → Contains items i → Lacks ask i policy)
-        (lacking : (i : Item) → Lacks ask i policy → Contains items i) where
+    module _ (items : List EvidenceItem) (lacks : (i : EvidenceItem) → Contains items i → Lacks ask i policy)
+        (lacking : (i : EvidenceItem) → Lacks ask i policy → Contains items i) where
       -- nothing is missing
       whole : first_item items ≡ None → ¬ (IsNotEarly ask policy) → (other : Refusal)
           → Applies rows account ask other → 10 ≤ line_of other → line_of other < 12 → ⊥
@@ -240,7 +240,7 @@ module _ (rows : Ground) (account : List ℕ) (ask : Ask) (want : Want) (table :
           → IsFair rows account ask 10 12 (is_met (first_item items))
       evidence_check early = by (first_item items) refl
         where
-          by : (o : Option Item) → first_item items ≡ o → IsFair rows account ask 10 12 (is_met o)
+          by : (o : Option EvidenceItem) → first_item items ≡ o → IsFair rows account ask 10 12 (is_met o)
           by None is =
               passes rows account ask 10 12 tt (clear_on rows account ask 10 12 (whole is early)) _ refl
           by (Some i) is =
@@ -254,7 +254,7 @@ module _ (rows : Ground) (account : List ℕ) (ask : Ask) (want : Want) (table :
           → IsFair rows account ask 10 12 (is_met_early (first_item items))
       early_check is_first first_is = by (first_item items) refl
         where
-          by : (o : Option Item) → first_item items ≡ o
+          by : (o : Option EvidenceItem) → first_item items ≡ o
               → IsFair rows account ask 10 12 (is_met_early o)
           by None is =
               passes rows account ask 10 12 tt

@@ -34,7 +34,7 @@ use Rattle.reg_core.specs.Rules.{change_to_give}
 use Rattle.reg_core.specs.Step.{desk_by, answer_to}
 use Rattle.reg_core.specs.Laws.{IsDone, WasDone, AnswersAreDone, is_refused}
 use Rattle.reg_core.specs.View.{cap_at}
-use Rattle.reg_core.specs.declared.content.Content.{Content}
+use Rattle.reg_core.specs.declared.told.Told.{Told}
 use Rattle.reg_decisions.proofs.Outcomes.Deciding.{Rule, Decides}
 use Rattle.reg_core.specs.declared.change.Change.TheVariants as change
 use Rattle.reg_decisions.proofs.Outcomes.Accepted.{Comes, CommandSo, accepted}
@@ -43,12 +43,12 @@ use Rattle.reg_laws.proofs.Outcomes.WholeLists.{entry_list, block_list, own_list
 -- ---- The forms of an outcome
 
 -- what holds of the outcome of each decision holds of the outcome
-decided : (P : Outcome → Type 0) {rule : Rule} {told : Decision → Content} {outcome : Outcome}
+decided : (P : Outcome → Type 0) {rule : Rule} {told : Decision → Told} {outcome : Outcome}
     → Comes rule told outcome
-    → (rule.there → P (record { content = told Same; change = None }))
+    → (rule.there → P (record { told = told Same; change = None }))
     → ((facts : rule.made)
     → P (record {
-      content = told (Make (rule.change facts));
+      told = told (Make (rule.change facts));
       change = Some (rule.change facts);
     }))
     → P outcome
@@ -56,10 +56,10 @@ decided P {rule = rule} {told = told} comes there made =
     subst P (sym comes.is) (by comes.decision comes.so)
   where
     by : (decision : Decision) → Decides rule decision
-        → P (record { content = told decision; change = change_by decision })
+        → P (record { told = told decision; change = change_by decision })
     by Same so = there so
     by (Make change) so =
-        subst (λ c. P (record { content = told (Make c); change = Some c })) so.1 (made so.0)
+        subst (λ c. P (record { told = told (Make c); change = Some c })) so.1 (made so.0)
 
 -- a request is in the state that a change gives it
 in_new_state : (w : World) (name : RequestName) (case : Case) (state : State)
@@ -85,12 +85,12 @@ module _ (digest_of : List ℕ → List ℕ) (w : World) (caller : Option (List 
   -- after the command and its outcome all is as the caller is told
   abbrev pub Done : Command → Outcome → Type 0
   Done command o =
-      IsDone digest_of (applied_if w o.change) (cap_at w caller) (utc_day moment) command o.content
+      IsDone digest_of (applied_if w o.change) (cap_at w caller) (utc_day moment) command o.told
 
   -- after it makes this change the caller is told this
-  abbrev DoneBy : Command → Content → Change → Type 0
-  DoneBy command content change =
-      IsDone digest_of (applied w change) (cap_at w caller) (utc_day moment) command content
+  abbrev DoneBy : Command → Told → Change → Type 0
+  DoneBy command told change =
+      IsDone digest_of (applied w change) (cap_at w caller) (utc_day moment) command told
 
   -- a change approves the request, a line for each award
   given_done : (account reference : List ℕ) (case : Case) (award : Award)

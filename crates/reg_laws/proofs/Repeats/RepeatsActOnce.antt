@@ -23,7 +23,7 @@ use Rattle.reg_core.specs.Laws.{is_refused, IsStillValid, MayRepeat, IsDone, Rep
 use Rattle.reg_core.specs.Lists.{IsRow, IsOwnRow}
 use Rattle.reg_blocks.specs.Block.{SizedPrefix}
 use Rattle.reg_core.specs.Request.{case_of, request_rows}
-use Rattle.reg_core.specs.Rules.{listing_rule, link_rule, mark_rule}
+use Rattle.reg_core.specs.Rules.{private_rule, link_rule, mark_rule}
 use Rattle.reg_core.specs.Step.{answer_to, step}
 use Rattle.reg_core.specs.View.{Queued, as_queued, published, personal, requests_by, requests_of, holdings_of, queue_of, agents_of, principals_of, principal_rows_of, cap_at}
 use Rattle.reg_core.specs.World.{World, RequestName, Place, Link, in_state, applied_if}
@@ -41,8 +41,8 @@ use Rattle.reg_core.specs.declared.command.ClerkCommand.{ClerkCommand}
 use Rattle.reg_core.specs.declared.command.ClerkCommand.TheVariants.{AllRequests, OneRequest, AssignExpert, Approve, Decline, SetHold, Define, AddPool, Grant, Revoke}
 use Rattle.reg_core.specs.declared.command.PublicCommand.{PublicCommand}
 use Rattle.reg_core.specs.declared.command.PublicCommand.TheVariants.{Registries, Registry, RegistryListing, PoolList, BlockListing}
-use Rattle.reg_core.specs.declared.content.Content.{Content}
-use Rattle.reg_core.specs.declared.content.Content.TheVariants as content
+use Rattle.reg_core.specs.declared.told.Told.{Told}
+use Rattle.reg_core.specs.declared.told.Told.TheVariants as tells
 use Rattle.reg_core.specs.declared.decide.Decision.TheVariants.{Same}
 use Rattle.reg_core.specs.declared.request.Case.{Case}
 use Rattle.reg_core.specs.declared.request.Given.{Given}
@@ -97,7 +97,7 @@ clerk_acts w v caller first second by may =
 
 -- a block with the mark that is asked for is left as it is
 marked_already : (block : SizedPrefix) (private old : Bool) → old ≡ private
-    → listing_rule block private old ≡ Same
+    → private_rule block private old ≡ Same
 marked_already block true true is = refl
 marked_already block false false is = refl
 marked_already block true false is = absurd (cc)
@@ -136,7 +136,7 @@ row_of (Some x) h = (x, refl)
 
 -- the answer tells something, and changes nothing
 abbrev pub OnlyTells : Answer → Type 0
-OnlyTells a = (content : Content) × (a ≡ unchanged content)
+OnlyTells a = (told : Told) × (a ≡ unchanged told)
 
 pub row_at : (v : World) (account reference : List ℕ) (row : Request)
     → IsRow v account reference row → get v.requests (account, reference) ≡ Some (case_of row)
@@ -146,21 +146,21 @@ row_at v account reference row is = let at = is.0 in let under = is.1 in
 module _ (digest_of : List ℕ → List ℕ) (v : World) (moment : ℕ) (now : is_in_clock moment ≡ true)
     (by : Option Cap) (day : ℕ) where
   module _ (caller : Option (List ℕ)) where
-    public_again : (command : PublicCommand) (content : Content)
-        → IsDone digest_of v by day (Public command) content
+    public_again : (command : PublicCommand) (told : Told)
+        → IsDone digest_of v by day (Public command) told
         → OnlyTells (answer_to digest_of v caller moment (Public command))
-    public_again Registries (content.Names names) so =
-        rw now (content.Names (keys v.registries), refl)
-    public_again (Registry name) (content.Page shown) so =
-        (content.Page (page (published v) name shown.table (utc_day moment)), rw (now, so.1) refl)
-    public_again (RegistryListing name) (content.Listing shown) so = (
-      content.Listing (page (published v) name shown.table (utc_day moment)),
+    public_again Registries (tells.Names names) so =
+        rw now (tells.Names (keys v.registries), refl)
+    public_again (Registry name) (tells.Page shown) so =
+        (tells.Page (page (published v) name shown.table (utc_day moment)), rw (now, so.1) refl)
+    public_again (RegistryListing name) (tells.Listing shown) so = (
+      tells.Listing (page (published v) name shown.table (utc_day moment)),
       rw (now, so.1) refl,
     )
-    public_again PoolList (content.Pool prefixes) so = rw now (content.Pool (keys v.pool), refl)
-    public_again BlockListing (content.Blocks rows) so =
-        rw now (content.Blocks (listed_rows (published v).blocks), refl)
-    public_again command content so = absurd so
+    public_again PoolList (tells.Pool prefixes) so = rw now (tells.Pool (keys v.pool), refl)
+    public_again BlockListing (tells.Blocks rows) so =
+        rw now (tells.Blocks (listed_rows (published v).blocks), refl)
+    public_again command told so = absurd so
 
     module _ (may : Acts v caller moment by kind.Applicant) where
       mine : (reference : List ℕ) (row : Request) → IsOwnRow v by reference row
@@ -186,51 +186,51 @@ module _ (digest_of : List ℕ → List ℕ) (v : World) (moment : ℕ) (now : i
           acting (Submit reference ask)
           ∙ rw (own_request may.cap.account reference v, is, same) refl
 
-      own_again : (command : ApplicantCommand) (content : Content)
-          → IsDone digest_of v by day (Applicant command) content
+      own_again : (command : ApplicantCommand) (told : Told)
+          → IsDone digest_of v by day (Applicant command) told
           → OnlyTells (answer_to digest_of v caller moment (Applicant command))
-      own_again Own (content.Rows rows) so = (
-        content.Rows (request_rows (requests_of may.cap.account v)),
+      own_again Own (tells.Rows rows) so = (
+        tells.Rows (request_rows (requests_of may.cap.account v)),
         acting Own,
       )
-      own_again (OwnOne reference) (content.Row row) so = (
+      own_again (OwnOne reference) (tells.Row row) so = (
         own_row (may.cap.account, reference) (case_of row),
         acting (OwnOne reference)
             ∙ rw (own_request may.cap.account reference v, mine reference row so) refl,
       )
-      own_again (Submit reference ask) (content.Made row) so = (
+      own_again (Submit reference ask) (tells.Made row) so = (
         own_row (may.cap.account, reference) (case_of row),
         submit_again reference ask (case_of row) (mine reference row so.1) so.0,
       )
-      own_again (Submit reference ask) (content.Row row) so = (
+      own_again (Submit reference ask) (tells.Row row) so = (
         own_row (may.cap.account, reference) (case_of row),
         submit_again reference ask (case_of row) (mine reference row so.1) so.0,
       )
-      own_again (Withdraw reference) (content.Row row) so = (
+      own_again (Withdraw reference) (tells.Row row) so = (
         own_row (may.cap.account, reference) (case_of row),
         acting (Withdraw reference)
             ∙ rw (own_request may.cap.account reference v, mine reference row so.1, so.0) refl,
       )
-      own_again Holdings (content.Holdings rows) so = (
-        content.Holdings (holding_rows (holdings_of may.cap.account v)),
+      own_again Holdings (tells.Holdings rows) so = (
+        tells.Holdings (holding_rows (holdings_of may.cap.account v)),
         acting Holdings,
       )
-      own_again (SetListing block private) (content.Held row) so =
+      own_again (SetListing block private) (tells.Held row) so =
           let h = holder_in row in
           let at = subst (λ b. get v.blocks b ≡ Some h) so.0 so.4.1 in
           let mine = so.4.0 ∙ may.account so.2 so.3 in
           let there = own_holding may.cap.account v block h at mine in (
-            content.Held (holding_row block (with_mark private h)),
+            tells.Held (holding_row block (with_mark private h)),
             acting (SetListing block private)
                 ∙ rw (there, marked_already block private row.private so.1) refl,
           )
-      own_again (SetAgent agent reads) (content.Agent given is) so =
+      own_again (SetAgent agent reads) (tells.Agent given is) so =
           let said = so.2 in
           let mine = may.account said.cap said.has in
           let other = apart agent may.cap.account (λ same. said.other (same ∙ sym mine)) in
           let there = own_agent may.cap.account agent v
           ∙ ap (λ a. contains_key v.agents (a, agent)) (sym mine) ∙ said.is in (
-            content.Agent agent reads,
+            tells.Agent agent reads,
             acting (SetAgent agent reads)
                 ∙ rw (
                   other,
@@ -238,35 +238,35 @@ module _ (digest_of : List ℕ → List ℕ) (v : World) (moment : ℕ) (now : i
                       (contains_key (agents_of may.cap.account v) (may.cap.account, agent)) there,
                 ) refl,
           )
-      own_again Agents (content.Accounts names) so = (
-        content.Accounts (agent_rows (agents_of may.cap.account v)),
+      own_again Agents (tells.Accounts names) so = (
+        tells.Accounts (agent_rows (agents_of may.cap.account v)),
         acting Agents,
       )
-      own_again Principals (content.Accounts names) so = (
-        content.Accounts (principal_names (principals_of may.cap.account v)),
+      own_again Principals (tells.Accounts names) so = (
+        tells.Accounts (principal_names (principals_of may.cap.account v)),
         acting Principals,
       )
-      own_again (PrincipalRows principal) (content.Rows rows) so =
+      own_again (PrincipalRows principal) (tells.Rows rows) so =
           let there =
           subst (λ a. contains_key v.agents (principal, a) ≡ true) (may.account so.0 so.1) so.2 in
           let link =
           row_of (get (principals_of may.cap.account v) (principal, may.cap.account))
           (ap is_some (own_principal may.cap.account principal v) ∙ there) in (
-            content.Rows
+            tells.Rows
                 (request_rows (requests_by principal (principal_rows_of may.cap.account v))),
             acting (PrincipalRows principal) ∙ rw link.1 refl,
           )
-      own_again command content so = absurd so
+      own_again command told so = absurd so
 
     module _ (may : Acts v caller moment by kind.Expert) where
-      expert_again : (command : ExpertCommand) (content : Content)
-          → IsDone digest_of v by day (Expert command) content
+      expert_again : (command : ExpertCommand) (told : Told)
+          → IsDone digest_of v by day (Expert command) told
           → OnlyTells (answer_to digest_of v caller moment (Expert command))
-      expert_again Queue (content.Items rows) so = (
-        content.Items (queue_rows (queue_of may.cap.account v)),
+      expert_again Queue (tells.Queue rows) so = (
+        tells.Queue (queue_rows (queue_of may.cap.account v)),
         rw (now, may.is_there, may.late, may.of_kind) refl,
       )
-      expert_again (Advise account reference advice) (content.Item row) so =
+      expert_again (Advise account reference advice) (tells.Queued row) so =
           let name : RequestName = (account, reference) in
           let is = so.3 in
           let assigned =
@@ -281,7 +281,7 @@ module _ (digest_of : List ℕ → List ℕ) (v : World) (moment : ℕ) (now : i
             item name queued,
             rw (now, may.is_there, may.late, may.of_kind, there, same_advice-itself advice) refl,
           )
-      expert_again command content so = absurd so
+      expert_again command told so = absurd so
 
   module _ (digest : List ℕ) (may : Acts v (Some digest) moment by kind.Clerk) where
     -- an approved request is answered as it is
@@ -304,36 +304,36 @@ module _ (digest_of : List ℕ → List ℕ) (v : World) (moment : ℕ) (now : i
             let has = may.is_there in
             absurd (cc)
 
-    clerk_again : (command : ClerkCommand) (content : Content)
-        → IsDone digest_of v by day (Clerk command) content
+    clerk_again : (command : ClerkCommand) (told : Told)
+        → IsDone digest_of v by day (Clerk command) told
         → OnlyTells (answer_to digest_of v (Some digest) moment (Clerk command))
-    clerk_again AllRequests (content.Desks rows) so = (
-      content.Desks (request_rows v.requests),
+    clerk_again AllRequests (tells.Desks rows) so = (
+      tells.Desks (request_rows v.requests),
       rw (now, may.is_there, may.of_kind, may.early) refl,
     )
-    clerk_again (OneRequest account reference) (content.Filed of) so =
+    clerk_again (OneRequest account reference) (tells.Filed of) so =
         let is = row_at v account reference of.request so.0 in (
-          content.Filed (file v (account, reference) (case_of of.request)),
+          tells.Filed (file v (account, reference) (case_of of.request)),
           rw (now, may.is_there, may.of_kind, may.early, is) refl,
         )
-    clerk_again (AssignExpert account reference expert) (content.Desk row) so =
+    clerk_again (AssignExpert account reference expert) (tells.Desk row) so =
         let is = row_at v account reference row so.1 in (
           desk_row (account, reference) (case_of row),
           rw (now, may.is_there, may.of_kind, may.early, is, so.0) refl,
         )
-    clerk_again (Approve account reference) (content.Desk row) so = (
+    clerk_again (Approve account reference) (tells.Desk row) so = (
       desk_row (account, reference) (in_state (Approved so.0.0) (case_of row)),
       approve_again account reference (case_of row) so.0.0
           (row_at v account reference row so.1) so.0.1,
     )
-    clerk_again (Decline account reference reason) (content.Desk row) so =
+    clerk_again (Decline account reference reason) (tells.Desk row) so =
         let is = row_at v account reference row so.1 in (
           desk_row (account, reference) (case_of row),
           rw (now, may.is_there, may.of_kind, may.early, is, so.0, same_text-itself reason) refl,
         )
-    clerk_again (SetHold name value held) (content.Marked row) so =
+    clerk_again (SetHold name value held) (tells.Marked row) so =
         let table = row_of (get v.registries name) so.registry in (
-          content.Marked (page_entry (utc_day moment) value (with_hold held so.entry)),
+          tells.Marked (page_entry (utc_day moment) value (with_hold held so.entry)),
           rw (
             now,
             may.is_there,
@@ -346,21 +346,21 @@ module _ (digest_of : List ℕ → List ℕ) (v : World) (moment : ℕ) (now : i
                 (status_on so.entry.term (utc_day moment)) so.mark,
           ) refl,
         )
-    clerk_again (Define name table) (content.Defined given) so = (
-      content.Defined name,
+    clerk_again (Define name table) (tells.Defined given) so = (
+      tells.Defined name,
       rw (now, may.is_there, may.of_kind, may.early, so.1, same_table-itself table) refl,
     )
-    clerk_again (AddPool prefix) (content.Pooled given) so =
-        (content.Pooled prefix, rw (now, may.is_there, may.of_kind, may.early, so.1, so.2) refl)
-    clerk_again (Grant token cap) (content.Granted given) so = (
-      content.Granted cap,
+    clerk_again (AddPool prefix) (tells.Pooled given) so =
+        (tells.Pooled prefix, rw (now, may.is_there, may.of_kind, may.early, so.1, so.2) refl)
+    clerk_again (Grant token cap) (tells.Granted given) so = (
+      tells.Granted cap,
       rw (now, may.is_there, may.of_kind, may.early, so.1, same_cap-itself cap) refl,
     )
-    clerk_again (Revoke token) content.Revoked so = (
-      content.Revoked,
+    clerk_again (Revoke token) tells.Revoked so = (
+      tells.Revoked,
       rw (now, may.is_there, may.of_kind, may.early, other_token (digest_of token) so, so) refl,
     )
-    clerk_again command content so = absurd so
+    clerk_again command told so = absurd so
 
 -- ---- The law
 
@@ -381,20 +381,20 @@ module _ (digest_of : List ℕ → List ℕ) (w : World) (caller : Option (List 
       → OnlyTells (answer_to digest_of v caller second command)
   again (Public command) o so may done =
       public_again digest_of (applied_if w o.change) second now (cap_at w caller) (utc_day first)
-      caller command o.content done
+      caller command o.told done
   again (Applicant command) o so may done =
       own_again digest_of (applied_if w o.change) second now (cap_at w caller) (utc_day first)
       caller (acts w (applied_if w o.change) caller first second kind.Applicant so.0 may) command
-      o.content done
+      o.told done
   again (Expert command) o so may done =
       expert_again digest_of (applied_if w o.change) second now (cap_at w caller) (utc_day first)
       caller (acts w (applied_if w o.change) caller first second kind.Expert so.0 may) command
-      o.content done
+      o.told done
   again (Clerk command) o so may done =
       let v = applied_if w o.change in
       subst (λ c. OnlyTells (answer_to digest_of v c second (Clerk command))) (sym so.0.is)
       (clerk_again digest_of v second now (cap_at w caller) (utc_day first) so.0.digest
-      (clerk_acts w v caller first second so.0 may) command o.content done)
+      (clerk_acts w v caller first second so.0 may) command o.told done)
 
 pub once : (digest_of : List ℕ → List ℕ) → RepeatsActOnce digest_of
 once digest_of w caller first second command accepted now may =

@@ -18,8 +18,8 @@ use Rattle.reg_core.specs.declared.command.Command.{Command}
 use Rattle.reg_core.specs.declared.command.Command.TheVariants.{Applicant, Clerk}
 use Rattle.reg_core.specs.declared.command.ApplicantCommand.TheVariants.{Submit}
 use Rattle.reg_core.specs.declared.command.ClerkCommand.TheVariants.{Approve}
-use Rattle.reg_core.specs.declared.content.Content.{Content}
-use Rattle.reg_core.specs.declared.content.Content.TheVariants as content
+use Rattle.reg_core.specs.declared.told.Told.{Told}
+use Rattle.reg_core.specs.declared.told.Told.TheVariants as tells
 use Rattle.reg_core.specs.declared.reply.Reply.TheVariants.{Accepted}
 use Rattle.reg_core.specs.declared.request.Case.{Case}
 use Rattle.reg_core.specs.declared.request.Request.{Request}
@@ -31,20 +31,20 @@ use Rattle.reg_laws.proofs.GivenStays.{runs_stay}
 
 -- what an accepted request's caller is told is the caller's own request with the ask
 submitted : (digest_of : List ℕ → List ℕ) (w : World) (by : Option Cap) (day : ℕ)
-    (reference : List ℕ) (ask : Ask) (told : Content)
+    (reference : List ℕ) (ask : Ask) (told : Told)
     → IsDone digest_of w by day (Applicant (Submit reference ask)) told
     → (row : Request) × (row.ask ≡ ask) × IsOwnRow w by reference row
-submitted digest_of w by day reference ask (content.Made row) so = (row, so.0, so.1)
-submitted digest_of w by day reference ask (content.Row row) so = (row, so.0, so.1)
+submitted digest_of w by day reference ask (tells.Made row) so = (row, so.0, so.1)
+submitted digest_of w by day reference ask (tells.Row row) so = (row, so.0, so.1)
 submitted digest_of w by day reference ask told so = absurd so
 
 -- what an approval's caller is told is the request, approved
 approved : (digest_of : List ℕ → List ℕ) (w : World) (by : Option Cap) (day : ℕ)
-    (account reference : List ℕ) (told : Content)
+    (account reference : List ℕ) (told : Told)
     → IsDone digest_of w by day (Clerk (Approve account reference)) told
-    → (row : Request) × (told ≡ content.Desk row) × IsApproved row.state
+    → (row : Request) × (told ≡ tells.Desk row) × IsApproved row.state
     × IsRow w account reference row
-approved digest_of w by day account reference (content.Desk row) so = (row, refl, so.0, so.1)
+approved digest_of w by day account reference (tells.Desk row) so = (row, refl, so.0, so.1)
 approved digest_of w by day account reference told so = absurd so
 
 -- a request that still is as it was asked is there
@@ -83,7 +83,7 @@ module _ (digest_of : List ℕ → List ℕ) (digests : GivesDigests digest_of) 
       let after : (step digest_of w caller first command).world ≡ u =
       ap (λ a. applied_if w (change_of a)) by.is in
       let told = submitted digest_of u (cap_at w caller) (utc_day first) reference ask
-      by.outcome.content by.done in
+      by.outcome.told by.done in
       let name : RequestName = (told.2.0.account, reference) in
       let row : get (step digest_of w caller first command).world.requests name
       ≡ Some (case_of told.0) =
@@ -112,7 +112,7 @@ module _ (digest_of : List ℕ → List ℕ) (digests : GivesDigests digest_of) 
       let after : (step digest_of w caller first command).world ≡ u =
       ap (λ a. applied_if w (change_of a)) by.is in
       let told = approved digest_of u (cap_at w caller) (utc_day first) account reference
-      by.outcome.content by.done in
+      by.outcome.told by.done in
       let row : get (step digest_of w caller first command).world.requests name
       ≡ Some (case_of told.0) =
       ap (λ (u : World). get u.requests name) after ∙ row_at u account reference told.0 told.3 in
@@ -130,8 +130,8 @@ module _ (digest_of : List ℕ → List ℕ) (digests : GivesDigests digest_of) 
       let at = told.3.0 in
       let under = told.3.1 in
       let asks = now.asks in
-      let same : shown ≡ content.Desk told.0 =
-      λ i. content.Desk (record {
+      let same : shown ≡ tells.Desk told.0 =
+      λ i. tells.Desk (record {
         account = sym at i;
         reference = sym under i;
         ask = asks i;

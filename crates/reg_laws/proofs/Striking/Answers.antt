@@ -29,7 +29,7 @@ use Rattle.reg_core.specs.declared.command.ExpertCommand.{ExpertCommand}
 use Rattle.reg_core.specs.declared.command.ExpertCommand.TheVariants.{Queue, Advise}
 use Rattle.reg_core.specs.declared.command.ClerkCommand.{ClerkCommand}
 use Rattle.reg_core.specs.declared.command.ClerkCommand.TheVariants.{AllRequests, OneRequest, AssignExpert, Approve, Decline}
-use Rattle.reg_core.specs.declared.content.Content.TheVariants as content
+use Rattle.reg_core.specs.declared.told.Told.TheVariants as tells
 use Rattle.reg_core.specs.declared.refusal.Refusal.{Refusal}
 use Rattle.reg_core.specs.declared.refusal.Refusal.TheVariants as no
 use Rattle.reg_core.specs.declared.reply.Reply.TheVariants.{Accepted}
@@ -141,7 +141,7 @@ module _
   own_same cap other Own h = record {
     whole = λ mine. absurd (not_mine cap other mine);
     change = refl;
-    rows = ap (λ rows. Accepted (content.Rows rows)) (same_requests hidden _ _ (own cap.account));
+    rows = ap (λ rows. Accepted (tells.Rows rows)) (same_requests hidden _ _ (own cap.account));
   }
   own_same cap other (OwnOne reference) h =
       same_whole (rw (own cap.account (cap.account, reference) h) refl)
@@ -166,7 +166,7 @@ module _
       _ _ (λ link. record {
         whole = λ mine. absurd (not_mine cap other mine);
         change = refl;
-        rows = ap (λ rows. Accepted (content.Rows rows))
+        rows = ap (λ rows. Accepted (tells.Rows rows))
             (same_requests hidden _ _ (rows_agree un.agree cap.account principal));
       })
 
@@ -177,7 +177,7 @@ module _
   expert_same cap other Queue h = record {
     whole = λ mine. absurd (not_mine cap other mine);
     change = refl;
-    rows = ap (λ rows. Accepted (content.Items rows)) (same_queue hidden _ _ (queued cap.account));
+    rows = ap (λ rows. Accepted (tells.Queue rows)) (same_queue hidden _ _ (queued cap.account));
   }
   expert_same cap other (Advise applicant reference advice) h =
       same_whole (rw (queued cap.account (applicant, reference) h) refl)
@@ -190,7 +190,7 @@ module _
     clerk_same existing in_use today AllRequests h = record {
       whole = λ mine. absurd (cc);
       change = refl;
-      rows = ap (λ rows. Accepted (content.Desks rows)) (same_requests hidden _ _ requests);
+      rows = ap (λ rows. Accepted (tells.Desks rows)) (same_requests hidden _ _ requests);
     }
     clerk_same existing in_use today (OneRequest applicant reference) h =
         let name : RequestName = (applicant, reference) in

@@ -10,7 +10,7 @@ use Rattle.reg_core.specs.Queue.{queue_row, queue_rows}
 use Rattle.reg_core.specs.Request.{request_row, request_rows}
 use Rattle.reg_core.specs.Run.{Event}
 use Rattle.reg_core.specs.Step.{answer_to}
-use Rattle.reg_core.specs.Striking.{HasNone, requests_without, queue_without, content_without, reply_without}
+use Rattle.reg_core.specs.Striking.{HasNone, requests_without, queue_without, told_without, reply_without}
 use Rattle.reg_core.specs.View.{Queued, queued_to, requests_of, queue_of}
 use Rattle.reg_core.specs.World.{World, RequestName, name_cmp}
 use Rattle.reg_core.specs.declared.ask.Ask.{Ask}
@@ -24,7 +24,7 @@ use Rattle.reg_core.specs.declared.command.ClerkCommand.{ClerkCommand}
 use Rattle.reg_core.specs.declared.command.ClerkCommand.TheVariants.{AllRequests, OneRequest, AssignExpert, Approve, Decline, SetHold}
 use Rattle.reg_core.specs.declared.command.PublicCommand.{PublicCommand}
 use Rattle.reg_core.specs.declared.command.PublicCommand.TheVariants.{Registries, Registry, RegistryListing, PoolList, BlockListing}
-use Rattle.reg_core.specs.declared.content.Content.TheVariants as content
+use Rattle.reg_core.specs.declared.told.Told.TheVariants as tells
 use Rattle.reg_core.specs.declared.queue.QueueRow.{QueueRow}
 use Rattle.reg_core.specs.declared.reply.Reply.TheVariants.{Accepted}
 use Rattle.reg_core.specs.declared.request.Case.{Case}
@@ -69,7 +69,7 @@ module _ (hidden : RequestName → Bool) (v : World) (none : HasNone hidden v) w
 
   -- an outcome that tells of no hidden request in a list
   abbrev IsPlain : Outcome → Type 0
-  IsPlain o = content_without hidden o.content ≡ o.content
+  IsPlain o = told_without hidden o.told ≡ o.told
 
   plain : {x o : Outcome} → o ≡ x → IsPlain x → IsPlain o
   plain is h = subst IsPlain (sym is) h
@@ -83,14 +83,14 @@ module _ (hidden : RequestName → Bool) (v : World) (none : HasNone hidden v) w
   public_plain today BlockListing o so = plain so refl
 
   made_plain : (name : RequestName) (ask : Ask) (existing : Option Case)
-      → content_without hidden (made_row name ask existing) ≡ made_row name ask existing
+      → told_without hidden (made_row name ask existing) ≡ made_row name ask existing
   made_plain name ask None = refl
   made_plain name ask (Some case) = refl
 
   own_plain : (of : List ℕ) (given : ApplicantCommand) (o : Outcome)
       → OwnSo v of given o → IsPlain o
   own_plain of Own o so =
-      plain so (ap content.Rows (plain_requests (requests_of of v) (own_bare of)))
+      plain so (ap tells.Rows (plain_requests (requests_of of v) (own_bare of)))
   own_plain of (OwnOne reference) o so = plain so.so refl
   own_plain of (Submit reference ask) o so =
       plain so.is (made_plain (of, reference) ask (get v.requests (of, reference)))
@@ -101,19 +101,19 @@ module _ (hidden : RequestName → Bool) (v : World) (none : HasNone hidden v) w
   own_plain of Agents o so = plain so refl
   own_plain of Principals o so = plain so refl
   own_plain of (PrincipalRows principal) o so =
-      plain so.so (ap content.Rows (plain_requests (requests_of principal v) (own_bare principal)))
+      plain so.so (ap tells.Rows (plain_requests (requests_of principal v) (own_bare principal)))
 
   expert_plain : (of : List ℕ) (given : ExpertCommand) (o : Outcome)
       → ExpertSo v of given o → IsPlain o
   expert_plain of Queue o so =
-      plain so (ap content.Items (plain_rows name_keys hidden (seen_queued hidden) queue_row
+      plain so (ap tells.Queue (plain_rows name_keys hidden (seen_queued hidden) queue_row
       (λ name queued. refl) (queue_of of v) (queue_bare of)))
   expert_plain of (Advise applicant reference advice) o so = plain so.so.is refl
 
   clerk_plain : (digest_of : List ℕ → List ℕ) (in_use : List ℕ) (today : ℕ) (given : ClerkCommand)
       (o : Outcome) → ClerkSo digest_of v in_use today given o → IsPlain o
   clerk_plain digest_of in_use today AllRequests o so =
-      plain so (ap content.Desks (plain_requests v.requests none))
+      plain so (ap tells.Desks (plain_requests v.requests none))
   clerk_plain digest_of in_use today (OneRequest account reference) o so = plain so.so refl
   clerk_plain digest_of in_use today (AssignExpert account reference of) o so = plain so.so.is refl
   clerk_plain digest_of in_use today (Approve account reference) o so = plain so.so.is refl

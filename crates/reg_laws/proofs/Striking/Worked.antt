@@ -31,8 +31,8 @@ use Rattle.reg_core.specs.declared.command.ClerkCommand.TheVariants.{Approve, De
 use Rattle.reg_core.specs.declared.command.Command.TheVariants.{Applicant, Clerk}
 use Rattle.reg_core.specs.declared.command.Command.{Command}
 use Rattle.reg_core.specs.declared.refusal.Refusal.TheVariants as no
-use Rattle.reg_core.specs.declared.content.Content.{Content}
-use Rattle.reg_core.specs.declared.content.Content.TheVariants.{Made}
+use Rattle.reg_core.specs.declared.told.Told.{Told}
+use Rattle.reg_core.specs.declared.told.Told.TheVariants.{Made}
 use Rattle.reg_core.specs.declared.entry.Entry.{Entry}
 use Rattle.reg_core.specs.declared.request.Given.TheVariants as given
 use Rattle.reg_core.specs.declared.request.State.TheVariants.{Approved, Declined}
@@ -164,13 +164,13 @@ answered w e a =
     }
 
 -- the request in a state, as the desk sees it
-abbrev shown : State → Content
+abbrev shown : State → Told
 shown state = desk_row name (record { ask = ask; state = state })
 
 abbrev submitted : Answer
 submitted = Ok
     (record {
-      content = Made (request_row name (pending ask));
+      told = Made (request_row name (pending ask));
       change =
           Some (change.Submit (codes "alice") (codes "a-1") ask);
     })
@@ -188,7 +188,7 @@ looks_at = rw (bob-there, bob-none) refl
 abbrev declined : Answer
 declined = Ok
     (record {
-      content = shown (Declined (codes "no"));
+      told = shown (Declined (codes "no"));
       change =
           Some (change.Close (codes "alice") (codes "a-1") (Declined (codes "no")));
     })
@@ -209,7 +209,7 @@ red = record {
 abbrev approved : Answer
 approved = Ok
     (record {
-      content = shown (Approved (given.Value 7));
+      told = shown (Approved (given.Value 7));
       change =
           Some (change.GiveValue (codes "alice") (codes "a-1") red);
     })

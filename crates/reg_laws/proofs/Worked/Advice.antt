@@ -23,8 +23,8 @@ use Rattle.reg_core.specs.declared.command.ClerkCommand.TheVariants.{AssignExper
 use Rattle.reg_core.specs.declared.command.ExpertCommand.TheVariants.{Advise}
 use Rattle.reg_core.specs.declared.refusal.Refusal.{Refusal}
 use Rattle.reg_core.specs.declared.refusal.Refusal.TheVariants as no
-use Rattle.reg_core.specs.declared.content.Content.{Content}
-use Rattle.reg_core.specs.declared.content.Content.TheVariants.{Item, Desk}
+use Rattle.reg_core.specs.declared.told.Told.{Told}
+use Rattle.reg_core.specs.declared.told.Told.TheVariants.{Queued, Desk}
 use Rattle.reg_core.specs.declared.reply.Reply.TheVariants.{Accepted, Refused}
 use Rattle.reg_decisions.proofs.Allowances.{allowance_needs}
 use Rattle.reg_core.specs.declared.request.State.TheVariants.{Pending, Declined}
@@ -63,16 +63,16 @@ given command w caller = step (λ token. token) w caller 1700000000 command
 abbrev stays : World → Refusal → Stepped
 stays w refusal = record { reply = Refused refusal; world = w }
 
-abbrev tells : World → Content → Stepped
-tells w content = record { reply = Accepted content; world = w }
+abbrev tells : World → Told → Stepped
+tells w told = record { reply = Accepted told; world = w }
 
-abbrev on_desk : Ask → Content
+abbrev on_desk : Ask → Told
 on_desk ask =
     Desk (record { account = alice; reference = reference; ask = ask; state = Pending })
 
-abbrev with_fine : Ask → StateWord → Content
+abbrev with_fine : Ask → StateWord → Told
 with_fine ask word =
-    Item (record {
+    Queued (record {
       account = alice;
       reference = reference;
       ask = ask;

@@ -21,7 +21,7 @@ use Rattle.reg_core.specs.declared.command.ApplicantCommand.TheVariants.{Own}
 use Rattle.reg_core.specs.declared.command.ClerkCommand.TheVariants.{AddPool, Grant, Revoke}
 use Rattle.reg_core.specs.declared.command.PublicCommand.TheVariants.{PoolList}
 use Rattle.reg_core.specs.declared.refusal.Refusal.TheVariants as no
-use Rattle.reg_core.specs.declared.content.Content.TheVariants.{Rows, Pool, Pooled, Granted}
+use Rattle.reg_core.specs.declared.told.Told.TheVariants.{Rows, Pool, Pooled, Granted}
 use Rattle.reg_core.specs.declared.reply.Reply.TheVariants.{Accepted, Refused}
 use Rattle.reg_core.specs.declared.request.Case.{Case}
 use Rattle.reg_core.proofs.KeyOrders.{name_keys}

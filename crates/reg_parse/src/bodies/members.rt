@@ -38,10 +38,7 @@ pub fn object_of(alloc: Global, body: &[u8]) -> Result<Value, ReadFault>
 
 /// The name of this member. `Field` with the item where it is missing or has not the form. It takes
 /// no memory.
-pub fn word<F: Form<N>, const N: usize>(
-    object: &Value,
-    item: Item,
-) -> Result<Word<F, N>, ReadFault>
+pub fn word<F: Form<N>, const N: usize>(object: &Value, item: Item) -> Result<Word<F, N>, ReadFault>
     ensures { Gives result (needed item (text_form F.fits) (view object.now)) }
 {
     match object.get(item.name()).and_then(Value::as_str) {

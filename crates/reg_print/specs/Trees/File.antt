@@ -1,7 +1,7 @@
 -- The JSON of a request with all that the desk has of it.
 use Rattle.std.specs.Prelude.{◌∷◌, Some, codes}
 use Rattle.serde_json.specs.Data.{Data}
-use Rattle.reg_core.specs.declared.file.File.{File}
+use Rattle.reg_core.specs.declared.case_file.CaseFile.{CaseFile}
 use Rattle.reg_print.specs.Trees.Advice.{opinions_tree}
 use Rattle.reg_print.specs.Trees.Ask.{ask_tree}
 use Rattle.reg_print.specs.Trees.Members.{Listed, object_with, text}
@@ -9,7 +9,7 @@ use Rattle.reg_print.specs.Trees.Members.{names_tree}
 use Rattle.reg_print.specs.Trees.Request.{standing_members}
 
 -- the request as the desk sees it, its experts, and their advice
-abbrev pub file_members : File → Listed
+abbrev pub file_members : CaseFile → Listed
 file_members file =
     (codes "account", text file.request.account)
     ∷ (codes "advice", Some (opinions_tree file.advice))
@@ -17,5 +17,5 @@ file_members file =
     ∷ (codes "experts", Some (names_tree file.experts))
     ∷ standing_members file.request
 
-abbrev pub file_tree : File → Data
+abbrev pub file_tree : CaseFile → Data
 file_tree file = object_with (file_members file)

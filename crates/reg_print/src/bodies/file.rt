@@ -3,11 +3,11 @@ ghost use Rattle.reg_print.specs.Trees.File.{file_tree};
 
 use crate::bodies::request::put_standing;
 use crate::printing::{Itself, Print, Printer};
-use reg_core::file::File;
+use reg_core::case_file::CaseFile;
 use std::alloc::AllocError;
 
 /// A request as the desk sees it, also with its experts, and their advice.
-impl Print<Itself> for File {
+impl Print<Itself> for CaseFile {
     ghost tree = { file_tree };
 
     ghost levels = { 3 };

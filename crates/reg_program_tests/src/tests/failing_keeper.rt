@@ -5,9 +5,9 @@ use reg_blocks::block::Block;
 use reg_blocks::pool::Pool;
 use reg_blocks::size::Size;
 use reg_core::capability::Cap;
+use reg_core::case_file::CaseFile;
 use reg_core::change::Change;
 use reg_core::entry::Entry;
-use reg_core::file::File;
 use reg_core::holding::{Holding, Listed};
 use reg_core::queue::QueueRow;
 use reg_core::request::Request;
@@ -117,7 +117,7 @@ impl<K: Keeper> Keeper for FailingKeeper<K> {
         Err(Fault::Store)
     }
 
-    fn file(&mut self, _account: &Account, _reference: &Ref) -> Result<Option<File>, Fault> {
+    fn file(&mut self, _account: &Account, _reference: &Ref) -> Result<Option<CaseFile>, Fault> {
         Err(Fault::Store)
     }
 

@@ -2,9 +2,9 @@
 use reg_jobs::jobs::Job;
 use reg_keeper::keeper::Keeper;
 use reg_office::Office;
+use reg_program::asking::{Form, ask_in, listing};
 use reg_program::checking::check_in;
 use reg_program::console::Console;
-use reg_program::desk::{Form, ask_in, listing};
 use reg_program::faults::Undone;
 use reg_program::performing::perform;
 use reg_program::scripts::found_and_run;

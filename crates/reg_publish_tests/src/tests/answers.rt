@@ -8,7 +8,7 @@ use reg_keeper::keeper::Keeper;
 use reg_office::Office;
 use reg_print::answer::Format;
 use reg_publish::answers::{body_of, read_answer};
-use reg_publish::reading::content_of;
+use reg_publish::reading::told_of;
 use reg_publish::unpublished::Unpublished;
 use reg_testing::devices::{FailsBefore, GivesOne, NeverEnds};
 use reg_testing::facts::ensure;
@@ -87,9 +87,9 @@ fn heads_of_others(rt: HostRuntime) -> Result<(), Fail> {
 }
 
 fn is_read(alloc: Global, command: &PublicCommand, body: &[u8]) -> Result<bool, Fail> {
-    match content_of(alloc, command, body) {
-        Ok(content) => {
-            drop(content);
+    match told_of(alloc, command, body) {
+        Ok(told) => {
+            drop(told);
             Ok(true)
         }
         Err(Unpublished::Read) => Ok(false),

@@ -5,7 +5,7 @@ ghost use Rattle.reg_core.specs.World.{empty_world};
 
 use crate::tests::office::FILES;
 use reg_core::command::PublicCommand;
-use reg_core::content::Content;
+use reg_core::told::Told;
 use reg_keeper::keeper::Keeper;
 use reg_office::Office;
 use reg_publish::folder::Folder;
@@ -98,14 +98,14 @@ impl<K: Keeper> Source for Faulty<K> {
 
     ghost Holds = { λ _. ⊥ };
 
-    fn ask(&mut self, moment: u64, command: &PublicCommand) -> Result<Content, Unpublished> {
+    fn ask(&mut self, moment: u64, command: &PublicCommand) -> Result<Told, Unpublished> {
         if self.asks > 0 {
             self.asks -= 1;
             return self.office.ask(moment, command);
         }
         match self.why {
             Some(why) => Err(why),
-            None => Ok(Content::Revoked),
+            None => Ok(Told::Revoked),
         }
     }
 }

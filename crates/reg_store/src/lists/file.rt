@@ -12,7 +12,7 @@ use crate::lists::opinions::{Opinions, opinions_in};
 use crate::lists::panels::{Panels, experts_in};
 use crate::lists::requests::{Requests, request_in};
 use reg_core::advice::Opinion;
-use reg_core::file::File;
+use reg_core::case_file::CaseFile;
 use reg_core::rows::Rows;
 use reg_core::text::{Account, Ref};
 use std::alloc::{AllocError, Global};
@@ -25,7 +25,7 @@ pub fn file_in(
     opinions: &Opinions,
     account: &Account,
     reference: &Ref,
-) -> Result<Option<File>, AllocError>
+) -> Result<Option<CaseFile>, AllocError>
     ensures { IfOk result (λ row. row ≡ option_map
         (file (review_world requests.now panels.now opinions.now) (account.now, reference.now))
         (fin.get (pair_map text_cmp text_cmp requests.now) (account.now, reference.now))) }
@@ -33,7 +33,7 @@ pub fn file_in(
     match request_in(requests, account, reference)? {
         Some(request) => {
             let (experts, advice) = review_in(alloc, panels, opinions, account, reference)?;
-            Ok(Some(File {
+            Ok(Some(CaseFile {
                 request,
                 experts,
                 advice,

@@ -169,8 +169,8 @@ fn mark_both(holders: &mut Holders, held: &mut Held, block: &Block, private: boo
         ≡ update (finite_map block_cmp holders.old) block.now (with_mark private) }
 {
     if let Some(account) = holder_of(holders, block) {
-        set_mark_held(held, &account, block, private);
-        set_mark(holders, block, private);
+        set_private_held(held, &account, block, private);
+        set_private(holders, block, private);
     }
 }
 
@@ -182,14 +182,14 @@ fn holder_of(holders: &Holders, block: &Block) -> Option<Account>
     Some(holder.account)
 }
 
-fn set_mark(holders: &mut Holders, block: &Block, private: bool)
+fn set_private(holders: &mut Holders, block: &Block, private: bool)
     ensures { finite_map block_cmp holders.new
         ≡ update (finite_map block_cmp holders.old) block.now (with_mark private) }
 {
     change_at(holders, block, |holder| holder.private = private);
 }
 
-fn set_mark_held(held: &mut Held, account: &Account, block: &Block, private: bool)
+fn set_private_held(held: &mut Held, account: &Account, block: &Block, private: bool)
     ensures { all_held held.new
         ≡ update (all_held held.old) (account.now, block.now) (with_mark private) }
 {

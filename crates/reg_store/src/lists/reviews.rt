@@ -21,7 +21,7 @@ use crate::lists::queues::{Queues, queued_in, set_advice, set_words};
 use crate::lists::requests::{RequestName, Requests, set_state};
 use reg_core::advice::Advice;
 use reg_core::ask::Ask;
-use reg_core::file::File;
+use reg_core::case_file::CaseFile;
 use reg_core::queue::QueueRow;
 use reg_core::request::{Case, State};
 use reg_core::rows::Rows;
@@ -69,7 +69,7 @@ impl Reviews {
         alloc: Global,
         account: &Account,
         reference: &Ref,
-    ) -> Result<Option<File>, AllocError>
+    ) -> Result<Option<CaseFile>, AllocError>
         ensures { IfOk result (λ file. file ≡
             option_map (file_of (world_of self.now) (account.now, reference.now))
             (fin.get (world_of self.now).requests (account.now, reference.now))) }

@@ -12,7 +12,7 @@ use Rattle.reg_core.specs.declared.ask.Ask.{Ask}
 use Rattle.reg_core.specs.declared.command.ApplicantCommand.TheVariants.{Submit}
 use Rattle.reg_core.specs.declared.request.Request.{Request}
 use Rattle.reg_decisions.proofs.Fitting.{submit_fits}
-use Rattle.reg_commands.specs.Answers.{answer_to_account, content_made}
+use Rattle.reg_commands.specs.Answers.{answer_to_account, told_made}
 use Rattle.reg_commands.proofs.Decided.{Rules, always, the_value, decides_found, makes_found, performs_found, performs_stopped_at}
 use Rattle.reg_commands.proofs.Rows.{selected_after}
 use Rattle.reg_commands.proofs.Submissions.{case_looked_up, submission, submission_answered}
@@ -41,11 +41,11 @@ module _ (g : Over) (c : After-submission g) where
   rules : Rules g.K.Keeper.world g.K.Keeper.Holds c.own_one.new.self
       (answer_to_account c.args.account.now (Submit c.args.reference.now ask))
       (submission old name ask (option_copied c.as_ref.result))
-      (λ decision. content_made name ask existing)
+      (λ decision. told_made name ask existing)
   rules = record {
     answered = λ h.
         submission_answered c.args.account.now c.args.reference.now ask old existing (found h)
-        ∙ ap (λ o. by_rule (submission old name ask o) (λ decision. content_made name ask existing))
+        ∙ ap (λ o. by_rule (submission old name ask o) (λ decision. told_made name ask existing))
         (sym c.as_ref.ensures.value);
     fits = λ h kept change made.
         let allowance = allowed (published old) name.0 ask in
@@ -77,6 +77,6 @@ returns g c =
     performs_found decision
     (decides_found decision (rules g d) c.in_ok-existing.ensures c.in_ok-decision.ensures)
     c.in_ok-decision.ensures.value
-    (the_value (content_made (name g d) (ask g d) (existing g d)) concluded.told
+    (the_value (told_made (name g d) (ask g d) (existing g d)) concluded.told
     c.told_of-told.ensures)
     concluded.change

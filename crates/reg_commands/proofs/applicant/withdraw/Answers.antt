@@ -3,7 +3,7 @@ use Rattle.reg_core.specs.Answer.{case_by, own_row}
 use Rattle.reg_core.specs.Request.{case_of}
 use Rattle.reg_core.specs.Rules.{withdraw_rule}
 use Rattle.reg_core.specs.declared.command.ApplicantCommand.TheVariants.{Withdraw}
-use Rattle.reg_core.specs.declared.content.Content.TheVariants.{Row}
+use Rattle.reg_core.specs.declared.told.Told.TheVariants.{Row}
 use Rattle.reg_core.specs.declared.request.Request.{Request}
 use Rattle.reg_decisions.proofs.Fitting.{withdraw_fits}
 use Rattle.reg_commands.specs.Answers.{answer_to_account}

@@ -9,9 +9,9 @@ use Rattle.reg_core.specs.Step.{desk_by}
 use Rattle.reg_core.specs.View.{published}
 use Rattle.reg_core.specs.World.{World, RequestName}
 use Rattle.reg_core.specs.declared.command.ClerkCommand.TheVariants.{Approve}
-use Rattle.reg_core.specs.declared.content.Content.TheVariants.{Desk}
+use Rattle.reg_core.specs.declared.told.Told.TheVariants.{Desk}
 use Rattle.reg_core.specs.declared.decide.Decision.{Decision}
-use Rattle.reg_core.specs.declared.file.File.{File}
+use Rattle.reg_core.specs.declared.case_file.CaseFile.{CaseFile}
 use Rattle.reg_core.specs.declared.refusal.Refusal.{Refusal}
 use Rattle.reg_core.specs.declared.request.Case.{Case}
 use Rattle.reg_core.specs.declared.request.Request.{Request}
@@ -31,7 +31,7 @@ approval w today name case =
     case.state
 
 -- of the request's file it is decided so
-approval_is : (w : World) (name : RequestName) (file : File) (today : ℕ) → IsFileOf w name file
+approval_is : (w : World) (name : RequestName) (file : CaseFile) (today : ℕ) → IsFileOf w name file
     → approval_of (published w) file today
     ≡ approval w today (file.request.account, file.request.reference) (case_of file.request)
 approval_is w name file today is =
@@ -48,7 +48,7 @@ module _ (g : Over) (c : After-approval g) where
   abbrev asked : RequestName
   asked = (c.args.account.now, c.args.reference.now)
 
-  abbrev found : File
+  abbrev found : CaseFile
   found = c.in_ok-file-2.file
 
   abbrev row : Request

@@ -7,7 +7,7 @@ use Rattle.reg_core.specs.Rules.{assign_rule}
 use Rattle.reg_core.specs.Step.{desk_by}
 use Rattle.reg_core.specs.World.{World, RequestName}
 use Rattle.reg_core.specs.declared.command.ClerkCommand.TheVariants.{AssignExpert}
-use Rattle.reg_core.specs.declared.content.Content.TheVariants.{Desk}
+use Rattle.reg_core.specs.declared.told.Told.TheVariants.{Desk}
 use Rattle.reg_core.specs.declared.decide.Decision.{Decision}
 use Rattle.reg_core.specs.declared.refusal.Refusal.{Refusal}
 use Rattle.reg_core.specs.declared.request.Case.{Case}

@@ -3,7 +3,7 @@ use Rattle.reg_core.specs.Request.{case_of}
 use Rattle.reg_core.specs.Rules.{decline_rule}
 use Rattle.reg_core.specs.Step.{desk_by}
 use Rattle.reg_core.specs.declared.command.ClerkCommand.TheVariants.{Decline}
-use Rattle.reg_core.specs.declared.content.Content.TheVariants.{Desk}
+use Rattle.reg_core.specs.declared.told.Told.TheVariants.{Desk}
 use Rattle.reg_core.specs.declared.request.Request.{Request}
 use Rattle.reg_decisions.proofs.Fitting.{decline_fits}
 use Rattle.reg_commands.specs.Answers.{answer_at_desk}

@@ -7,7 +7,7 @@ use Rattle.reg_core.specs.Entry.{page_entry, registration_in, with_hold}
 use Rattle.reg_core.specs.Rules.{hold_rule}
 use Rattle.reg_core.specs.World.{Place, World}
 use Rattle.reg_core.specs.declared.command.ClerkCommand.TheVariants.{SetHold}
-use Rattle.reg_core.specs.declared.content.Content.TheVariants.{Marked}
+use Rattle.reg_core.specs.declared.told.Told.TheVariants.{Marked}
 use Rattle.reg_core.specs.declared.entry.Entry.{Entry}
 use Rattle.reg_core.specs.declared.entry.Registration.{Registration}
 use Rattle.reg_core.specs.declared.refusal.Refusal.TheVariants as no

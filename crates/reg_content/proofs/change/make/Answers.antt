@@ -95,8 +95,8 @@ pub returns-in-SetPrivate : goal.returns-in-SetPrivate
 returns-in-SetPrivate g c =
     let it = c.in-SetPrivate in
     record {
-      same_reference = c.set_mark.ensures.same_reference;
-      steps = makes _ it.is c.set_mark.ensures.steps (λ w fits. (
+      same_reference = c.set_private.ensures.same_reference;
+      steps = makes _ it.is c.set_private.ensures.steps (λ w fits. (
         (fits.can.0, λ other some clash. fits.kept.apart other it.block some fits.can.0 clash),
         refl,
       ));

@@ -4,7 +4,7 @@ use crate::tests::disks::making::{blank, filled, prepared, refused};
 use crate::tests::disks::openings::{
     CAR, assert_after, assert_car, assert_fault, assert_same, changed,
 };
-use reg_opening::open::Verdict;
+use reg_opening::kind::StoreKind;
 use std::alloc::Global;
 use std::test::Fail;
 
@@ -54,9 +54,9 @@ fn beside(alloc: Global, statements: &str) -> Result<Image, Fail> {
 // The rows of an office that is filled here are judged as ever, and so is its version.
 fn assert_judged(alloc: Global, made: &Image) -> Result<(), Fail> {
     for sql in JUDGED.lines() {
-        assert_after(alloc, made, sql, Some(Verdict::NotOurs))?;
+        assert_after(alloc, made, sql, Some(StoreKind::NotOurs))?;
     }
-    let other = Some(Verdict::OtherVersion(9));
+    let other = Some(StoreKind::OtherVersion(9));
     assert_after(alloc, made, "UPDATE office SET version = 9", other)
 }
 

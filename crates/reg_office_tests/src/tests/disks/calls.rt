@@ -3,7 +3,7 @@
 use crate::tests::disks::sessions::{Asking, Outcome, Statement};
 use reg_keeper::keeper::{Fault, Keeper};
 use reg_office::Office;
-use reg_opening::open::{Verdict, check};
+use reg_opening::kind::{StoreKind, check};
 use reg_sql::keeper::SqlKeeper;
 use reg_sql::open::OpenFault;
 use reg_tables::make::make_office;
@@ -20,8 +20,8 @@ pub fn carried_out<S: Alter>(
     statement: Statement<'_>,
 ) -> (Outcome, Connection<S>) {
     let changed = changed_by(&mut conn, statement);
-    let verdict = judge(alloc, &mut conn);
-    (Outcome { changed, verdict }, conn)
+    let kind = judge(alloc, &mut conn);
+    (Outcome { changed, kind }, conn)
 }
 
 fn changed_by<S: Alter>(conn: &mut Connection<S>, statement: Statement<'_>) -> Option<usize> {
@@ -52,7 +52,7 @@ fn make_tables<S: Alter>(conn: &mut Connection<S>) -> Result<(), Error> {
     Ok(())
 }
 
-fn judge<S: Alter>(alloc: Global, conn: &mut Connection<S>) -> Result<Option<Verdict>, Fault> {
+fn judge<S: Alter>(alloc: Global, conn: &mut Connection<S>) -> Result<Option<StoreKind>, Fault> {
     if conn.schema().tables.is_empty() {
         return Ok(None);
     }

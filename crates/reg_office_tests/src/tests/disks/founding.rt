@@ -3,7 +3,7 @@ use crate::tests::disks::image::Image;
 use crate::tests::disks::left::{Left, NEVER, Stop};
 use crate::tests::disks::making::blank;
 use crate::tests::disks::sessions::{Outcome, Statement, carry_out};
-use reg_opening::open::Verdict;
+use reg_opening::kind::StoreKind;
 use reg_tables::version::NEWEST;
 use reg_testing::facts::ensure;
 use std::alloc::Global;
@@ -23,9 +23,9 @@ enum Found {
 fn found_in(alloc: Global, image: &Image) -> Result<Found, Fail> {
     let (outcome, left) = carry_out(alloc, image, NEVER, Statement::Nothing, false)?;
     drop(left);
-    Ok(match outcome.ok_or("a store")?.verdict? {
+    Ok(match outcome.ok_or("a store")?.kind? {
         None => Found::Nothing,
-        Some(Verdict::Ours(version)) if version == NEWEST => Found::Office,
+        Some(StoreKind::Ours(version)) if version == NEWEST => Found::Office,
         Some(_) => Found::Other,
     })
 }

@@ -3,7 +3,7 @@ use crate::tests::disks::image::Image;
 use crate::tests::disks::left::NEVER;
 use crate::tests::disks::making::{answered, asking, blank, filled_by};
 use crate::tests::disks::sessions::{Statement, carry_out};
-use reg_opening::open::Verdict;
+use reg_opening::kind::StoreKind;
 use reg_tables::version::NEWEST;
 use reg_testing::facts::ensure;
 use std::alloc::Global;
@@ -107,7 +107,7 @@ fn many_marks_and_principals(rt: HostRuntime) -> Result<(), Fail> {
     let (outcome, left) = carry_out(alloc, &image, NEVER, Statement::Sql(MANY), true)?;
     let outcome = outcome.ok_or("a store")?;
     ensure(outcome.changed == Some(1_000), "rows that are added")?;
-    ensure(outcome.verdict? == Some(Verdict::Ours(NEWEST)), "an office")?;
+    ensure(outcome.kind? == Some(StoreKind::Ours(NEWEST)), "an office")?;
     let (answers, _) = answered(alloc, &left.written, asking(ASKED))?;
     assert_answers(String::from_utf8(answers)?.as_str())
 }

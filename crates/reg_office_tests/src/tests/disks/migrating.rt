@@ -6,7 +6,7 @@ use crate::tests::disks::left::{NEVER, Stop, stops};
 use crate::tests::disks::making::{answered, asking, calls_of_opening, prepared_by, refused, seen};
 use crate::tests::disks::rows::{OF_THE_FIRST, OF_THE_SECOND};
 use crate::tests::disks::sessions::{Asking, Statement, ask, carry_out};
-use reg_opening::open::Verdict;
+use reg_opening::kind::StoreKind;
 use reg_sql::open::OpenFault;
 use reg_tables::version::{NEWEST, Version};
 use reg_testing::facts::ensure;
@@ -67,28 +67,28 @@ fn judged(
     alloc: Global,
     image: &Image,
     statements: &str,
-) -> Result<(Option<Verdict>, Image), Fail> {
+) -> Result<(Option<StoreKind>, Image), Fail> {
     let sql = Statement::Sql(statements);
     let (outcome, left) = carry_out(alloc, image, NEVER, sql, true)?;
     let outcome = outcome.ok_or("a store")?;
     outcome.changed.ok_or("statements that are done")?;
-    Ok((outcome.verdict?, left.written))
+    Ok((outcome.kind?, left.written))
 }
 
 // The store in these files is this.
-fn assert_verdict(alloc: Global, image: &Image, wanted: Verdict, what: &str) -> Result<(), Fail> {
+fn assert_verdict(alloc: Global, image: &Image, wanted: StoreKind, what: &str) -> Result<(), Fail> {
     let (outcome, left) = carry_out(alloc, image, NEVER, Statement::Nothing, false)?;
     drop(left);
-    let verdict = outcome.ok_or("a store")?.verdict?;
-    ensure(verdict == Some(wanted), what)
+    let kind = outcome.ok_or("a store")?.kind?;
+    ensure(kind == Some(wanted), what)
 }
 
 // The files of an office in the newest version, and of the same office in an older one.
 fn both(alloc: Global, older: Older) -> Result<(Image, Image), Fail> {
     let (version, statements, lines) = older;
     let newest = prepared_by(alloc, lines)?;
-    let (verdict, image) = judged(alloc, &newest, statements)?;
-    ensure(verdict == Some(Verdict::Ours(version)), "an older office")?;
+    let (kind, image) = judged(alloc, &newest, statements)?;
+    ensure(kind == Some(StoreKind::Ours(version)), "an older office")?;
     Ok((newest, image))
 }
 
@@ -106,7 +106,7 @@ fn assert_opened(alloc: Global, older: Older) -> Result<(), Fail> {
     let wanted = seen(alloc, &newest)?;
     ensure(seen(alloc, &image)? == wanted, "the same office")?;
     let migrated = migrated(alloc, &image)?;
-    let ours = Verdict::Ours(NEWEST);
+    let ours = StoreKind::Ours(NEWEST);
     assert_verdict(alloc, &migrated, ours, "an office of the newest version")?;
     ensure(seen(alloc, &migrated)? == wanted, "the same office later")?;
     let (_, again) = refused(alloc, &migrated, false)?;
@@ -158,8 +158,8 @@ fn an_older_office_beside_other_tables(rt: HostRuntime) -> Result<(), Fail> {
     for older in [FIRST, SECOND] {
         let (newest, image) = both(alloc, older)?;
         let (version, _, _) = older;
-        let (verdict, beside) = judged(alloc, &image, cars)?;
-        ensure(verdict == Some(Verdict::Ours(version)), "an older office")?;
+        let (kind, beside) = judged(alloc, &image, cars)?;
+        ensure(kind == Some(StoreKind::Ours(version)), "an older office")?;
         let migrated = migrated(alloc, &beside)?;
         let (one, other) = (seen(alloc, &migrated)?, seen(alloc, &newest)?);
         ensure(one == other, "the same office")?;
@@ -182,8 +182,8 @@ fn assert_refused(alloc: Global, image: &Image, wanted: OpenFault, what: &str) -
 fn assert_not_ours(alloc: Global, older: Older, statements: &str) -> Result<(), Fail> {
     let (_, image) = both(alloc, older)?;
     for sql in statements.lines() {
-        let (verdict, image) = judged(alloc, &image, sql)?;
-        ensure(verdict == Some(Verdict::NotOurs), sql)?;
+        let (kind, image) = judged(alloc, &image, sql)?;
+        ensure(kind == Some(StoreKind::NotOurs), sql)?;
         assert_refused(alloc, &image, OpenFault::NotOurs, sql)?;
     }
     Ok(())
@@ -241,9 +241,9 @@ fn assert_left(
 ) -> Result<(), Fail> {
     let (outcome, left) = carry_out(alloc, image, NEVER, Statement::Nothing, false)?;
     drop(left);
-    let verdict = outcome.ok_or("a store")?.verdict?;
-    let is_older = !is_opened && verdict == Some(Verdict::Ours(case.version));
-    let is_one = is_older || verdict == Some(Verdict::Ours(NEWEST));
+    let kind = outcome.ok_or("a store")?.kind?;
+    let is_older = !is_opened && kind == Some(StoreKind::Ours(case.version));
+    let is_one = is_older || kind == Some(StoreKind::Ours(NEWEST));
     stop.ensure(is_one, "the older version or the newest")?;
     let seen = seen(alloc, image)?;
     stop.ensure(seen.as_slice() == case.seen, "the same office")

@@ -3,7 +3,7 @@ use crate::tests::disks::image::Image;
 use crate::tests::disks::left::NEVER;
 use crate::tests::disks::making::{blank, prepared, refused, seen};
 use crate::tests::disks::sessions::{Outcome, Statement, carry_out};
-use reg_opening::open::Verdict;
+use reg_opening::kind::StoreKind;
 use reg_sql::open::OpenFault;
 use reg_tables::version::NEWEST;
 use reg_testing::facts::ensure;
@@ -122,12 +122,12 @@ DELETE FROM queue WHERE expert = 'xan'
 ";
 
 // What a store is after a statement, if it goes through.
-fn after(alloc: Global, image: &Image, sql: &str) -> Result<Option<Verdict>, Fail> {
+fn after(alloc: Global, image: &Image, sql: &str) -> Result<Option<StoreKind>, Fail> {
     let (outcome, _) = done(alloc, image, sql)?;
     if outcome.changed.is_none() {
         return Ok(None);
     }
-    Ok(outcome.verdict?)
+    Ok(outcome.kind?)
 }
 
 // What comes of statements, and the files after them.
@@ -141,13 +141,17 @@ pub fn assert_after(
     alloc: Global,
     image: &Image,
     sql: &str,
-    wanted: Option<Verdict>,
+    wanted: Option<StoreKind>,
 ) -> Result<(), Fail> {
     ensure(after(alloc, image, sql)? == wanted, sql)
 }
 
 // After each of these statements, a line each, the store is this.
-fn assert_after_each(alloc: Global, statements: &str, wanted: Option<Verdict>) -> Result<(), Fail> {
+fn assert_after_each(
+    alloc: Global,
+    statements: &str,
+    wanted: Option<StoreKind>,
+) -> Result<(), Fail> {
     let image = prepared(alloc)?;
     for sql in statements.lines() {
         assert_after(alloc, &image, sql, wanted)?;
@@ -168,19 +172,19 @@ pub fn assert_fault(found: Option<OpenFault>, wanted: Option<OpenFault>) -> Resu
 // The store is of this version, another one.
 fn assert_other(alloc: Global, image: &Image, version: i64) -> Result<(), Fail> {
     let sql = format!(in alloc; "UPDATE office SET version = {version}")?;
-    let wanted = Some(Verdict::OtherVersion(version));
+    let wanted = Some(StoreKind::OtherVersion(version));
     assert_after(alloc, image, sql.as_str(), wanted)
 }
 
 #[test]
 fn versions(rt: HostRuntime) -> Result<(), Fail> {
     let alloc = rt.alloc();
-    assert_after_each(alloc, VERSIONS, Some(Verdict::NotOurs))?;
+    assert_after_each(alloc, VERSIONS, Some(StoreKind::NotOurs))?;
     let image = prepared(alloc)?;
     for version in [-1, 0, 4, 9] {
         assert_other(alloc, &image, version)?;
     }
-    let ours = Some(Verdict::Ours(NEWEST));
+    let ours = Some(StoreKind::Ours(NEWEST));
     assert_after(alloc, &image, "UPDATE office SET version = 3", ours)
 }
 
@@ -192,8 +196,8 @@ fn assert_version(
     version: i64,
 ) -> Result<Image, Fail> {
     let (outcome, after) = done(alloc, image, statements)?;
-    let wanted = Some(Verdict::OtherVersion(version));
-    ensure(outcome.verdict? == wanted, "a store of another version")?;
+    let wanted = Some(StoreKind::OtherVersion(version));
+    ensure(outcome.kind? == wanted, "a store of another version")?;
     Ok(after)
 }
 
@@ -208,7 +212,7 @@ fn a_version_alone(rt: HostRuntime) -> Result<(), Fail> {
 
 #[test]
 fn other_tables(rt: HostRuntime) -> Result<(), Fail> {
-    assert_after_each(rt.alloc(), TABLES, Some(Verdict::NotOurs))
+    assert_after_each(rt.alloc(), TABLES, Some(StoreKind::NotOurs))
 }
 
 /// These files after some statements.
@@ -253,7 +257,7 @@ fn names_that_are_taken(rt: HostRuntime) -> Result<(), Fail> {
 
 #[test]
 fn other_rows(rt: HostRuntime) -> Result<(), Fail> {
-    assert_after_each(rt.alloc(), ROWS, Some(Verdict::NotOurs))
+    assert_after_each(rt.alloc(), ROWS, Some(StoreKind::NotOurs))
 }
 
 #[test]
@@ -272,6 +276,11 @@ fn a_text_that_is_too_long(rt: HostRuntime) -> Result<(), Fail> {
     }
     let longest = format!(in alloc; "{sql}'")?;
     let longer = format!(in alloc; "{sql}t'")?;
-    assert_after(alloc, &image, longest.as_str(), Some(Verdict::Ours(NEWEST)))?;
-    assert_after(alloc, &image, longer.as_str(), Some(Verdict::NotOurs))
+    assert_after(
+        alloc,
+        &image,
+        longest.as_str(),
+        Some(StoreKind::Ours(NEWEST)),
+    )?;
+    assert_after(alloc, &image, longer.as_str(), Some(StoreKind::NotOurs))
 }

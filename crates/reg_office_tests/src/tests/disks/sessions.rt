@@ -6,7 +6,7 @@ use crate::tests::disks::calls::{asked, carried_out, ended};
 use crate::tests::disks::image::Image;
 use crate::tests::disks::left::{Left, Stop, Stopping, disk_with, left_of};
 use reg_keeper::keeper::Fault;
-use reg_opening::open::Verdict;
+use reg_opening::kind::StoreKind;
 use reg_sql::open::OpenFault;
 use sqlite::{Connection, Error, FileStore, Files, Options};
 use sqlite_disk::Disk;
@@ -33,7 +33,7 @@ pub struct Outcome {
     /// How many rows it changed, the last one of several, if it was done.
     pub changed: Option<usize>,
     /// What the store is after it to an office that opens it, if it has tables.
-    pub verdict: Result<Option<Verdict>, Fault>,
+    pub kind: Result<Option<StoreKind>, Fault>,
 }
 
 /// What an office is asked.

@@ -1,6 +1,6 @@
 use Rattle.std.proofs.Common.{◌≡◌, ◌++◌, ap, ◌∙◌}
 use Rattle.reg_core.specs.declared.command.PublicCommand.TheVariants.{BlockListing, PoolList, Registries}
-use Rattle.reg_core.specs.declared.content.Content.TheVariants as content
+use Rattle.reg_core.specs.declared.told.Told.TheVariants as tells
 use Rattle.reg_core.specs.declared.reply.Reply.TheVariants.{Accepted}
 use Rattle.reg_site.specs.Index.{index_page}
 use Rattle.reg_site.specs.Site.{told_to_all}
@@ -33,19 +33,19 @@ returns g c =
     let registries = c.in_ok-registries.registries.items in
     let named = asks_as published Holds s s1
     (λ p. told_to_all p moment Registries ≡ Accepted c.in_ok-names.names)
-    (λ p. told_to_all p moment Registries ≡ Accepted (content.Names names))
+    (λ p. told_to_all p moment Registries ≡ Accepted (tells.Names names))
     c.in_ok-names.ensures (λ p h. h ∙ ap Accepted c.in_ok-names_in.ensures) in
     let given = asks_as published Holds s2 s3
     (λ p. told_to_all p moment BlockListing ≡ Accepted c.in_ok-blocks.blocks)
-    (λ p. told_to_all p moment BlockListing ≡ Accepted (content.Blocks rows))
+    (λ p. told_to_all p moment BlockListing ≡ Accepted (tells.Blocks rows))
     c.in_ok-blocks.ensures (λ p h. h ∙ ap Accepted c.in_ok-rows.ensures) in
     let pooled = asks_as published Holds s3 s4
     (λ p. told_to_all p moment PoolList ≡ Accepted c.in_ok-pool.pool)
-    (λ p. told_to_all p moment PoolList ≡ Accepted (content.Pool prefixes))
+    (λ p. told_to_all p moment PoolList ≡ Accepted (tells.Pool prefixes))
     c.in_ok-pool.ensures (λ p h. h ∙ ap Accepted c.in_ok-pool_in.ensures) in
     let pool = places_as (files f2) (files f3)
     (one_file file.Pool (told_text c.in_ok-pool.pool) ++ one_file file.Style STYLE.now)
-    (one_file file.Pool (told_text (content.Pool prefixes)) ++ one_file file.Style STYLE.now)
+    (one_file file.Pool (told_text (tells.Pool prefixes)) ++ one_file file.Style STYLE.now)
     (λ i. one_file file.Pool (told_text (c.in_ok-pool_in.ensures i)) ++ one_file file.Style STYLE.now)
     c.in_ok-publish_pool_and_style.ensures in
     let bytes = c.deref-2.ensures.value ∙ c.in_ok-index.ensures

@@ -6,9 +6,9 @@ use Rattle.reg_tables.specs.Connection.{Holds, Stays, Works}
 use Rattle.reg_tables.specs.Version.{schema_of}
 use Rattle.reg_tables.specs.declared.version.Version.{Version}
 use Rattle.reg_statements.specs.Content.{world_in}
-use Rattle.reg_opening.specs.Opening.{IsFoundAs, IsOurs, verdict_of}
-use Rattle.reg_opening.specs.declared.open.Found.{Found}
-use Rattle.reg_opening.specs.declared.open.Found.TheVariants as finding
+use Rattle.reg_opening.specs.Opening.{IsFoundAs, IsOurs, kind_of}
+use Rattle.reg_opening.specs.declared.kind.Found.{Found}
+use Rattle.reg_opening.specs.declared.kind.Found.TheVariants as finding
 use Rattle.reg_sql.specs.Opening.{IsOpened}
 use Rattle.reg_sql.proofs.look.look_into.Goals as goal
 
@@ -28,10 +28,10 @@ opened_over old new (Err e) tables stays opened = tt
 
 -- what was found to be an office's of a version is so, where no other tables are there
 ours_found : (old new : State) (found : Found) (v : Version) (free : Vacancies)
-    → found ≡ finding.Ours v free → (Works new → IsFoundAs old.now (verdict_of found))
+    → found ≡ finding.Ours v free → (Works new → IsFoundAs old.now (kind_of found))
     → Works new → old.now.schema ≡ schema_of v → IsOurs v old.now
-ours_found old new found v free is verdict w =
-    (subst (λ f. IsFoundAs old.now (verdict_of f)) is (verdict w)).1
+ours_found old new found v free is kind w =
+    (subst (λ f. IsFoundAs old.now (kind_of f)) is (kind w)).1
 
 version_over : {L E : Type 0} (old new : State) (result : Result L E) (tables : L → State)
     (version : L → Version) (v : Version)
@@ -57,4 +57,4 @@ returns-in-Ours-clause-version g c =
     version_over old new c.adopted.result (λ look. state g.S.Store look.keeper.tables)
     (λ look. look.version) c.in-Ours.version c.adopted.ensures.same c.adopted.ensures.opened
     (ours_found old new c.in_ok-version.field-0 c.in-Ours.version c.in-Ours.free c.in-Ours.is
-    c.in_ok-version.ensures.verdict)
+    c.in_ok-version.ensures.kind)

@@ -1,6 +1,6 @@
 use Rattle.std.proofs.Common.{IsTrue, ap, subst, sym, rules, ◌∙◌}
 use Rattle.sqlite.specs.Held.{state}
-use Rattle.reg_opening.specs.declared.open.Found.TheVariants as finding
+use Rattle.reg_opening.specs.declared.kind.Found.TheVariants as finding
 use Rattle.reg_tables.specs.Connection.{IsIdle}
 use Rattle.reg_sql.specs.Opening.{TakesOver}
 use Rattle.reg_sql.proofs.Taking.{founded_over, not_ours_over, older_over, ours_over, version_over}

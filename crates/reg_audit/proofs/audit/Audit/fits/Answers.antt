@@ -22,8 +22,8 @@ returns-then-ne c = λ w keeps kept.
     let tells = same_truth c.contains_key.result _
     (c.contains_key.ensures
     ∙ request_there c.args.self.now w keeps
-    (c.in-Assignment.account, c.in-Assignment.reference)) in
-    fits_as w c.args.row.now _ c.in-Assignment.is (
+    (c.in-Seat.account, c.in-Seat.reference)) in
+    fits_as w c.args.row.now _ c.in-Seat.is (
       (λ h. (sym c.ne.ensures ∙ c.if-ne.true, tells.0 h)),
       (λ fits. tells.1 fits.1),
     )

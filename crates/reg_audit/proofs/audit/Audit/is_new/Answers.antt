@@ -51,11 +51,11 @@ returns-in-Minute c = λ w keeps kept.
     (new_minute c.args.self.now w keeps c.in-Minute.account c.in-Minute.reference
     c.in-Minute.field-2 c.awaits_minute.result c.awaits_minute.ensures)
 
-pub returns-in-Assignment : goal.returns-in-Assignment
-returns-in-Assignment c = λ w keeps kept.
-    new_as w c.args.row.now _ c.in-Assignment.is
-    (new_assignment c.args.self.now w keeps c.in-Assignment.account c.in-Assignment.reference
-    c.in-Assignment.expert c.advised.result c.advised.ensures c.is_none.result c.is_none.ensures)
+pub returns-in-Seat : goal.returns-in-Seat
+returns-in-Seat c = λ w keeps kept.
+    new_as w c.args.row.now _ c.in-Seat.is
+    (new_assignment c.args.self.now w keeps c.in-Seat.account c.in-Seat.reference
+    c.in-Seat.expert c.advised.result c.advised.ensures c.is_none.result c.is_none.ensures)
 
 pub returns-in-Advice : goal.returns-in-Advice
 returns-in-Advice c = λ w keeps kept.

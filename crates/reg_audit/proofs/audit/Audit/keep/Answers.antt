@@ -55,13 +55,13 @@ returns-in-Minute-clause-ok c =
     c.in-Minute.reference c.in-Minute.field-2 put new))
     c.set_row-in-Minute.ensures.ok
 
-pub returns-in-Assignment-clause-ok : goal.returns-in-Assignment-clause-ok
-returns-in-Assignment-clause-ok c =
-    on_ok_weaker c.set_row-in-Assignment.result
-    (λ put w keeps. of_row w c.args.row _ c.in-Assignment.is (λ turn new fits.
-    keeps_assignment c.args.self.now w keeps c.set_row-in-Assignment.new.map c.in-Assignment.account
-    c.in-Assignment.reference c.in-Assignment.expert turn put))
-    c.set_row-in-Assignment.ensures.ok
+pub returns-in-Seat-clause-ok : goal.returns-in-Seat-clause-ok
+returns-in-Seat-clause-ok c =
+    on_ok_weaker c.set_row-in-Seat.result
+    (λ put w keeps. of_row w c.args.row _ c.in-Seat.is (λ turn new fits.
+    keeps_assignment c.args.self.now w keeps c.set_row-in-Seat.new.map c.in-Seat.account
+    c.in-Seat.reference c.in-Seat.expert turn put))
+    c.set_row-in-Seat.ensures.ok
 
 pub returns-in-Advice-clause-ok : goal.returns-in-Advice-clause-ok
 returns-in-Advice-clause-ok c =
@@ -85,12 +85,12 @@ returns-in-Minute-clause-err c =
     (λ same w keeps. keeps_requests_still c.args.self.now w keeps c.set_row-in-Minute.new.map same)
     c.set_row-in-Minute.ensures.err
 
-pub returns-in-Assignment-clause-err : goal.returns-in-Assignment-clause-err
-returns-in-Assignment-clause-err c =
-    on_err_weaker c.set_row-in-Assignment.result
+pub returns-in-Seat-clause-err : goal.returns-in-Seat-clause-err
+returns-in-Seat-clause-err c =
+    on_err_weaker c.set_row-in-Seat.result
     (λ same w keeps.
-    keeps_still c.args.self.now w keeps c.set_row-in-Assignment.new.map same)
-    c.set_row-in-Assignment.ensures.err
+    keeps_still c.args.self.now w keeps c.set_row-in-Seat.new.map same)
+    c.set_row-in-Seat.ensures.err
 
 pub returns-in-Advice-clause-err : goal.returns-in-Advice-clause-err
 returns-in-Advice-clause-err c =

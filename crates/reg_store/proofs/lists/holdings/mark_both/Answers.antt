@@ -12,6 +12,6 @@ returns-in-Some-clause-in_step c =
     let held = all_held c.args.held.now in
     let marked = held-mark blocks held c.requires c.args.block.now c.args.private
     c.in-Some.account c.in-Some.ensures in
-    subst (λ x. AreHeld x (all_held c.set_mark_held.new.held)) (sym c.set_mark.ensures)
+    subst (λ x. AreHeld x (all_held c.set_private_held.new.held)) (sym c.set_private.ensures)
     (subst (AreHeld (update blocks c.args.block.now (with_mark c.args.private)))
-    (sym c.set_mark_held.ensures) marked)
+    (sym c.set_private_held.ensures) marked)

@@ -1,0 +1,60 @@
+//! What the caller of an accepted command is told.
+use crate::capability::Cap;
+use crate::case_file::CaseFile;
+use crate::entry::PageEntry;
+use crate::holding::{Holding, Listed};
+use crate::page::Page;
+use crate::queue::QueueRow;
+use crate::request::Request;
+use crate::rows::Rows;
+use crate::text::{Account, Name};
+use reg_blocks::pool::Pool;
+
+/// What the caller of an accepted command is told.
+#[derive(Drop)]
+pub enum Told {
+    /// The names of all registries, in order.
+    Names(Rows<Name>),
+    /// A registry.
+    Page(Page),
+    /// A registry as a table.
+    Listing(Page),
+    /// The prefixes of the pool, ascending.
+    Pool(Pool),
+    /// The blocks that were given, as the public sees them, by first address.
+    Blocks(Rows<Listed>),
+    /// A request was made.
+    Made(Request),
+    /// A request of the caller's.
+    Row(Request),
+    /// The caller's requests, by reference.
+    Rows(Rows<Request>),
+    /// A block that the caller holds.
+    Held(Holding),
+    /// The blocks that the caller holds, by first address.
+    Holdings(Rows<Holding>),
+    /// Whether an account is the caller's agent now.
+    Agent(Account, bool),
+    /// The caller's agents, or its principals, in order.
+    Accounts(Rows<Account>),
+    /// A request that is queued to the caller.
+    Queued(QueueRow),
+    /// The requests that are queued to the caller, by account and reference.
+    Queue(Rows<QueueRow>),
+    /// A request, as the desk sees it.
+    Desk(Request),
+    /// All requests, by account and reference.
+    Desks(Rows<Request>),
+    /// A request with all that the desk has of it.
+    Filed(CaseFile),
+    /// An entry, which has the mark that was asked for now.
+    Marked(PageEntry),
+    /// The registry of this name is there as it was defined.
+    Defined(Name),
+    /// The prefix is in the pool.
+    Pooled(u32),
+    /// The capability that a token now has.
+    Granted(Cap),
+    /// The token has no capability now.
+    Revoked,
+}

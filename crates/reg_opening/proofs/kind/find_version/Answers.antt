@@ -1,0 +1,42 @@
+use Rattle.std.proofs.Common.{subst, rules, FitsSigned, w64}
+use Rattle.std.proofs.lemmas.Int.{to_z-of_z}
+use Rattle.sqlite.specs.Held.{state}
+use Rattle.reg_statements.specs.Content.{HasVersion}
+use Rattle.reg_statements.specs.Tables.{tables_in}
+use Rattle.reg_opening.proofs.OpenLemmas.{none_finds, other_finds, read_finds}
+use Rattle.reg_opening.proofs.kind.find_version.Goals as goal
+
+pub returns-in_default : goal.returns-in_default
+returns-in_default g c =
+    let old = state g.S.Store c.args.conn.now in
+    let new = state g.S.Store c.version.new.conn in
+    let read = c.in_ok-number.ensures in
+    none_finds old new read.idle read.endures read.stays
+    (λ first works. rw c.in_default.is at (read.version first works))
+
+pub returns-in-Some-version_of : goal.returns-in-Some-version_of
+returns-in-Some-version_of g c =
+    let old = state g.S.Store c.args.conn.now in
+    let mid = state g.S.Store c.version.new.conn in
+    let new = state g.S.Store c.find_office.new.conn in
+    let read = c.in_ok-number.ensures in
+    let fits : FitsSigned w64 c.in-Some.number = search rules in
+    let known = simp to_z-of_z at c.version_of.ensures in
+    let is = rw c.in-Some-version_of.is at known in
+    read_finds c.in-Some-version_of.version old mid new c.find_office.result c.requires.live read.endures
+    read.stays
+    (λ first works. subst (λ n. HasVersion n (tables_in old.now.trees).office) is
+    (rw c.in-Some.is at (read.version first works))) c.find_office.ensures
+
+pub returns-in-None : goal.returns-in-None
+returns-in-None g c =
+    let old = state g.S.Store c.args.conn.now in
+    let new = state g.S.Store c.version.new.conn in
+    let read = c.in_ok-number.ensures in
+    let fits : FitsSigned w64 c.in-Some.number = search rules in
+    let known = simp to_z-of_z at c.version_of.ensures in
+    let other = rw c.in-None.is at known in
+    simp to_z-of_z
+    (other_finds c.in-Some.number old new read.idle read.endures read.stays
+    other
+    (λ first works. rw c.in-Some.is at (read.version first works)) c.requires.there)

@@ -1,0 +1,42 @@
+use Rattle.std.proofs.Common.{◌≡◌, true, false, subst, sym, rules}
+use Rattle.std.proofs.lemmas.Result.{IfOk-weaker}
+use Rattle.sqlite.specs.Effect.{Database}
+use Rattle.sqlite.specs.Held.{state}
+use Rattle.reg_core.specs.WellKept.{WellKept}
+use Rattle.reg_tables.specs.Selecting.{BeginsWith}
+use Rattle.reg_tables.specs.Version.{table_count}
+use Rattle.reg_statements.specs.Content.{content_at}
+use Rattle.reg_opening.specs.Feeding.{tables_at}
+use Rattle.reg_opening.specs.Opening.{LeaveFree}
+use Rattle.reg_opening.specs.Parts.{AreParts}
+use Rattle.reg_opening.proofs.OpenLemmas.{rows_leave, rows_told, version_first}
+use Rattle.reg_opening.proofs.kind.read_rows.Goals as goal
+
+pub returns-then-not-branch-clause-rows : goal.returns-then-not-branch-clause-rows
+returns-then-not-branch-clause-rows g c works schema =
+    let v = c.args.version in
+    let no : c.in_ok-feed_parts.field-0 ≡ false = search rules in
+    let same = c.in_ok-check_rowids.ensures.stays.unchanged (c.feed_parts.ensures.stays.worked works) in
+    let fed = rw no at (c.in_ok-feed_parts.ensures.tells works
+    (subst (λ (db : Database). BeginsWith (table_count v) db.schema) (sym same) schema)) in
+    λ both.
+    let later = subst (λ (db : Database). AreParts (tables_at v db) × WellKept (content_at v db))
+    (sym same) both in
+    absurd (fed later.0 later.1)
+
+pub returns-clause-rows : goal.returns-clause-rows
+returns-clause-rows g c works schema =
+    let v = c.args.version in
+    let old = state g.S.Store c.args.conn.now in
+    let mid = state g.S.Store c.check_rowids.new.conn in
+    let yes : c.in_ok-feed_parts.field-0 ≡ true = search rules in
+    let worked = c.feed_parts.ensures.stays.worked works in
+    let same = c.in_ok-check_rowids.ensures.stays.unchanged worked in
+    let fed = rw yes at (c.in_ok-feed_parts.ensures.tells works
+    (subst (λ (db : Database). BeginsWith (table_count v) db.schema) (sym same) schema)) in
+    let keyed = c.in_ok-check_rowids.ensures.keyed worked (version_first v old.now schema) in
+    IfOk-weaker c.free_of.result _ _ (λ free are.
+    rows_told v old.now free keyed
+    (subst (λ (db : Database). LeaveFree (tables_at v db) free) same
+    (rows_leave (tables_at v mid.now) c.new-audit.result c.feed_parts.new.audit free
+    c.new-audit.ensures fed are))) c.free_of.ensures

@@ -1,0 +1,239 @@
+//! The check of a store that an office opens.
+ghost use Rattle.std.specs.Prelude.{◌≡◌, IfOk};
+ghost use Rattle.sqlite.specs.Held.{state};
+ghost use Rattle.sqlite.specs.State.{IsLive};
+ghost use Rattle.reg_tables.specs.Connection.{Endures, IsIdle, Stays, Tells, Works};
+ghost use Rattle.reg_tables.specs.Having.{AreFreeLater, FindsTablesOf};
+ghost use Rattle.reg_tables.specs.Selecting.{BeginsWith};
+ghost use Rattle.reg_tables.specs.Version.{table_count};
+ghost use Rattle.reg_tables.specs.declared.version.Version.{Version as OfVersion};
+ghost use Rattle.reg_statements.specs.Tables.{tables_in};
+ghost use Rattle.reg_opening.specs.Opening.{AreRowsOf, Decides, FindsKind, HasVersionTable, IsFreeBy, IsNumberOf, IsVersionOf};
+ghost use Rattle.reg_opening.specs.Opening.{Reads, only, kind_of};
+
+use crate::feed::Reading;
+use crate::parts::feed_parts;
+use crate::rowids::check_rowids;
+use reg_audit::audit::Audit;
+use reg_keeper::keeper::Fault;
+use reg_records::office::Version as VersionRow;
+use reg_statements::read::load;
+use reg_statements::write::fault;
+use reg_tables::schema::{begins_with_office, has_version};
+use reg_tables::texts::SELECT_VERSION;
+use reg_tables::version::Version;
+use reg_vacancies::vacancies::Vacancies;
+use sqlite::{Alter, Connection};
+use std::alloc::Global;
+
+/// What a store is to an office that opens it.
+#[derive(Clone, Copy, Debug, PartialEq, Eq)]
+pub enum StoreKind {
+    /// An office's store, of this version, whose content is well kept.
+    Ours(Version),
+    /// An office's, of a version that this library does not know.
+    OtherVersion(i64),
+    /// Anything else.
+    NotOurs,
+}
+
+/// What a store is, and of an office's what is free in it.
+#[derive(Drop)]
+pub enum Found {
+    /// An office's store, of this version, whose content is well kept, and what is free in it.
+    Ours(Version, Vacancies),
+    /// An office's, of a version that this library does not know.
+    OtherVersion(i64),
+    /// Anything else.
+    NotOurs,
+}
+
+impl Found {
+    /// What the store is.
+    fn kind(self) -> StoreKind
+        ensures { result ≡ kind_of self }
+    {
+        match self {
+            Found::Ours(version, _) => StoreKind::Ours(version),
+            Found::OtherVersion(number) => StoreKind::OtherVersion(number),
+            Found::NotOurs => StoreKind::NotOurs,
+        }
+    }
+}
+
+/// Tells what a store is. The tables of an office are looked for by their names, and those beside
+/// them are not looked at, but that none has the name of a table that the version lacks. Rows that
+/// the store does not give in their order are a fault of it.
+pub fn check<S: Alter>(alloc: Global, conn: &mut Connection<S>) -> Result<StoreKind, Fault>
+    requires { IsIdle (state S.Store conn.old) }
+    ensures { Decides (state S.Store conn.old) (state S.Store conn.new) result }
+{
+    Ok(find(alloc, conn)?.kind())
+}
+
+/// Tells what a store is, and finds what is free in an office's. The columns of each row are read
+/// once; of the version, and of registries and their ranges, the rowids are read by themselves. The
+/// version is read before any other table is looked at, where its table is the first.
+pub fn find<S: Alter>(alloc: Global, conn: &mut Connection<S>) -> Result<Found, Fault>
+    requires { IsIdle (state S.Store conn.old) }
+    ensures { FindsKind (state S.Store conn.old) (state S.Store conn.new) result }
+{
+    match begins_with_office(alloc, conn.schema()) {
+        Ok(true) => find_version(alloc, conn),
+        Ok(false) => find_beside(alloc, conn),
+        Err(error) => Err(fault(&error)),
+    }
+}
+
+/// Tells what a store is that begins with another table, or has views. An office's tables are looked
+/// for by their names.
+fn find_beside<S: Alter>(alloc: Global, conn: &mut Connection<S>) -> Result<Found, Fault>
+    requires idle { IsIdle (state S.Store conn.old) }
+    requires live { IsLive (state S.Store conn.old) }
+    requires beside { ¬ BeginsWith 1 (state S.Store conn.old).now.schema }
+    ensures { FindsKind (state S.Store conn.old) (state S.Store conn.new) result }
+{
+    if has_any(alloc, conn)? {
+        find_version(alloc, conn)
+    } else {
+        Ok(Found::NotOurs)
+    }
+}
+
+/// Tells what a store is that has the table of the version: as its first table, and no view, or
+/// beside others.
+fn find_version<S: Alter>(alloc: Global, conn: &mut Connection<S>) -> Result<Found, Fault>
+    requires idle { IsIdle (state S.Store conn.old) }
+    requires live { IsLive (state S.Store conn.old) }
+    requires there { HasVersionTable (state S.Store conn.old).now.schema }
+    ensures { FindsKind (state S.Store conn.old) (state S.Store conn.new) result }
+{
+    let Some(number) = version(alloc, conn)? else {
+        return Ok(Found::NotOurs);
+    };
+    match version_of(number) {
+        Some(version) => find_office(alloc, conn, version),
+        None => Ok(Found::OtherVersion(number)),
+    }
+}
+
+/// The version of a number.
+fn version_of(number: i64) -> Option<Version>
+    ensures { IsNumberOf number result }
+{
+    match number {
+        1 => Some(Version::First),
+        2 => Some(Version::Second),
+        3 => Some(Version::Third),
+        _ => None,
+    }
+}
+
+/// Tells what a store of a version is.
+fn find_office<S: Alter>(
+    alloc: Global,
+    conn: &mut Connection<S>,
+    version: Version,
+) -> Result<Found, Fault>
+    requires { IsIdle (state S.Store conn.old) }
+    ensures { Reads version (state S.Store conn.old) (state S.Store conn.new) result }
+{
+    if !has_office(alloc, conn, version)? {
+        return Ok(Found::NotOurs);
+    }
+    match read_rows(alloc, conn, version)? {
+        Some(free) => Ok(Found::Ours(version, free)),
+        None => Ok(Found::NotOurs),
+    }
+}
+
+/// Whether a store has the tables of a version, wherever they stand, and no other of the name of a
+/// table that the version lacks.
+fn has_office<S: Alter>(
+    alloc: Global,
+    conn: &Connection<S>,
+    version: Version,
+) -> Result<bool, Fault>
+    ensures { IfOk result (λ has. Tells has
+        (FindsTablesOf version (state S.Store conn.now).now.schema
+        × AreFreeLater version (state S.Store conn.now).now.schema)) }
+{
+    match has_version(alloc, conn.schema(), version) {
+        Ok(has) => Ok(has),
+        Err(error) => Err(fault(&error)),
+    }
+}
+
+/// Whether a store has the tables of a version, of whichever.
+fn has_any<S: Alter>(alloc: Global, conn: &Connection<S>) -> Result<bool, Fault>
+    ensures { IfOk result (λ has. Tells has ((v : OfVersion)
+        × FindsTablesOf v (state S.Store conn.now).now.schema
+        × AreFreeLater v (state S.Store conn.now).now.schema)) }
+{
+    if has_office(alloc, conn, Version::Third)? || has_office(alloc, conn, Version::Second)? {
+        return Ok(true);
+    }
+    has_office(alloc, conn, Version::First)
+}
+
+/// The number of the version of the tables, if there is one.
+fn version<S: Alter>(alloc: Global, conn: &mut Connection<S>) -> Result<Option<i64>, Fault>
+    requires { IsIdle (state S.Store conn.old) }
+    ensures idle { IsIdle (state S.Store conn.new) }
+    ensures endures { Endures (state S.Store conn.old) (state S.Store conn.new) }
+    ensures stays { Stays (state S.Store conn.old) (state S.Store conn.new) }
+    ensures version { BeginsWith 1 (state S.Store conn.old).now.schema
+        → Works (state S.Store conn.new) → IfOk result
+        (IsVersionOf (tables_in (state S.Store conn.old).now.trees).office) }
+{
+    match load::<S, VersionRow>(alloc, conn, SELECT_VERSION, &[])? {
+        Some(rows) => Ok(only(rows.as_slice())),
+        None => Ok(None),
+    }
+}
+
+/// The one version of a list.
+fn only(versions: &[VersionRow]) -> Option<i64>
+    ensures { result ≡ only versions.now }
+{
+    match versions {
+        [version] => Some(version.number()),
+        _ => None,
+    }
+}
+
+/// What the rows of the tables of a version leave free, if they make an office that is well kept.
+fn read_rows<S: Alter>(
+    alloc: Global,
+    conn: &mut Connection<S>,
+    version: Version,
+) -> Result<Option<Vacancies>, Fault>
+    requires { IsIdle (state S.Store conn.old) }
+    ensures idle { IsIdle (state S.Store conn.new) }
+    ensures endures { Endures (state S.Store conn.old) (state S.Store conn.new) }
+    ensures stays { Stays (state S.Store conn.old) (state S.Store conn.new) }
+    ensures rows { Works (state S.Store conn.new)
+        → BeginsWith (table_count version) (state S.Store conn.old).now.schema
+        → IfOk result (AreRowsOf version (state S.Store conn.old).now) }
+{
+    check_rowids(alloc, conn)?;
+    let mut audit = Audit::new(alloc);
+    let reading = Reading { alloc, version };
+    if !feed_parts(reading, conn, &mut audit)? {
+        return Ok(None);
+    }
+    free_of(audit)
+}
+
+/// What the rows that an audit was fed leave free, if they make an office that is well kept.
+fn free_of(audit: Audit) -> Result<Option<Vacancies>, Fault>
+    ensures { IfOk result (IsFreeBy audit) }
+{
+    if !audit.is_well_kept() {
+        return Ok(None);
+    }
+    match audit.into_free() {
+        Some(free) => Ok(Some(free)),
+        None => Err(Fault::Memory),
+    }
+}

@@ -1,0 +1,63 @@
+//! All rows of an office, fed to an audit in their turn.
+ghost use Rattle.sqlite.specs.Held.{state};
+ghost use Rattle.reg_tables.specs.Connection.{IsIdle};
+ghost use Rattle.reg_opening.specs.Feeding.{FeedsPart};
+ghost use Rattle.reg_opening.specs.Parts.{AreParts, IsBlankWorld, with_parts};
+
+use crate::feed::{Part, Reading};
+use crate::partitions::Registries;
+use reg_audit::audit::Audit;
+use reg_core::entry::Entry;
+use reg_core::holding::Holding;
+use reg_core::request::Request;
+use reg_keeper::keeper::Fault;
+use reg_records::advice::ExpertAdvice;
+use reg_records::agents::Link;
+use reg_records::caps::Grant;
+use reg_records::holds::Hold;
+use reg_records::minutes::Minute;
+use reg_records::pool::Prefix;
+use reg_records::queue::Seat;
+use sqlite::{Alter, Connection};
+
+/// One part, and then another.
+impl<A: Part, B: Part> Part for (A, B) {
+    ghost Before = { λ t w. A.Before t w × B.Before t (A.filled t w) };
+
+    ghost IsHeld = { λ t. A.IsHeld t × B.IsHeld t };
+
+    ghost filled = { λ t w. B.filled t (A.filled t w) };
+
+    fn feed<S: Alter>(
+        reading: Reading,
+        conn: &mut Connection<S>,
+        audit: &mut Audit,
+    ) -> Result<bool, Fault> {
+        if !A::feed(reading, conn, audit)? {
+            return Ok(false);
+        }
+        B::feed(reading, conn, audit)
+    }
+}
+
+/// The capabilities, the registries, and the entries with their marks.
+type Assigned = (Vec<Grant>, (Registries, (Vec<Entry>, Vec<Hold>)));
+
+/// The pool, the blocks, and the requests with the minutes that renewals name.
+type Given = (Vec<Prefix>, (Vec<Holding>, (Vec<Request>, Vec<Minute>)));
+
+/// The assignments, the advice and the agents.
+type Reviewed = (Vec<Seat>, (Vec<ExpertAdvice>, Vec<Link>));
+
+/// Feeds all rows of an office of a version.
+pub fn feed_parts<S: Alter>(
+    reading: Reading,
+    conn: &mut Connection<S>,
+    audit: &mut Audit,
+) -> Result<bool, Fault>
+    requires { IsIdle (state S.Store conn.old) }
+    ensures { FeedsPart reading.version (λ t. IsBlankWorld) AreParts with_parts
+        (state S.Store conn.old) (state S.Store conn.new) audit.old audit.new result }
+{
+    <(Assigned, (Given, Reviewed))>::feed(reading, conn, audit)
+}
