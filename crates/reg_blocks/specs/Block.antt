@@ -19,6 +19,7 @@ IsAddressOf address block = address / address_count block.size ≡ block.prefix
 abbrev pub Clash : SizedPrefix → SizedPrefix → Type 0
 Clash a b = (address : ℕ) × IsAddressOf address a × IsAddressOf address b
 
+-- the first address of a block, and the last
 abbrev pub first_address : SizedPrefix → ℕ
 first_address block = block.prefix * address_count block.size
 

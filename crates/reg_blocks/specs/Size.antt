@@ -33,6 +33,7 @@ size_of_digits count =
     (if count == 6 then Some MaL
     else (if count == 7 then Some MaM else (if count == 9 then Some MaS else None)))
 
+-- the word of a size
 abbrev pub word_of : Size → List ℕ
 word_of MaL = codes "MA-L"
 word_of MaM = codes "MA-M"

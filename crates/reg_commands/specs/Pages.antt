@@ -11,6 +11,7 @@ use Rattle.reg_core.specs.declared.page.Page.{Page}
 use Rattle.reg_core.specs.declared.refusal.Refusal.{Refusal}
 use Rattle.reg_core.specs.declared.refusal.Refusal.TheVariants as no
 
+-- an entry as it is shown on a day
 abbrev pub shown_on : ℕ → Entry → PageEntry
 shown_on today entry = page_entry today entry.value (registration_in entry)
 

@@ -63,6 +63,7 @@ pub record StepsAt {W T E : Type 0} (seen : Database → W) (old new : State) (r
 abbrev pub Turns : (World → Type 0) → (World → World) → Database → Database → Type 0
 Turns Fits changed old new = TurnsAt content_of Fits changed old new
 
+-- a write in a transaction
 abbrev pub Steps : {T E : Type 0} → State → State → Result T E → (World → Type 0)
     → (World → World) → Type 0
 Steps old new result Fits changed = StepsAt content_of old new result Fits changed

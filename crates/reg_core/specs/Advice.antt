@@ -11,6 +11,7 @@ use Rattle.reg_core.specs.declared.advice.Verdict.TheVariants.{For, Against}
 
 -- ---- Words and forms
 
+-- the verdicts; their words, and the verdict that a word reads to
 abbrev pub verdicts : List Verdict
 verdicts = For ∷ Against ∷ []
 

@@ -52,6 +52,7 @@ abbrev pub ◌>>=◌ : {A B : Type 0} → Result A Refusal → (A → Result B R
 (Ok x) >>= f = f x
 (Err refusal) >>= f = Err refusal
 
+-- what is there, else this refusal
 abbrev pub or_refusal : {A : Type 0} → Refusal → Option A → Result A Refusal
 or_refusal refusal None = Err refusal
 or_refusal refusal (Some x) = Ok x
@@ -68,7 +69,8 @@ policy_in table policy =
     if list_any (λ range. same_treatment range.treatment (Under policy)) table.ranges
     then Some (Under policy) else None
 
--- the policy that decides about what is wanted
+-- the policy that decides about what is wanted: that of the value's range, or least where some
+-- range has it; else range or policy
 abbrev pub policy_for : Table → Want → Result Policy Refusal
 policy_for table (Value v) =
     if nat_lt table.max v then Err no.Range else open_policy (treatment_of table v)
@@ -86,7 +88,8 @@ is_met_early None = Ok tt
 is_met_early (Some item.Policy) = Err no.Early
 is_met_early (Some other) = Err (no.Evidence other)
 
--- the value that is wanted, where it has no entry
+-- the value that is wanted: the one that the ask names, else taken where it has an entry; or the
+-- least free one under the policy, else exhausted
 abbrev pub value_for : Ground → Table → Want → Result ℕ Refusal
 value_for rows table (Value v) = if is_some rows.entry then Err no.Taken else Ok v
 value_for rows table (Least policy) = or_refusal no.Exhausted rows.least
@@ -151,6 +154,7 @@ holding_asked account ask block = record {
   address = ask.address;
 }
 
+-- what an ask of one kind is allowed: each check in turn, and the first refusal
 abbrev pub code_allowance : Ground → List ℕ → CodeAsk → Result Allowance Refusal
 code_allowance rows account ask = do
   table ← or_refusal no.Registry rows.table
@@ -207,7 +211,9 @@ block_allowance due account ask = do
   block ← or_refusal no.Exhausted due
   Ok (record { award = new_holding (holding_asked account ask block); needs_advice = false })
 
--- what an ask of an account is allowed, or the first refusal that it meets
+-- what an ask is allowed by these rows, its Allowance; or the first refusal that it meets. It has a
+-- line for each kind of ask, and each kind its checks in turn: code_allowance, early_allowance,
+-- renewal_allowance, permanence_allowance, block_allowance
 abbrev pub allowance_on : Ground → List ℕ → Ask → Result Allowance Refusal
 allowance_on rows account (Code ask) = code_allowance rows account ask
 allowance_on rows account (Early ask) = early_allowance rows account ask

@@ -44,6 +44,7 @@ pub record Outcome : Type 0 where
 abbrev pub Answer : Type 0
 Answer = Result Outcome Refusal
 
+-- the two halves of an answer: the reply, Accepted with the content or Refused with the refusal
 abbrev pub reply_of : Answer → Reply
 reply_of (Ok outcome) = Accepted outcome.told
 reply_of (Err refusal) = Refused refusal
@@ -67,7 +68,7 @@ abbrev pub by_rule : Result Decision Refusal → (Decision → Told) → Answer
 by_rule (Err refusal) told = Err refusal
 by_rule (Ok decision) told = Ok (record { told = told decision; change = change_by decision })
 
--- a request after a decision about it
+-- a request after a decision about it, in its old state or in that of the change
 abbrev pub case_by : Decision → Case → Case
 case_by Same case = case
 case_by (Make change) case = after change case
@@ -81,6 +82,9 @@ desk_row name case = tells.Desk (request_row name case)
 
 -- ---- Anybody
 
+-- the answer to a command of anybody on a day, over the published registers; to one of an applicant
+-- who is admitted, over these and its own rows; to one of an expert who is admitted, over its own
+-- queue
 abbrev pub public_answer : Published → ℕ → PublicCommand → Answer
 public_answer p today Registries = unchanged (tells.Names (keys p.registries))
 public_answer p today (Registry name) = do
@@ -158,6 +162,9 @@ expert_answer account my (Advise applicant reference advice) = do
 
 -- ---- A caller who acts as no clerk
 
+-- the answer to a caller who sees this view, at an open moment, and at any: a clerk's command is
+-- kind there, since a clerk is answered over the whole world; told and effect are its reply and its
+-- change
 abbrev pub answer_at : View → ℕ → Command → Answer
 answer_at v moment (Public command) = public_answer v.published (utc_day moment) command
 answer_at v moment (Applicant command) =

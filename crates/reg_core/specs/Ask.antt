@@ -31,6 +31,7 @@ has_note_form = is_none_or is_text
 abbrev pub has_rfc_form : Option PublishedRfc → Bool
 has_rfc_form = is_none_or is_rfc
 
+-- each part of an ask has its form, and so has an ask, with a line for each kind
 abbrev pub has_want_form : Want → Bool
 has_want_form (Value v) = nat_lt v (2 ^ 32)
 has_want_form (Least policy) = true
@@ -76,6 +77,7 @@ registry_of (Block ask) = None
 
 -- ---- Sameness
 
+-- two asks are the same; of two kinds they never are
 abbrev pub same_want : Want → Want → Bool
 same_want (Value v) (Value u) = v == u
 same_want (Least p) (Least q) = same_policy p q

@@ -8,7 +8,8 @@ use Rattle.reg_core.specs.declared.holding.Holding.{Holding}
 use Rattle.reg_core.specs.declared.request.Given.{Given}
 use Rattle.reg_core.specs.declared.request.Given.TheVariants.{Value, Block}
 
--- how long an entry is given for
+-- how long an entry is given for: a new one for good, or early; the one that stands in this term,
+-- renewed, or for good
 pub data Tenure : Type 0 where
   -- a new one, for good
   for_good : Tenure

@@ -8,6 +8,7 @@ use Rattle.reg_core.specs.declared.capability.Cap.{Cap}
 
 -- ---- The words of kinds
 
+-- the same of kinds of capabilities
 abbrev pub kinds : List Kind
 kinds = Applicant ∷ Expert ∷ Clerk ∷ []
 
@@ -25,12 +26,15 @@ read_kind s = read_among kinds kind_word s
 abbrev pub last_until : ℕ
 last_until = 32503680000
 
+-- the end that a number is, where a capability may have it
 abbrev pub read_until : ℕ → Option ℕ
 read_until n = (if nat_le n last_until then Some n else None)
 
+-- its account is one, and its end one that a capability may have
 abbrev pub has_cap_form : Cap → Bool
 has_cap_form cap = is_name cap.account && nat_le cap.until last_until
 
+-- two kinds are the same, or two capabilities
 abbrev pub same_kind : Kind → Kind → Bool
 same_kind Applicant Applicant = true
 same_kind Expert Expert = true

@@ -8,6 +8,7 @@ use Rattle.reg_core.specs.declared.entry.Registration.{Registration}
 use Rattle.reg_core.specs.declared.entry.Entry.{Entry}
 use Rattle.reg_core.specs.declared.entry.PageEntry.{PageEntry}
 
+-- an entry without its place, as a Registration; with it
 abbrev pub registration_in : Entry → Registration
 registration_in e = record { label = e.label; assignee = e.assignee; term = e.term }
 
@@ -40,5 +41,6 @@ with_hold held a = record a { term = held_term held a.term }
 
 -- ---- Forms
 
+-- the label, the assignee and the term of an entry have their forms
 abbrev pub has_registration_form : Registration → Bool
 has_registration_form a = is_text a.label && is_name a.assignee && has_term_form a.term

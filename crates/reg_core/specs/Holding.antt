@@ -36,6 +36,7 @@ with_mark private h = record h { private = private }
 
 -- ---- Forms
 
+-- the account, the organization and the address of a holder have their forms
 abbrev pub has_holder_form : Holder → Bool
 has_holder_form h = is_name h.account && is_text h.organization && is_text h.address
 

@@ -13,6 +13,7 @@ is_renewal (Renew ask) = true
 is_renewal (Permanent ask) = false
 is_renewal (Block ask) = false
 
+-- the minute that it names, none of any other kind
 abbrev pub minute_of : Ask → Option (List ℕ)
 minute_of (Code ask) = None
 minute_of (Early ask) = None
@@ -28,6 +29,7 @@ ask_with minute (Renew ask) = Renew (record ask { iesg = minute })
 ask_with minute (Permanent ask) = Permanent ask
 ask_with minute (Block ask) = Block ask
 
+-- a request with this minute or none, if it is a renewal
 abbrev pub with_minute : Option (List ℕ) → Case → Case
 with_minute minute case = record case { ask = ask_with minute case.ask }
 

@@ -19,6 +19,7 @@ abbrev pub page_entries : Published → List ℕ → ℕ → List PageEntry
 page_entries p name today =
     map (λ e. page_entry today e.0.1 e.1) (entries (entries_of name p.entries))
 
+-- a registry as it is published on a day
 abbrev pub page : Published → List ℕ → Table → ℕ → Page
 page p name table today =
     record { name = name; table = table; entries = page_entries p name today }

@@ -6,6 +6,7 @@ use Rattle.reg_core.specs.World.{RequestName, name_cmp}
 use Rattle.reg_core.specs.declared.advice.Advice.{Advice}
 use Rattle.reg_core.specs.declared.queue.QueueRow.{QueueRow}
 
+-- a queued request with its name
 abbrev pub queue_row : RequestName → Queued → QueueRow
 queue_row name q =
     record { account = name.0; reference = name.1; ask = q.ask; word = q.word; advice = q.advice }

@@ -16,6 +16,8 @@ use Rattle.reg_core.specs.declared.request.StateWord.{StateWord}
 use Rattle.reg_core.specs.declared.request.StateWord.TheVariants as word
 use Rattle.reg_core.specs.declared.request.Request.{Request}
 
+-- a request without its name, as a Case: its ask and its state; with it; all rows of a map with
+-- their names
 abbrev pub case_of : Request → Case
 case_of r = record { ask = r.ask; state = r.state }
 
@@ -28,6 +30,7 @@ request_rows m = map (λ e. request_row e.0 e.1) (entries m)
 
 -- ---- Forms
 
+-- what was given, and a state, have their forms; a request waits
 abbrev pub has_given_form : Given → Bool
 has_given_form (Value v) = nat_lt v (2 ^ 32)
 has_given_form (Block block) = is_block block

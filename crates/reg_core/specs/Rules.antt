@@ -115,12 +115,14 @@ abbrev pub advise_rule : RequestName → List ℕ → AdviceOf → Option Advice
 advise_rule name expert advice old word =
     if is_given old advice then Ok Same else new_advice_rule name expert advice word
 
--- the change by which a request is given this on a day
+-- the change by which the request of a name is given an award on a day. It is made of these three
+-- and of nothing else of the ask
 abbrev pub change_to_give : RequestName → ℕ → Award → Change
 change_to_give name today (awarded_entry e) = GiveValue name.0 name.1 (entry_on today e)
 change_to_give name today (new_holding h) = GiveBlock name.0 name.1 (holding_from h)
 
--- what is allowed is given, unless an expert's advice is wanting
+-- the award of the allowance is given, unless an expert's advice is wanting: then advice. It is
+-- wanting where the allowance needs it and none of the request's experts is for it
 abbrev pub give_rule : RequestName → ℕ → Bool → Result Allowance Refusal → Result Decision Refusal
 give_rule name today advised (Err refusal) = Err refusal
 give_rule name today advised (Ok allowance) =

@@ -17,6 +17,7 @@ use Rattle.reg_core.specs.declared.request.Request.{Request}
 
 -- ---- Two worlds that show an account the same
 
+-- a capability is the account's
 abbrev pub has_account : List ℕ → Option Cap → Bool
 has_account account None = false
 has_account account (Some cap) = same_text cap.account account

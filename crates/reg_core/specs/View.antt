@@ -57,12 +57,15 @@ pub record Personal : Type 0 where
 abbrev pub requests_by : List ℕ → FinMap name_cmp Case → FinMap name_cmp Case
 requests_by account m = select (λ name case. only_if (same_text name.0 account) case) m
 
+-- an account's own requests
 abbrev pub requests_of : List ℕ → World → FinMap name_cmp Case
 requests_of account w = requests_by account w.requests
 
+-- the blocks that an account holds
 abbrev pub holdings_of : List ℕ → World → FinMap block_cmp Holder
 holdings_of account w = select (λ block h. only_if (same_text h.account account) h) w.blocks
 
+-- a request as an expert sees it
 abbrev pub as_queued : Option Advice → Case → Queued
 as_queued advice case = record { ask = case.ask; word = word_of case.state; advice = advice }
 
@@ -71,9 +74,11 @@ abbrev pub queued_to : List ℕ → World → RequestName → Case → Option Qu
 queued_to account w name case =
     only_if (contains_key w.queue (name, account)) (as_queued (get w.advice (name, account)) case)
 
+-- all requests that are assigned to an account
 abbrev pub queue_of : List ℕ → World → FinMap name_cmp Queued
 queue_of account w = select (λ name case. queued_to account w name case) w.requests
 
+-- the links of an account's agents, and those of its principals
 abbrev pub agents_of : List ℕ → World → FinSet link_cmp
 agents_of account w = select (λ link u. only_if (same_text link.0 account) u) w.agents
 
@@ -85,6 +90,7 @@ abbrev pub principal_rows_of : List ℕ → World → FinMap name_cmp Case
 principal_rows_of account w =
     select (λ name case. only_if (contains_key w.agents (name.0, account)) case) w.requests
 
+-- all that is an account's own
 abbrev pub personal : List ℕ → World → Personal
 personal account w = record {
   requests = requests_of account w;
@@ -95,6 +101,8 @@ personal account w = record {
   principal_rows = principal_rows_of account w;
 }
 
+-- what one caller sees: the published registers, its capability, if there is one at its digest, and
+-- all that is that account's own
 pub record View : Type 0 where
   pub published : Published
   pub me : Option (Cap × Personal)

@@ -31,6 +31,8 @@ use Rattle.reg_core.specs.declared.request.Given.TheVariants as given
 use Rattle.reg_core.specs.declared.request.State.{State}
 use Rattle.reg_core.specs.declared.request.State.TheVariants.{Pending, Approved, Declined, Withdrawn}
 
+-- each row has its form: a capability at its digest, a registry, an entry, a block's holder, a
+-- request
 abbrev pub has_grant_form : List ℕ → Cap → Bool
 has_grant_form digest cap = is_digest digest && has_cap_form cap
 

@@ -70,6 +70,7 @@ pub record World : Type 0 where
   pub blocks : FinMap block_cmp Holder
   pub agents : FinSet link_cmp
 
+-- no row at all
 abbrev pub empty_world : World
 empty_world =
     record {
@@ -88,6 +89,7 @@ empty_world =
 abbrev pub pending : Ask → Case
 pending ask = record { ask = ask; state = Pending }
 
+-- a request in another state
 abbrev pub in_state : State → Case → Case
 in_state state case = record case { state = state }
 
@@ -95,8 +97,9 @@ in_state state case = record case { state = state }
 abbrev pub with_state : World → RequestName → State → World
 with_state w name state = record w { requests = update w.requests name (in_state state) }
 
--- the world with the row that the change names added, replaced or taken away, and all other rows
--- the same
+-- the world after a change: one row added, replaced or taken away, all other rows the same; a value
+-- or a block that is given changes two rows, its request and its entry or holder. The entry is put
+-- at its place, in the place of one that stands there
 abbrev pub applied : World → Change → World
 applied w (Grant digest cap) = record w { caps = insert w.caps digest cap }
 applied w (Revoke digest) = record w { caps = remove w.caps digest }

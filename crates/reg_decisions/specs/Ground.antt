@@ -5,6 +5,7 @@ use Rattle.reg_core.specs.Allowance.{Ground}
 use Rattle.reg_core.specs.Entry.{registration_in}
 use Rattle.reg_decisions.specs.declared.allowance.Ground.{Ground as Rows}
 
+-- the same of the rows that the code has
 abbrev pub seen : Rows → Ground
 seen rows = record {
   table = option_copied rows.table;

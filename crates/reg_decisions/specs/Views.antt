@@ -8,6 +8,7 @@ use Rattle.reg_decisions.specs.declared.award.Tenure.TheVariants as row
 use Rattle.reg_decisions.specs.declared.award.NewHolding.{NewHolding as NewHoldingRow}
 use Rattle.reg_decisions.specs.declared.allowance.Allowance.{Allowance as AllowanceRow}
 
+-- the same of what the code has, which borrows its parts from the ask, the account and the rows
 abbrev pub tenure_view : TenureRow → Tenure
 tenure_view row.ForGood = for_good
 tenure_view row.Early = early

@@ -73,6 +73,6 @@ date_a_year_after date =
     else (if (date.month == 2) && (date.day == 29) then civil_date (date.year + 1) 2 28
     else civil_date (date.year + 1) date.month date.day)
 
--- the day a year after a day
+-- the same date of the next year; 28 February for 29 February; 9999-12-31 for a day of 9999
 unfoldable pub year_after : ℕ → ℕ
 year_after day = day_number (date_a_year_after (date_of day))

@@ -5,6 +5,7 @@ use Rattle.std.specs.Option.{option_eq}
 use Rattle.std.specs.Str.{bytes_eq}
 use Rattle.reg_early.specs.declared.evidence.EarlyEvidence.{EarlyEvidence}
 
+-- the test of sameness of evidence for early allocations
 abbrev pub same_early_evidence : EarlyEvidence → EarlyEvidence → Bool
 same_early_evidence a b =
     option_eq bytes_eq a.draft b.draft && (beq a.stable b.stable

@@ -21,6 +21,7 @@ status_until held (Some expiry) day =
 abbrev pub status_on : Term → ℕ → Status
 status_on term day = status_until term.held term.expires day
 
+-- the word of a status
 abbrev pub status_word : Status → List ℕ
 status_word status.Assigned = codes "Assigned"
 status_word status.Temporary = codes "Temporary"

@@ -19,6 +19,7 @@ pub record IsHeadAt (buf : List ℕ) (headers : List HeaderSpan) (spans : Reques
   pub at : IsRequestAt buf headers spans head
   pub within : IsRequestWithin buf headers spans
 
+-- what a look at the bytes says: a head is there; none can come; none is there yet
 abbrev pub IsWhole : List ℕ → List HeaderSpan → Look → Type 0
 IsWhole buf headers (look.Whole spans) = (head : RequestHead) × IsHeadAt buf headers spans head
 IsWhole buf headers look.Refused = Unit {0}

@@ -20,6 +20,7 @@ option_rule id = record (new_rule id) { long = Some id; value_names = 1; action 
 abbrev pub flag_rule : Text → Rule
 flag_rule id = record (new_rule id) { long = Some id; action = Some SetTrue }
 
+-- the options of the jobs: the clerk's token, the port, how many connections
 abbrev pub clerk_rule : Rule
 clerk_rule = record (option_rule (codes "clerk")) { required = true }
 

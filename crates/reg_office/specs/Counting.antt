@@ -33,10 +33,12 @@ same_status a b = false
 abbrev pub entries_in : List (List ℕ) → World → List Entry
 entries_in names w = flat_map (λ name. entry_rows (entries_of name w.entries)) names
 
+-- how many of these entries have a status on a day
 abbrev pub with_status : ℕ → Status → List Entry → ℕ
 with_status today status entries =
     count_by (λ e. same_status (status_on e.term today) status) entries
 
+-- how many entries there are, and how many of them are temporary, expired and held
 abbrev pub entry_counts : ℕ → List Entry → EntryCounts
 entry_counts today entries = record {
   all = length entries;
@@ -45,6 +47,7 @@ entry_counts today entries = record {
   held = count_by (λ e. e.term.held) entries;
 }
 
+-- the counts of two lists together
 abbrev pub plus : EntryCounts → EntryCounts → EntryCounts
 plus a b = record {
   all = a.all + b.all;

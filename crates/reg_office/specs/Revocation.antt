@@ -83,6 +83,7 @@ IsCause moment choice old new (no.Fault fault) =
     (new ≡ old)
     ⊎ ((rows : List CapRow) × (taken moment choice old ≡ Ok rows) × IsPartlyRevoked rows old new)
 
+-- which faults there may be
 abbrev pub MayRevoke : Bool → RevokeFault → Type 0
 MayRevoke fails no.Token = Unit {0}
 MayRevoke fails no.Own = Unit {0}

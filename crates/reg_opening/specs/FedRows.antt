@@ -35,6 +35,7 @@ none_there : {X : Type 0} (r : Option X) → is_some r ≡ false → r ≡ None
 none_there None none = refl
 none_there (Some x) none = absurd (subst T none tt)
 
+-- each of these tables, fed row by row, makes its part of the world
 pub caps : (t : Tables) → MakesPart office.caps.pair (λ x. row.Cap x.digest x.cap)
     (λ (w : World) m. record w { caps = m }) (λ w. w.caps ≡ empty) Untied
 caps t = record {

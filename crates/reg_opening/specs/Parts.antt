@@ -30,6 +30,7 @@ AreEntered t =
     IsTiedTable place_cmp registration_at t.entries Untied
     × IsTiedTable place_cmp hold_at t.holds (ExpiresIn t)
 
+-- what is so of the tables that are fed up to here, and the world that they make
 abbrev pub AreAssigned : Tables → Type 0
 AreAssigned t =
     IsTiedTable text_cmp cap_at t.caps Untied × (AreRegistries t × AreEntered t)
@@ -54,6 +55,7 @@ RenewsIn t name =
     (case : Case) × (get (held_in {R = name_cmp} case_at t.requests) name ≡ Some case)
     × (is_renewal case.ask ≡ true)
 
+-- what is so of the tables that are fed up to here, and the world that they make
 abbrev pub AreRequested : Tables → Type 0
 AreRequested t =
     IsTiedTable name_cmp case_at t.requests Untied

@@ -207,6 +207,7 @@ command_of operation.Revoke path body = revoke_of body
 abbrev pub routed : List ℕ → Option Methods
 routed path = if is_utf8 path && not (has_empty_segment path) then methods_at path else None
 
+-- the command that a method, a path and a body spell, or the first refusal
 unfoldable pub asked : List ℕ → List ℕ → List ℕ → Reading Command
 asked method path body = do
   methods ← or_refusal Route (routed path)

@@ -25,6 +25,7 @@ registry_path = codes "/registries/{name}"
 abbrev pub listing_path : List ℕ
 listing_path = codes "/listings/registries/{name}"
 
+-- the patterns of paths that name parts, each part in braces
 abbrev pub request_path : List ℕ
 request_path = codes "/requests/{reference}"
 
@@ -119,6 +120,7 @@ abbrev pub scan_fits : Result Scan InsertError → Table → Bool
 scan_fits (Ok scan) table = is_none (nearest scan.pattern table)
 scan_fits (Err error) table = false
 
+-- a path conflicts with none of the table; nor do those of a list, put in one after another
 unfoldable pub fits : Row → Table → Bool
 fits r table = scan_fits (parse_route r.0) table
 
@@ -126,6 +128,7 @@ abbrev pub all_fit : List Row → Table → Bool
 all_fit [] table = true
 all_fit (r ∷ more) table = fits r table && all_fit more (with_row r table)
 
+-- the router that it makes
 unfoldable pub routes : Table
 routes = with_rows rows []
 

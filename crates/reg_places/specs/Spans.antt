@@ -14,6 +14,7 @@ pub record Apart (spans : Spans) : Type 0 where
 abbrev pub IsCut : Spans → ℕ → Type 0
 IsCut spans at = (first last : ℕ) → IsRun spans first last → first < at → last < at
 
+-- a number is one of these, or none of them
 abbrev pub IsInside : ℕ → ℕ → ℕ → Type 0
 IsInside lo hi n = (lo ≤ n) × (n ≤ hi)
 

@@ -21,6 +21,7 @@ use Rattle.reg_print.specs.Trees.Refusal.{error_tree}
 
 -- ---- Status
 
+-- status and body of what is told, with a line for each
 abbrev pub told_status : Told → ℕ
 told_status (Names names) = 200
 told_status (Page page) = 200
@@ -49,6 +50,7 @@ abbrev pub reply_status : Reply → ℕ
 reply_status (reply.Accepted told) = told_status told
 reply_status (reply.Refused refusal) = (office_row refusal).status
 
+-- the status of an answer; what its body holds; the bytes of its body
 abbrev pub status_of : Answer → ℕ
 status_of (answer.Reply told) = reply_status told
 status_of (answer.Wire refusal) = (wire_row refusal).status

@@ -11,6 +11,7 @@ use Rattle.reg_print.specs.declared.answer.Format.TheVariants as format
 use Rattle.reg_print.specs.BlockListing.{block_listing_text, block_records}
 use Rattle.reg_print.specs.Listing.{listing_records, listing_text}
 
+-- a body is a JSON value or a listing
 pub data Body : Type 0 where
   json : Data → Body
   listing : Page → Body

@@ -6,6 +6,7 @@ use Rattle.reg_core.specs.WireRefusal.{table_fault_text}
 use Rattle.reg_print.specs.declared.detail.Detail.{Detail}
 use Rattle.reg_print.specs.declared.detail.Detail.TheVariants.{Part, Evidence, Ranges}
 
+-- the text that says what a refusal is about
 abbrev pub detail_text : Detail → List ℕ
 detail_text (Part item) = item_name item
 detail_text (Evidence item) = item_word item

@@ -55,6 +55,7 @@ abbrev pub in_form : Form → Answer → List ℕ
 in_form Body a = body_text a
 in_form Line a = answer_line a
 
+-- what is printed of an answer
 abbrev pub printed : Form → Answer → List ℕ
 printed form a = in_form form a ++ after_body (format_of (answer_body a))
 

@@ -42,6 +42,7 @@ abbrev pub MayFail : Bool → JobFailure → Type 0
 MayFail fails Store = IsTrue fails
 MayFail fails _ = ⊤
 
+-- the store failed only where it can
 abbrev pub MayUndo : Bool → Undone → Type 0
 MayUndo fails (Fault failure) = MayFail fails failure
 MayUndo fails (Explained failure why) = MayFail fails failure

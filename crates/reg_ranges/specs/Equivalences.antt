@@ -11,6 +11,7 @@ rfcs_equiv =
     (and_equiv (on_equiv (λ r. stream_word r.stream) nat_list_eq_equiv)
     (on_equiv (λ r. track_word r.track) nat_list_eq_equiv))
 
+-- sameness of evidence and of tables is an equivalence
 pub evidence_equiv : IsEquivalence same_evidence
 evidence_equiv =
     and_equiv (on_equiv (λ e. e.contact) (options_equiv nat_list_eq_equiv))

@@ -8,6 +8,7 @@ use Rattle.reg_ranges.specs.declared.range_file.RowPart.TheVariants as part
 use Rattle.reg_ranges.specs.declared.range_file.RowFault.{RowFault}
 use Rattle.reg_ranges.specs.declared.range_file.RowFault.TheVariants as row
 
+-- the texts of faults
 abbrev pub range_fault_text : RangeFault → List ℕ
 range_fault_text range.Empty = codes "empty"
 range_fault_text range.TooMany = codes "too-many"

@@ -11,6 +11,7 @@ has_leading_zero [] = false
 has_leading_zero (d ∷ []) = false
 has_leading_zero (d ∷ e ∷ rest) = d == 48
 
+-- digits alone, one or more, without a leading zero
 abbrev pub is_numeral : List ℕ → Bool
 is_numeral s = nat_lt 0 (length s) && (not (has_leading_zero s) && list_all is_ascii_digit s)
 

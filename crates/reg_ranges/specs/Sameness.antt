@@ -17,6 +17,7 @@ use Rattle.reg_ranges.specs.Words.{policy_word, treatment_word, stream_word, tra
 abbrev pub same_by : {T : Type 0} → (T → List ℕ) → T → T → Bool
 same_by word x y = bytes_eq (word x) (word y)
 
+-- tests of sameness
 abbrev pub same_policy : Policy → Policy → Bool
 same_policy p q = same_by policy_word p q
 

@@ -20,6 +20,7 @@ is_text_byte b = is_within 32 126 b
 abbrev pub is_run : (ℕ → Bool) → ℕ → ℕ → List ℕ → Bool
 is_run kind low high s = is_within low high (length s) && list_all kind s
 
+-- 1 to 200 printable ASCII bytes
 abbrev pub is_text : List ℕ → Bool
 is_text s = is_run is_text_byte 1 200 s
 

@@ -20,6 +20,7 @@ read_among values word s = find (λ x. bytes_eq (word x) s) values
 abbrev pub ReadsWords : {T : Type 0} → (T → List ℕ) → (List ℕ → Option T) → Type 0
 ReadsWords {T} word read = (x : T) (s : List ℕ) → (read s ≡ Some x) ↔ (s ≡ word x)
 
+-- all policies
 abbrev pub policies : List Policy
 policies =
     policy.PrivateUse ∷ policy.ExperimentalUse ∷ policy.HierarchicalAllocation
@@ -27,6 +28,8 @@ policies =
     ∷ policy.SpecificationRequired ∷ policy.RfcRequired ∷ policy.IetfReview ∷ policy.StandardsAction
     ∷ policy.IesgApproval ∷ []
 
+-- the word of a policy, and the policy that a word reads to; so of treatments, streams, tracks and
+-- items
 abbrev pub policy_word : Policy → List ℕ
 policy_word policy.PrivateUse = codes "private-use"
 policy_word policy.ExperimentalUse = codes "experimental-use"

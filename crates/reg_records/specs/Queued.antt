@@ -6,7 +6,8 @@ use Rattle.reg_records.specs.Columns.{given}
 use Rattle.reg_records.specs.Requests.Reading.{request_in}
 use Rattle.reg_records.specs.declared.queued.QueuedRequest.{QueuedRequest}
 
--- the request that a row holds in its first columns, and the advice after it
+-- the request that a row holds in the columns of a request, with the advice in the two columns
+-- after these, none where both are NULL
 abbrev pub queued_in : Row → Option QueuedRequest
 queued_in row =
     given (request_in row) (λ request.

@@ -76,5 +76,6 @@ legend s =
     ∷ counted (codes "aside") (codes "Set aside by policy") s.set_aside
     ∷ counted (codes "reserved") (codes "Reserved") s.reserved ∷ []))
 
+-- a picture of a registry's values, with its legend
 abbrev pub bar : Summary → Markup
 bar s = plain (codes "figure") (beside (picture s) (plain (codes "figcaption") (legend s)))

@@ -52,5 +52,6 @@ abbrev pub blocks_markup : List Listed → Markup
 blocks_markup rows =
     page (codes "style.css") (codes "Blocks") (all_of (block_links ∷ blocks_table rows ∷ []))
 
+-- the bytes of that page
 unfoldable pub blocks_page : List Listed → List ℕ
 blocks_page rows = document (blocks_markup rows)

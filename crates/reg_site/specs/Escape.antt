@@ -19,6 +19,7 @@ reference b =
 abbrev pub escaped_byte : ℕ → List ℕ
 escaped_byte b = unwrap_or (reference b) (b ∷ [])
 
+-- what stands for a text on a page
 abbrev pub escaped : List ℕ → List ℕ
 escaped text = flat_map escaped_byte text
 
@@ -59,6 +60,8 @@ unescaped_in (Some name) (b ∷ more) =
     if b == 59 then followed_if (referred name) (unescaped_in None more)
     else unescaped_in (Some (name ++ b ∷ [])) more
 
+-- the text that bytes of a page stand for; none where one of them is markup, or an ampersand begins
+-- no reference of the five
 abbrev pub unescaped : List ℕ → Option (List ℕ)
 unescaped bytes = unescaped_in None bytes
 

@@ -106,6 +106,7 @@ index_markup registries prefixes rows moment =
     (all_of
     (as_of moment ∷ registries_table registries ∷ pool_list prefixes ∷ block_counts rows ∷ []))
 
+-- the bytes of the first page
 unfoldable pub index_page : List Summary → List ℕ → List Listed → ℕ → List ℕ
 index_page registries prefixes rows moment =
     document (index_markup registries prefixes rows moment)

@@ -7,6 +7,7 @@ pub record Attribute : Type 0 where
   pub name : List ℕ
   pub value : List ℕ
 
+-- a page as a tree of elements and texts; its bytes, and after them the rest
 pub data Markup : Type 0 where
   nothing : Markup
   text : List ℕ → Markup

@@ -68,5 +68,6 @@ registry_markup name counts ranges rows =
 unfoldable pub page_by : List ℕ → Summary → List Range → List ListedRow → List ℕ
 page_by name counts ranges rows = document (registry_markup name counts ranges rows)
 
+-- the bytes of a registry's page
 abbrev pub registry_page : Page → List ℕ
 registry_page p = page_by p.name (summary p) p.table.ranges (page_rows p)

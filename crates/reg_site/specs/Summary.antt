@@ -65,6 +65,7 @@ with_status s entries = count_by (λ e. same_status e.status s) entries
 abbrev pub shares : Page → List Share
 shares page = map (share page.entries) page.table.ranges
 
+-- what is told of a registry beside others
 abbrev pub summary : Page → Summary
 summary page = record {
   name = page.name;

@@ -76,7 +76,9 @@ pub record IsTakenOver (fresh : Bool) (old new : Database) : Type 0 where
   pub alone : StandsAlone old → new.schema ≡ office_schema
   pub was_alone : new.schema ≡ office_schema → StandsAlone old
 
--- why it is refused
+-- why there is no office: the first table says a version that is none of the three, or another
+-- table or a view stands before it; no office, neither alone nor before other tables, and no other
+-- version, and a name is taken where a new one is wanted; a fault
 abbrev pub IsRefused : Bool → Database → OpenFault → Type 0
 IsRefused fresh db (refusals.Version n) =
     IsOther n

@@ -202,6 +202,7 @@ content_at v db = content (tables_in (rows_of v db.trees))
 abbrev pub parts_of : Database → Parts
 parts_of db = parts_in (tables_in db.trees)
 
+-- that a database of the newest version holds
 abbrev pub content_of : Database → World
 content_of db = content (tables_in db.trees)
 

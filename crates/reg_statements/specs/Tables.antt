@@ -6,6 +6,7 @@ use Rattle.sqlite_rules.specs.Edit.{IsNoIndex}
 use Rattle.reg_tables.specs.Schema.{office_schema, office_table, caps_table, registries_table, ranges_table, entries_table, requests_table, queue_table, advice_table, pool_table, blocks_table}
 use Rattle.reg_tables.specs.Schema.{holds_table, minutes_table, agents_table}
 
+-- the rows of the tables; those of a database
 pub record Tables : Type 0 where
   pub office : List Row
   pub caps : List Row

@@ -21,6 +21,7 @@ pub mod Links
 pub mod Blocks
 pub mod Content
 
+-- the one that the keeper in memory holds
 abbrev pub world_in : ListKeeper → World
 world_in k =
     content k.caps k.registries (entries_held k.registrations) (world_of k.reviews)

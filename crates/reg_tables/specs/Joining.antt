@@ -42,6 +42,7 @@ queued_project = map (col 2) (range_with_len 1 25) ++ col 3 4 ∷ col 3 5 ∷ []
 abbrev pub queued_order : List (Term × Key)
 queued_order = (col 1 1, ascending Binary) ∷ (col 1 2, ascending Binary) ∷ []
 
+-- the query of an expert's queue, over three tables
 abbrev pub queued_query : Query
 queued_query = query_over queued_from queued_tests queued_project queued_order
 

@@ -89,6 +89,7 @@ office_table = table (codes "office") 0
     []
     []
 
+-- the thirteen tables with their indexes; the table that a CREATE TABLE makes, for each of them
 abbrev pub caps_table : Table
 caps_table = table (codes "caps") 1
     (text (codes "digest") ∷

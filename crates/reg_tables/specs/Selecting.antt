@@ -53,7 +53,7 @@ beginning n more indexes = record {
   views = [];
 }
 
--- the schema is such a one
+-- the first so many tables are the office's, whatever follows, and there is no view
 pub record BeginsWith (n : ℕ) (schema : Schema) : Type 0 where
   pub tables : take n schema.tables ≡ take n office_schema.tables
   pub views : schema.views ≡ []

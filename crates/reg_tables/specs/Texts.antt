@@ -26,6 +26,7 @@ use Rattle.reg_tables.specs.declared.texts.TheConstants.{INSERT_AGENTS, PUT_ADVI
 use Rattle.reg_tables.specs.declared.texts.TheConstants.{DELETE_AGENT, CHANGE_VERSION}
 use Rattle.reg_tables.specs.declared.texts.TheConstants.{DELETE_CAP, CHANGE_REQUEST, CHANGE_BLOCK}
 
+-- the texts of all statements, which are the constants of src/texts.rt
 abbrev pub make_office : List ℕ
 make_office = MAKE_OFFICE.now
 

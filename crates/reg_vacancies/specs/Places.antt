@@ -26,7 +26,7 @@ Blocks = FinMap block_cmp Holder
 abbrev pub AreLeftBy : FreePlaces → Blocks → Type 0
 AreLeftBy free blocks = ∥ Follows (places_in free) (keys blocks) ∥₁
 
--- nothing changed
+-- of free places before and after: the pool is the same, and the same blocks leave them
 pub record AreUnchanged (old new : FreePlaces) : Type 0 where
   pub pool : pool_in new ≡ pool_in old
   pub left : (blocks : Blocks) → AreLeftBy new blocks ↔ AreLeftBy old blocks

@@ -93,6 +93,7 @@ pub record PremiseGoesOn {S A : Type 0} (Holds Sound : S → Type 0) (storage : 
 
 -- ---- Calls in turn
 
+-- the same of calls in turn
 abbrev pub answers_to : World → List Call → List Answer
 answers_to w [] = []
 answers_to w (call ∷ calls) = answer_to w call ∷ answers_to (world_then w call) calls

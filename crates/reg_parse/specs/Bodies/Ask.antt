@@ -41,6 +41,7 @@ size_named word =
 abbrev pub size_form : Data → Option Size
 size_form json = option_and_then size_named (as_str json)
 
+-- the members that an ask of one kind may have, and the ask that they make
 abbrev pub code_items : List Item
 code_items = wanted_items ++ evidence_items
 
@@ -52,6 +53,7 @@ code_with wanted evidence = record {
   evidence = evidence;
 }
 
+-- the ask of each kind that an object is, or the first of its members at fault
 unfoldable pub code_of : Data → Reading CodeAsk
 code_of json = do
   wanted ← wanted_value_of json

@@ -61,6 +61,7 @@ abbrev pub formed : {A : Type 0} → Item → (Data → Option A) → Option Dat
 formed item form None = Ok None
 formed item form (Some json) = or_refusal (Field item) (option_map Some (form json))
 
+-- one that may be missing
 abbrev pub optional : {A : Type 0} → Item → (Data → Option A) → Data → Reading (Option A)
 optional item form json = formed item form (get (item_name item) json)
 
@@ -69,6 +70,7 @@ abbrev pub truth_by : Item → Option Data → Reading Bool
 truth_by item None = Ok false
 truth_by item (Some json) = or_refusal (Field item) (as_bool json)
 
+-- a missing one is false
 abbrev pub optional_truth : Item → Data → Reading Bool
 optional_truth item json = truth_by item (get (item_name item) json)
 
@@ -89,6 +91,7 @@ only items json = if is_among items (as_object json) then Ok tt else Err (Field 
 
 -- ---- forms of members
 
+-- what a member is read as, if it has the form
 abbrev pub text_form : (List ℕ → Bool) → Data → Option (List ℕ)
 text_form form json = option_and_then (read_text form) (as_str json)
 

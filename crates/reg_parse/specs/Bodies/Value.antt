@@ -29,6 +29,7 @@ want_by None (Some least) =
 want_by (Some value) (Some least) = Err (Field item.Value)
 want_by None None = Err (Field item.Value)
 
+-- what is wanted, by value or least
 abbrev pub want_of : Data → Reading Want
 want_of json = want_by (get (item_name item.Value) json) (get (item_name item.Least) json)
 

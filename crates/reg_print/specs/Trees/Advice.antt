@@ -13,6 +13,7 @@ advice_members advice =
     ∷ (codes "verdict", text (verdict_word advice.verdict))
     ∷ []
 
+-- the JSON of advice; with its expert; of all advice on a request
 abbrev pub advice_tree : Advice → Data
 advice_tree advice = object_with (advice_members advice)
 

@@ -78,6 +78,7 @@ early_members ask =
     ∷ (codes "will_be_rfc", true_if ask.evidence.will_be_rfc)
     ∷ []
 
+-- the JSON of an ask; of those of early allocations
 abbrev pub early_tree : EarlyAsk → Data
 early_tree ask = object_with (early_members ask)
 

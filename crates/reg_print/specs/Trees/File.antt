@@ -17,5 +17,6 @@ file_members file =
     ∷ (codes "experts", Some (names_tree file.experts))
     ∷ standing_members file.request
 
+-- the JSON of a request with all that the desk has of it: its experts, and all advice on it
 abbrev pub file_tree : CaseFile → Data
 file_tree file = object_with (file_members file)

@@ -16,6 +16,7 @@ abbrev pub with_members : Listed → Members
 with_members [] = no_members
 with_members (m ∷ more) = put_some m.0 m.1 (with_members more)
 
+-- an object by its members, some of which may be absent
 abbrev pub object_with : Listed → Data
 object_with members = object (with_members members)
 

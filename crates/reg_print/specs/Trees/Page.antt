@@ -70,6 +70,7 @@ page_members page =
     ∷ (codes "ranges", Some (ranges_tree page.table.ranges))
     ∷ []
 
+-- the JSON of registries
 abbrev pub page_tree : Page → Data
 page_tree page = object_with (page_members page)
 

@@ -22,6 +22,7 @@ queue_members row =
     ∷ (codes "state", text (state_word row.word))
     ∷ []
 
+-- the JSON of a request as its expert sees it
 abbrev pub queue_tree : QueueRow → Data
 queue_tree row = object_with (queue_members row)
 

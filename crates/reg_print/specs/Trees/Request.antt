@@ -45,6 +45,7 @@ standing_members request =
 abbrev pub request_members : Request → Listed
 request_members request = (codes "ask", Some (ask_tree request.ask)) ∷ standing_members request
 
+-- the JSON of a request: as its applicant sees it, and with the account as the desk does
 abbrev pub request_tree : Request → Data
 request_tree request = object_with (request_members request)
 

@@ -73,6 +73,7 @@ fields_of bytes = do
     body = map line_feed_of path.1;
   })
 
+-- the call that a line of a script is, none where it is no such line
 unfoldable pub line_of : List ℕ → Option Call
 line_of bytes = (if nat_lt most_bytes (length bytes) then None else fields_of bytes)
 
