@@ -36,7 +36,7 @@ use Rattle.reg_core.proofs.KeyOrders.{name_keys, place_keys, seat_keys, block_ke
 use Rattle.reg_vacancies.specs.Vacancies.{MayBeOf}
 use Rattle.reg_vacancies.specs.declared.vacancies.Vacancies.{Vacancies}
 use Rattle.reg_vacancies.proofs.Carrying.{keys_decide}
-use Rattle.reg_audit.specs.Audits.{Keeps, account_of, awaits_minute, standing_of}
+use Rattle.reg_audit.specs.Audits.{Keeps, account_of, advised_at, awaits_minute, standing_of}
 use Rattle.reg_audit.specs.Rows.{is_unminuted, lacks_minute, with_row, name_of, seat_of, IsInTurn, IsNew, Fits}
 use Rattle.reg_audit.specs.declared.requests.Standing.{Standing}
 use Rattle.reg_audit.specs.declared.audit.Audit.{Audit}

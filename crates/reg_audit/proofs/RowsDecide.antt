@@ -5,7 +5,7 @@ use Rattle.std.specs.Cmp.{second_so}
 use Rattle.std.specs.FinMap.{FinMap, get, insert}
 use Rattle.std.specs.Ordering.{eq_by_cmp}
 use Rattle.std.specs.declared.cmp.Ordering.{Ordering}
-use Rattle.reg_maps.specs.Maps.{same_text}
+use Rattle.reg_maps.specs.Maps.{same_text, update}
 use Rattle.reg_maps.proofs.KeySets.{is_inserted, still_in}
 use Rattle.reg_maps.proofs.MapLaws.{IsKeyOrder, text_keys, number_keys, tied, get-at_insert, get-inserted}
 use Rattle.reg_ranges.specs.Texts.{is_text}
@@ -20,6 +20,7 @@ use Rattle.reg_core.specs.World.{World, RequestName, name_cmp}
 use Rattle.reg_core.specs.declared.holding.Holding.{Holding}
 use Rattle.reg_core.specs.declared.request.Case.{Case}
 use Rattle.reg_core.proofs.Keeping.Changes.{can_grant, can_define, can_add_pool, can_assign, can_advise}
+use Rattle.reg_core.proofs.Keeping.OtherMaps.{with_entry, with_hold_set, with_request, with_change, with_block, with_link}
 use Rattle.reg_core.proofs.KeyOrders.{name_keys, place_keys, seat_keys, block_keys, link_keys}
 use Rattle.reg_audit.specs.Laws.{IsPart, RowsDecide}
 use Rattle.reg_audit.specs.Rows.{with_row, has_row_form, is_markable, is_unminuted, lacks_minute, IsNew, IsInTurn, Fits, IsApart, name_of, seat_of}

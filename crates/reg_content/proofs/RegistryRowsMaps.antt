@@ -21,6 +21,7 @@ use Rattle.reg_core.proofs.KeyOrders.{place_keys}
 use Rattle.reg_statements.specs.Content.{ranges_of, registries_in, registry_table}
 use Rattle.reg_content.specs.Registries.{with_range}
 use Rattle.reg_statements.proofs.RegistryRows.{registry-at}
+use Rattle.reg_content.proofs.Found.{each_passes, none_passes}
 
 same_name : (a b : List ℕ) → same_text a b ≡ true → a ≡ b
 same_name a b t = tied text_keys a b (sym (text_test a b) ∙ t)

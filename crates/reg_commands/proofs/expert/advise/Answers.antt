@@ -9,7 +9,7 @@ use Rattle.reg_core.specs.View.{Queued, queue_of}
 use Rattle.reg_core.specs.World.{World, RequestName}
 use Rattle.reg_core.specs.declared.advice.Advice.{Advice as AdviceOf}
 use Rattle.reg_core.specs.declared.command.ExpertCommand.TheVariants.{Advise}
-use Rattle.reg_core.specs.declared.told.Told.TheVariants.{Queued}
+use Rattle.reg_core.specs.declared.told.Told.TheVariants as tells
 use Rattle.reg_core.specs.declared.queue.QueueRow.{QueueRow}
 use Rattle.reg_core.specs.declared.refusal.Refusal.TheVariants as no
 use Rattle.reg_decisions.proofs.Fitting.{advise_fits}
@@ -55,7 +55,7 @@ module _ (g : Over) (c : After-decide_advise g) where
       (answer_to_expert expert
       (Advise c.args.account.now c.args.reference.now c.args.advice.now))
       (advise_rule name expert c.args.advice.now row.advice row.word)
-      (λ decision. Queued (advised_row c.args.advice.now row))
+      (λ decision. tells.Queued (advised_row c.args.advice.now row))
   decides = record {
     answered = λ h.
         ap (λ o. or_refusal no.Request o >>= advised expert c.args.advice.now asked) (found h).0
@@ -86,6 +86,6 @@ returns g c =
     let d = (goal.at.returns g c).After-decide_advise in
     let concluded = c.in_ok-conclude.ensures in
     performs_decided c.in_ok-decision.decision (decides g d) c.in_ok-decision.ensures
-    (ap Queued (the_value (advised_row c.args.advice.now (row g d)) concluded.told
+    (ap tells.Queued (the_value (advised_row c.args.advice.now (row g d)) concluded.told
     c.with_advice-advised.ensures))
     concluded.change
