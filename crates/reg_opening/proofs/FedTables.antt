@@ -1,7 +1,8 @@
 -- What an audit says of the rows of a table of the office that it was fed.
-use Rattle.std.proofs.Common.{◌≡◌, ◌≤◌, ℕ, ℤ, ◌+◌, Bool, true, false, List, [], ◌∷◌, map, refl, sym, ap, subst, ◌∙◌, Option, Some, None, IsSome, is_some, IsPermutation, option_map, arith}
+use Rattle.std.proofs.Common.{◌≡◌, ◌≤◌, ℕ, ℤ, ◌+◌, Bool, true, false, List, [], ◌∷◌, ◌++◌, map, reverse, refl, sym, ap, subst, ◌∙◌, Option, Some, None, IsSome, is_some, IsPermutation, option_map, arith}
 use Rattle.std.proofs.lemmas.Bool.Decides.{nat_tests}
-use Rattle.std.proofs.lemmas.List.Sorted.{IsPermutation-refl}
+use Rattle.std.proofs.lemmas.List.{map-append, reverse-append}
+use Rattle.std.proofs.lemmas.List.Sorted.{IsPermutation-refl, IsPermutation-reverse, IsPermutation-trans}
 use Rattle.std.specs.List.{AllByRecursion, IsDistinct}
 use Rattle.std.specs.declared.cmp.Ordering.{Ordering}
 use Rattle.std.specs.FinMap.{FinMap, from_entries, get-empty, get-from_entries}
@@ -37,7 +38,7 @@ use Rattle.reg_statements.specs.Parts.{TableDef}
 use Rattle.reg_opening.specs.FedRows.{IsPlaced}
 use Rattle.reg_opening.specs.Numbered.{ShowsNumbered, numbered_columns, numbered_in}
 use Rattle.reg_opening.specs.declared.numbered.Numbered.{Numbered}
-use Rattle.reg_opening.proofs.RowidLemmas.{keyed_at, keyed_none, risen, rowids_read}
+use Rattle.reg_opening.proofs.RowidLemmas.{keyed_at, keyed_none, rowids_read}
 use Rattle.reg_tables.specs.Texts.{select_ranges, select_registries}
 use Rattle.reg_tables.proofs.Statements.Ranges.{all_ranges}
 use Rattle.reg_tables.proofs.Statements.Registries.{all_registries}
@@ -187,6 +188,20 @@ module _ {T K X : Type 0} {R : K → K → Ordering} (o : IsKeyOrder R) (pair : 
       (λ w. put w (held_in of [])) audit audit
   fed_none of audit = fed_table of audit audit [] [] [] (IsPermutation-refl []) refl (feeds_none audit)
 
+map-reverse : {X Y : Type 0} (f : X → Y) (xs : List X) → map f (reverse xs) ≡ reverse (map f xs)
+map-reverse f [] = refl
+map-reverse f (x ∷ xs) =
+    ap (map f) (reverse-append (x ∷ []) xs) ∙ map-append f (reverse xs) (x ∷ [])
+    ∙ ap (λ ys. ys ++ f x ∷ []) (map-reverse f xs) ∙ sym (reverse-append (f x ∷ []) (map f xs))
+
+-- what reads as values reads as them from the last to the first
+read_back : {A T X : Type 0} (of : A → Option X) (pair : T → X) (rows : List A) (values : List T)
+    → map of rows ≡ map Some (map pair values)
+    → map of (reverse rows) ≡ map Some (map pair (reverse values))
+read_back of pair rows values read =
+    map-reverse of rows ∙ ap reverse read ∙ sym (map-reverse Some (map pair values))
+    ∙ ap (map Some) (sym (map-reverse pair values))
+
 -- rows that a query of a table showed, each with its rowid
 module _ {T K X : Type 0} (d : TableDef T K X) (l : IsDefined d) (of : SqlRow → Option T)
     (reads : (r : SqlRow) → of (shows (numbered_columns d.width) [] r) ≡ d.read (stored d.width r))
@@ -239,11 +254,14 @@ module _ {T K X : Type 0} (d : TableDef T K X) (l : IsDefined d) (of : SqlRow �
         → IsFed numbered row_of shown before after k
         → Told (λ r. option_map pair_of (numbered (seen r))) table k
     told table shown true moved fed =
+        let paired = λ (r : SqlRow). option_map pair_of (numbered (seen r)) in
         let taken = shown_rows seen numbered fed.0 moved fed.1 in
         let feeds = fed_table l.key.keys pair_of row_of put (Before t) (IsTied t) (numbered_part t)
-        (λ r. option_map pair_of (numbered (seen r))) before after table taken.0 fed.0 taken.1
-        (read_pairs l.key.keys pair_of (λ r. numbered (seen r)) taken.0 fed.0 taken.2) fed.3 in
-        let ids = risen fed.0 fed.2 in
+        paired before after table (reverse taken.0) (reverse fed.0)
+        (IsPermutation-trans table taken.0 (reverse taken.0) taken.1 (IsPermutation-reverse taken.0))
+        (read_back paired pair_of taken.0 fed.0
+        (read_pairs l.key.keys pair_of (λ r. numbered (seen r)) taken.0 fed.0 taken.2)) fed.3 in
+        let ids = fed.2 in
         let keyed = keyed_at seen d.width behind table shown ids.0 moved
         (rowids_read of d.width shown fed.0 fed.1 ∙ ids.1) ids.2 in
         record {

@@ -1,6 +1,7 @@
 -- A table whose rowids a query shows, each below the next, has its rows by rowids.
-use Rattle.std.proofs.Common.{◌≡◌, ℕ, ℤ, List, [], ◌∷◌, map, true, refl, sym, ap, subst, ◌∙◌}
-use Rattle.std.proofs.Common.{Option, Some, None, IsSome, is_some, option_map, IsPermutation}
+use Rattle.std.proofs.Common.{◌≡◌, ℕ, ℤ, List, [], ◌∷◌, ◌++◌, map, true, refl, sym, ap, subst, ◌∙◌}
+use Rattle.std.proofs.Common.{Option, Some, None, option_map, IsPermutation}
+use Rattle.std.proofs.lemmas.List.{map-append}
 use Rattle.std.proofs.lemmas.List.Sorted.{IsPermutation-map, IsPermutation-refl}
 use Rattle.std.proofs.lemmas.Simd.{map-map}
 use Rattle.std.specs.Cmp.{int_cmp_total}
@@ -27,7 +28,8 @@ use Rattle.reg_tables.specs.Selecting.{BeginsWith, shows}
 use Rattle.reg_tables.proofs.Library.Rowids.{keyed_if_shown}
 use Rattle.reg_tables.proofs.SelectLemmas.{selected}
 use Rattle.reg_statements.specs.Loading.{IsAscending, ReadAs}
-use Rattle.reg_opening.specs.Numbered.{IsRising, either_cmp, numbered_in}
+use Rattle.reg_opening.specs.Feeding.{rowids_of}
+use Rattle.reg_opening.specs.Numbered.{last_of, numbered_in}
 use Rattle.reg_opening.specs.Rowids.{SelectsRowids, rowid_in}
 use Rattle.reg_opening.specs.declared.numbered.Numbered.{Numbered}
 use Rattle.reg_statements.proofs.Neighbours.{strict}
@@ -103,41 +105,44 @@ keyed_shown sql t order old new rows ids selects begins answer read up =
 
 -- ---- Rows that are read with their rowids
 
-either_less : (a b : Option ℤ) → either_cmp a b ≡ Less
-    → (n : ℤ) × (a ≡ Some n) × (m : ℤ) × (b ≡ Some m) × (int_cmp n m ≡ Less)
-either_less None b less = absurd (cc)
-either_less (Some n) None less = absurd (cc)
-either_less (Some n) (Some m) less = (n, refl, m, refl, less)
+-- a number that is above the last comes behind
+rises_by : (ids : List ℤ) (last next : ℤ) → last_of ids ≡ Some last → int_cmp last next ≡ Less
+    → IsAscending int_cmp ids → IsAscending int_cmp (ids ++ next ∷ [])
+rises_by [] last next is less up = absurd (cc)
+rises_by (n ∷ []) last next is less up =
+    let same : n ≡ last = cc in (ap (λ m. int_cmp m next) same ∙ less, tt)
+rises_by (n ∷ m ∷ more) last next is less up = (up.0, rises_by (m ∷ more) last next is less up.1)
+
+last_behind : (ids : List ℤ) (next : ℤ) → last_of (ids ++ next ∷ []) ≡ Some next
+last_behind [] next = refl
+last_behind (n ∷ []) next = refl
+last_behind (n ∷ m ∷ more) next = last_behind (m ∷ more) next
+
+without_last : (ids : List ℤ) → last_of ids ≡ None → ids ≡ []
+without_last [] is = refl
+without_last (n ∷ []) is = absurd (cc)
+without_last (n ∷ m ∷ more) is = let gone = without_last (m ∷ more) is in absurd (cc)
+
+-- so the rowids rise with one more, where there was none, or this is above the last
+pub first_rises : (rowids : List (Option ℤ)) (ids : List ℤ) (next : ℤ) → rowids ≡ map Some ids
+    → None ≡ last_of ids → (more : List ℤ) × (rowids ++ Some next ∷ [] ≡ map Some more)
+    × IsAscending int_cmp more × (Some next ≡ last_of more)
+first_rises rowids ids next are none =
+    let all : rowids ≡ [] = are ∙ ap (map Some) (without_last ids (sym none)) in
+    (next ∷ [], ap (λ rows. rows ++ Some next ∷ []) all, tt, refl)
+
+pub next_rises : (rowids : List (Option ℤ)) (ids : List ℤ) (last next : ℤ) → rowids ≡ map Some ids
+    → IsAscending int_cmp ids → Some last ≡ last_of ids → int_cmp last next ≡ Less
+    → (more : List ℤ) × (rowids ++ Some next ∷ [] ≡ map Some more)
+    × IsAscending int_cmp more × (Some next ≡ last_of more)
+next_rises rowids ids last next are up is less = (
+  ids ++ next ∷ [],
+  ap (λ rows. rows ++ Some next ∷ []) are ∙ sym (map-append Some ids (next ∷ [])),
+  rises_by ids last next (sym is) less up,
+  sym (last_behind ids next),
+)
 
 module _ {T : Type 0} where
-  abbrev rowids_of : List (Numbered T) → List (Option ℤ)
-  rowids_of = map (λ row. row.rowid)
-
-  -- those that rise are whole numbers that ascend
-  pub risen : (rows : List (Numbered T)) → IsRising rows
-      → (ids : List ℤ) × (rowids_of rows ≡ map Some ids) × IsAscending int_cmp ids
-  risen [] rising = ([], refl, tt)
-  risen (row ∷ []) rising = one row.rowid refl rising.0
-    where
-      one : (id : Option ℤ) → row.rowid ≡ id → IsSome row.rowid
-          → (ids : List ℤ) × (row.rowid ∷ [] ≡ map Some ids) × IsAscending int_cmp ids
-      one None is there = absurd (cc)
-      one (Some n) is there = (n ∷ [], ap (λ id. id ∷ []) is, tt)
-  risen (row ∷ next ∷ rows) rising =
-      let less = either_less row.rowid next.rowid rising.1.0 in
-      let there : IsSome next.rowid = ap is_some less.3 in
-      let rest = risen (next ∷ rows) (there, rising.1.1) in
-      more less.0 less.2 less.1 less.3 less.4 rest.0 rest.1 rest.2
-    where
-      more : (n m : ℤ) → row.rowid ≡ Some n → next.rowid ≡ Some m → int_cmp n m ≡ Less
-          → (ids : List ℤ) → rowids_of (next ∷ rows) ≡ map Some ids → IsAscending int_cmp ids
-          → (ids : List ℤ) × (rowids_of (row ∷ next ∷ rows) ≡ map Some ids) × IsAscending int_cmp ids
-      more n m first second less [] is up = absurd (cc)
-      more n m first second less (id ∷ ids) is up =
-          let head : next.rowid ≡ Some id = cc in
-          let same : m ≡ id = cc in
-          (n ∷ id ∷ ids, (λ i. first i ∷ is i), (ap (int_cmp n) (sym same) ∙ less, up))
-
   -- and stand where they were read
   pub rowids_read : (read : Row → Option T) (at : ℕ) (shown : List Row) (rows : List (Numbered T))
       → ReadAs (numbered_in read at) shown rows

@@ -1,15 +1,16 @@
 -- What an audit is fed of the rows of a table.
 use Rattle.std.specs.FinMap.{FinMap, get, insert, empty}
 use Rattle.std.specs.declared.cmp.Ordering.{Ordering}
-use Rattle.std.specs.Prelude.{◌≡◌, None, Result, IfOk, List, [], ◌∷◌, map, Bool, true, false, IsTrue, IsSome, Option}
+use Rattle.std.specs.Prelude.{◌≡◌, ℤ, None, Result, Ok, IfOk, List, [], ◌∷◌, ◌++◌, map, reverse, Bool, true, false, IsTrue, IsSome, Option}
 use Rattle.std.specs.List.{AllByRecursion}
+use Rattle.std.specs.declared.alloc.AllocError.{AllocError}
 use Rattle.sqlite.specs.Effect.{Database}
 use Rattle.sqlite.specs.Order.{Row as SqlRow}
 use Rattle.sqlite.specs.State.{State}
 use Rattle.reg_maps.specs.RowMaps.{IsTable, held_in}
 use Rattle.reg_core.specs.WellKept.{WellKept}
 use Rattle.reg_core.specs.World.{World}
-use Rattle.reg_audit.specs.Audits.{Audits, is_well_kept}
+use Rattle.reg_audit.specs.Audits.{Audits, Feeds, is_well_kept}
 use Rattle.reg_audit.specs.Rows.{with_row, IsInTurn, IsNew}
 use Rattle.reg_audit.specs.declared.audit.Audit.{Audit}
 use Rattle.reg_audit.specs.declared.row.Row.{Row}
@@ -18,7 +19,8 @@ use Rattle.reg_tables.specs.Editing.{AreKeyed}
 use Rattle.reg_tables.specs.Selecting.{BeginsWith}
 use Rattle.reg_tables.specs.Version.{rows_of, table_count}
 use Rattle.reg_tables.specs.declared.version.Version.{Version}
-use Rattle.reg_opening.specs.Numbered.{IsRising}
+use Rattle.reg_opening.specs.Numbered.{HasRisen, IsRising}
+use Rattle.reg_opening.specs.declared.feeder.Feeder.{Feeder}
 use Rattle.reg_opening.specs.declared.numbered.Numbered.{Numbered}
 use Rattle.reg_statements.specs.Content.{content_at}
 use Rattle.reg_statements.specs.Loading.{ReadAs}
@@ -52,13 +54,25 @@ pub record FeedsRows (old new : Audit) (rows : List Row) : Type 0 where
       → AreNew w rows
   pub stays : IsTrue (is_well_kept new) → IsTrue (is_well_kept old)
 
+-- the rowids of rows
+abbrev pub rowids_of : {T : Type 0} → List (Numbered T) → List (Option ℤ)
+rowids_of rows = map (λ row. row.rowid) rows
+
+-- a feeder that takes a row of a table: the audit is fed it, and the rowids rise by its own
+pub record TakesRow {T : Type 0} (row : T → Row) (old : Feeder) (next : Numbered T) (new : Feeder)
+    : Type 0 where
+  pub kept : Bool
+  pub feeds : Feeds {E = AllocError} old.audit new.audit (Ok kept) (row next.value)
+  pub rises : (rowids : List (Option ℤ)) → HasRisen old.rise rowids
+      → HasRisen new.rise (rowids ++ next.rowid ∷ [])
+
 -- whether each row reads, and where each does, their rowids rise, and the audit was fed what they
--- read as
+-- read as, the last of them last
 abbrev pub IsFed : {T : Type 0} → (SqlRow → Option (Numbered T)) → (Numbered T → Row)
     → List SqlRow → Audit → Audit → Bool → Type 0
 IsFed {T} of row rows old new true =
-    (values : List (Numbered T)) × ReadAs of rows values × IsRising values
-    × FeedsRows old new (map row values)
+    (values : List (Numbered T)) × ReadAs of rows values × IsRising (rowids_of values)
+    × FeedsRows old new (map row (reverse values))
 IsFed of row rows old new false = ¬ AllByRecursion (λ r. IsSome (of r)) rows
 
 -- an audit that was fed the rows of a part of the office: whether they are the table of the part,

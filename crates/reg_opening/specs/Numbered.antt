@@ -1,8 +1,6 @@
 -- Rows of a table with their rowids.
-use Rattle.std.specs.Prelude.{ℕ, ℤ, ◌+◌, List, [], ◌∷◌, ◌++◌, Option, Some, None, IsSome, option_map}
+use Rattle.std.specs.Prelude.{◌≡◌, ℕ, ℤ, ◌+◌, List, [], ◌∷◌, ◌++◌, map, Option, Some, None, IsTrue, option_map}
 use Rattle.std.specs.Ordering.{int_cmp}
-use Rattle.std.specs.declared.cmp.Ordering.{Ordering}
-use Rattle.std.specs.declared.cmp.Ordering.TheVariants.{Equal}
 use Rattle.sqlite.specs.Order.{Row, column}
 use Rattle.sqlite.specs.Term.{Term, col}
 use Rattle.sqlite_value.specs.declared.keys.Key.{Key}
@@ -11,6 +9,7 @@ use Rattle.reg_tables.specs.Selecting.{Selects, columns_of}
 use Rattle.reg_statements.specs.Loading.{IsAscending}
 use Rattle.reg_statements.specs.Parts.{TableDef}
 use Rattle.reg_opening.specs.declared.numbered.Numbered.{Numbered}
+use Rattle.reg_opening.specs.declared.numbered.Rise.{Rise}
 
 -- the columns of a table, and its rowid behind them
 abbrev pub numbered_columns : ℕ → List Term
@@ -26,20 +25,17 @@ abbrev pub numbered_in : {T : Type 0} → (Row → Option T) → ℕ → Row →
 numbered_in read n row =
     option_map (λ value. record { value = value; rowid = int_in (column row n) }) (read row)
 
--- in the order of their rowids, where both are there
-abbrev pub either_cmp : Option ℤ → Option ℤ → Ordering
-either_cmp None other = Equal
-either_cmp (Some n) None = Equal
-either_cmp (Some n) (Some m) = int_cmp n m
+-- the last of some numbers
+abbrev pub last_of : List ℤ → Option ℤ
+last_of [] = None
+last_of (n ∷ []) = Some n
+last_of (n ∷ m ∷ more) = last_of (m ∷ more)
 
-abbrev pub rowid_cmp : {T : Type 0} → Numbered T → Numbered T → Ordering
-rowid_cmp a b = either_cmp a.rowid b.rowid
+-- each row has a rowid, and that of the next is above it
+abbrev pub IsRising : List (Option ℤ) → Type 0
+IsRising rowids = (ids : List ℤ) × (rowids ≡ map Some ids) × IsAscending int_cmp ids
 
--- the first has a rowid
-abbrev pub BeginsWhole : {T : Type 0} → List (Numbered T) → Type 0
-BeginsWhole [] = Unit {0}
-BeginsWhole (first ∷ more) = IsSome first.rowid
-
--- each has a rowid, and that of the next is above it
-abbrev pub IsRising : {T : Type 0} → List (Numbered T) → Type 0
-IsRising rows = BeginsWhole rows × IsAscending rowid_cmp rows
+-- it holds of rows only where their rowids rise, and then it has the last of them
+abbrev pub HasRisen : Rise → List (Option ℤ) → Type 0
+HasRisen rise rowids = IsTrue rise.holds → (ids : List ℤ) × (rowids ≡ map Some ids)
+    × IsAscending int_cmp ids × (rise.last ≡ last_of ids)

@@ -18,12 +18,13 @@ ghost use Rattle.reg_opening.specs.FedRows.{IsPlaced};
 ghost use Rattle.reg_opening.specs.Feeding.{FeedsPart, FeedsRows, IsFed, MakesPart, IsTiedTable};
 ghost use Rattle.reg_opening.specs.Numbered.{ShowsNumbered, numbered_columns, numbered_in};
 
-use crate::numbered::{Numbered, rise};
+use crate::feeder::Feeder;
+use crate::numbered::Numbered;
 use reg_audit::audit::Audit;
 use reg_audit::row::Row;
 use reg_keeper::keeper::Fault;
 use reg_records::record::Record;
-use reg_statements::read::load;
+use reg_statements::read::each;
 use reg_tables::version::Version;
 use sqlite::{Alter, Connection};
 use std::alloc::{AllocError, Global};
@@ -105,11 +106,11 @@ pub trait Part {
     fn feed<S: Alter>(
         reading: Reading,
         conn: &mut Connection<S>,
-        audit: &mut Audit,
+        feeder: &mut Feeder,
     ) -> Result<bool, Fault>
         requires { IsIdle (state S.Store conn.old) }
         ensures { FeedsPart reading.version Before IsHeld filled (state S.Store conn.old)
-            (state S.Store conn.new) audit.old audit.new result };
+            (state S.Store conn.new) feeder.old.audit feeder.new.audit result };
 }
 
 /// Feeds values to an audit, from the last to the first.
@@ -122,12 +123,12 @@ pub fn feed_all<T: Fed>(audit: &mut Audit, mut values: Vec<T>) -> Result<(), All
     Ok(())
 }
 
-/// Feeds the rows of a query to an audit, where each has its form, and tells whether each has. Rows
+/// Feeds the rows of a query to an audit as they are read, and tells whether each has its form. Rows
 /// whose rowids do not rise are a fault of the store.
 fn feed_table<S: Alter, T: FedRow>(
     alloc: Global,
     conn: &mut Connection<S>,
-    audit: &mut Audit,
+    feeder: &mut Feeder,
     sql: &str,
 ) -> Result<bool, Fault>
     requires idle { IsIdle (state S.Store conn.old) }
@@ -138,16 +139,17 @@ fn feed_table<S: Alter, T: FedRow>(
     ensures rows { Works (state S.Store conn.new) → IfOk result (λ read. (rows : _)
         × Shown sql.now [] (state S.Store conn.old) (state S.Store conn.new) rows
         × IsFed (numbered_in T.of T.table.width) (λ numbered. T.row_of numbered.value) rows
-        audit.old audit.new read) }
+        feeder.old.audit feeder.new.audit read) }
 {
-    let Some(values) = load::<S, Numbered<T>>(alloc, conn, sql, &[])? else {
+    feeder.begin();
+    if !each::<S, Numbered<T>, Feeder>(alloc, conn, sql, &[], feeder)? {
         return Ok(false);
-    };
-    if !rise(values.as_slice()) {
-        return Err(Fault::Store);
     }
-    feed_all(audit, values)?;
-    Ok(true)
+    if feeder.has_risen() {
+        Ok(true)
+    } else {
+        Err(Fault::Store)
+    }
 }
 
 /// The rows of a table. A table that the version lacks has none; rows whose rowids do not rise are a
@@ -162,11 +164,11 @@ impl<T: FedRow> Part for Vec<T> {
     fn feed<S: Alter>(
         reading: Reading,
         conn: &mut Connection<S>,
-        audit: &mut Audit,
+        feeder: &mut Feeder,
     ) -> Result<bool, Fault> {
         if reading.version.tables() <= T::slot() {
             return Ok(true);
         }
-        feed_table::<S, T>(reading.alloc, conn, audit, T::all())
+        feed_table::<S, T>(reading.alloc, conn, feeder, T::all())
     }
 }

@@ -12,6 +12,7 @@ ghost use Rattle.reg_opening.specs.Opening.{AreRowsOf, Decides, FindsKind, HasVe
 ghost use Rattle.reg_opening.specs.Opening.{Reads, only, kind_of};
 
 use crate::feed::Reading;
+use crate::feeder::Feeder;
 use crate::parts::feed_parts;
 use crate::rowids::check_rowids;
 use reg_audit::audit::Audit;
@@ -217,12 +218,12 @@ fn read_rows<S: Alter>(
         → IfOk result (AreRowsOf version (state S.Store conn.old).now) }
 {
     check_rowids(alloc, conn)?;
-    let mut audit = Audit::new(alloc);
+    let mut feeder = Feeder::new(Audit::new(alloc));
     let reading = Reading { alloc, version };
-    if !feed_parts(reading, conn, &mut audit)? {
+    if !feed_parts(reading, conn, &mut feeder)? {
         return Ok(None);
     }
-    free_of(audit)
+    free_of(feeder.audit)
 }
 
 /// What the rows that an audit was fed leave free, if they make an office that is well kept.

@@ -3,6 +3,7 @@
 
 mod fed;
 mod feed;
+mod feeder;
 pub mod kind;
 mod numbered;
 mod partitions;

@@ -1,15 +1,13 @@
 //! Rows of a table with their rowids.
-ghost use Rattle.std.specs.Prelude.{IsTrue};
-ghost use Rattle.reg_opening.specs.Numbered.{BeginsWhole, IsRising, numbered_in, rowid_cmp};
+ghost use Rattle.std.specs.Prelude.{◌≡◌, ◌++◌, ℤ, List, [], ◌∷◌, Option};
+ghost use Rattle.reg_opening.specs.Numbered.{HasRisen, numbered_in};
 
 use crate::feed::{Fed, FedRow};
 use reg_audit::row::Row as AuditRow;
 use reg_records::column::int;
-use reg_records::record::{Keyed, Record};
-use reg_statements::select::are_ascending;
+use reg_records::record::Record;
 use sqlite::Row;
 use std::alloc::{AllocError, Global};
-use std::cmp::Ordering;
 
 /// A row of a table with its rowid, if that is a whole number.
 #[derive(Drop)]
@@ -32,17 +30,6 @@ impl<T: FedRow> Record for Numbered<T> {
     }
 }
 
-impl<T: FedRow> Keyed for Numbered<T> {
-    ghost order = { rowid_cmp };
-
-    fn compare(&self, other: &Self) -> Ordering {
-        match (self.rowid, other.rowid) {
-            (Some(rowid), Some(other)) => rowid.cmp(&other),
-            _ => Ordering::Equal,
-        }
-    }
-}
-
 impl<T: FedRow> Fed for Numbered<T> {
     ghost row_of = { λ numbered. T.row_of numbered.value };
 
@@ -51,19 +38,55 @@ impl<T: FedRow> Fed for Numbered<T> {
     }
 }
 
-/// Whether the first of some rows has a rowid, if there is one.
-fn begins_whole<T>(rows: &[Numbered<T>]) -> bool
-    ensures { IsTrue result → BeginsWhole rows.now }
-{
-    match rows {
-        [first, ..] => first.rowid.is_some(),
-        [] => true,
+impl<T> Numbered<T> {
+    /// Its rowid.
+    pub fn rowid(&self) -> Option<i64>
+        ensures { result ≡ self.now.rowid }
+    {
+        self.rowid
     }
 }
 
-/// Whether each row has a rowid, and that of the next is above it.
-pub fn rise<T: FedRow>(rows: &[Numbered<T>]) -> bool
-    ensures { IsTrue result → IsRising rows.now }
-{
-    begins_whole(rows) && are_ascending(rows)
+/// How far the rowids of rows have risen.
+#[derive(Clone, Copy)]
+pub struct Rise {
+    /// That of the last row.
+    last: Option<i64>,
+    /// Whether each row had one, and that of the next was above it.
+    holds: bool,
+}
+
+impl Rise {
+    /// Of no rows.
+    pub fn none() -> Self
+        ensures { HasRisen result [] }
+    {
+        Rise {
+            last: None,
+            holds: true,
+        }
+    }
+
+    /// Of a row more.
+    pub fn then(self, rowid: Option<i64>) -> Self
+        ensures { (rowids : List (Option ℤ)) → HasRisen self rowids
+            → HasRisen result (rowids ++ rowid ∷ []) }
+    {
+        let rises = match (self.last, rowid) {
+            (Some(last), Some(rowid)) => last < rowid,
+            (None, Some(_)) => true,
+            (_, None) => false,
+        };
+        Rise {
+            last: rowid,
+            holds: self.holds && rises,
+        }
+    }
+
+    /// Whether each row had a rowid, and that of the next was above it.
+    pub fn holds(self) -> bool
+        ensures { result ≡ self.holds }
+    {
+        self.holds
+    }
 }

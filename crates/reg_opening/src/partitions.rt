@@ -6,6 +6,7 @@ ghost use Rattle.reg_opening.specs.Partitions.{ArePartitions, AreRegistries, IsF
 ghost use Rattle.reg_opening.specs.Partitions.{is_named, left_over, partition_row, shared_out, trailing};
 
 use crate::feed::{Fed, Part, Reading, feed_all};
+use crate::feeder::Feeder;
 use reg_audit::audit::Audit;
 use reg_audit::row::Row;
 use reg_core::text::Name;
@@ -132,7 +133,7 @@ impl Part for Registries {
     fn feed<S: Alter>(
         reading: Reading,
         conn: &mut Connection<S>,
-        audit: &mut Audit,
+        feeder: &mut Feeder,
     ) -> Result<bool, Fault> {
         let alloc = reading.alloc;
         let Some(registries) = load::<S, Registry>(alloc, conn, SELECT_REGISTRIES, &[])? else {
@@ -141,7 +142,12 @@ impl Part for Registries {
         let Some(rows) = load::<S, RegistryRange>(alloc, conn, SELECT_RANGES, &[])? else {
             return Ok(false);
         };
-        feed_partitions(alloc, audit, registries.as_slice(), rows.as_slice())
+        feed_partitions(
+            alloc,
+            &mut feeder.audit,
+            registries.as_slice(),
+            rows.as_slice(),
+        )
     }
 }
 

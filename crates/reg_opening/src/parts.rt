@@ -5,8 +5,8 @@ ghost use Rattle.reg_opening.specs.Feeding.{FeedsPart};
 ghost use Rattle.reg_opening.specs.Parts.{AreParts, IsBlankWorld, with_parts};
 
 use crate::feed::{Part, Reading};
+use crate::feeder::Feeder;
 use crate::partitions::Registries;
-use reg_audit::audit::Audit;
 use reg_core::entry::Entry;
 use reg_core::holding::Holding;
 use reg_core::request::Request;
@@ -31,12 +31,12 @@ impl<A: Part, B: Part> Part for (A, B) {
     fn feed<S: Alter>(
         reading: Reading,
         conn: &mut Connection<S>,
-        audit: &mut Audit,
+        feeder: &mut Feeder,
     ) -> Result<bool, Fault> {
-        if !A::feed(reading, conn, audit)? {
+        if !A::feed(reading, conn, feeder)? {
             return Ok(false);
         }
-        B::feed(reading, conn, audit)
+        B::feed(reading, conn, feeder)
     }
 }
 
@@ -53,11 +53,11 @@ type Reviewed = (Vec<Seat>, (Vec<ExpertAdvice>, Vec<Link>));
 pub fn feed_parts<S: Alter>(
     reading: Reading,
     conn: &mut Connection<S>,
-    audit: &mut Audit,
+    feeder: &mut Feeder,
 ) -> Result<bool, Fault>
     requires { IsIdle (state S.Store conn.old) }
     ensures { FeedsPart reading.version (λ t. IsBlankWorld) AreParts with_parts
-        (state S.Store conn.old) (state S.Store conn.new) audit.old audit.new result }
+        (state S.Store conn.old) (state S.Store conn.new) feeder.old.audit feeder.new.audit result }
 {
-    <(Assigned, (Given, Reviewed))>::feed(reading, conn, audit)
+    <(Assigned, (Given, Reviewed))>::feed(reading, conn, feeder)
 }

@@ -1,7 +1,10 @@
 -- Rows that are read one after the other.
-use Rattle.std.proofs.Common.{◌≡◌, List, [], ◌∷◌, ◌++◌, map, Option, Some, None, IsSome, refl, sym, ap, subst, ◌∙◌}
+use Rattle.std.proofs.Common.{◌≡◌, List, [], ◌∷◌, ◌++◌, map, Option, Some, None, IsSome, Vec, refl, sym, ap, subst, ◌∙◌}
 use Rattle.std.proofs.lemmas.List.{map-append}
 use Rattle.std.specs.List.{AllByRecursion}
+use Rattle.std.specs.declared.alloc.Global.{Global}
+use Rattle.std.proofs.lemmas.List.{append-nil, append_assoc}
+use Rattle.reg_statements.specs.Reading.{TakesAll}
 
 module _ {X Y : Type 0} (of : X → Option Y) where
   abbrev HaveForm : List X → Type 0
@@ -45,3 +48,21 @@ same_values (x ∷ xs) (y ∷ ys) same =
     let first : x ≡ y = cc in
     let rest : map Some xs ≡ map Some ys = cc in
     λ i. first i ∷ same_values xs ys rest i
+
+-- one value more is taken
+pub takes_one : {T K : Type 0} (Takes : K → T → K → Type 0) (start mid now : K) (values : List T)
+    (value : T) → TakesAll Takes start values mid → Takes mid value now
+    → TakesAll Takes start (values ++ value ∷ []) now
+takes_one Takes start mid now [] value same took =
+    (now, subst (λ from. Takes from value now) same took, refl)
+takes_one Takes start mid now (first ∷ more) value taken took =
+    (taken.0, taken.1, takes_one Takes taken.0 mid now more value taken.2 took)
+
+-- a list has the values that it took behind what it had
+pub list_takes : {T : Type 0} (start now : Vec T Global) (values : List T)
+    → TakesAll (λ (old : Vec T Global) value (new : Vec T Global). new.items ≡ old.items ++ value ∷ [])
+    start values now → now.items ≡ start.items ++ values
+list_takes start now [] same = ap (λ (all : Vec _ Global). all.items) same ∙ sym (append-nil start.items)
+list_takes start now (value ∷ more) taken =
+    list_takes taken.0 now more taken.2 ∙ ap (λ items. items ++ more) taken.1
+    ∙ append_assoc start.items (value ∷ []) more

@@ -1,5 +1,5 @@
 -- The rows of a query as values.
-use Rattle.std.specs.Prelude.{◌≡◌, ℕ, List, map, Some, Option, IsSome, MatchOption, Vec}
+use Rattle.std.specs.Prelude.{◌≡◌, ℕ, List, [], ◌∷◌, map, Bool, true, false, Some, Option, IsSome, MatchOption, Vec}
 use Rattle.std.specs.List.{AllByRecursion}
 use Rattle.std.specs.declared.alloc.Global.{Global}
 use Rattle.sqlite.specs.Order.{Row}
@@ -11,6 +11,7 @@ use Rattle.reg_keeper.specs.declared.keeper.Fault.{Fault}
 use Rattle.reg_keeper.specs.declared.keeper.Fault.TheVariants.{Memory, Store}
 use Rattle.reg_tables.specs.Connection.{Works}
 use Rattle.reg_tables.specs.Faulting.{IsExcused}
+use Rattle.reg_statements.specs.Loading.{ReadAs}
 
 -- what an error of the store is to an office
 abbrev pub fault_of : Error → Fault
@@ -34,3 +35,16 @@ abbrev pub AreRead : {T : Type 0} → (Row → Option T) → List Row → Option
 AreRead of rows values =
     MatchOption values (¬ AllByRecursion (λ row. IsSome (of row)) rows)
     (λ all. map of rows ≡ map Some all.items)
+
+-- the values were taken, one after the other
+abbrev pub TakesAll : {T K : Type 0} → (K → T → K → Type 0) → K → List T → K → Type 0
+TakesAll Takes start [] now = now ≡ start
+TakesAll {K = K} Takes start (value ∷ more) now =
+    (next : K) × Takes start value next × TakesAll Takes next more now
+
+-- whether each row has a value, and where each has, the values were taken
+abbrev pub AreTaken : {T K : Type 0} → (Row → Option T) → (K → T → K → Type 0) → K → List Row → K
+    → Bool → Type 0
+AreTaken {T} of Takes start rows now true =
+    (values : List T) × ReadAs of rows values × TakesAll Takes start values now
+AreTaken of Takes start rows now false = ¬ AllByRecursion (λ row. IsSome (of row)) rows

@@ -1,13 +1,14 @@
 //! The rows of a query as values.
-ghost use Rattle.std.specs.Prelude.{◌≡◌, ◌⊎◌, ◌++◌, false, [], ◌∷◌, IfErr, IfOk};
+ghost use Rattle.std.specs.Prelude.{◌≡◌, ◌⊎◌, ◌++◌, false, List, [], ◌∷◌, IfErr, IfOk};
 ghost use Rattle.sqlite.specs.Held.{state};
+ghost use Rattle.sqlite.specs.Order.{Row as SqlRow};
 ghost use Rattle.sqlite.specs.State.{HasCleanDisk, IsUnchanged, IsRolledBack, Shown};
 ghost use Rattle.sqlite.specs.Values.{bound};
 ghost use Rattle.reg_tables.specs.Connection.{Endures, IsIdle, Stays, Works};
 ghost use Rattle.reg_tables.specs.Faulting.{IsExcused};
 ghost use Rattle.reg_tables.specs.Kinds.{IsQuery};
 ghost use Rattle.reg_tables.specs.Lasting.{Lasts};
-ghost use Rattle.reg_statements.specs.Reading.{AreRead, IsFault};
+ghost use Rattle.reg_statements.specs.Reading.{AreRead, AreTaken, IsFault};
 
 use crate::write::fault;
 use reg_keeper::keeper::Fault;
@@ -16,34 +17,56 @@ use sqlite::types::ValueRef;
 use sqlite::{Alter, Connection, Error, ErrorCode, Row};
 use std::alloc::{AllocError, Global};
 
-/// One row more, where it has its form and all before it had theirs.
-fn with_row<T: Record>(
-    alloc: Global,
-    all: Option<Vec<T>>,
-    row: &Row,
-) -> Result<Option<Vec<T>>, AllocError>
-    ensures { IfOk result (λ more. (rows : _) → AreRead T.of rows all
-        → AreRead T.of (rows ++ row.now ∷ []) more) }
-{
-    let Some(mut all) = all else {
-        return Ok(None);
-    };
-    match T::read(alloc, row)? {
-        Some(value) => {
-            all.push(value)?;
-            Ok(Some(all))
-        }
-        None => Ok(None),
+/// What takes values, one after the other.
+pub trait Sink<T> {
+    /// What it is before it takes a value, the value, and what it is then.
+    ghost Takes: { Self → T → Self → Type 0 };
+
+    /// Takes a value.
+    fn take(&mut self, value: T) -> Result<(), AllocError>
+        ensures { IfOk result (λ _. Takes self.old value self.new) };
+}
+
+impl<T: Drop> Sink<T> for Vec<T> {
+    ghost Takes = { λ old value new. new.items ≡ old.items ++ value ∷ [] };
+
+    fn take(&mut self, value: T) -> Result<(), AllocError> {
+        self.push(value)?;
+        Ok(())
     }
 }
 
-/// The rows of a query, one at a time, where each has its form.
-fn read_rows<S: Alter, T: Record>(
+/// Hands on one row more, where it has its form and all before it had theirs.
+fn take_row<T: Record, K: Sink<T>>(
+    alloc: Global,
+    sink: &mut K,
+    read: bool,
+    row: &Row,
+) -> Result<bool, AllocError>
+    ensures { IfOk result (λ more. (start : K) (rows : List SqlRow)
+        → AreTaken T.of K.Takes start rows sink.old read
+        → AreTaken T.of K.Takes start (rows ++ row.now ∷ []) sink.new more) }
+{
+    if !read {
+        return Ok(false);
+    }
+    match T::read(alloc, row)? {
+        Some(value) => {
+            sink.take(value)?;
+            Ok(true)
+        }
+        None => Ok(false),
+    }
+}
+
+/// Hands on the rows of a query, one after the other, where each has its form.
+fn take_rows<S: Alter, T: Record, K: Sink<T>>(
     alloc: Global,
     conn: &mut Connection<S>,
     sql: &str,
     params: &[ValueRef<'_>],
-) -> Result<Option<Vec<T>>, Error>
+    sink: &mut K,
+) -> Result<bool, Error>
     requires idle { IsIdle (state S.Store conn.old) }
     requires plain { IsQuery sql.now }
     ensures mode { (state S.Store conn.new).in_transaction ≡ false }
@@ -51,21 +74,47 @@ fn read_rows<S: Alter, T: Record>(
     ensures rests { HasCleanDisk (state S.Store conn.new)
         → IsUnchanged (state S.Store conn.old) (state S.Store conn.new)
         ⊎ IsRolledBack (state S.Store conn.old) (state S.Store conn.new) }
-    ensures rows { HasCleanDisk (state S.Store conn.new) → IfOk result (λ o.
+    ensures rows { HasCleanDisk (state S.Store conn.new) → IfOk result (λ read.
         IsUnchanged (state S.Store conn.old) (state S.Store conn.new) × (rows : _)
         × Shown sql.now (bound params.now) (state S.Store conn.old) (state S.Store conn.new) rows
-        × AreRead T.of rows o) }
+        × AreTaken T.of K.Takes sink.old rows sink.new read) }
     ensures cause { IfErr result (IsExcused (state S.Store conn.old) (state S.Store conn.new)) }
 {
-    let mut all = Some(Vec::new(alloc));
+    let mut read = true;
     let mut rows = conn.query(sql, params)?;
     'rows: for _ in 0..u64::MAX {
         let Some(row) = rows.next()? else {
-            return Ok(all);
+            return Ok(read);
         };
-        all = with_row(alloc, all, row)?;
+        read = take_row::<T, K>(alloc, sink, read, row)?;
     }
     Err(Error::SqliteFailure(ErrorCode::OperationInterrupted))
+}
+
+/// Hands on the rows of a query, one after the other, where each has its form, and tells whether
+/// each has. Rows that come before one that has not are handed on too. A fault is what the library's
+/// error is: want of memory is `Memory`, and any other `Store`.
+pub fn each<S: Alter, T: Record, K: Sink<T>>(
+    alloc: Global,
+    conn: &mut Connection<S>,
+    sql: &str,
+    params: &[ValueRef<'_>],
+    sink: &mut K,
+) -> Result<bool, Fault>
+    requires idle { IsIdle (state S.Store conn.old) }
+    requires plain { IsQuery sql.now }
+    ensures idle { IsIdle (state S.Store conn.new) }
+    ensures stays { Stays (state S.Store conn.old) (state S.Store conn.new) }
+    ensures endures { Endures (state S.Store conn.old) (state S.Store conn.new) }
+    ensures rows { Works (state S.Store conn.new) → IfOk result (λ read. (rows : _)
+        × Shown sql.now (bound params.now) (state S.Store conn.old) (state S.Store conn.new) rows
+        × AreTaken T.of K.Takes sink.old rows sink.new read) }
+    ensures fault { IfErr result (IsFault (state S.Store conn.old) (state S.Store conn.new)) }
+{
+    match take_rows::<S, T, K>(alloc, conn, sql, params, sink) {
+        Ok(read) => Ok(read),
+        Err(error) => Err(fault(&error)),
+    }
 }
 
 /// The rows of a query, one at a time, where each has its form. A fault is what the library's error
@@ -86,8 +135,10 @@ pub fn load<S: Alter, T: Record>(
         × AreRead T.of rows o) }
     ensures fault { IfErr result (IsFault (state S.Store conn.old) (state S.Store conn.new)) }
 {
-    match read_rows(alloc, conn, sql, params) {
-        Ok(rows) => Ok(rows),
-        Err(error) => Err(fault(&error)),
+    let mut all = Vec::new(alloc);
+    if each::<S, T, Vec<T>>(alloc, conn, sql, params, &mut all)? {
+        Ok(Some(all))
+    } else {
+        Ok(None)
     }
 }

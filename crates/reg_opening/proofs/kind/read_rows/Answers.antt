@@ -38,5 +38,5 @@ returns-clause-rows g c works schema =
     IfOk-weaker c.free_of.result _ _ (λ free are.
     rows_told v old.now free keyed
     (subst (λ (db : Database). LeaveFree (tables_at v db) free) same
-    (rows_leave (tables_at v mid.now) c.new-audit.result c.feed_parts.new.audit free
-    c.new-audit.ensures fed are))) c.free_of.ensures
+    (rows_leave (tables_at v mid.now) c.new-feeder.result.audit c.feed_parts.new.feeder.audit free
+    (rw (sym c.new-feeder.ensures) at c.new.ensures) fed are))) c.free_of.ensures

@@ -16,7 +16,7 @@ returns-then-tables-slot g c =
     feeds_nothing g.T.FedRow.table g.met.T.FedRow.defined g.T.Record.of g.met.T.FedRow.reads
     g.met.T.FedRow.behind g.met.T.FedRow.placed g.T.Fed.row_of g.T.FedRow.put g.T.FedRow.Before
     g.T.FedRow.IsTied g.met.T.FedRow.fed c.args.reading.version (state g.S.Store c.args.conn.now)
-    c.args.audit.now lacks c.requires
+    c.args.feeder.now.audit lacks c.requires
 
 pub returns : goal.returns
 returns g c =
@@ -27,6 +27,6 @@ returns g c =
     grind (arith, nat_tests) in
     feeds_part g.T.FedRow.table g.met.T.FedRow.defined g.T.Record.of g.met.T.FedRow.reads
     g.met.T.FedRow.behind g.met.T.FedRow.placed g.T.Fed.row_of g.T.FedRow.put g.T.FedRow.Before
-    g.T.FedRow.IsTied g.met.T.FedRow.fed c.args.reading.version old new c.args.audit.now
-    c.feed_table.new.audit _ c.all.ensures has c.feed_table.result fed.idle fed.endures fed.stays
+    g.T.FedRow.IsTied g.met.T.FedRow.fed c.args.reading.version old new c.args.feeder.now.audit
+    c.feed_table.new.feeder.audit _ c.all.ensures has c.feed_table.result fed.idle fed.endures fed.stays
     fed.rows

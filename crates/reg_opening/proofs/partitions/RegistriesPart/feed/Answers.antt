@@ -85,6 +85,6 @@ returns g c =
     (first.stays.unchanged before) schema places.1 in
     let fed = rw (c.as_slice.ensures.value, c.as_slice-2.ensures.value) at c.feed_partitions.ensures in
     IfOk-weaker c.feed_partitions.result _ _ (λ k is.
-    registries_told (tables_at v old.now) c.args.audit.now c.feed_partitions.new.audit
+    registries_told (tables_at v old.now) c.args.feeder.now.audit c.feed_partitions.new.audit
     c.in-Some.registries.items c.in-Some-2.rows.items found.0 places.0 k moved found.2 along places.2
     is) fed)

@@ -5,8 +5,8 @@ use Rattle.sqlite.specs.Order.{Row}
 use Rattle.sqlite.specs.State.{HasCleanDisk, IsUnchanged}
 use Rattle.sqlite.specs.Values.{bound}
 use Rattle.reg_tables.specs.Lasting.{Lasts}
-use Rattle.reg_statements.specs.Reading.{AreRead}
-use Rattle.reg_statements.proofs.read.read_rows.Given as goal
+use Rattle.reg_statements.specs.Reading.{AreTaken}
+use Rattle.reg_statements.proofs.read.take_rows.Given as goal
 
 abbrev pub invariant-rows : goal.invariant-rows
 invariant-rows g l =
@@ -19,5 +19,5 @@ invariant-rows g l =
       same : HasCleanDisk now → IsUnchanged old now;
       given : HasCleanDisk now → (given : List Row)
           × HasGiven g.S.Store l.sql (bound l.params) l.rows.conn.now given
-          × AreRead g.T.Record.of given l.all;
+          × AreTaken g.T.Record.of g.K.Sink.Takes l.fn.sink given l.sink l.read;
     }

@@ -8,8 +8,8 @@ use Rattle.sqlite.specs.Values.{bound}
 use Rattle.reg_tables.proofs.Faults.{failed_later, has_failed, is_same, not_queried}
 use Rattle.reg_tables.proofs.RestLemmas.{refused_rests, begun_idle, whole_answer, survives_lasts, lasts_then}
 use Rattle.sqlite.proofs.Callers.{unchanged_then}
-use Rattle.reg_statements.specs.Reading.{AreRead}
-use Rattle.reg_statements.proofs.read.read_rows.Goals as goal
+use Rattle.reg_statements.specs.Reading.{AreTaken}
+use Rattle.reg_statements.proofs.read.take_rows.Goals as goal
 
 failed_or_not : (old new : State) (e : Error) → Fails old new ⊥ e ⊎ IsUnchanged old new
     → HasFailed old new e ⊎ IsSame old new
@@ -61,7 +61,7 @@ rows-init g c =
       mode = made.mode c.requires.idle.autocommit;
       lasts = survives_lasts _ _ _ made.survives;
       same = λ clean. (begun clean).1;
-      given = λ clean. ([], (begun clean).0, rw c.new.ensures.items refl);
+      given = λ clean. ([], (begun clean).0, ([], refl, refl));
     }
 
 pub rows-preserved : goal.rows-preserved
@@ -82,7 +82,7 @@ rows-preserved g c =
           let had = was.given (early clean) in
           let on = (rw (c.in_ok-row.was, c.in-Some.is) at (moved.ok clean)) c.args.sql.now
           (bound c.args.params.now) had.0 had.1 in
-          (had.0 ++ c.in-Some.row.now ∷ [], on, c.in_ok-all.ensures had.0 had.2);
+          (had.0 ++ c.in-Some.row.now ∷ [], on, c.in_ok-read.ensures c.args.sink.now had.0 had.2);
     }
 
 pub returns-in_default-clause-rows : goal.returns-in_default-clause-rows
@@ -98,7 +98,7 @@ returns-in_default-clause-rows g c clean =
     let shown = (rw (c.in_ok-row.was, c.in_default.is) at (moved.ok late)) c.args.sql.now
     (bound c.args.params.now) was.0 was.1 in
     let done = whole_answer g.S.Store c.args.sql.now (bound c.args.params.now)
-    (λ rows. AreRead g.T.Record.of rows c.rows.all) old now later later was.0
+    (λ rows. AreTaken g.T.Record.of g.K.Sink.Takes c.args.sink.now rows c.rows.sink c.rows.read) old now later later was.0
     c.requires.plain refl (c.rows.invariant.same early)
     (rw c.in_ok-row.was at (moved.same late)) shown was.2 in
     search rules
