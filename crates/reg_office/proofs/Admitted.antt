@@ -19,8 +19,7 @@ use Rattle.reg_core.specs.declared.capability.Kind.TheVariants as kind
 use Rattle.reg_core.specs.declared.command.ApplicantCommand.{ApplicantCommand}
 use Rattle.reg_core.specs.declared.command.ApplicantCommand.TheVariants.{Own, OwnOne, Submit, Withdraw, Holdings, SetListing, SetAgent, Agents, Principals, PrincipalRows}
 use Rattle.reg_core.specs.declared.command.ClerkCommand.{ClerkCommand}
-use Rattle.reg_core.specs.declared.command.Command.{Command}
-use Rattle.reg_core.specs.declared.command.Command.TheVariants.{Public, Applicant, Expert, Clerk}
+use Rattle.reg_core.specs.declared.command.Command.TheVariants.{Applicant, Expert, Clerk}
 use Rattle.reg_core.specs.declared.command.ExpertCommand.{ExpertCommand}
 use Rattle.reg_core.specs.declared.told.Told.TheVariants as tells
 use Rattle.reg_core.specs.declared.refusal.Refusal.{Refusal}
@@ -51,16 +50,6 @@ is_closed moment h = by (is_in_clock moment) refl h
         → (if b then Some (utc_day moment) else None) ≡ None → is_in_clock moment ≡ false
     by true t e = absurd (cc)
     by false t e = t
-
--- where it is closed, all are told so
-pub closed_answer : (w : World) (caller : Option (List ℕ)) (moment : ℕ) (command : Command)
-    → is_in_clock moment ≡ false
-    → answer_to token_digest w caller moment command ≡ Err no.Clock
-closed_answer w caller moment (Public command) closed = rw closed refl
-closed_answer w caller moment (Applicant command) closed = rw closed refl
-closed_answer w caller moment (Expert command) closed = rw closed refl
-closed_answer w None moment (Clerk command) closed = rw closed refl
-closed_answer w (Some digest) moment (Clerk command) closed = rw closed refl
 
 -- ---- A kind
 
