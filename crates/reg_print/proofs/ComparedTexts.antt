@@ -1,0 +1,1 @@
+-- Texts that are compared piece by piece.
