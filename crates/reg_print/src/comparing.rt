@@ -2,7 +2,7 @@
 ghost use Rattle.std.specs.Prelude.{◌≡◌, ◌++◌, ◌↔◌, false, map, IfOk, IsTrue};
 ghost use Rattle.serde_json.specs.Written.{comma_if, compact_text};
 ghost use Rattle.reg_core.specs.declared.reply.Reply.TheVariants.{Accepted};
-ghost use Rattle.reg_core.specs.declared.told.Told.TheVariants.{Page};
+ghost use Rattle.reg_core.specs.declared.told.Told.TheVariants as tells;
 ghost use Rattle.reg_print.specs.Answer.{body_text};
 ghost use Rattle.reg_print.specs.Comparing.{Leaves, end_text, listed_text};
 ghost use Rattle.reg_print.specs.Trees.Page.{entry_tree};
@@ -17,7 +17,7 @@ use std::alloc::{AllocError, Global};
 /// Whether these bytes are the JSON of this registry. No more than one entry is printed at a time.
 pub fn is_page(alloc: Global, page: &Page, text: &[u8]) -> Result<bool, AllocError>
     ensures { IfOk result (λ same. IsTrue same
-        ↔ (text.now ≡ body_text (Reply (Accepted (Page page.now))))) }
+        ↔ (text.now ≡ body_text (Reply (Accepted (tells.Page page.now))))) }
 {
     let Some(text) = behind(b"{\"entries\":[", text) else {
         return Ok(false);
