@@ -73,6 +73,7 @@ frame_members page =
 abbrev pub frame_tree : Page → Data
 frame_tree page = object_with (frame_members page)
 
+-- the members of a page
 abbrev pub page_members : Page → Listed
 page_members page =
     (codes "entries", Some (entries_tree page.entries)) ∷ frame_members page
