@@ -1,3 +1,4 @@
+pub mod ComparedTexts
 pub mod Covered
 pub mod ListedMembers
 pub mod ListingText

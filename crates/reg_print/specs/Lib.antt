@@ -7,4 +7,5 @@ pub mod BlockListing
 pub mod Records
 pub mod Body
 pub mod Answer
+pub mod Comparing
 pub mod Laws

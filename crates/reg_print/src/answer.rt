@@ -145,7 +145,7 @@ fn told_bytes(alloc: Global, told: &Told) -> Result<Vec<u8>, AllocError>
 {
     match told {
         Told::Names(names) => printed::<Itself, _>(alloc, names),
-        Told::Page(page) => printed(alloc, page),
+        Told::Page(page) => printed::<Itself, _>(alloc, page),
         Told::Listing(page) => listing(alloc, page),
         Told::Pool(pool) => printed(alloc, pool),
         Told::Blocks(rows) => block_listing(alloc, rows.as_slice()),

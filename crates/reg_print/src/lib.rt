@@ -3,6 +3,7 @@
 
 pub mod answer;
 mod bodies;
+pub mod comparing;
 pub mod detail;
 pub mod laws;
 pub mod listing;

@@ -1,9 +1,15 @@
 //! Reads what anybody is told back from the bytes of answers.
+ghost use Rattle.std.specs.Prelude.{◌≡◌, ◌↔◌, IfOk, IsTrue};
+ghost use Rattle.reg_print.specs.Answer.{body_text};
+ghost use Rattle.reg_publish.specs.Publishing.{told_text};
+
 use crate::unpublished::Unpublished;
 use reg_core::command::PublicCommand;
+use reg_core::page::Page;
 use reg_core::reply::Reply;
 use reg_core::told::Told;
 use reg_print::answer::{Answer, body_of};
+use reg_print::comparing::is_page;
 use std::alloc::{AllocError, Global};
 
 mod blocks;
@@ -13,10 +19,32 @@ mod page;
 mod pool;
 
 /// What anybody is told by a command, where these bytes are the body of its answer: what is read is
-/// printed again, and has to be these bytes. `Read` where they are no such body. A listing of a
-/// registry is not read, since its page says more.
-pub fn told_of(alloc: Global, command: &PublicCommand, body: &[u8]) -> Result<Told, Unpublished> {
-    let answer = Answer::Reply(Reply::Accepted(read_told(alloc, command, body)?));
+/// printed again and compared, a registry an entry at a time, and has to be these bytes. `Read`
+/// where they are no such body. A listing of a registry is not read, since its page says more.
+pub fn told_of(alloc: Global, command: &PublicCommand, body: &[u8]) -> Result<Told, Unpublished>
+    ensures { IfOk result (λ told. body.now ≡ told_text told) }
+{
+    match read_told(alloc, command, body)? {
+        Told::Page(page) => compared_page(alloc, page, body),
+        told => compared(alloc, told, body),
+    }
+}
+
+// A registry, where these bytes are its text.
+fn compared_page(alloc: Global, page: Page, body: &[u8]) -> Result<Told, Unpublished>
+    ensures { IfOk result (λ told. body.now ≡ told_text told) }
+{
+    if !is_page(alloc, &page, body)? {
+        return Err(Unpublished::Read);
+    }
+    Ok(Told::Page(page))
+}
+
+// What is told, where these bytes are its text.
+fn compared(alloc: Global, told: Told, body: &[u8]) -> Result<Told, Unpublished>
+    ensures { IfOk result (λ told. body.now ≡ told_text told) }
+{
+    let answer = Answer::Reply(Reply::Accepted(told));
     if !is_printed(alloc, &answer, body)? {
         return Err(Unpublished::Read);
     }
@@ -26,7 +54,9 @@ pub fn told_of(alloc: Global, command: &PublicCommand, body: &[u8]) -> Result<To
     }
 }
 
-fn is_printed(alloc: Global, answer: &Answer, body: &[u8]) -> Result<bool, AllocError> {
+fn is_printed(alloc: Global, answer: &Answer, body: &[u8]) -> Result<bool, AllocError>
+    ensures { IfOk result (λ same. IsTrue same ↔ (body.now ≡ body_text answer.now)) }
+{
     let (_, printed) = body_of(alloc, answer)?;
     Ok(printed.as_slice() == body)
 }

@@ -62,13 +62,21 @@ entries_tree entries = array (items_of (map entry_tree entries))
 
 -- ---- pages
 
-abbrev pub page_members : Page → Listed
-page_members page =
-    (codes "entries", Some (entries_tree page.entries))
-    ∷ (codes "max", whole_number page.table.max)
+-- what stands behind the entries
+abbrev pub frame_members : Page → Listed
+frame_members page =
+    (codes "max", whole_number page.table.max)
     ∷ (codes "name", text page.name)
     ∷ (codes "ranges", Some (ranges_tree page.table.ranges))
     ∷ []
+
+abbrev pub frame_tree : Page → Data
+frame_tree page = object_with (frame_members page)
+
+-- the members of a page
+abbrev pub page_members : Page → Listed
+page_members page =
+    (codes "entries", Some (entries_tree page.entries)) ∷ frame_members page
 
 -- the JSON of registries
 abbrev pub page_tree : Page → Data

@@ -1,7 +1,7 @@
 //! Prints registries.
 ghost use Rattle.std.specs.Prelude.{[], ◌∷◌, codes, Some, OnOk};
 ghost use Rattle.reg_print.specs.Printed.{PrintedMembers};
-ghost use Rattle.reg_print.specs.Trees.Page.{day_data, defined_tree, entries_tree, entry_tree, expires_if, page_tree, range_tree, ranges_tree, renewed_if};
+ghost use Rattle.reg_print.specs.Trees.Page.{day_data, defined_tree, entries_tree, entry_tree, expires_if, frame_members, frame_tree, page_tree, range_tree, ranges_tree, renewed_if};
 
 use crate::note::note_text;
 use crate::printing::{Itself, Print, Printer};
@@ -17,6 +17,9 @@ use std::alloc::AllocError;
 /// That the registry of a name is there.
 pub(crate) struct Defined;
 
+/// What a registry has besides its entries.
+pub(crate) struct Frame;
+
 /// A registry: its name, its largest value, its ranges in order, and its entries by value.
 impl Print<Itself> for Page {
     ghost tree = { page_tree };
@@ -26,12 +29,32 @@ impl Print<Itself> for Page {
     fn print(&self, out: &mut Printer) -> Result<(), AllocError> {
         out.open_object()?;
         out.put("entries", &self.entries)?;
-        out.put_number("max", u64::from(self.table.max()))?;
-        out.put("name", &self.name)?;
-        out.put("ranges", &self.table)?;
+        put_frame(out, self)?;
         out.close_object()?;
         Ok(())
     }
+}
+
+impl Print<Frame> for Page {
+    ghost tree = { frame_tree };
+
+    ghost levels = { 3 };
+
+    fn print(&self, out: &mut Printer) -> Result<(), AllocError> {
+        out.open_object()?;
+        put_frame(out, self)?;
+        out.close_object()?;
+        Ok(())
+    }
+}
+
+fn put_frame(out: &mut Printer, page: &Page) -> Result<(), AllocError>
+    ensures { OnOk result (PrintedMembers out.old.json out.new.json 2 (frame_members page.now)) }
+{
+    out.put_number("max", u64::from(page.table.max()))?;
+    out.put("name", &page.name)?;
+    out.put("ranges", &page.table)?;
+    Ok(())
 }
 
 impl Print<Defined> for Name {

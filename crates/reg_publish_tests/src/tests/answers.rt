@@ -3,10 +3,13 @@ use crate::tests::office::opened;
 use crate::tests::sites::answer;
 use reg_carriers::exercise::{Exercise, over_lists};
 use reg_core::command::PublicCommand;
+use reg_core::page::Page;
 use reg_core::text::Name;
+use reg_core::told::Told;
 use reg_keeper::keeper::Keeper;
 use reg_office::Office;
 use reg_print::answer::Format;
+use reg_print::comparing::is_page;
 use reg_publish::answers::{body_of, read_answer};
 use reg_publish::reading::told_of;
 use reg_publish::unpublished::Unpublished;
@@ -152,7 +155,7 @@ const TAIL: &str =
     r#"],"max":9,"name":"bits","ranges":[{"hi":9,"lo":0,"note":"","treatment":"standards-action"}]}"#;
 
 // Entries of that registry that an office prints, and others that it does not.
-const ENTRIES: [(&str, bool); 9] = [
+const ENTRIES: [(&str, bool); 14] = [
     ("", true),
     (
         r#"{"assignee":"a","first":"2024-02-29","label":"x","status":"Assigned","value":7}"#,
@@ -186,6 +189,26 @@ const ENTRIES: [(&str, bool); 9] = [
         r#"{"assignee":"a","first":"2024-02-29","label":"x","status":"Assigned","value":7},{"assignee":"a","first":"2024-02-29","label":"x","status":"Assigned","value":7}"#,
         false,
     ),
+    (
+        r#"{"assignee":"a","first":"2024-02-29","label":"x","status":"Assigned","value":7},{"assignee":"b","first":"2024-02-29","label":"y","status":"Assigned","value":8}"#,
+        true,
+    ),
+    (
+        r#"{"assignee":"a","first":"2024-02-29","label":"x","status":"Assigned","value":7}, {"assignee":"b","first":"2024-02-29","label":"y","status":"Assigned","value":8}"#,
+        false,
+    ),
+    (
+        r#"{"assignee":"a","first":"2024-02-29","label":"x","status":"Assigned","value":7}{"assignee":"b","first":"2024-02-29","label":"y","status":"Assigned","value":8}"#,
+        false,
+    ),
+    (
+        r#"{"assignee":"a","first":"2024-02-29","label":"x","status":"Assigned","value":7},{"assignee":"b","first":"2024-02-29","label":"y","status":"Assigned","value":8},"#,
+        false,
+    ),
+    (
+        r#"{"assignee":"a","first":"2024\u002d02-29","label":"x","status":"Assigned","value":7},{"assignee":"b","first":"2024-02-29","label":"y","status":"Assigned","value":8}"#,
+        false,
+    ),
 ];
 
 #[test]
@@ -196,6 +219,53 @@ fn bodies_that_are_none(rt: HostRuntime) -> Result<(), Fail> {
         let command = PublicCommand::Registry(bits);
         let is_read = is_read(rt.alloc(), &command, body.as_bytes())?;
         ensure(is_read == wanted, entries)?;
+    }
+    Ok(())
+}
+
+// The registry that a body spells.
+fn page_of(alloc: Global, body: &[u8]) -> Result<Page, Fail> {
+    let bits = Name::read(b"bits").ok_or("no name")?;
+    match told_of(alloc, &PublicCommand::Registry(bits), body) {
+        Ok(Told::Page(page)) => Ok(page),
+        _ => Err("no page".into()),
+    }
+}
+
+// A body with these bytes in the place of the one at `i`.
+fn with(alloc: Global, body: &[u8], i: usize, bytes: &[u8]) -> Result<Vec<u8>, Fail> {
+    let (front, rest) = body.split_at(i);
+    let mut other = Vec::new(alloc);
+    other.extend_from_slice(front)?;
+    other.extend_from_slice(bytes)?;
+    other.extend_from_slice(rest.get(1..).unwrap_or(b""))?;
+    Ok(other)
+}
+
+// These bytes are the text of their registry, and none with a byte changed, left out or put in.
+fn assert_compared(alloc: Global, body: &[u8]) -> Result<(), Fail> {
+    let page = page_of(alloc, body)?;
+    ensure(is_page(alloc, &page, body)?, "a body")?;
+    for (i, byte) in body.iter().enumerate() {
+        for bytes in [
+            [*byte ^ 1].as_slice(),
+            b"".as_slice(),
+            [*byte, b' '].as_slice(),
+        ] {
+            let other = with(alloc, body, i, bytes)?;
+            ensure(!is_page(alloc, &page, other.as_slice())?, "another body")?;
+        }
+    }
+    Ok(())
+}
+
+#[test]
+fn registries_are_compared(rt: HostRuntime) -> Result<(), Fail> {
+    for (entries, wanted) in ENTRIES {
+        if wanted {
+            let body = format!(in rt.alloc(); "{HEAD}{entries}{TAIL}")?;
+            assert_compared(rt.alloc(), body.as_bytes())?;
+        }
     }
     Ok(())
 }
