@@ -5,13 +5,13 @@ use Rattle.reg_ranges.specs.declared.range.Range.{Range}
 use Rattle.reg_core.specs.declared.page.Page.{Page}
 use Rattle.reg_print.specs.Listing.{ListedRow, assignee_text, expiry_text, first_text, page_rows, policy_text, row_view, run_text, status_word, whole}
 use Rattle.reg_site.specs.Bar.{bar}
-use Rattle.reg_site.specs.Document.{document, link, page, page_end, page_start, plain}
+use Rattle.reg_site.specs.Document.{document, link, page, page_start, plain}
 use Rattle.reg_site.specs.Markup.{Markup, text, all_of, markup_then}
 use Rattle.reg_site.specs.Summary.{summary}
 use Rattle.reg_site.specs.declared.summary.Summary.{Summary}
-use Rattle.reg_site.specs.Table.{row, table, table_end, table_start}
-use Rattle.reg_site.specs.declared.registry.Next.{Next}
-use Rattle.reg_site.specs.declared.registry.Next.TheVariants as next
+use Rattle.reg_site.specs.Table.{below_rows, row, table, table_start}
+use Rattle.reg_site.specs.declared.document.Next.{Next}
+use Rattle.reg_site.specs.declared.document.Next.TheVariants as next
 use Rattle.reg_site.specs.declared.registry.RegistryPage.{RegistryPage}
 
 -- ---- The ranges
@@ -85,11 +85,7 @@ above_rows name counts ranges rest =
     (markup_then (bar counts)
     (markup_then (ranges_table ranges) (table_start (codes "Values") entry_columns rest))))
 
--- what stands below them
-abbrev pub below_rows : List ℕ
-below_rows = table_end ++ page_end
-
--- these rows, and what stands below
+-- these rows, and what stands below them
 abbrev pub rows_left : List ListedRow → List ℕ
 rows_left rows = markup_then (all_of (map entry_row rows)) below_rows
 

@@ -1,14 +1,14 @@
 //! The page of a registry.
-ghost use Rattle.std.specs.Prelude.{◌≡◌, ◌∷◌, ◌++◌, [], codes, map, option_map, string_bytes, None, IfOk, OnOk};
+ghost use Rattle.std.specs.Prelude.{◌≡◌, ◌∷◌, [], codes, map, option_map, string_bytes, None, IfOk, OnOk};
 ghost use Rattle.reg_print.specs.Listing.{row_view};
 ghost use Rattle.reg_site.specs.Appended.{Appended, Shown};
 ghost use Rattle.reg_site.specs.Markup.{all_of};
-ghost use Rattle.reg_site.specs.Registry.{above_rows, below_rows, entry_columns, entry_row, forms, links, name_of, page_left, range_row, ranges_table, registry_page};
+ghost use Rattle.reg_site.specs.Registry.{above_rows, entry_columns, entry_row, forms, links, name_of, page_left, range_row, ranges_table, registry_page};
 ghost use Rattle.reg_site.specs.Summary.{summary};
 ghost use Rattle.reg_site.specs.Table.{row, table_start};
 
 use crate::bar::push_bar;
-use crate::document::{push_end, push_start};
+use crate::document::{Next, push_start};
 use crate::markup::Piece::{Link, Markup};
 use crate::markup::push_all;
 use crate::portions::Portions;
@@ -30,17 +30,6 @@ pub struct RegistryPage<'a> {
     page: &'a Page,
     rows: Vec<ListingRow<'a>>,
     next: Next,
-}
-
-/// What is given next of a page.
-#[derive(Clone, Copy)]
-enum Next {
-    /// What stands above the rows.
-    Above,
-    /// The row at this place, or, where there is none, what stands below the rows.
-    Row(usize),
-    /// Nothing: all was given.
-    Nothing,
 }
 
 impl<'a> RegistryPage<'a> {
@@ -72,7 +61,7 @@ impl Portions for RegistryPage<'_> {
                     self.next = Next::Row(place + 1);
                 }
                 None => {
-                    push_below(out)?;
+                    table::push_below(out)?;
                     self.next = Next::Nothing;
                 }
             },
@@ -112,14 +101,6 @@ fn push_parts(
     push_bar(out, summary)?;
     push_ranges(out, alloc, ranges)?;
     push_columns(out)
-}
-
-// What stands below the rows of the listing.
-fn push_below(out: &mut Vec<u8>) -> Result<(), AllocError>
-    ensures { OnOk result (Appended out.old.items out.new.items (λ rest. below_rows ++ rest)) }
-{
-    table::push_end(out)?;
-    push_end(out)
 }
 
 // Links to the first page, and to the same registry in other forms.
