@@ -2,17 +2,19 @@
 ghost use Rattle.std.specs.Prelude.{None};
 
 use crate::folder::Folder;
+use crate::replacement::Replacement;
 use crate::unpublished::{Unpublished, unwritten};
+use reg_site::portions::Portions;
 use std::alloc::{AllocError, Global};
-use std::fs::{File, Files, OpenFile, create_dir_all};
-use std::io::{Read, Write};
+use std::fs::{Files, OpenFile, create_dir_all};
 use std::{fs, io};
 
-/// How many bytes are compared at once.
-const PIECE_BYTES: usize = 16_384;
+/// How many bytes are gathered before they are compared or written.
+const GATHERED_BYTES: usize = 16_384;
 
-/// A folder of a file system. Each file is written beside its place, under the name `.new`, and
-/// synchronised, takes its place by a renaming, and then the folder is synchronised.
+/// A folder of a file system. The bytes of a file are compared with those of the file that is there.
+/// From the first other byte on it is written beside its place, under the name `.new`, with all bytes
+/// before; then it is synchronised, takes its place by a renaming, and the folder is synchronised.
 #[derive(Drop)]
 pub struct Directory<'a, H> {
     rt: &'a H,
@@ -36,15 +38,18 @@ impl<'a, H: Files> Directory<'a, H> {
 impl<H: Files> Folder for Directory<'_, H> {
     ghost files = { λ _. None };
 
-    fn publish(&mut self, path: &str, bytes: &[u8]) -> Result<(), Unpublished> {
+    fn publish<P: Portions>(&mut self, path: &str, bytes: &mut P) -> Result<(), Unpublished> {
         let place = format!(in self.alloc; "{}/{path}", self.path)?;
-        if has(self.rt, place.as_str(), bytes) {
-            return Ok(());
-        }
         let folder = folder_of(place.as_str());
         let beside = beside(self.alloc, folder)?;
-        let done = put(self.rt, folder, beside.as_str(), place.as_str(), bytes);
-        done.map_err(unwritten)
+        match put(self.rt, self.alloc, place.as_str(), beside.as_str(), bytes) {
+            Ok(true) => synchronise(self.rt, folder).map_err(unwritten),
+            Ok(false) => Ok(()),
+            Err(why) => {
+                let _ = self.rt.remove_file(beside.as_str());
+                Err(why)
+            }
+        }
     }
 }
 
@@ -60,58 +65,27 @@ fn beside(alloc: Global, folder: &str) -> Result<String, AllocError> {
     format!(in alloc; "{folder}/.new")
 }
 
-// Writes a file beside its place, and lets it take that.
-fn put<H: Files>(rt: &H, folder: &str, beside: &str, place: &str, bytes: &[u8]) -> io::Result<()> {
-    let moved = match write_whole(rt, beside, bytes) {
-        Ok(()) => rt.rename(beside, place),
-        Err(error) => Err(error),
-    };
-    match moved {
-        Ok(()) => synchronise(rt, folder),
-        Err(error) => {
-            let _ = rt.remove_file(beside);
-            Err(error)
+// Lets these bytes take a place, and tells whether they had to be written, beside it.
+fn put<H: Files, P: Portions>(
+    rt: &H,
+    alloc: Global,
+    place: &str,
+    beside: &str,
+    bytes: &mut P,
+) -> Result<bool, Unpublished> {
+    let mut replacement = Replacement::begin(rt, place, beside).map_err(unwritten)?;
+    let mut gathered = Vec::with_capacity(alloc, GATHERED_BYTES)?;
+    while bytes.push_next(&mut gathered)? {
+        if gathered.len() >= GATHERED_BYTES {
+            replacement.add(&gathered).map_err(unwritten)?;
+            gathered.clear();
         }
     }
-}
-
-fn write_whole<H: Files>(rt: &H, path: &str, bytes: &[u8]) -> io::Result<()> {
-    // What a job that was ended left there.
-    let _ = rt.remove_file(path);
-    let mut file = File::create_new(rt, path)?;
-    file.write_all(bytes)?;
-    file.flush()?;
-    file.sync_all()
+    replacement.add(&gathered).map_err(unwritten)?;
+    replacement.end().map_err(unwritten)
 }
 
 // Has the names in a folder kept.
 fn synchronise<H: Files>(rt: &H, folder: &str) -> io::Result<()> {
     fs::open(rt, folder)?.sync_all()
-}
-
-// Whether a file is there, can be read, and has just these bytes.
-fn has<H: Files>(rt: &H, path: &str, bytes: &[u8]) -> bool {
-    match fs::open(rt, path) {
-        Ok(mut file) => reads_as(&mut file, bytes),
-        Err(_) => false,
-    }
-}
-
-/// Whether a reader gives just these bytes, and then ends.
-pub fn reads_as<R: Read>(reader: &mut R, bytes: &[u8]) -> bool {
-    let mut rest = bytes;
-    let mut piece = [0; PIECE_BYTES];
-    for _ in 0..u64::MAX {
-        let Ok(count) = reader.read(&mut piece) else {
-            return false;
-        };
-        if count == 0 {
-            return rest.is_empty();
-        }
-        match rest.strip_prefix(&piece[..count]) {
-            Some(after) => rest = after,
-            None => return false,
-        }
-    }
-    false
 }

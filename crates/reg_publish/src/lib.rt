@@ -8,6 +8,7 @@ pub mod offices;
 pub mod peer;
 pub mod publishing;
 pub mod reading;
+mod replacement;
 pub mod source;
 mod timed;
 pub mod unpublished;

@@ -22,10 +22,11 @@ use reg_core::told::Told;
 use reg_print::answer::{Answer, body_of};
 use reg_print::listing::blocks::block_listing;
 use reg_print::listing::registry::listing;
-use reg_site::blocks::{assignments, blocks_page};
+use reg_site::blocks::{BlocksPage, assignments};
 use reg_site::files::File;
 use reg_site::index::index_page;
-use reg_site::registry::registry_page;
+use reg_site::portions::{Portions, Whole};
+use reg_site::registry::RegistryPage;
 use reg_site::style::style;
 use reg_site::summary::Summary;
 use std::alloc::{AllocError, Global};
@@ -75,6 +76,18 @@ fn put<F: Folder>(
 ) -> Result<(), Unpublished>
     ensures { OnOk result (Places (F.files folder.old) (F.files folder.new)
         (one_file file bytes.now)) }
+{
+    put_portions(alloc, folder, file, &mut Whole::of(bytes))
+}
+
+fn put_portions<F: Folder, P: Portions>(
+    alloc: Global,
+    folder: &mut F,
+    file: File,
+    bytes: &mut P,
+) -> Result<(), Unpublished>
+    ensures { OnOk result (Places (F.files folder.old) (F.files folder.new)
+        (one_file file (P.rest bytes.old))) }
 {
     let path = file.path(alloc)?;
     folder.publish(path.as_str(), bytes)
@@ -127,8 +140,8 @@ fn publish_page<F: Folder>(
     ensures { OnOk result (Places (F.files folder.old) (F.files folder.new)
         (page_files name page.now)) }
 {
-    let html = registry_page(alloc, page)?;
-    put(alloc, folder, File::RegistryPage(name), &html)?;
+    let mut html = RegistryPage::of(alloc, page)?;
+    put_portions(alloc, folder, File::RegistryPage(name), &mut html)?;
     drop(html);
     let csv = listing(alloc, page)?;
     put(alloc, folder, File::RegistryListing(name), &csv)
@@ -154,9 +167,8 @@ fn publish_blocks<F: Folder>(
     ensures { OnOk result (Places (F.files folder.old) (F.files folder.new)
         (files_by_blocks blocks.now)) }
 {
-    let html = blocks_page(alloc, blocks)?;
-    put(alloc, folder, File::BlocksPage, &html)?;
-    drop(html);
+    let mut html = BlocksPage::of(blocks);
+    put_portions(alloc, folder, File::BlocksPage, &mut html)?;
     let csv = block_listing(alloc, blocks)?;
     put(alloc, folder, File::BlocksListing, &csv)?;
     drop(csv);

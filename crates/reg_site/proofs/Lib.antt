@@ -1,4 +1,5 @@
 pub mod Pieces
+pub mod Portioned
 pub mod Escaping
 pub mod NestedTags
 pub mod SiteLaws

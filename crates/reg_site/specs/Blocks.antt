@@ -1,14 +1,17 @@
 -- The page of the blocks that were given, and IEEE's files of them.
-use Rattle.std.specs.Prelude.{ℕ, Bool, true, false, List, [], ◌∷◌, ◌++◌, map, filter, unwrap_or, Some, codes}
+use Rattle.std.specs.Prelude.{ℕ, Bool, true, false, List, [], ◌∷◌, ◌++◌, drop, map, filter, unwrap_or, Some, codes}
 use Rattle.reg_blocks.specs.Digits.{block_text}
 use Rattle.reg_blocks.specs.Size.{word_of}
 use Rattle.reg_blocks.specs.declared.size.Size.{Size}
 use Rattle.reg_blocks.specs.declared.size.Size.TheVariants.{MaL, MaM, MaS}
 use Rattle.reg_core.specs.declared.holding.Listed.{Listed}
 use Rattle.reg_print.specs.BlockListing.{block_header, block_listing_text}
-use Rattle.reg_site.specs.Document.{document, link, page, plain}
-use Rattle.reg_site.specs.Markup.{Markup, text, all_of}
-use Rattle.reg_site.specs.Table.{row, table}
+use Rattle.reg_site.specs.Document.{document, link, page, page_start, plain}
+use Rattle.reg_site.specs.Markup.{Markup, text, all_of, markup_then}
+use Rattle.reg_site.specs.Table.{below_rows, row, table, table_start}
+use Rattle.reg_site.specs.declared.blocks.BlocksPage.{BlocksPage}
+use Rattle.reg_site.specs.declared.document.Next.{Next}
+use Rattle.reg_site.specs.declared.document.Next.TheVariants as next
 
 -- ---- IEEE's files
 
@@ -55,3 +58,25 @@ blocks_markup rows =
 -- the bytes of that page
 unfoldable pub blocks_page : List Listed → List ℕ
 blocks_page rows = document (blocks_markup rows)
+
+-- ---- The same in portions
+
+-- what stands on the page above its rows, and then the rest
+abbrev pub above_rows : List ℕ → List ℕ
+above_rows rest =
+    page_start (codes "style.css") (codes "Blocks")
+    (markup_then block_links (table_start (codes "Blocks of MAC addresses") block_header rest))
+
+-- these rows, and what stands below them
+abbrev pub rows_left : List Listed → List ℕ
+rows_left rows = markup_then (all_of (map block_row rows)) below_rows
+
+-- what is left of the page by what is given next
+abbrev pub left_from : BlocksPage → Next → List ℕ
+left_from p next.Above = blocks_page p.rows.now
+left_from p (next.Row place) = rows_left (drop place p.rows.now)
+left_from p next.Nothing = []
+
+-- the bytes of the page that are still to be given
+abbrev pub page_left : BlocksPage → List ℕ
+page_left p = left_from p p.next

@@ -1,4 +1,5 @@
 pub mod Appended
+pub mod Portions
 pub mod Escape
 pub mod Markup
 pub mod Document

@@ -1,15 +1,18 @@
 -- The page of a registry.
-use Rattle.std.specs.Prelude.{ℕ, List, [], ◌∷◌, ◌++◌, map, unwrap_or, codes, Option, None, option_map}
+use Rattle.std.specs.Prelude.{ℕ, List, [], ◌∷◌, ◌++◌, drop, map, unwrap_or, codes, Option, None, option_map}
 use Rattle.reg_ranges.specs.Words.{treatment_word}
 use Rattle.reg_ranges.specs.declared.range.Range.{Range}
 use Rattle.reg_core.specs.declared.page.Page.{Page}
-use Rattle.reg_print.specs.Listing.{ListedRow, assignee_text, expiry_text, first_text, page_rows, policy_text, run_text, status_word, whole}
+use Rattle.reg_print.specs.Listing.{ListedRow, assignee_text, expiry_text, first_text, page_rows, policy_text, row_view, run_text, status_word, whole}
 use Rattle.reg_site.specs.Bar.{bar}
-use Rattle.reg_site.specs.Document.{document, link, page, plain}
-use Rattle.reg_site.specs.Markup.{Markup, text, all_of}
+use Rattle.reg_site.specs.Document.{document, link, page, page_start, plain}
+use Rattle.reg_site.specs.Markup.{Markup, text, all_of, markup_then}
 use Rattle.reg_site.specs.Summary.{summary}
 use Rattle.reg_site.specs.declared.summary.Summary.{Summary}
-use Rattle.reg_site.specs.Table.{row, table}
+use Rattle.reg_site.specs.Table.{below_rows, row, table, table_start}
+use Rattle.reg_site.specs.declared.document.Next.{Next}
+use Rattle.reg_site.specs.declared.document.Next.TheVariants as next
+use Rattle.reg_site.specs.declared.registry.RegistryPage.{RegistryPage}
 
 -- ---- The ranges
 
@@ -71,3 +74,28 @@ page_by name counts ranges rows = document (registry_markup name counts ranges r
 -- the bytes of a registry's page
 abbrev pub registry_page : Page → List ℕ
 registry_page p = page_by p.name (summary p) p.table.ranges (page_rows p)
+
+-- ---- The same in portions
+
+-- what stands on a page above the rows of its listing, and then the rest
+abbrev pub above_rows : List ℕ → Summary → List Range → List ℕ → List ℕ
+above_rows name counts ranges rest =
+    page_start (codes "../style.css") name
+    (markup_then (links name)
+    (markup_then (bar counts)
+    (markup_then (ranges_table ranges) (table_start (codes "Values") entry_columns rest))))
+
+-- these rows, and what stands below them
+abbrev pub rows_left : List ListedRow → List ℕ
+rows_left rows = markup_then (all_of (map entry_row rows)) below_rows
+
+-- what is left of a page by what is given next
+abbrev pub left_from : RegistryPage → Next → List ℕ
+left_from p next.Above =
+    page_by p.page.now.name (summary p.page.now) p.page.now.table.ranges (map row_view p.rows.items)
+left_from p (next.Row place) = rows_left (map row_view (drop place p.rows.items))
+left_from p next.Nothing = []
+
+-- the bytes of a page that are still to be given
+abbrev pub page_left : RegistryPage → List ℕ
+page_left p = left_from p p.next

@@ -1,7 +1,7 @@
 -- Tables on a page.
 use Rattle.std.specs.Prelude.{ℕ, List, [], ◌∷◌, ◌++◌, map, Option, Some, None, codes}
 use Rattle.reg_site.specs.Markup.{Attribute, Markup, text, element, beside, all_of, markup_then}
-use Rattle.reg_site.specs.Document.{attribute, plain}
+use Rattle.reg_site.specs.Document.{attribute, page_end, plain}
 use Rattle.reg_site.specs.Escape.{escaped}
 
 abbrev pub column : List ℕ → Markup
@@ -50,3 +50,7 @@ table_start caption columns rest =
 -- what ends a table
 abbrev pub table_end : List ℕ
 table_end = codes "</tbody></table>"
+
+-- what stands on a page below the rows of its last table
+abbrev pub below_rows : List ℕ
+below_rows = table_end ++ page_end

@@ -1,13 +1,14 @@
 //! The page of the blocks that were given, and IEEE's files of them.
-ghost use Rattle.std.specs.Prelude.{◌≡◌, ◌++◌, ◌∷◌, [], codes, map, length, string_bytes, Some, IfOk, OnOk};
-ghost use Rattle.reg_site.specs.Appended.{Shown};
-ghost use Rattle.reg_site.specs.Blocks.{assignments_text, block_links, block_row, blocks_page, blocks_table, rows_of, same_size};
-ghost use Rattle.reg_site.specs.Markup.{all_of};
-ghost use Rattle.reg_site.specs.Table.{row};
+ghost use Rattle.std.specs.Prelude.{◌≡◌, ◌++◌, ◌∷◌, [], codes, length, string_bytes, Some, IfOk, OnOk};
+ghost use Rattle.reg_site.specs.Appended.{Appended, Shown};
+ghost use Rattle.reg_site.specs.Blocks.{above_rows, assignments_text, block_links, block_row, blocks_page, page_left, rows_of, same_size};
+ghost use Rattle.reg_site.specs.Table.{row, table_start};
+ghost use Rattle.reg_print.specs.BlockListing.{block_header};
 
-use crate::document::{push_end, push_start, room_for};
+use crate::document::{Next, push_start};
 use crate::markup::Piece::{Link, Markup};
 use crate::markup::push_all;
+use crate::portions::Portions;
 use crate::table;
 use crate::table::push_row;
 use reg_blocks::size::Size;
@@ -55,17 +56,60 @@ fn same_size(a: Size, b: Size) -> bool
     )
 }
 
-/// The page of the blocks that were given: the rows of their listing, each found by `b` and its
-/// digits. A private holder is shown as `Private`, without an address. Only want of memory is an error.
-pub fn blocks_page(alloc: Global, rows: &[Listed]) -> Result<Vec<u8>, AllocError>
-    ensures { IfOk result (λ v. v.items ≡ blocks_page rows.now) }
+/// The page of the blocks that were given, in portions: the rows of their listing, each found by `b`
+/// and its digits. A private holder is shown as `Private`, without an address. The first portion has
+/// what stands above these rows, each other one a row, and the last what stands below.
+#[derive(Clone, Copy)]
+pub struct BlocksPage<'a> {
+    rows: &'a [Listed],
+    next: Next,
+}
+
+impl<'a> BlocksPage<'a> {
+    /// All of the page of these blocks is to be given.
+    pub fn of(rows: &'a [Listed]) -> Self
+        ensures { page_left result ≡ blocks_page rows.now }
+    {
+        BlocksPage {
+            rows,
+            next: Next::Above,
+        }
+    }
+}
+
+impl Portions for BlocksPage<'_> {
+    ghost rest = { page_left };
+
+    fn push_next(&mut self, out: &mut Vec<u8>) -> Result<bool, AllocError> {
+        let alloc = *out.allocator();
+        match self.next {
+            Next::Above => {
+                push_above(out)?;
+                self.next = Next::Row(0);
+            }
+            Next::Row(place) => match self.rows.get(place) {
+                Some(row) => {
+                    push_block(out, alloc, row)?;
+                    self.next = Next::Row(place + 1);
+                }
+                None => {
+                    table::push_below(out)?;
+                    self.next = Next::Nothing;
+                }
+            },
+            Next::Nothing => return Ok(false),
+        }
+        Ok(true)
+    }
+}
+
+// What stands above the rows of the listing.
+fn push_above(out: &mut Vec<u8>) -> Result<(), AllocError>
+    ensures { OnOk result (Appended out.old.items out.new.items above_rows) }
 {
-    let mut out = Vec::with_capacity(alloc, room_for(rows.len()))?;
-    push_start(&mut out, "style.css", "Blocks")?;
-    push_links(&mut out)?;
-    push_blocks(&mut out, alloc, rows)?;
-    push_end(&mut out)?;
-    Ok(out)
+    push_start(out, "style.css", "Blocks")?;
+    push_links(out)?;
+    push_columns(out)
 }
 
 // Links to the first page, and to the blocks in other forms.
@@ -90,9 +134,10 @@ fn push_links(out: &mut Vec<u8>) -> Result<(), AllocError>
     )
 }
 
-fn push_blocks(out: &mut Vec<u8>, alloc: Global, rows: &[Listed]) -> Result<(), AllocError>
-    ensures { OnOk result
-        (Shown out.old.items out.new.items (blocks_table rows.now)) }
+// The rows of the listing begin, by the heads of their columns.
+fn push_columns(out: &mut Vec<u8>) -> Result<(), AllocError>
+    ensures { OnOk result (Appended out.old.items out.new.items
+        (table_start (codes "Blocks of MAC addresses") block_header)) }
 {
     let columns = [
         "Registry",
@@ -100,20 +145,7 @@ fn push_blocks(out: &mut Vec<u8>, alloc: Global, rows: &[Listed]) -> Result<(), 
         "Organization Name",
         "Organization Address",
     ];
-    table::push_start(out, "Blocks of MAC addresses", &columns)?;
-    push_block_rows(out, alloc, rows)?;
-    table::push_end(out)?;
-    Ok(())
-}
-
-fn push_block_rows(out: &mut Vec<u8>, alloc: Global, rows: &[Listed]) -> Result<(), AllocError>
-    ensures { OnOk result
-        (Shown out.old.items out.new.items (all_of (map block_row rows.now))) }
-{
-    for row in rows {
-        push_block(out, alloc, row)?;
-    }
-    Ok(())
+    table::push_start(out, "Blocks of MAC addresses", &columns)
 }
 
 fn push_block(out: &mut Vec<u8>, alloc: Global, row: &Listed) -> Result<(), AllocError>

@@ -7,17 +7,15 @@ use crate::markup::Piece::{Markup, Text};
 use crate::markup::{push, push_all};
 use std::alloc::AllocError;
 
-/// How many bytes a row of a page has at most, but where its texts are long.
-const ROW_BYTES: usize = 256;
-
-/// How many bytes stand on a page of a registry or of the blocks beside its rows, but where there are
-/// many ranges.
-const OTHER_BYTES: usize = 8_192;
-
-/// How many bytes a page with so many rows is given room for at once. A buffer that grows among other
-/// texts leaves its places behind, which nothing else fits into.
-pub(crate) fn room_for(rows: usize) -> usize {
-    rows.saturating_mul(ROW_BYTES).saturating_add(OTHER_BYTES)
+/// What is given next of a page that ends with a table.
+#[derive(Clone, Copy)]
+pub(crate) enum Next {
+    /// What stands above the rows of the table.
+    Above,
+    /// The row at this place, or, where there is none, what stands below the rows.
+    Row(usize),
+    /// Nothing: all was given.
+    Nothing,
 }
 
 /// Begins a page: its head, by the place of the style sheet and the title, and its heading.

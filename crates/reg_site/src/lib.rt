@@ -11,6 +11,7 @@ pub mod index;
 pub mod laws;
 mod markup;
 mod moment;
+pub mod portions;
 pub mod registry;
 pub mod style;
 pub mod summary;

@@ -1,15 +1,17 @@
 //! The page of a registry.
-ghost use Rattle.std.specs.Prelude.{◌≡◌, ◌∷◌, [], map, option_map, string_bytes, None, IfOk, OnOk};
+ghost use Rattle.std.specs.Prelude.{◌≡◌, ◌∷◌, [], codes, map, option_map, string_bytes, None, IfOk, OnOk};
 ghost use Rattle.reg_print.specs.Listing.{row_view};
-ghost use Rattle.reg_site.specs.Appended.{Shown};
+ghost use Rattle.reg_site.specs.Appended.{Appended, Shown};
 ghost use Rattle.reg_site.specs.Markup.{all_of};
-ghost use Rattle.reg_site.specs.Registry.{entries_table, entry_row, forms, links, name_of, page_by, range_row, ranges_table, registry_page};
-ghost use Rattle.reg_site.specs.Table.{row};
+ghost use Rattle.reg_site.specs.Registry.{above_rows, entry_columns, entry_row, forms, links, name_of, page_left, range_row, ranges_table, registry_page};
+ghost use Rattle.reg_site.specs.Summary.{summary};
+ghost use Rattle.reg_site.specs.Table.{row, table_start};
 
 use crate::bar::push_bar;
-use crate::document::{push_end, push_start, room_for};
+use crate::document::{Next, push_start};
 use crate::markup::Piece::{Link, Markup};
 use crate::markup::push_all;
+use crate::portions::Portions;
 use crate::summary::Summary;
 use crate::table;
 use crate::table::push_row;
@@ -20,41 +22,85 @@ use reg_print::note::note_text;
 use reg_ranges::range::Range;
 use std::alloc::{AllocError, Global};
 
-/// The page of a registry: its ranges with their policies and notes, a picture of its values, and the
-/// rows of its listing, of which each entry is found by `v` and its value. Only want of memory is an
-/// error.
-pub fn registry_page(alloc: Global, page: &Page) -> Result<Vec<u8>, AllocError>
-    ensures { IfOk result (λ v. v.items ≡ registry_page page.now) }
+/// The page of a registry in portions: its ranges with their policies and notes, a picture of its
+/// values, and the rows of its listing, of which each entry is found by `v` and its value. The first
+/// portion has what stands above these rows, each other one a row, and the last what stands below.
+#[derive(Drop)]
+pub struct RegistryPage<'a> {
+    page: &'a Page,
+    rows: Vec<ListingRow<'a>>,
+    next: Next,
+}
+
+impl<'a> RegistryPage<'a> {
+    /// All of the page is to be given. Only want of memory is an error.
+    pub fn of(alloc: Global, page: &'a Page) -> Result<Self, AllocError>
+        ensures { IfOk result (λ html. page_left html ≡ registry_page page.now) }
+    {
+        Ok(RegistryPage {
+            page,
+            rows: rows(alloc, page)?,
+            next: Next::Above,
+        })
+    }
+}
+
+impl Portions for RegistryPage<'_> {
+    ghost rest = { page_left };
+
+    fn push_next(&mut self, out: &mut Vec<u8>) -> Result<bool, AllocError> {
+        let alloc = *out.allocator();
+        match self.next {
+            Next::Above => {
+                push_above(out, alloc, self.page)?;
+                self.next = Next::Row(0);
+            }
+            Next::Row(place) => match self.rows.get(place) {
+                Some(row) => {
+                    push_entry(out, alloc, row)?;
+                    self.next = Next::Row(place + 1);
+                }
+                None => {
+                    table::push_below(out)?;
+                    self.next = Next::Nothing;
+                }
+            },
+            Next::Nothing => return Ok(false),
+        }
+        Ok(true)
+    }
+}
+
+// What stands above the rows of the listing.
+fn push_above(out: &mut Vec<u8>, alloc: Global, page: &Page) -> Result<(), AllocError>
+    ensures { OnOk result (Appended out.old.items out.new.items
+        (above_rows page.now.name (summary page.now) page.now.table.ranges)) }
 {
     let summary = Summary::of(alloc, page)?;
-    let rows = rows(alloc, page)?;
-    page_of(
+    push_parts(
+        out,
         alloc,
         page.name.as_str(),
         &summary,
         page.table.ranges(),
-        rows.as_slice(),
     )
 }
 
-fn page_of(
+fn push_parts(
+    out: &mut Vec<u8>,
     alloc: Global,
     name: &str,
     summary: &Summary,
     ranges: &[Range],
-    rows: &[ListingRow<'_>],
-) -> Result<Vec<u8>, AllocError>
-    ensures { IfOk result
-        (λ v. v.items ≡ page_by name.now summary.now ranges.now (map row_view rows.now)) }
+) -> Result<(), AllocError>
+    ensures { OnOk result (Appended out.old.items out.new.items
+        (above_rows name.now summary.now ranges.now)) }
 {
-    let mut out = Vec::with_capacity(alloc, room_for(rows.len()))?;
-    push_start(&mut out, "../style.css", name)?;
-    push_links(&mut out, alloc, name)?;
-    push_bar(&mut out, summary)?;
-    push_ranges(&mut out, alloc, ranges)?;
-    push_entries(&mut out, alloc, rows)?;
-    push_end(&mut out)?;
-    Ok(out)
+    push_start(out, "../style.css", name)?;
+    push_links(out, alloc, name)?;
+    push_bar(out, summary)?;
+    push_ranges(out, alloc, ranges)?;
+    push_columns(out)
 }
 
 // Links to the first page, and to the same registry in other forms.
@@ -136,9 +182,10 @@ fn push_range_texts<'a>(
     push_row(out, None, values, &[policy, note])
 }
 
-fn push_entries(out: &mut Vec<u8>, alloc: Global, rows: &[ListingRow<'_>]) -> Result<(), AllocError>
-    ensures { OnOk result
-        (Shown out.old.items out.new.items (entries_table (map row_view rows.now))) }
+// The rows of the listing begin, by the heads of their columns.
+fn push_columns(out: &mut Vec<u8>) -> Result<(), AllocError>
+    ensures { OnOk result (Appended out.old.items out.new.items
+        (table_start (codes "Values") entry_columns)) }
 {
     let columns = [
         "Value",
@@ -149,24 +196,7 @@ fn push_entries(out: &mut Vec<u8>, alloc: Global, rows: &[ListingRow<'_>]) -> Re
         "Expires",
         "Assignee",
     ];
-    table::push_start(out, "Values", &columns)?;
-    push_entry_rows(out, alloc, rows)?;
-    table::push_end(out)?;
-    Ok(())
-}
-
-fn push_entry_rows(
-    out: &mut Vec<u8>,
-    alloc: Global,
-    rows: &[ListingRow<'_>],
-) -> Result<(), AllocError>
-    ensures { OnOk result
-        (Shown out.old.items out.new.items (all_of (map entry_row (map row_view rows.now)))) }
-{
-    for row in rows {
-        push_entry(out, alloc, row)?;
-    }
-    Ok(())
+    table::push_start(out, "Values", &columns)
 }
 
 // A row of the listing.

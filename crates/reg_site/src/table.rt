@@ -2,8 +2,9 @@
 ghost use Rattle.std.specs.Prelude.{◌≡◌, ◌++◌, codes, map, option_map, OnOk};
 ghost use Rattle.reg_site.specs.Appended.{Appended, Shown};
 ghost use Rattle.reg_site.specs.Markup.{all_of, opening_then};
-ghost use Rattle.reg_site.specs.Table.{anchor, cell, column, row, table_end, table_start};
+ghost use Rattle.reg_site.specs.Table.{anchor, below_rows, cell, column, row, table_end, table_start};
 
+use crate::document;
 use crate::markup::Piece::{Markup, Text};
 use crate::markup::{push, push_all};
 use std::alloc::AllocError;
@@ -35,6 +36,14 @@ pub(crate) fn push_end(out: &mut Vec<u8>) -> Result<(), AllocError>
     ensures { OnOk result (Appended out.old.items out.new.items (λ rest. table_end ++ rest)) }
 {
     push(out, "</tbody></table>")
+}
+
+/// Ends a table, and the page of which it is the last.
+pub(crate) fn push_below(out: &mut Vec<u8>) -> Result<(), AllocError>
+    ensures { OnOk result (Appended out.old.items out.new.items (λ rest. below_rows ++ rest)) }
+{
+    push_end(out)?;
+    document::push_end(out)
 }
 
 /// Appends a row: by what it is found, its first cell, and the others.

@@ -1,6 +1,6 @@
 use Rattle.std.proofs.Common.{◌∷◌, ◌++◌, Some, ◌∙◌}
 use Rattle.reg_blocks.specs.declared.size.Size.TheVariants.{MaL, MaM, MaS}
-use Rattle.reg_site.specs.Blocks.{assignments_text}
+use Rattle.reg_site.specs.Blocks.{assignments_text, page_left}
 use Rattle.reg_site.specs.Files.{path_of}
 use Rattle.reg_site.specs.declared.files.File.TheVariants.{BlocksPage, BlocksListing, Assignments}
 use Rattle.reg_publish.specs.Publishing.{files_by_blocks, one_file}
@@ -11,26 +11,25 @@ pub returns : goal.returns
 returns g c =
     let files = g.F.Folder.files in
     let rows = c.args.blocks.now in
-    let html = c.deref.ensures.value ∙ c.in_ok-html.ensures in
-    let csv = c.deref-2.ensures.value ∙ c.in_ok-csv.ensures in
+    let csv = c.deref.ensures.value ∙ c.in_ok-csv.ensures in
     let none = files c.args.folder.now in
-    let first = files c.put.new.folder in
-    let second = files c.put-2.new.folder in
+    let first = files c.put_portions.new.folder in
+    let second = files c.put.new.folder in
     let third = files c.publish_size.new.folder in
     let fourth = files c.publish_size-2.new.folder in
-    let page = one_file BlocksPage c.deref.result.now in
-    let listing = one_file BlocksListing c.deref-2.result.now in
+    let page = one_file BlocksPage (page_left c.of-html.result) in
+    let listing = one_file BlocksListing c.deref.result.now in
     let large = one_file (Assignments MaL) (assignments_text MaL rows) in
     let medium = one_file (Assignments MaM) (assignments_text MaM rows) in
     let small = one_file (Assignments MaS) (assignments_text MaS rows) in
     places_then c.publish_size-3.result none fourth (files c.publish_size-3.new.folder)
     (((page ++ listing) ++ large) ++ medium) small (files_by_blocks rows)
-    (λ i. (path_of BlocksPage, Some (html i))
+    (λ i. (path_of BlocksPage, Some (c.of-html.ensures i))
     ∷ (path_of BlocksListing, Some (csv i))
     ∷ (large ++ (medium ++ small)))
     (places_both none third fourth ((page ++ listing) ++ large) medium
     (places_both none second third (page ++ listing) large
-    (places_both none first second page listing c.in_ok-put.ensures c.in_ok-put-2.ensures)
+    (places_both none first second page listing c.in_ok-put_portions.ensures c.in_ok-put.ensures)
     c.in_ok-publish_size.ensures)
     c.in_ok-publish_size-2.ensures)
     c.publish_size-3.ensures

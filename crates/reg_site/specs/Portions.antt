@@ -1,0 +1,18 @@
+-- What is given in portions.
+use Rattle.std.specs.Prelude.{◌≡◌, ℕ, ◌<◌, List, [], ◌++◌, length, Bool, true, false}
+
+-- Some bytes came to what stood before: those that were to be given next, and at least one.
+pub record GivesPortion (old new rest rest' : List ℕ) : Type 0 where
+  pub whole : new ++ rest' ≡ old ++ rest
+  pub less : length rest' < length rest
+
+-- No byte was to be given, and nothing came.
+pub record GivesNothing (old new rest rest' : List ℕ) : Type 0 where
+  pub none : rest ≡ []
+  pub still : rest' ≡ []
+  pub same : new ≡ old
+
+-- whether a portion was given
+abbrev pub Gives : Bool → List ℕ → List ℕ → List ℕ → List ℕ → Type 0
+Gives true old new rest rest' = GivesPortion old new rest rest'
+Gives false old new rest rest' = GivesNothing old new rest rest'

@@ -1,0 +1,49 @@
+//! The bytes of a file in portions.
+ghost use Rattle.std.specs.Prelude.{◌≡◌, ℕ, List, IfOk};
+ghost use Rattle.reg_site.specs.Portions.{Gives};
+
+use std::alloc::AllocError;
+
+/// How many bytes a portion has at most of bytes that stand whole.
+const PORTION_BYTES: usize = 16_384;
+
+/// What gives the bytes of a file in portions, so that they never need to stand whole.
+pub trait Portions {
+    /// The bytes that are still to be given.
+    ghost rest: { Self → List ℕ };
+
+    /// Appends the next portion, which has a byte at least, and tells whether there was one. Only want
+    /// of memory is an error.
+    fn push_next(&mut self, out: &mut Vec<u8>) -> Result<bool, AllocError>
+        ensures { IfOk result
+            (λ more. Gives more out.old.items out.new.items (rest self.old) (rest self.new)) };
+}
+
+/// Bytes that stand whole.
+#[derive(Clone, Copy)]
+pub struct Whole<'a> {
+    rest: &'a [u8],
+}
+
+impl<'a> Whole<'a> {
+    /// All of these bytes are to be given.
+    pub fn of(bytes: &'a [u8]) -> Self
+        ensures { result.rest.now ≡ bytes.now }
+    {
+        Whole { rest: bytes }
+    }
+}
+
+impl Portions for Whole<'_> {
+    ghost rest = { λ whole. whole.rest.now };
+
+    fn push_next(&mut self, out: &mut Vec<u8>) -> Result<bool, AllocError> {
+        if self.rest.is_empty() {
+            return Ok(false);
+        }
+        let (portion, rest) = self.rest.split_at(self.rest.len().min(PORTION_BYTES));
+        out.extend_from_slice(portion)?;
+        self.rest = rest;
+        Ok(true)
+    }
+}
