@@ -4,4 +4,5 @@ mod devices;
 mod directories;
 mod faults;
 mod office;
+mod replacements;
 mod sites;

@@ -1,5 +1,5 @@
 -- Portions of a page.
-use Rattle.std.proofs.Common.{◌≡◌, ℕ, ◌+◌, ◌<◌, List, [], ◌∷◌, ◌++◌, length, map, get_or, drop, refl, sym, ap, ◌∙◌, append-nil, add-one, drop-cons, arith}
+use Rattle.std.proofs.Common.{◌≡◌, ℕ, ◌+◌, ◌<◌, List, [], ◌∷◌, ◌++◌, length, get_or, drop, refl, sym, ap, ◌∙◌, append-nil, add-one, drop-cons, arith}
 use Rattle.std.proofs.lemmas.List.{length-append}
 use Rattle.reg_core.specs.declared.holding.Listed.{Listed}
 use Rattle.reg_ranges.specs.declared.range.Range.{Range}

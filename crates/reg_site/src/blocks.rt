@@ -59,7 +59,7 @@ fn same_size(a: Size, b: Size) -> bool
 /// The page of the blocks that were given, in portions: the rows of their listing, each found by `b`
 /// and its digits. A private holder is shown as `Private`, without an address. The first portion has
 /// what stands above these rows, each other one a row, and the last what stands below.
-#[derive(Clone, Copy)]
+#[derive(Drop)]
 pub struct BlocksPage<'a> {
     rows: &'a [Listed],
     next: Next,

@@ -20,7 +20,7 @@ pub trait Portions {
 }
 
 /// Bytes that stand whole.
-#[derive(Clone, Copy)]
+#[derive(Drop)]
 pub struct Whole<'a> {
     rest: &'a [u8],
 }

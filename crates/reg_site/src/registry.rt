@@ -77,7 +77,7 @@ fn push_above(out: &mut Vec<u8>, alloc: Global, page: &Page) -> Result<(), Alloc
         (above_rows page.now.name (summary page.now) page.now.table.ranges)) }
 {
     let summary = Summary::of(alloc, page)?;
-    push_parts(
+    push_above_of(
         out,
         alloc,
         page.name.as_str(),
@@ -86,7 +86,7 @@ fn push_above(out: &mut Vec<u8>, alloc: Global, page: &Page) -> Result<(), Alloc
     )
 }
 
-fn push_parts(
+fn push_above_of(
     out: &mut Vec<u8>,
     alloc: Global,
     name: &str,

@@ -1,5 +1,5 @@
 //! Folders and sources that fail.
-ghost use Rattle.std.specs.Prelude.{None};
+ghost use Rattle.std.specs.Prelude.{◌≡◌, None, IfOk};
 ghost use Rattle.reg_core.specs.View.{published as shown};
 ghost use Rattle.reg_core.specs.World.{empty_world};
 
@@ -11,8 +11,9 @@ use reg_office::Office;
 use reg_publish::folder::Folder;
 use reg_publish::source::Source;
 use reg_publish::unpublished::Unpublished;
+use reg_site::portions::Portions;
 use reg_testing::facts::ensure;
-use std::alloc::Global;
+use std::alloc::{AllocError, Global};
 use std::test::Fail;
 
 /// A file that was published.
@@ -71,17 +72,25 @@ impl Kept {
 impl Folder for Kept {
     ghost files = { λ _. None };
 
-    fn publish(&mut self, path: &str, bytes: &[u8]) -> Result<(), Unpublished> {
+    fn publish<P: Portions>(&mut self, path: &str, bytes: &mut P) -> Result<(), Unpublished> {
         if self.room == 0 {
             return Err(Unpublished::Write);
         }
         self.room -= 1;
         let path = String::from_str(self.alloc, path)?;
-        let mut copy = Vec::new(self.alloc);
-        copy.extend_from_slice(bytes)?;
-        self.files.push(Placed { path, bytes: copy })?;
+        let bytes = whole(self.alloc, bytes)?;
+        self.files.push(Placed { path, bytes })?;
         Ok(())
     }
+}
+
+// All bytes that are given in portions.
+fn whole<P: Portions>(alloc: Global, bytes: &mut P) -> Result<Vec<u8>, AllocError>
+    ensures { IfOk result (λ v. v.items ≡ P.rest bytes.old) }
+{
+    let mut given = Vec::new(alloc);
+    while bytes.push_next(&mut given)? {}
+    Ok(given)
 }
 
 /// An office that answers so many commands, and then fails for this reason, or tells what was not
