@@ -8,42 +8,35 @@ use reg_testing::folders::folder_for;
 use std::fs;
 use std::test::Fail;
 
-/// A file: how many bytes it has, and which of them is another than in the files beside it.
-#[derive(Clone, Copy)]
-struct Content {
-    length: usize,
-    other: usize,
-}
-
-/// Files of one place, in turn. At most 16,384 bytes are compared at once.
-const IN_TURN: [Content; 11] = [
+// Files of one place, in turn: how many bytes each has, and which of them is another than in the
+// others, if one is. At most 16,384 bytes are compared at once.
+const IN_TURN: [(usize, usize); 13] = [
     // None is there before.
-    content(40_000, 0),
-    // The last byte alone is another one, and then the first as well.
-    content(40_000, 39_999),
-    content(40_000, 0),
+    (40_000, 40_000),
+    // The last byte alone is another one, and then the first.
+    (40_000, 39_999),
+    (40_000, 0),
     // The file that was there begins with it, and then it begins with that one.
-    content(20_000, 0),
-    content(40_001, 0),
-    // The last byte that is compared at once is another one, and then the first of the next.
-    content(40_001, 16_383),
-    content(40_001, 16_384),
-    // It ends where the bytes end that are compared at once, and the file that was there goes on.
-    content(16_384, 16_384),
-    content(32_768, 32_768),
+    (20_000, 0),
+    (40_001, 0),
+    // The last byte that is compared at once is another one, and later the first of the next.
+    (40_001, 40_001),
+    (40_001, 16_383),
+    (40_001, 40_001),
+    (40_001, 16_384),
+    // It ends where the bytes end that are compared at once, and the file that was there goes on; and
+    // then that file ends there, and it goes on.
+    (16_384, 16_384),
+    (32_768, 32_768),
     // It has no byte, and then one.
-    content(0, 0),
-    content(1, 1),
+    (0, 0),
+    (1, 1),
 ];
 
-const fn content(length: usize, other: usize) -> Content {
-    Content { length, other }
-}
-
-fn bytes_of(rt: &HostRuntime, content: Content) -> Result<Vec<u8>, Fail> {
+fn bytes_of(rt: &HostRuntime, length: usize, other: usize) -> Result<Vec<u8>, Fail> {
     let mut bytes = Vec::new(rt.alloc());
-    for place in 0..content.length {
-        let byte = if place == content.other {
+    for place in 0..length {
+        let byte = if place == other {
             b'#'
         } else {
             (place % 251) as u8
@@ -89,8 +82,8 @@ fn assert_kept(rt: &HostRuntime, folder: &str, bytes: &mut Vec<u8>) -> Result<()
 fn files_in_the_places_of_others(rt: HostRuntime) -> Result<(), Fail> {
     let folder = folder_for(&rt, "replacements")?;
     let folder = folder.as_str();
-    for content in IN_TURN {
-        let mut bytes = bytes_of(&rt, content)?;
+    for (length, other) in IN_TURN {
+        let mut bytes = bytes_of(&rt, length, other)?;
         ensure(publish(&rt, folder, &bytes) == Ok(()), "published")?;
         assert_there(&rt, folder, &bytes)?;
         assert_kept(&rt, folder, &mut bytes)?;
