@@ -233,8 +233,8 @@ fn page_of(alloc: Global, body: &[u8]) -> Result<Page, Fail> {
 }
 
 // A body with these bytes in the place of the one at `i`.
-fn with(alloc: Global, body: &[u8], i: usize, bytes: &[u8]) -> Result<Vec<u8>, Fail> {
-    let (front, rest) = body.split_at(i);
+fn replaced(alloc: Global, body: &[u8], i: usize, bytes: &[u8]) -> Result<Vec<u8>, Fail> {
+    let (front, rest) = body.split_at_checked(i).ok_or("no such byte")?;
     let mut other = Vec::new(alloc);
     other.extend_from_slice(front)?;
     other.extend_from_slice(bytes)?;
@@ -252,7 +252,7 @@ fn assert_compared(alloc: Global, body: &[u8]) -> Result<(), Fail> {
             b"".as_slice(),
             [*byte, b' '].as_slice(),
         ] {
-            let other = with(alloc, body, i, bytes)?;
+            let other = replaced(alloc, body, i, bytes)?;
             ensure(!is_page(alloc, &page, other.as_slice())?, "another body")?;
         }
     }
