@@ -60,6 +60,11 @@ impl<'a> Members<'a> {
         }
     }
 
+    /// Where what comes next begins in the text.
+    pub fn offset(&self) -> usize {
+        self.reader.offset()
+    }
+
     /// That the member of this name comes next; its value comes then.
     pub fn enter(&mut self, name: &str) -> Result<(), Unpublished> {
         if self.comes(name) {

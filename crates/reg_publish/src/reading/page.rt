@@ -15,34 +15,45 @@ use reg_early::term::{Status, Term};
 use reg_ranges::policy::Treatment;
 use reg_ranges::range::Range;
 use reg_ranges::table::RangeTable;
-use std::alloc::Global;
+use std::alloc::{AllocError, Global};
 
-/// The page of the registry of this name.
+/// How many bytes an entry of an office has at most, and more.
+const MOST_ENTRY_BYTES: usize = 1_024;
+
+/// The page of the registry of this name. Its entries are read one by one, since a reader of JSON takes
+/// as much memory as its text has.
 pub(super) fn read(alloc: Global, name: &Name, body: &[u8]) -> Result<Page, Unpublished> {
     let mut scratch = Scratch::new(alloc);
-    let mut members = Members::new(&mut scratch, body)?;
-    read_page(alloc, name, &mut members)
-}
-
-fn read_page(alloc: Global, name: &Name, members: &mut Members<'_>) -> Result<Page, Unpublished> {
-    members.open_object()?;
-    members.enter("entries")?;
-    let entries = read_entries(alloc, members)?;
-    let table = read_table(alloc, name, members)?;
+    let rest = behind(b"{\"entries\":[", body)?;
+    let (entries, rest) = read_entries(alloc, &mut scratch, rest)?;
+    let frame = object_of(alloc, behind(b"],", rest)?)?;
+    let mut members = Members::new(&mut scratch, &frame)?;
     Ok(Page {
         name: *name,
-        table,
+        table: read_table(alloc, name, &mut members)?,
         entries,
     })
 }
 
-// What comes after the entries, to the end of the text.
+// What stands behind these bytes.
+fn behind<'a>(front: &[u8], text: &'a [u8]) -> Result<&'a [u8], Unpublished> {
+    text.strip_prefix(front).ok_or(Unpublished::Read)
+}
+
+// The object whose text goes on so behind its bracket.
+fn object_of(alloc: Global, members: &[u8]) -> Result<Vec<u8>, AllocError> {
+    let mut text = Vec::with_capacity(alloc, members.len().saturating_add(1))?;
+    text.push(b'{')?;
+    text.extend_from_slice(members)?;
+    Ok(text)
+}
+
 fn read_table(
     alloc: Global,
     name: &Name,
     members: &mut Members<'_>,
 ) -> Result<RangeTable, Unpublished> {
-    members.next_name()?;
+    members.open_object()?;
     let max = members.number("max")?;
     if members.text("name")? != name.as_str() {
         return Err(Unpublished::Read);
@@ -68,25 +79,48 @@ fn table_of(max: u32, ranges: Vec<Range>) -> Result<RangeTable, Unpublished> {
     }
 }
 
-fn read_entries(alloc: Global, members: &mut Members<'_>) -> Result<PageEntries, Unpublished> {
-    members.open_array()?;
+// The entries, and what is left of the text from the bracket on that ends them.
+fn read_entries<'a>(
+    alloc: Global,
+    scratch: &mut Scratch<Global>,
+    text: &'a [u8],
+) -> Result<(PageEntries, &'a [u8]), Unpublished> {
     let mut entries = Vec::new(alloc);
-    push_entries(alloc, &mut entries, members)?;
-    in_order(entries)
+    let rest = push_entries(alloc, scratch, &mut entries, text)?;
+    Ok((in_order(entries)?, rest))
 }
 
-fn push_entries(
+fn push_entries<'a>(
     alloc: Global,
+    scratch: &mut Scratch<Global>,
     entries: &mut Vec<PageEntry>,
-    members: &mut Members<'_>,
-) -> Result<(), Unpublished> {
+    text: &'a [u8],
+) -> Result<&'a [u8], Unpublished> {
+    let mut rest = text;
     for _ in 0..u64::MAX {
-        if members.closes_array() {
-            return Ok(());
+        if rest.starts_with(b"]") {
+            return Ok(rest);
         }
-        entries.push(read_entry(alloc, members)?)?;
+        let (entry, after) = first_entry(alloc, scratch, rest)?;
+        entries.push(entry)?;
+        rest = after;
     }
     Err(Unpublished::Read)
+}
+
+// The entry with which a text begins, and what is left behind it and its comma.
+fn first_entry<'a>(
+    alloc: Global,
+    scratch: &mut Scratch<Global>,
+    text: &'a [u8],
+) -> Result<(PageEntry, &'a [u8]), Unpublished> {
+    let front = &text[..text.len().min(MOST_ENTRY_BYTES)];
+    let mut members = Members::new(scratch, front)?;
+    let entry = read_entry(alloc, &mut members)?;
+    match text.get(members.offset()..) {
+        Some(rest) => Ok((entry, rest)),
+        None => Err(Unpublished::Read),
+    }
 }
 
 // The entries, where their values ascend.
