@@ -1,6 +1,6 @@
 //! Printable texts: labels, contacts, reasons, notes.
 ghost use Rattle.std.specs.Prelude.{◌≡◌, ℕ, true, false, nat_eq, List, Some, None, Ok, IfOk, refl};
-ghost use Rattle.std.specs.String.{string_bytes};
+ghost use Rattle.std.specs.Rc.{rc_str_bytes};
 ghost use Rattle.std.specs.Cmp.{partial_equiv_from_equiv};
 ghost use Rattle.std.specs.Cmp.Lexicographic.{slice_cmp, pointwise, nat_list_cmp_total, nat_list_eq_equiv, texts_po, texts_ties};
 ghost use Rattle.std.specs.Ordering.{nat_cmp};
@@ -11,23 +11,24 @@ use crate::formed::Formed;
 use std::alloc::{AllocError, Global};
 use std::cmp::Ordering;
 use std::marker::Model;
+use std::rc::RcStr;
 
-/// 1 to 200 printable ASCII characters: a label, a contact, a reason, a note.
+/// 1 to 200 printable ASCII characters: a label, a contact, a reason, a note. Copies share its bytes.
 #[derive(Clone, Debug, Drop)]
 pub struct Text {
-    text: String,
+    text: RcStr,
 }
 
 impl Model for Text {
     ghost use Rattle.std.specs.Prelude.{◌≡◌, List, ℕ, true};
-    ghost use Rattle.std.specs.String.{string_bytes};
+    ghost use Rattle.std.specs.Rc.{rc_str_bytes};
     ghost use Rattle.reg_ranges.specs.Texts.{is_text};
 
     ghost Value = { List ℕ };
 
-    ghost view = { λ t. string_bytes t.text };
+    ghost view = { λ t. rc_str_bytes t.text };
 
-    ghost invariant = { λ t. is_text (string_bytes t.text) ≡ true };
+    ghost invariant = { λ t. is_text (rc_str_bytes t.text) ≡ true };
 }
 
 impl Text {
@@ -54,7 +55,8 @@ impl Text {
         self.text.as_str()
     }
 
-    /// An equal text.
+    /// An equal text, which shares the bytes of this one, so no memory is taken. An error comes only
+    /// where there are more copies than can be counted.
     pub fn copy(&self) -> Result<Self, AllocError>
         ensures equal { IfOk result (λ t. t ≡ self.now) }
         ensures form { is_text self.now ≡ true }
@@ -74,11 +76,11 @@ impl Formed for Text {
     }
 }
 
-fn text_of(alloc: Global, bytes: &[u8]) -> Result<String, AllocError>
+fn text_of(alloc: Global, bytes: &[u8]) -> Result<RcStr, AllocError>
     requires { text bytes.now ≡ true }
-    ensures { IfOk result (λ t. string_bytes t ≡ bytes.now) }
+    ensures { IfOk result (λ t. rc_str_bytes t ≡ bytes.now) }
 {
-    String::from_str(alloc, str::from_utf8(bytes).unwrap())
+    RcStr::from_str(alloc, str::from_utf8(bytes).unwrap())
 }
 
 impl PartialEq for Text {
