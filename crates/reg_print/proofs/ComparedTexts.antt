@@ -4,17 +4,19 @@ use Rattle.std.proofs.lemmas.Bool.Decides.{nat_tests}
 use Rattle.std.proofs.lemmas.Grind.{common_steps}
 use denote.Ref.{Bor}
 use Rattle.std.specs.Prelude.{IsTrue}
-use Rattle.std.proofs.lemmas.List.{append_cancel_left, map-append, take-append-drop}
+use Rattle.std.proofs.lemmas.List.{append_cancel_left, length-append, map-append, take-append-drop}
 use Rattle.json.specs.Print.{escape_byte, quoted}
 use Rattle.serde_json.specs.Data.{Data, object}
 use Rattle.serde_json.specs.View.{items_of}
 use Rattle.serde_json.specs.Written.{comma_if, compact_text, items_text, members_text}
+use Rattle.reg_core.specs.declared.entry.PageEntry.{PageEntry}
 use Rattle.reg_core.specs.declared.page.Page.{Page}
 use Rattle.reg_core.specs.declared.reply.Reply.TheVariants.{Accepted}
 use Rattle.reg_core.specs.declared.told.Told.TheVariants as tells
 use Rattle.reg_print.specs.declared.answer.Answer.TheVariants.{Reply}
 use Rattle.reg_print.specs.Answer.{body_text}
-use Rattle.reg_print.specs.Comparing.{Leaves, end_text, listed_text}
+use Rattle.reg_print.specs.Comparing.{Leaves}
+use Rattle.reg_print.specs.Parts.{end_text, entry_text, front_text, listed_text}
 use Rattle.reg_print.specs.Trees.Page.{entry_tree, frame_members, page_members, page_tree}
 use Rattle.reg_print.proofs.ListedMembers.{as_listed, with_members-as_listed}
 use Rattle.reg_print.proofs.PrintedTokens.{one_more}
@@ -120,17 +122,22 @@ leaves_no_items f xs n text h =
 
 -- ---- pages
 
+-- an entry has a byte
+pub entry_some : (later : Bool) (entry : PageEntry) → 0 < length (entry_text later entry)
+entry_some later entry =
+    omega (arith, length-append (comma_if later) (compact_text (entry_tree entry)))
+
 head_text : (t : List ℕ)
-    → 123 ∷ (quoted (codes "entries") ++ 58 ∷ (91 ∷ t)) ≡ codes "{\"entries\":[" ++ t
+    → 123 ∷ (quoted (codes "entries") ++ 58 ∷ (91 ∷ t)) ≡ front_text ++ t
 unfolding escape_byte
 head_text t = refl
 
 -- the text of a page: its entries between what stands before and behind them
 page_text : (page : Page)
     → compact_text (page_tree page)
-    ≡ (codes "{\"entries\":[" ++ listed_text false (map entry_tree page.entries)) ++ end_text page
+    ≡ (front_text ++ listed_text false (map entry_tree page.entries)) ++ end_text page
 page_text page =
-    let head = codes "{\"entries\":[" in
+    let head = front_text in
     let ds = map entry_tree page.entries in
     let more = members_text true (as_listed (frame_members page)) in
     let behind : end_text page ≡ 93 ∷ more =
@@ -145,6 +152,6 @@ page_text page =
 
 pub body_text-page : (page : Page)
     → body_text (Reply (Accepted (tells.Page page)))
-    ≡ (codes "{\"entries\":[" ++ listed_text false (map entry_tree page.entries)) ++ end_text page
+    ≡ (front_text ++ listed_text false (map entry_tree page.entries)) ++ end_text page
 unfolding body_text
 body_text-page page = page_text page

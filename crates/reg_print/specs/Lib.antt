@@ -7,5 +7,6 @@ pub mod BlockListing
 pub mod Records
 pub mod Body
 pub mod Answer
+pub mod Parts
 pub mod Comparing
 pub mod Laws

@@ -1,15 +1,14 @@
 //! Compares bytes with the text of a registry, an entry at a time.
-ghost use Rattle.std.specs.Prelude.{◌≡◌, ◌++◌, ◌↔◌, false, map, IfOk, IsTrue};
-ghost use Rattle.serde_json.specs.Written.{comma_if, compact_text};
+ghost use Rattle.std.specs.Prelude.{◌≡◌, ◌↔◌, false, map, IfOk, IsTrue};
 ghost use Rattle.reg_core.specs.declared.reply.Reply.TheVariants.{Accepted};
 ghost use Rattle.reg_core.specs.declared.told.Told.TheVariants as tells;
 ghost use Rattle.reg_print.specs.Answer.{body_text};
-ghost use Rattle.reg_print.specs.Comparing.{Leaves, end_text, listed_text};
+ghost use Rattle.reg_print.specs.Comparing.{Leaves};
+ghost use Rattle.reg_print.specs.Parts.{end_text, entry_text, listed_text};
 ghost use Rattle.reg_print.specs.Trees.Page.{entry_tree};
 ghost use Rattle.reg_print.specs.declared.answer.Answer.TheVariants.{Reply};
 
-use crate::bodies::page::Frame;
-use crate::printing::printed;
+use crate::parts::{end_text, front, push_entry};
 use reg_core::entry::PageEntry;
 use reg_core::page::Page;
 use std::alloc::{AllocError, Global};
@@ -19,7 +18,7 @@ pub fn is_page(alloc: Global, page: &Page, text: &[u8]) -> Result<bool, AllocErr
     ensures { IfOk result (λ same. IsTrue same
         ↔ (text.now ≡ body_text (Reply (Accepted (tells.Page page.now))))) }
 {
-    let Some(text) = behind(b"{\"entries\":[", text) else {
+    let Some(text) = behind(front(), text) else {
         return Ok(false);
     };
     match behind_entries(alloc, page.entries.as_slice(), text)? {
@@ -59,29 +58,17 @@ fn behind_entry<'a>(
     entry: &PageEntry,
     text: &'a [u8],
 ) -> Result<Option<&'a [u8]>, AllocError>
-    ensures { IfOk result
-        (Leaves (comma_if later ++ compact_text (entry_tree entry.now)) text.now) }
+    ensures { IfOk result (Leaves (entry_text later entry.now) text.now) }
 {
-    let Some(text) = behind(comma_if(later), text) else {
-        return Ok(None);
-    };
-    let printed = printed(alloc, entry)?;
-    Ok(behind(printed.as_slice(), text))
-}
-
-fn comma_if(later: bool) -> &'static [u8]
-    ensures { result.now ≡ comma_if later }
-{
-    if later { b"," } else { b"" }
+    let mut front = Vec::new(alloc);
+    push_entry(&mut front, later, entry)?;
+    Ok(behind(front.as_slice(), text))
 }
 
 // Whether this is what stands behind the entries of a page.
 fn is_end(alloc: Global, page: &Page, text: &[u8]) -> Result<bool, AllocError>
     ensures { IfOk result (λ same. IsTrue same ↔ (text.now ≡ end_text page.now)) }
 {
-    let frame = printed::<Frame, _>(alloc, page)?;
-    match behind(b"],", text) {
-        Some(members) => Ok(members == &frame.as_slice()[1..]),
-        None => Ok(false),
-    }
+    let end = end_text(alloc, page)?;
+    Ok(end.as_slice() == text)
 }

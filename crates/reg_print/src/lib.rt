@@ -8,5 +8,6 @@ pub mod detail;
 pub mod laws;
 pub mod listing;
 pub mod note;
+pub mod parts;
 mod printing;
 pub mod refusal;

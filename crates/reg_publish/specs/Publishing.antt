@@ -1,5 +1,5 @@
 -- What is published, and by which answers.
-use Rattle.std.specs.Prelude.{◌≡◌, ℕ, List, [], ◌∷◌, ◌++◌, map, filter_map, Option, Some, option_map}
+use Rattle.std.specs.Prelude.{◌≡◌, ℕ, List, [], ◌∷◌, map, filter_map, Option, Some, option_map}
 use Rattle.std.specs.List.{flat_map}
 use Rattle.reg_core.specs.View.{Published}
 use Rattle.reg_core.specs.declared.command.PublicCommand.TheVariants.{Registry}
@@ -43,18 +43,13 @@ one_file f bytes = (path_of f, Some bytes) ∷ []
 abbrev pub told_text : Told → List ℕ
 told_text told = body_text (answer.Reply (Accepted told))
 
--- the page of a registry, and its listing
-abbrev pub page_files : List ℕ → Page → Files
-page_files name page =
-    (path_of (file.RegistryPage name), Some (registry_page page))
-    ∷ (path_of (file.RegistryListing name), Some (listing_text page))
-    ∷ []
-
--- all files of a registry
+-- the files of a registry: its page, its listing and its JSON
 abbrev pub files_by_page : List ℕ → Page → Files
 files_by_page name page =
-    page_files name page
-    ++ ((path_of (file.RegistryTree name), Some (told_text (tells.Page page))) ∷ [])
+    (path_of (file.RegistryPage name), Some (registry_page page))
+    ∷ (path_of (file.RegistryListing name), Some (listing_text page))
+    ∷ (path_of (file.RegistryTree name), Some (told_text (tells.Page page)))
+    ∷ []
 
 -- What was told is a page: its files are published, and this is its summary.
 pub record PublishesPage (old new : Option Files) (name : List ℕ) (told : Told)

@@ -2,7 +2,7 @@
 ghost use Rattle.std.specs.Prelude.{◌≡◌, [], ◌∷◌, ◌++◌, Some, IfOk, OnOk};
 ghost use Rattle.reg_core.specs.declared.told.Told.TheVariants as tells;
 ghost use Rattle.reg_publish.specs.Folder.{Places};
-ghost use Rattle.reg_publish.specs.Publishing.{Publishes, PublishesPage, PublishesRegistries, files_by_blocks, one_file, page_files, told_text};
+ghost use Rattle.reg_publish.specs.Publishing.{Publishes, PublishesPage, PublishesRegistries, files_by_blocks, files_by_page, one_file, told_text};
 ghost use Rattle.reg_site.specs.Blocks.{assignments_text};
 ghost use Rattle.reg_site.specs.Site.{site};
 ghost use Rattle.reg_site.specs.declared.files.File.TheVariants as file;
@@ -29,6 +29,7 @@ use reg_site::portions::{Portions, Whole};
 use reg_site::registry::RegistryPage;
 use reg_site::style::style;
 use reg_site::summary::Summary;
+use reg_site::tree::RegistryTree;
 use std::alloc::{AllocError, Global};
 
 /// How much was published.
@@ -108,7 +109,7 @@ fn publish_registries<S: Source, F: Folder>(
     let mut registries = Vec::new(alloc);
     for name in names {
         let told = source.ask(moment, &PublicCommand::Registry(*name))?;
-        registries.push(publish_registry(alloc, folder, *name, told)?)?;
+        registries.push(publish_registry(alloc, folder, *name, &told)?)?;
     }
     Ok(registries)
 }
@@ -118,19 +119,16 @@ fn publish_registry<F: Folder>(
     alloc: Global,
     folder: &mut F,
     name: Name,
-    told: Told,
+    told: &Told,
 ) -> Result<Summary, Unpublished>
-    ensures { IfOk result (PublishesPage (F.files folder.old) (F.files folder.new) name told) }
+    ensures { IfOk result (PublishesPage (F.files folder.old) (F.files folder.new) name told.now) }
 {
-    let page = page_in(&told)?;
+    let page = page_in(told)?;
     publish_page(alloc, folder, name, page)?;
-    let registry = Summary::of(alloc, page)?;
-    let tree = text_of(alloc, told)?;
-    put(alloc, folder, File::RegistryTree(name), &tree)?;
-    Ok(registry)
+    Ok(Summary::of(alloc, page)?)
 }
 
-// The page of a registry, and its listing.
+// The page of a registry, its listing and its JSON.
 fn publish_page<F: Folder>(
     alloc: Global,
     folder: &mut F,
@@ -138,13 +136,16 @@ fn publish_page<F: Folder>(
     page: &Page,
 ) -> Result<(), Unpublished>
     ensures { OnOk result (Places (F.files folder.old) (F.files folder.new)
-        (page_files name page.now)) }
+        (files_by_page name page.now)) }
 {
     let mut html = RegistryPage::of(alloc, page)?;
     put_portions(alloc, folder, File::RegistryPage(name), &mut html)?;
     drop(html);
     let csv = listing(alloc, page)?;
-    put(alloc, folder, File::RegistryListing(name), &csv)
+    put(alloc, folder, File::RegistryListing(name), &csv)?;
+    drop(csv);
+    let mut tree = RegistryTree::of(page);
+    put_portions(alloc, folder, File::RegistryTree(name), &mut tree)
 }
 
 // How many entries they have.

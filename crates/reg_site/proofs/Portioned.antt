@@ -1,15 +1,29 @@
 -- Portions of a page.
-use Rattle.std.proofs.Common.{◌≡◌, ℕ, ◌+◌, ◌<◌, List, [], ◌∷◌, ◌++◌, length, get_or, drop, refl, sym, ap, ◌∙◌, append-nil, add-one, drop-cons, arith}
-use Rattle.std.proofs.lemmas.List.{length-append}
+use Rattle.std.proofs.Common.{◌≡◌, ℕ, ◌+◌, ◌<◌, ◌≤◌, List, [], ◌∷◌, ◌++◌, length, get_or, drop, map, nat_lt, if◌then◌else◌, true, false, refl, sym, ap, ◌∙◌, append-nil, append_assoc, add-one, drop-cons, arith}
+use Rattle.std.proofs.lemmas.Bool.Decides.{nat_tests}
+use Rattle.std.proofs.lemmas.List.{drop_all, length-append}
+use Rattle.reg_core.specs.declared.entry.PageEntry.{PageEntry}
+use Rattle.reg_core.specs.declared.page.Page.{Page}
+use Rattle.reg_core.specs.declared.reply.Reply.TheVariants.{Accepted}
+use Rattle.reg_core.specs.declared.told.Told.TheVariants as tells
 use Rattle.reg_core.specs.declared.holding.Listed.{Listed}
 use Rattle.reg_ranges.specs.declared.range.Range.{Range}
+use Rattle.reg_print.specs.Answer.{body_text}
 use Rattle.reg_print.specs.Listing.{ListedRow}
+use Rattle.reg_print.specs.Parts.{end_text, entry_text, front_text, listed_text}
+use Rattle.reg_print.specs.Trees.Page.{entry_tree}
+use Rattle.reg_print.specs.declared.answer.Answer.TheVariants.{Reply}
+use Rattle.reg_print.proofs.ComparedTexts.{body_text-page}
 use Rattle.reg_site.specs.Appended.{Appended}
 use Rattle.reg_site.specs.Markup.{markup_then}
-use Rattle.reg_site.specs.Portions.{GivesPortion}
+use Rattle.reg_site.specs.Portions.{GivesPortion, after}
 use Rattle.reg_site.specs.Registry as registry
 use Rattle.reg_site.specs.Blocks as blocks
+use Rattle.reg_site.specs.Table.{below_rows}
+use Rattle.reg_site.specs.Tree.{entries_left}
+use Rattle.reg_site.specs.declared.portions.Next.TheVariants as next
 use Rattle.reg_site.specs.declared.summary.Summary.{Summary}
+use Rattle.reg_site.proofs.Pieces.{bytes}
 
 -- what was appended was the next portion, and has a byte
 pub gives : {old new rest rest' : List ℕ} {f : List ℕ → List ℕ} → Appended old new f
@@ -32,6 +46,30 @@ at_place xs place x h is =
     let here : drop place xs ≡ get_or xs place x ∷ drop (place + 1) xs =
     rw add-one (drop-cons xs place x h) in
     here ∙ ap (λ head. head ∷ drop (place + 1) xs) (sym is)
+
+-- these bytes were the next portion
+pub gives_bytes : {old new rest rest' : List ℕ} (piece : List ℕ) → new ≡ old ++ piece
+    → 0 < length piece → rest ≡ piece ++ rest' → GivesPortion old new rest rest'
+gives_bytes {old} {new} piece h some is =
+    gives (bytes old new piece h) (rw (append-nil piece) some) is
+
+-- ---- What is given next
+
+-- behind a row that is there stands another one, or what is below
+pub after_row : (place rows : ℕ) → place < rows → after (next.Row place) rows ≡ next.Row (place + 1)
+after_row place rows h =
+    let there : nat_lt place rows ≡ true = grind (arith, nat_tests, h) in
+    ap (λ b. if b then next.Row (place + 1) else next.Nothing) there
+
+-- behind the last row is what stands below, and then nothing
+pub after_last : (place rows : ℕ) → rows ≤ place → after (next.Row place) rows ≡ next.Nothing
+after_last place rows h =
+    let gone : nat_lt place rows ≡ false = grind (arith, nat_tests, h) in
+    ap (λ b. if b then next.Row (place + 1) else next.Nothing) gone
+
+-- what stands below the rows of a table has a byte
+pub below_some : 0 < length (below_rows ++ [])
+below_some = omega arith
 
 -- ---- The page of a registry
 
@@ -66,3 +104,41 @@ pub blocks_parts : (rows : List Listed)
     → blocks.blocks_page rows ≡ blocks.above_rows (blocks.rows_left rows)
 unfolding blocks.blocks_page
 blocks_parts rows = refl
+
+-- ---- The JSON of a registry
+
+-- what stands before its entries has a byte
+pub front_some : 0 < length front_text
+front_some = omega arith
+
+-- what stands behind them has a byte
+pub end_some : (page : Page) → 0 < length (end_text page)
+end_some page = omega arith
+
+-- the JSON is what stands before its entries, and then these and what stands behind them
+pub tree_parts : (page : Page)
+    → body_text (Reply (Accepted (tells.Page page))) ≡ front_text ++ entries_left page 0
+tree_parts page =
+    body_text-page page
+    ∙ append_assoc front_text (listed_text false (map entry_tree page.entries)) (end_text page)
+
+-- from an entry that is there it is that entry, and then what is left
+pub entry_then : (page : Page) (place : ℕ) (entry : PageEntry) → place < length page.entries
+    → entry ≡ get_or page.entries place entry
+    → entries_left page place
+    ≡ entry_text (nat_lt 0 place) entry ++ entries_left page (place + 1)
+entry_then page place entry h is =
+    let piece = entry_text (nat_lt 0 place) entry in
+    let more = map entry_tree (drop (place + 1) page.entries) in
+    let later : nat_lt 0 (place + 1) ≡ true = grind (arith, nat_tests) in
+    ap (λ entries. listed_text (nat_lt 0 place) (map entry_tree entries) ++ end_text page)
+    (at_place page.entries place entry h is)
+    ∙ append_assoc piece (listed_text true more) (end_text page)
+    ∙ ap (λ b. piece ++ (listed_text b more ++ end_text page)) (sym later)
+
+-- behind the last entry it is what stands there
+pub entries_none : (page : Page) (place : ℕ) → length page.entries ≤ place
+    → entries_left page place ≡ end_text page
+entries_none page place h =
+    ap (λ entries. listed_text (nat_lt 0 place) (map entry_tree entries) ++ end_text page)
+    (drop_all place page.entries h)

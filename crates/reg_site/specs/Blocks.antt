@@ -10,8 +10,8 @@ use Rattle.reg_site.specs.Document.{document, link, page, page_start, plain}
 use Rattle.reg_site.specs.Markup.{Markup, text, all_of, markup_then}
 use Rattle.reg_site.specs.Table.{below_rows, row, table, table_start}
 use Rattle.reg_site.specs.declared.blocks.BlocksPage.{BlocksPage}
-use Rattle.reg_site.specs.declared.document.Next.{Next}
-use Rattle.reg_site.specs.declared.document.Next.TheVariants as next
+use Rattle.reg_site.specs.declared.portions.Next.{Next}
+use Rattle.reg_site.specs.declared.portions.Next.TheVariants as next
 
 -- ---- IEEE's files
 

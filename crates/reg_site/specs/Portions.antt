@@ -1,5 +1,7 @@
 -- What is given in portions.
-use Rattle.std.specs.Prelude.{◌≡◌, ℕ, ◌<◌, List, [], ◌++◌, length, Bool, true, false}
+use Rattle.std.specs.Prelude.{◌≡◌, ℕ, ◌+◌, ◌<◌, List, [], ◌++◌, length, nat_lt, if◌then◌else◌, Bool, true, false}
+use Rattle.reg_site.specs.declared.portions.Next.{Next}
+use Rattle.reg_site.specs.declared.portions.Next.TheVariants as next
 
 -- Some bytes came to what stood before: those that were to be given next, and at least one.
 pub record GivesPortion (old new rest rest' : List ℕ) : Type 0 where
@@ -16,3 +18,9 @@ pub record GivesNothing (old new rest rest' : List ℕ) : Type 0 where
 abbrev pub Gives : Bool → List ℕ → List ℕ → List ℕ → List ℕ → Type 0
 Gives true old new rest rest' = GivesPortion old new rest rest'
 Gives false old new rest rest' = GivesNothing old new rest rest'
+
+-- what is given after this, where there are so many rows
+abbrev pub after : Next → ℕ → Next
+after next.Above rows = next.Row 0
+after (next.Row place) rows = if nat_lt place rows then next.Row (place + 1) else next.Nothing
+after next.Nothing rows = next.Nothing

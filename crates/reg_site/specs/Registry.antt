@@ -10,8 +10,8 @@ use Rattle.reg_site.specs.Markup.{Markup, text, all_of, markup_then}
 use Rattle.reg_site.specs.Summary.{summary}
 use Rattle.reg_site.specs.declared.summary.Summary.{Summary}
 use Rattle.reg_site.specs.Table.{below_rows, row, table, table_start}
-use Rattle.reg_site.specs.declared.document.Next.{Next}
-use Rattle.reg_site.specs.declared.document.Next.TheVariants as next
+use Rattle.reg_site.specs.declared.portions.Next.{Next}
+use Rattle.reg_site.specs.declared.portions.Next.TheVariants as next
 use Rattle.reg_site.specs.declared.registry.RegistryPage.{RegistryPage}
 
 -- ---- The ranges

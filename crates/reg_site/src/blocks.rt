@@ -5,10 +5,10 @@ ghost use Rattle.reg_site.specs.Blocks.{above_rows, assignments_text, block_link
 ghost use Rattle.reg_site.specs.Table.{row, table_start};
 ghost use Rattle.reg_print.specs.BlockListing.{block_header};
 
-use crate::document::{Next, push_start};
+use crate::document::push_start;
 use crate::markup::Piece::{Link, Markup};
 use crate::markup::push_all;
-use crate::portions::Portions;
+use crate::portions::{Next, Portions};
 use crate::table;
 use crate::table::push_row;
 use reg_blocks::size::Size;
@@ -83,22 +83,14 @@ impl Portions for BlocksPage<'_> {
     fn push_next(&mut self, out: &mut Vec<u8>) -> Result<bool, AllocError> {
         let alloc = *out.allocator();
         match self.next {
-            Next::Above => {
-                push_above(out)?;
-                self.next = Next::Row(0);
-            }
+            Next::Above => push_above(out)?,
             Next::Row(place) => match self.rows.get(place) {
-                Some(row) => {
-                    push_block(out, alloc, row)?;
-                    self.next = Next::Row(place + 1);
-                }
-                None => {
-                    table::push_below(out)?;
-                    self.next = Next::Nothing;
-                }
+                Some(row) => push_block(out, alloc, row)?,
+                None => table::push_below(out)?,
             },
             Next::Nothing => return Ok(false),
         }
+        self.next = self.next.after(self.rows.len());
         Ok(true)
     }
 }

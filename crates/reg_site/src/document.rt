@@ -7,17 +7,6 @@ use crate::markup::Piece::{Markup, Text};
 use crate::markup::{push, push_all};
 use std::alloc::AllocError;
 
-/// What is given next of a page that ends with a table.
-#[derive(Clone, Copy)]
-pub(crate) enum Next {
-    /// What stands above the rows of the table.
-    Above,
-    /// The row at this place, or, where there is none, what stands below the rows.
-    Row(usize),
-    /// Nothing: all was given.
-    Nothing,
-}
-
 /// Begins a page: its head, by the place of the style sheet and the title, and its heading.
 pub(crate) fn push_start(out: &mut Vec<u8>, style: &str, title: &str) -> Result<(), AllocError>
     ensures { OnOk result (Appended out.old.items out.new.items (page_start style.now title.now)) }

@@ -16,3 +16,4 @@ pub mod registry;
 pub mod style;
 pub mod summary;
 mod table;
+pub mod tree;

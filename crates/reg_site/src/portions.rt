@@ -1,6 +1,6 @@
 //! The bytes of a file in portions.
 ghost use Rattle.std.specs.Prelude.{◌≡◌, ℕ, List, IfOk};
-ghost use Rattle.reg_site.specs.Portions.{Gives};
+ghost use Rattle.reg_site.specs.Portions.{Gives, after};
 
 use std::alloc::AllocError;
 
@@ -45,5 +45,29 @@ impl Portions for Whole<'_> {
         out.extend_from_slice(portion)?;
         self.rest = rest;
         Ok(true)
+    }
+}
+
+/// What is given next of bytes that have rows.
+#[derive(Clone, Copy)]
+pub(crate) enum Next {
+    /// What stands above the rows.
+    Above,
+    /// The row at this place, or, where there is none, what stands below the rows.
+    Row(usize),
+    /// Nothing: all was given.
+    Nothing,
+}
+
+impl Next {
+    /// What is given after this, where there are so many rows.
+    pub(crate) fn after(self, rows: usize) -> Self
+        ensures { result ≡ after self rows }
+    {
+        match self {
+            Next::Above => Next::Row(0),
+            Next::Row(place) if place < rows => Next::Row(place + 1),
+            Next::Row(_) | Next::Nothing => Next::Nothing,
+        }
     }
 }

@@ -8,10 +8,10 @@ ghost use Rattle.reg_site.specs.Summary.{summary};
 ghost use Rattle.reg_site.specs.Table.{row, table_start};
 
 use crate::bar::push_bar;
-use crate::document::{Next, push_start};
+use crate::document::push_start;
 use crate::markup::Piece::{Link, Markup};
 use crate::markup::push_all;
-use crate::portions::Portions;
+use crate::portions::{Next, Portions};
 use crate::summary::Summary;
 use crate::table;
 use crate::table::push_row;
@@ -51,22 +51,14 @@ impl Portions for RegistryPage<'_> {
     fn push_next(&mut self, out: &mut Vec<u8>) -> Result<bool, AllocError> {
         let alloc = *out.allocator();
         match self.next {
-            Next::Above => {
-                push_above(out, alloc, self.page)?;
-                self.next = Next::Row(0);
-            }
+            Next::Above => push_above(out, alloc, self.page)?,
             Next::Row(place) => match self.rows.get(place) {
-                Some(row) => {
-                    push_entry(out, alloc, row)?;
-                    self.next = Next::Row(place + 1);
-                }
-                None => {
-                    table::push_below(out)?;
-                    self.next = Next::Nothing;
-                }
+                Some(row) => push_entry(out, alloc, row)?,
+                None => table::push_below(out)?,
             },
             Next::Nothing => return Ok(false),
         }
+        self.next = self.next.after(self.rows.len());
         Ok(true)
     }
 }

@@ -12,6 +12,7 @@ use reg_core::page::{Page, PageEntries};
 use reg_core::text::{Account, Name, Text};
 use reg_early::day::Day;
 use reg_early::term::{Status, Term};
+use reg_print::parts::front;
 use reg_ranges::policy::Treatment;
 use reg_ranges::range::Range;
 use reg_ranges::table::RangeTable;
@@ -24,7 +25,7 @@ const MOST_ENTRY_BYTES: usize = 1_024;
 /// as much memory as its text has.
 pub(super) fn read(alloc: Global, name: &Name, body: &[u8]) -> Result<Page, Unpublished> {
     let mut scratch = Scratch::new(alloc);
-    let rest = behind(b"{\"entries\":[", body)?;
+    let rest = behind(front(), body)?;
     let (entries, rest) = read_entries(alloc, &mut scratch, rest)?;
     let frame = object_of(alloc, behind(b"],", rest)?)?;
     let mut members = Members::new(&mut scratch, &frame)?;

@@ -1,5 +1,5 @@
 use Rattle.std.proofs.Common.{◌≡◌, ◌++◌, false, map, take}
-use Rattle.reg_print.specs.Comparing.{listed_text}
+use Rattle.reg_print.specs.Parts.{listed_text}
 use Rattle.reg_print.specs.Trees.Page.{entry_tree}
 use Rattle.reg_print.proofs.comparing.behind_entries.Given as goal
 
