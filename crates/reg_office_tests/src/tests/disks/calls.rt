@@ -103,14 +103,15 @@ pub fn ended<D: Disk + Drop>(
     conn: Connection<FileStore<D>>,
     closes: bool,
 ) -> Result<Files<D>, Error> {
-    if !closes {
-        return Ok(conn.into_store().close());
+    if closes {
+        conn.close_files().map_err(error_of)
+    } else {
+        Ok(conn.into_store().close())
     }
-    match conn.close_files() {
-        Ok(files) => Ok(files),
-        Err((error, store)) => {
-            drop(store.close());
-            Err(error)
-        }
-    }
+}
+
+// Why a store was not closed.
+fn error_of<D: Disk + Drop>((error, store): (Error, FileStore<D>)) -> Error {
+    drop(store.close());
+    error
 }
