@@ -1,4 +1,5 @@
 pub mod Texts
+pub mod Stored
 pub mod Rfcs
 pub mod Requirements
 pub mod Tables

@@ -1,11 +1,11 @@
 //! Printable texts: labels, contacts, reasons, notes.
-ghost use Rattle.std.specs.Prelude.{◌≡◌, ℕ, true, false, nat_eq, List, Some, None, Ok, IfOk, refl};
-ghost use Rattle.std.specs.Rc.{rc_str_bytes};
+ghost use Rattle.std.specs.Prelude.{◌≡◌, ℕ, true, false, nat_eq, List, option_map, Some, None, Ok, IfOk, refl};
 ghost use Rattle.std.specs.Cmp.{partial_equiv_from_equiv};
 ghost use Rattle.std.specs.Cmp.Lexicographic.{slice_cmp, pointwise, nat_list_cmp_total, nat_list_eq_equiv, texts_po, texts_ties};
 ghost use Rattle.std.specs.Ordering.{nat_cmp};
 ghost use Rattle.std.specs.List.{list_all};
 ghost use Rattle.reg_ranges.specs.Texts.{is_text_byte as text_byte, is_text as text, read_text, ascii_text};
+ghost use Rattle.reg_ranges.specs.Stored.{bytes_of};
 
 use crate::formed::Formed;
 use std::alloc::{AllocError, Global};
@@ -13,37 +13,72 @@ use std::cmp::Ordering;
 use std::marker::Model;
 use std::rc::RcStr;
 
-/// 1 to 200 printable ASCII characters: a label, a contact, a reason, a note. Copies share its bytes.
+/// 1 to 200 printable ASCII characters: a label, a contact, a reason, a note.
 #[derive(Clone, Debug, Drop)]
 pub struct Text {
-    text: RcStr,
+    bytes: Bytes,
+}
+
+/// Where the bytes of a text stand.
+#[derive(Clone, Debug, Drop)]
+enum Bytes {
+    /// In memory that is this text's alone: a copy takes as much again.
+    Own(String),
+    /// In memory that copies share, which takes 24 bytes more, or so, than a text's own.
+    Shared(RcStr),
+}
+
+impl Bytes {
+    fn as_str(&self) -> &str
+        ensures { result.now ≡ bytes_of self.now }
+    {
+        match self {
+            Bytes::Own(text) => text.as_str(),
+            Bytes::Shared(text) => text.as_str(),
+        }
+    }
 }
 
 impl Model for Text {
     ghost use Rattle.std.specs.Prelude.{◌≡◌, List, ℕ, true};
-    ghost use Rattle.std.specs.Rc.{rc_str_bytes};
+    ghost use Rattle.reg_ranges.specs.Stored.{bytes_of};
     ghost use Rattle.reg_ranges.specs.Texts.{is_text};
 
     ghost Value = { List ℕ };
 
-    ghost view = { λ t. rc_str_bytes t.text };
+    ghost view = { λ t. bytes_of t.bytes };
 
-    ghost invariant = { λ t. is_text (rc_str_bytes t.text) ≡ true };
+    ghost invariant = { λ t. is_text (bytes_of t.bytes) ≡ true };
 }
 
 impl Text {
     ghost use Rattle.reg_ranges.specs.Texts.{is_text};
 
-    /// The text of these bytes; none where they have not the form, for which no memory is taken.
+    /// The text of these bytes, which a copy of it copies; none where they have not the form, for
+    /// which no memory is taken.
     pub fn read(alloc: Global, bytes: &[u8]) -> Result<Option<Self>, AllocError>
         ensures value { IfOk result (λ o. o ≡ read_text is_text bytes.now) }
         ensures refused { is_text bytes.now ≡ false → result ≡ Ok None }
     {
-        if !is_text(bytes) {
+        let Some(text) = in_form(bytes) else {
             return Ok(None);
-        }
+        };
         Ok(Some(Text {
-            text: text_of(alloc, bytes)?,
+            bytes: Bytes::Own(String::from_str(alloc, text)?),
+        }))
+    }
+
+    /// The text of these bytes, which its copies share; none where they have not the form, for which
+    /// no memory is taken.
+    pub fn read_shared(alloc: Global, bytes: &[u8]) -> Result<Option<Self>, AllocError>
+        ensures value { IfOk result (λ o. o ≡ read_text is_text bytes.now) }
+        ensures refused { is_text bytes.now ≡ false → result ≡ Ok None }
+    {
+        let Some(text) = in_form(bytes) else {
+            return Ok(None);
+        };
+        Ok(Some(Text {
+            bytes: Bytes::Shared(RcStr::from_str(alloc, text)?),
         }))
     }
 
@@ -52,11 +87,11 @@ impl Text {
         ensures text { result.now ≡ self.now }
         ensures form { is_text self.now ≡ true }
     {
-        self.text.as_str()
+        self.bytes.as_str()
     }
 
-    /// An equal text, which shares the bytes of this one, so no memory is taken. An error comes only
-    /// where there are more copies than can be counted.
+    /// An equal text. Where this one was read to be shared, the copy shares its bytes and takes no
+    /// memory, and an error comes only where there are more copies than can be counted.
     pub fn copy(&self) -> Result<Self, AllocError>
         ensures equal { IfOk result (λ t. t ≡ self.now) }
         ensures form { is_text self.now ≡ true }
@@ -72,15 +107,18 @@ impl Formed for Text {
     ghost has_form = { is_text };
 
     fn formed(&self) {
-        let _ = &self.text;
+        let _ = &self.bytes;
     }
 }
 
-fn text_of(alloc: Global, bytes: &[u8]) -> Result<RcStr, AllocError>
-    requires { text bytes.now ≡ true }
-    ensures { IfOk result (λ t. rc_str_bytes t ≡ bytes.now) }
+// The text of these bytes, where they have the form.
+fn in_form(bytes: &[u8]) -> Option<&str>
+    ensures { option_map (λ t. t.now) result ≡ read_text text bytes.now }
 {
-    RcStr::from_str(alloc, str::from_utf8(bytes).unwrap())
+    if !is_text(bytes) {
+        return None;
+    }
+    Some(str::from_utf8(bytes).unwrap())
 }
 
 impl PartialEq for Text {
@@ -89,7 +127,7 @@ impl PartialEq for Text {
     ghost laws = { partial_equiv_from_equiv nat_list_eq_equiv };
 
     fn eq(&self, other: &Self) -> bool {
-        self.text == other.text
+        self.as_str() == other.as_str()
     }
 }
 
@@ -117,7 +155,7 @@ impl Ord for Text {
     ghost matches_eq = { texts_ties };
 
     fn cmp(&self, other: &Self) -> Ordering {
-        self.text.cmp(&other.text)
+        self.as_str().cmp(other.as_str())
     }
 }
 
