@@ -48,7 +48,7 @@ impl fmt::Display for RangeFault {
 impl Error for RangeFault {}
 
 /// 1 to 64 ranges in order, such that each value of 0 to a largest one lies in exactly one of them.
-#[derive(Clone, Debug, Drop)]
+#[derive(Clone, Debug)]
 pub struct RangeTable {
     max: u32,
     ranges: Vec<Range>,
@@ -62,6 +62,13 @@ impl Model for RangeTable {
     ghost view = { λ t. record { max = t.max; ranges = t.ranges.items } };
 
     ghost invariant = { λ t. IsPartition (record { max = t.max; ranges = t.ranges.items }) };
+}
+
+// Not derived: what a crate above owes where it lets a table go is proved here, once.
+impl Drop for RangeTable {
+    fn drop(self) {
+        let RangeTable { max: _, ranges: _ } = self;
+    }
 }
 
 impl RangeTable {

@@ -63,7 +63,6 @@ use std::collections::BTreeMap;
 /// O(log n); a registry's ranges, its entries, an account's own requests, blocks, agents and
 /// principals, a request's file and an expert's queue O(log n + rows); the names of all registries,
 /// all blocks, all requests, all capabilities and all agents O(rows), and the pool O(rows log rows).
-#[derive(Drop)]
 pub struct ListKeeper {
     alloc: Global,
     caps: Caps,
@@ -74,6 +73,21 @@ pub struct ListKeeper {
     links: Links,
     ghost well: { WellKept (content caps registries (entries_held registrations)
         (world_of reviews) (pool_held blocks) (blocks_given blocks) (links_held links)) },
+}
+
+// Not derived: what a crate above owes where it lets a keeper go is proved here, once.
+impl Drop for ListKeeper {
+    fn drop(self) {
+        let ListKeeper {
+            alloc: _,
+            caps: _,
+            registries: _,
+            registrations: _,
+            reviews: _,
+            blocks: _,
+            links: _,
+        } = self;
+    }
 }
 
 impl ListKeeper {
