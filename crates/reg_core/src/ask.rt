@@ -83,13 +83,22 @@ pub struct BlockAsk {
 }
 
 /// What a request asks for.
-#[derive(Clone, Drop, PartialEq, Eq)]
+#[derive(Clone, PartialEq, Eq)]
 pub enum Ask {
     Code(CodeAsk),
     Early(EarlyAsk),
     Renew(RenewalAsk),
     Permanent(PermanenceAsk),
     Block(BlockAsk),
+}
+
+// Not derived: what a crate above owes where it lets an ask go is proved here, once.
+impl Drop for Ask {
+    fn drop(self) {
+        match self {
+            Ask::Code(_) | Ask::Early(_) | Ask::Renew(_) | Ask::Permanent(_) | Ask::Block(_) => {}
+        }
+    }
 }
 
 impl Formed for Want {

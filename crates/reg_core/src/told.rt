@@ -11,7 +11,6 @@ use crate::text::{Account, Name};
 use reg_blocks::pool::Pool;
 
 /// What the caller of an accepted command is told.
-#[derive(Drop)]
 pub enum Told {
     /// The names of all registries, in order.
     Names(Rows<Name>),
@@ -57,4 +56,20 @@ pub enum Told {
     Granted(Cap),
     /// The token has no capability now.
     Revoked,
+}
+
+// Not derived: what a crate above owes where it lets go what a caller is told is proved here, once.
+impl Drop for Told {
+    fn drop(self) {
+        match self {
+            Told::Page(_) | Told::Listing(_) | Told::Pool(_) | Told::Blocks(_) => {}
+            Told::Made(_) | Told::Row(_) | Told::Rows(_) => {}
+            Told::Held(_) | Told::Holdings(_) => {}
+            Told::Agent(_, _) | Told::Names(_) | Told::Accounts(_) => {}
+            Told::Queued(_) | Told::Queue(_) => {}
+            Told::Desk(_) | Told::Desks(_) | Told::Filed(_) => {}
+            Told::Marked(_) | Told::Defined(_) | Told::Pooled(_) => {}
+            Told::Granted(_) | Told::Revoked => {}
+        }
+    }
 }
