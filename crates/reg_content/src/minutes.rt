@@ -12,7 +12,7 @@ ghost use Rattle.reg_content.specs.Calls.{IsKeeping, LooksIn, Steps};
 ghost use Rattle.reg_content.specs.Marks.{CanName, request_minuted};
 
 use crate::kept::{add, find};
-use reg_core::ask::{Ask, RenewalAsk};
+use reg_core::ask::Ask;
 use reg_core::request::Request;
 use reg_core::text::{Account, Ref, Text};
 use reg_keeper::keeper::Fault;
@@ -192,19 +192,11 @@ fn with_minute(request: Request, minute: Option<Text>) -> Request
 }
 
 /// An ask with a minute or none, if it is a renewal.
-fn ask_with(ask: Ask, minute: Option<Text>) -> Ask
+fn ask_with(mut ask: Ask, minute: Option<Text>) -> Ask
     ensures { result ≡ ask_with minute ask }
 {
-    match ask {
-        Ask::Renew(renewal) => Ask::Renew(with_iesg(renewal, minute)),
-        other => other,
+    if let Ask::Renew(renewal) = &mut ask {
+        renewal.iesg = minute;
     }
-}
-
-/// A renewal with a minute or none.
-fn with_iesg(mut renewal: RenewalAsk, minute: Option<Text>) -> RenewalAsk
-    ensures { result ≡ record renewal { iesg = minute } }
-{
-    renewal.iesg = minute;
-    renewal
+    ask
 }

@@ -5,7 +5,6 @@ ghost use Rattle.reg_publish.specs.Publishing.{told_text};
 
 use crate::unpublished::Unpublished;
 use reg_core::command::PublicCommand;
-use reg_core::page::Page;
 use reg_core::reply::Reply;
 use reg_core::told::Told;
 use reg_print::answer::{Answer, body_of};
@@ -24,20 +23,14 @@ mod pool;
 pub fn told_of(alloc: Global, command: &PublicCommand, body: &[u8]) -> Result<Told, Unpublished>
     ensures { IfOk result (λ told. body.now ≡ told_text told) }
 {
-    match read_told(alloc, command, body)? {
-        Told::Page(page) => compared_page(alloc, page, body),
-        told => compared(alloc, told, body),
-    }
-}
-
-// A registry, where these bytes are its text.
-fn compared_page(alloc: Global, page: Page, body: &[u8]) -> Result<Told, Unpublished>
-    ensures { IfOk result (λ told. body.now ≡ told_text told) }
-{
-    if !is_page(alloc, &page, body)? {
+    let told = read_told(alloc, command, body)?;
+    let Told::Page(page) = &told else {
+        return compared(alloc, told, body);
+    };
+    if !is_page(alloc, page, body)? {
         return Err(Unpublished::Read);
     }
-    Ok(Told::Page(page))
+    Ok(told)
 }
 
 // What is told, where these bytes are its text.
