@@ -72,3 +72,13 @@ short_token s h = short_run is_token_byte LEAST_TOKEN_BYTES MOST_TOKEN_BYTES s h
 
 pub short_digest : (s : List ℕ) → is_digest s ≡ true → length s ≤ DIGEST_BYTES
 short_digest s h = short_run is_digest_byte DIGEST_BYTES DIGEST_BYTES s h
+
+-- one byte counts the bytes of each
+pub counted_name : MOST_NAME_BYTES ≤ 255
+counted_name = grind (arith)
+
+pub counted_token : MOST_TOKEN_BYTES ≤ 255
+counted_token = grind (arith)
+
+pub counted_digest : DIGEST_BYTES ≤ 255
+counted_digest = grind (arith)

@@ -8,7 +8,7 @@ ghost use Rattle.std.specs.Ordering.{nat_cmp};
 ghost use Rattle.std.specs.List.{list_all};
 ghost use Rattle.std.specs.Str.{IsAscii};
 ghost use Rattle.reg_ranges.specs.Texts.{read_text};
-ghost use Rattle.reg_core.specs.Names.{is_name_byte as name_byte, is_token_byte as token_byte, is_digest_byte as digest_byte, is_name as name, is_token, is_digest, ascii_name, ascii_token, ascii_digest, in_place, short_name, short_token, short_digest};
+ghost use Rattle.reg_core.specs.Names.{is_name_byte as name_byte, is_token_byte as token_byte, is_digest_byte as digest_byte, is_name as name, is_token, is_digest, ascii_name, ascii_token, ascii_digest, in_place, short_name, short_token, short_digest, counted_name, counted_token, counted_digest};
 
 use reg_ranges::formed::Formed;
 pub use reg_ranges::text::Text;
@@ -42,6 +42,9 @@ pub trait Form<const N: usize>: Copy {
 
     /// They are at most `N` bytes.
     ghost short: { (s : List ℕ) → fits s ≡ true → length s ≤ N };
+
+    /// One byte counts them.
+    ghost counted: { N ≤ 255 };
 }
 
 /// A name of the form `F`, kept in place.
@@ -49,7 +52,7 @@ pub trait Form<const N: usize>: Copy {
 pub struct Word<F: Form<N>, const N: usize> {
     // The bytes, and zeros after them.
     place: [u8; N],
-    len: usize,
+    len: u8,
     form: PhantomData<F>,
 }
 
@@ -80,7 +83,7 @@ impl<F: Form<N>, const N: usize> Word<F, N> {
         }
         Some(Word {
             place: in_place(bytes),
-            len: bytes.len(),
+            len: bytes.len() as u8,
             form: PhantomData,
         })
     }
@@ -98,7 +101,7 @@ impl<F: Form<N>, const N: usize> Word<F, N> {
         ensures form { F.fits self.now ≡ true }
         ensures ascii { IsAscii self.now }
     {
-        &self.place[..self.len]
+        &self.place[..self.len as usize]
     }
 }
 
@@ -171,6 +174,8 @@ impl<T: Copy> Form<MOST_NAME_BYTES> for NameForm<T> {
 
     ghost short = { short_name };
 
+    ghost counted = { counted_name };
+
     fn accepts(bytes: &[u8]) -> bool {
         is_name(bytes)
     }
@@ -200,6 +205,8 @@ impl Form<MOST_TOKEN_BYTES> for TokenForm {
 
     ghost short = { short_token };
 
+    ghost counted = { counted_token };
+
     fn accepts(bytes: &[u8]) -> bool {
         (LEAST_TOKEN_BYTES..=MOST_TOKEN_BYTES).contains(&bytes.len()) && all_token_bytes(bytes)
     }
@@ -215,6 +222,8 @@ impl Form<DIGEST_BYTES> for DigestForm {
     ghost ascii = { ascii_digest };
 
     ghost short = { short_digest };
+
+    ghost counted = { counted_digest };
 
     fn accepts(bytes: &[u8]) -> bool {
         bytes.len() == DIGEST_BYTES && all_digest_bytes(bytes)

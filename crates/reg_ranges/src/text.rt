@@ -14,7 +14,7 @@ use std::marker::Model;
 use std::rc::RcStr;
 
 /// 1 to 200 printable ASCII characters: a label, a contact, a reason, a note.
-#[derive(Clone, Debug)]
+#[derive(Debug)]
 pub struct Text {
     bytes: Bytes,
 }
@@ -49,6 +49,17 @@ impl Model for Text {
     ghost view = { λ t. bytes_of t.bytes };
 
     ghost invariant = { λ t. is_text (bytes_of t.bytes) ≡ true };
+}
+
+impl Clone for Text {
+    ghost use Rattle.std.specs.Prelude.{◌≡◌};
+
+    ghost is_clone = { λ text copy. copy ≡ text };
+
+    fn clone(&self) -> Result<Self, AllocError> {
+        let bytes = self.bytes.clone()?;
+        Ok(Text { bytes })
+    }
 }
 
 // Not derived: what a crate above owes where it lets a text go is proved here, once.
