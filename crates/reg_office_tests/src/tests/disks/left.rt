@@ -93,14 +93,22 @@ pub(crate) fn left_of(alloc: Global, files: Files<Stopping>) -> Result<Left, All
 fn left_of_file(alloc: Global, disk: Stopping) -> Result<LeftOfFile, AllocError> {
     let calls = disk.calls();
     let mut disk = disk.into_inner();
-    let written = copied(alloc, disk.inner().bytes());
-    disk.crash();
-    let synced = copied(alloc, disk.inner().bytes());
+    let written_and_synced = left_on(alloc, &mut disk);
+    drop(disk);
+    let (written, synced) = written_and_synced?;
     Ok(LeftOfFile {
-        written: written?,
-        synced: synced?,
+        written,
+        synced,
         calls,
     })
+}
+
+// What was written to a disk, and what a crash leaves of it.
+fn left_on(alloc: Global, disk: &mut Fuse<Memory>) -> Result<(Vec<u8>, Vec<u8>), AllocError> {
+    let written = copied(alloc, disk.inner().bytes())?;
+    disk.crash();
+    let synced = copied(alloc, disk.inner().bytes())?;
+    Ok((written, synced))
 }
 
 /// A disk that holds these bytes and stops after these calls.
