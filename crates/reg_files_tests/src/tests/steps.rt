@@ -1,4 +1,36 @@
-//! What a test of jobs over a file does, step by step.
+//! What a test of jobs over a file does, step by step, and how that is read from one text.
+//!
+//! A step begins with a line that says what is done. Below it stand what it is given, after `> `,
+//! and what is wanted of it, after `< `:
+//!
+//! ```text
+//! ranges
+//! > lo,hi,treatment,note
+//! > 0,9,reserved,
+//! $ define @ codes 9 # --clerk clerk-token-00001
+//! < 200 {"defined":"codes"}
+//! ! define @ codes 8 # --clerk clerk-token-00001
+//! < 422 {"error":"ranges","item":"end"}
+//! ```
+//!
+//! - `$ LINE`: a command line, with what is given on standard input, prints what is wanted, and
+//!   nothing else.
+//! - `! LINE`: a command line, likewise, is not done, with what is wanted on standard error.
+//! - `? LINE` and `?! LINE`: the same two, given nothing, leave the office's file and its log as
+//!   they are, to the byte.
+//! - `unopened`: no job opens the office's file, and each says what is wanted on standard error.
+//! - `office` and `ranges`: what is given is written to the office's file, and to the range file.
+//! - `has`: the office's file has what is wanted.
+//! - `sql STATEMENT`: a statement is carried out in the office's file.
+//! - `private`: nobody but their owner may read or write the office's file, and its log.
+//! - `removed`: the files are removed.
+//!
+//! In a command line `@` stands for the path of the office's file, `#` for that of the range file,
+//! and `%` for a token in it: `@` with its path.
+//!
+//! What stands after `> ` or `< ` is a line with its line feed. After `>| ` stands what is given
+//! without one, and `>* COUNT` gives so many letters `x`. Empty lines are nothing. A test fails at
+//! what is none of these, and at what is given or wanted where nothing can be.
 use reg_files::Files;
 use reg_jobs::command_line::job;
 use reg_jobs::jobs::Job;
@@ -6,49 +38,81 @@ use reg_program::console::Console;
 use reg_program::performing::perform;
 use reg_testing::facts::ensure;
 use sqlite::{Alter, Connection};
-use std::alloc::Global;
+use std::alloc::{AllocError, Global};
 use std::io::ErrorKind;
 use std::os::unix::fs::PermissionsExt;
 use std::path::PathBuf;
 use std::test::Fail;
 use std::{env, fs};
 
-/// A step of a test. In a command line `@` stands for the path of the office's file, `#` for that of
-/// the range file, and `%` for a token in it: `@` with its path.
-#[derive(Clone, Copy)]
-pub enum Step {
-    /// A command line prints this, and nothing else.
-    Prints(&'static str, &'static str),
-    /// A command line with this on standard input prints this, and nothing else.
-    Answers(&'static str, &'static str, &'static str),
-    /// A command line with so many bytes on standard input is not done, with this on standard error.
-    TooMuch(&'static str, usize, &'static str),
-    /// Nobody but their owner may read or write the office's file, and its log.
-    Private,
-    /// A command line is not done, with this on standard error.
-    Undone(&'static str, &'static str),
-    /// A command line prints this, and nothing else, and leaves the office's file and its log as they
-    /// are, to the byte.
-    Looks(&'static str, &'static str),
-    /// A command line is not done, with this on standard error, and leaves the files as they are.
-    LooksInVain(&'static str, &'static str),
-    /// No job opens the file, and each says this on standard error.
-    Unopened(&'static str),
-    /// This is written to the office's file.
-    Office(&'static str),
-    /// This is written to the range file.
-    Ranges(&'static str),
-    /// So many bytes are written to the range file.
-    LongRanges(usize),
-    /// A statement is carried out in the office's file.
-    Executes(&'static str),
-    /// The office's file has this.
-    Has(&'static str),
-    /// The files are removed.
-    Removed,
+/// A step, as far as it is read: its first line, what it is given, and what is wanted of it.
+#[derive(Drop)]
+struct Step<'a> {
+    head: &'a str,
+    given: String,
+    wanted: String,
 }
 
-/// The files of a test.
+impl<'a> Step<'a> {
+    fn new(alloc: Global, head: &'a str) -> Step<'a> {
+        Step {
+            head,
+            given: String::new(alloc),
+            wanted: String::new(alloc),
+        }
+    }
+
+    // Becomes the step that begins with this line.
+    fn begin(&mut self, head: &'a str) {
+        self.head = head;
+        self.given.clear();
+        self.wanted.clear();
+    }
+
+    // Reads a line below the first.
+    fn put(&mut self, line: &str) -> Result<(), Fail> {
+        let (mark, text) = line.split_once(' ').ok_or(line)?;
+        match mark {
+            ">" => put_line(&mut self.given, text)?,
+            ">|" => self.given.push_str(text)?,
+            ">*" => put_letters(&mut self.given, text.parse::<usize>()?)?,
+            "<" => put_line(&mut self.wanted, text)?,
+            _ => return Err(line.into()),
+        }
+        Ok(())
+    }
+
+    // What is given, where nothing can be wanted.
+    fn only_given(&self) -> Result<&str, Fail> {
+        ensure(self.wanted.is_empty(), self.head)?;
+        Ok(self.given.as_str())
+    }
+
+    // What is wanted, where nothing can be given.
+    fn only_wanted(&self) -> Result<&str, Fail> {
+        ensure(self.given.is_empty(), self.head)?;
+        Ok(self.wanted.as_str())
+    }
+
+    // Nothing is given, and nothing wanted.
+    fn ensure_bare(&self) -> Result<(), Fail> {
+        ensure(self.given.is_empty() && self.wanted.is_empty(), self.head)
+    }
+}
+
+fn put_line(text: &mut String, line: &str) -> Result<(), AllocError> {
+    text.push_str(line)?;
+    text.push('\n')
+}
+
+fn put_letters(text: &mut String, count: usize) -> Result<(), AllocError> {
+    for _ in 0..count {
+        text.push('x')?;
+    }
+    Ok(())
+}
+
+/// The paths of the files of a test.
 #[derive(Drop)]
 struct Paths {
     office: String,
@@ -58,20 +122,18 @@ struct Paths {
 }
 
 impl Paths {
-    // Files of this name, of which nothing is there.
+    // Those of the files of a test of this name.
     fn new(rt: &HostRuntime, name: &str) -> Result<Paths, Fail> {
         let office = path_of(rt, name, "db")?;
         let ranges = path_of(rt, name, "csv")?;
         let log = format!(in rt.alloc(); "{office}-wal")?;
         let token = format!(in rt.alloc(); "@{ranges}")?;
-        let paths = Paths {
+        Ok(Paths {
             office,
             log,
             ranges,
             token,
-        };
-        paths.remove(rt)?;
-        Ok(paths)
+        })
     }
 
     // Removes the files, and the log beside the office's, as far as they are there.
@@ -212,37 +274,28 @@ fn assert_looks_in_vain(
 }
 
 // What opens an office.
-const OPENINGS: [&str; 10] = [
-    "init @ --clerk short",
-    "script --file @ --clerk short",
-    "request @ GET /registries",
-    "serve @ --port 1",
-    "listing @",
-    "listing @ --registry codes",
-    "publish @ a-site-that-is-not-published",
-    "tokens @",
-    "revoke @ --account alice",
-    "revoke @ --digest ff2676003e48",
-];
+const OPENINGS: &str = "\
+init @ --clerk short
+script --file @ --clerk short
+request @ GET /registries
+serve @ --port 1
+listing @
+listing @ --registry codes
+publish @ a-site-that-is-not-published
+tokens @
+revoke @ --account alice
+revoke @ --digest ff2676003e48
+";
 
 fn assert_unopened(rt: &HostRuntime, paths: &Paths, wanted: &str) -> Result<(), Fail> {
-    for line in OPENINGS {
+    for line in OPENINGS.lines() {
         done(rt, paths, line, b"")?.assert_undone(line, wanted)?;
     }
     Ok(())
 }
 
-fn many(alloc: Global, count: usize) -> Result<Vec<u8>, Fail> {
-    let mut bytes = Vec::new(alloc);
-    for _ in 0..count {
-        bytes.push(b'x')?;
-    }
-    Ok(bytes)
-}
-
-fn write_many(rt: &HostRuntime, path: &str, count: usize) -> Result<(), Fail> {
-    let bytes = many(rt.alloc(), count)?;
-    fs::write(rt, path, bytes.as_slice())?;
+fn write(rt: &HostRuntime, path: &str, text: &str) -> Result<(), Fail> {
+    fs::write(rt, path, text.as_bytes())?;
     Ok(())
 }
 
@@ -268,39 +321,76 @@ fn assert_has(rt: &HostRuntime, path: &str, text: &str) -> Result<(), Fail> {
     ensure(left.as_slice() == text.as_bytes(), "the file as it was")
 }
 
-fn take_step(rt: &HostRuntime, paths: &Paths, step: &Step) -> Result<(), Fail> {
+// Takes a step, whose first line is one word, or has a mark or a word before the rest.
+fn take_step(rt: &HostRuntime, paths: &Paths, step: &Step<'_>) -> Result<(), Fail> {
     let (office, ranges) = (paths.office.as_str(), paths.ranges.as_str());
-    match step {
-        Step::Prints(line, wanted) => done(rt, paths, line, b"")?.assert_printed(line, wanted),
-        Step::Answers(line, input, wanted) => {
-            done(rt, paths, line, input.as_bytes())?.assert_printed(line, wanted)
-        }
-        Step::TooMuch(line, count, wanted) => {
-            let input = many(rt.alloc(), *count)?;
-            done(rt, paths, line, input.as_slice())?.assert_undone(line, wanted)
-        }
-        Step::Private => {
+    match step.head {
+        "unopened" => assert_unopened(rt, paths, step.only_wanted()?),
+        "office" => write(rt, office, step.only_given()?),
+        "ranges" => write(rt, ranges, step.only_given()?),
+        "has" => assert_has(rt, office, step.only_wanted()?),
+        "private" => {
+            step.ensure_bare()?;
             assert_private(rt, office)?;
             assert_private(rt, paths.log.as_str())
         }
-        Step::Undone(line, wanted) => done(rt, paths, line, b"")?.assert_undone(line, wanted),
-        Step::Looks(line, wanted) => assert_looks(rt, paths, line, wanted),
-        Step::LooksInVain(line, wanted) => assert_looks_in_vain(rt, paths, line, wanted),
-        Step::Unopened(wanted) => assert_unopened(rt, paths, wanted),
-        Step::Office(text) => Ok(fs::write(rt, office, text.as_bytes())?),
-        Step::Ranges(text) => Ok(fs::write(rt, ranges, text.as_bytes())?),
-        Step::LongRanges(count) => write_many(rt, ranges, *count),
-        Step::Executes(sql) => execute(rt, office, sql),
-        Step::Has(text) => assert_has(rt, office, text),
-        Step::Removed => paths.remove(rt),
+        "removed" => {
+            step.ensure_bare()?;
+            paths.remove(rt)
+        }
+        _ => take_line(rt, paths, step),
     }
 }
 
-/// Takes these steps, with files of this name that are not there before, nor after.
-pub fn assert_steps(rt: &HostRuntime, name: &str, steps: &[Step]) -> Result<(), Fail> {
-    let paths = Paths::new(rt, name)?;
-    for step in steps {
-        take_step(rt, &paths, step)?;
+// Takes a step that has a command line after a mark, or a statement after a word.
+fn take_line(rt: &HostRuntime, paths: &Paths, step: &Step<'_>) -> Result<(), Fail> {
+    let (mark, line) = step.head.split_once(' ').ok_or(step.head)?;
+    let (input, wanted) = (step.given.as_bytes(), step.wanted.as_str());
+    match mark {
+        "$" => done(rt, paths, line, input)?.assert_printed(line, wanted),
+        "!" => done(rt, paths, line, input)?.assert_undone(line, wanted),
+        "?" => assert_looks(rt, paths, line, step.only_wanted()?),
+        "?!" => assert_looks_in_vain(rt, paths, line, step.only_wanted()?),
+        "sql" => {
+            step.ensure_bare()?;
+            execute(rt, paths.office.as_str(), line)
+        }
+        _ => Err(step.head.into()),
     }
+}
+
+// Reads a line: below the first of this step, or the first of the next, before which this one is
+// taken.
+fn read_line<'a>(
+    rt: &HostRuntime,
+    paths: &Paths,
+    step: &mut Step<'a>,
+    line: &'a str,
+) -> Result<(), Fail> {
+    if line.is_empty() {
+        return Ok(());
+    }
+    if line.starts_with('>') || line.starts_with('<') {
+        return step.put(line);
+    }
+    take_step(rt, paths, step)?;
+    step.begin(line);
+    Ok(())
+}
+
+// Takes the steps of this text, the first of them after one that removes the files. (`lines` would
+// leave out a CR at the end of a line.)
+fn take_steps(rt: &HostRuntime, paths: &Paths, text: &str) -> Result<(), Fail> {
+    let mut step = Step::new(rt.alloc(), "removed");
+    for line in text.split('\n') {
+        read_line(rt, paths, &mut step, line)?;
+    }
+    take_step(rt, paths, &step)
+}
+
+/// Takes the steps of this text, with files of this name that are not there before, nor after.
+pub fn assert_steps(rt: &HostRuntime, name: &str, text: &str) -> Result<(), Fail> {
+    let paths = Paths::new(rt, name)?;
+    take_steps(rt, &paths, text)?;
     paths.remove(rt)
 }
