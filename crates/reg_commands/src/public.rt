@@ -80,10 +80,10 @@ pub fn show(entry: Entry, today: Day) -> PageEntry
 {
     let status = entry.term.status(today);
     PageEntry {
-        value: entry.value,
         label: entry.label,
-        assignee: entry.assignee,
+        value: entry.value,
         term: entry.term,
+        assignee: entry.assignee,
         status,
     }
 }

@@ -27,10 +27,10 @@ pub struct Entry {
 /// An entry as a page shows it on a day.
 #[derive(Drop)]
 pub struct PageEntry {
-    pub value: u32,
     pub label: Text,
-    pub assignee: Account,
+    pub value: u32,
     pub term: Term,
+    pub assignee: Account,
     pub status: Status,
 }
 

@@ -1,5 +1,4 @@
 pub mod Texts
-pub mod Stored
 pub mod Rfcs
 pub mod Requirements
 pub mod Tables

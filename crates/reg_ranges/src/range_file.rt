@@ -168,7 +168,7 @@ fn read_note(alloc: Global, n: usize, field: &[u8]) -> Result<Option<Text>, RowF
     if field.is_empty() {
         return Ok(None);
     }
-    match Text::read_shared(alloc, field)? {
+    match Text::read(alloc, field)? {
         Some(text) => Ok(Some(text)),
         None => Err(RowFault::Row(n, RowPart::Text)),
     }

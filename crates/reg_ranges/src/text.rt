@@ -5,7 +5,6 @@ ghost use Rattle.std.specs.Cmp.Lexicographic.{slice_cmp, pointwise, nat_list_cmp
 ghost use Rattle.std.specs.Ordering.{nat_cmp};
 ghost use Rattle.std.specs.List.{list_all};
 ghost use Rattle.reg_ranges.specs.Texts.{is_text_byte as text_byte, is_text as text, read_text, ascii_text};
-ghost use Rattle.reg_ranges.specs.Stored.{bytes_of};
 
 use crate::formed::Formed;
 use std::alloc::{AllocError, Global};
@@ -16,39 +15,19 @@ use std::rc::RcStr;
 /// 1 to 200 printable ASCII characters: a label, a contact, a reason, a note.
 #[derive(Debug)]
 pub struct Text {
-    bytes: Bytes,
-}
-
-/// Where the bytes of a text stand.
-#[derive(Clone, Debug, Drop)]
-enum Bytes {
-    /// In memory that is this text's alone: a copy takes as much again.
-    Own(String),
-    /// In memory that copies share, which takes 24 bytes more, or so, than a text's own.
-    Shared(RcStr),
-}
-
-impl Bytes {
-    fn as_str(&self) -> &str
-        ensures { result.now ≡ bytes_of self.now }
-    {
-        match self {
-            Bytes::Own(text) => text.as_str(),
-            Bytes::Shared(text) => text.as_str(),
-        }
-    }
+    text: RcStr,
 }
 
 impl Model for Text {
     ghost use Rattle.std.specs.Prelude.{◌≡◌, List, ℕ, true};
-    ghost use Rattle.reg_ranges.specs.Stored.{bytes_of};
+    ghost use Rattle.std.specs.Rc.{rc_str_bytes};
     ghost use Rattle.reg_ranges.specs.Texts.{is_text};
 
     ghost Value = { List ℕ };
 
-    ghost view = { λ t. bytes_of t.bytes };
+    ghost view = { λ t. rc_str_bytes t.text };
 
-    ghost invariant = { λ t. is_text (bytes_of t.bytes) ≡ true };
+    ghost invariant = { λ t. is_text (rc_str_bytes t.text) ≡ true };
 }
 
 impl Clone for Text {
@@ -57,23 +36,23 @@ impl Clone for Text {
     ghost is_clone = { λ text copy. copy ≡ text };
 
     fn clone(&self) -> Result<Self, AllocError> {
-        let bytes = self.bytes.clone()?;
-        Ok(Text { bytes })
+        let text = self.text.clone()?;
+        Ok(Text { text })
     }
 }
 
 // Not derived: what a crate above owes where it lets a text go is proved here, once.
 impl Drop for Text {
     fn drop(self) {
-        let Text { bytes: _ } = self;
+        let Text { text: _ } = self;
     }
 }
 
 impl Text {
     ghost use Rattle.reg_ranges.specs.Texts.{is_text};
 
-    /// The text of these bytes, which a copy of it copies; none where they have not the form, for
-    /// which no memory is taken.
+    /// The text of these bytes, which its copies share; none where they have not the form, for which
+    /// no memory is taken.
     pub fn read(alloc: Global, bytes: &[u8]) -> Result<Option<Self>, AllocError>
         ensures value { IfOk result (λ o. o ≡ read_text is_text bytes.now) }
         ensures refused { is_text bytes.now ≡ false → result ≡ Ok None }
@@ -82,21 +61,7 @@ impl Text {
             return Ok(None);
         };
         Ok(Some(Text {
-            bytes: Bytes::Own(String::from_str(alloc, text)?),
-        }))
-    }
-
-    /// The text of these bytes, which its copies share; none where they have not the form, for which
-    /// no memory is taken.
-    pub fn read_shared(alloc: Global, bytes: &[u8]) -> Result<Option<Self>, AllocError>
-        ensures value { IfOk result (λ o. o ≡ read_text is_text bytes.now) }
-        ensures refused { is_text bytes.now ≡ false → result ≡ Ok None }
-    {
-        let Some(text) = in_form(bytes) else {
-            return Ok(None);
-        };
-        Ok(Some(Text {
-            bytes: Bytes::Shared(RcStr::from_str(alloc, text)?),
+            text: RcStr::from_str(alloc, text)?,
         }))
     }
 
@@ -105,11 +70,11 @@ impl Text {
         ensures text { result.now ≡ self.now }
         ensures form { is_text self.now ≡ true }
     {
-        self.bytes.as_str()
+        self.text.as_str()
     }
 
-    /// An equal text. Where this one was read to be shared, the copy shares its bytes and takes no
-    /// memory, and an error comes only where there are more copies than can be counted.
+    /// An equal text, which shares its bytes with this one and takes no memory. An error comes only
+    /// where there are more copies than can be counted.
     pub fn copy(&self) -> Result<Self, AllocError>
         ensures equal { IfOk result (λ t. t ≡ self.now) }
         ensures form { is_text self.now ≡ true }
@@ -125,7 +90,7 @@ impl Formed for Text {
     ghost has_form = { is_text };
 
     fn formed(&self) {
-        let _ = &self.bytes;
+        let _ = &self.text;
     }
 }
 

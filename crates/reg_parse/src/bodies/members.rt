@@ -55,7 +55,7 @@ pub fn text(alloc: Global, object: &Value, item: Item) -> Result<Text, ReadFault
     ensures { Gives result (needed item (text_form is_text) (view object.now)) }
 {
     match object.get(item.name()).and_then(Value::as_str) {
-        Some(text) => match Text::read_shared(alloc, text.as_bytes())? {
+        Some(text) => match Text::read(alloc, text.as_bytes())? {
             Some(text) => Ok(text),
             None => Err(ReadFault::field(item)),
         },

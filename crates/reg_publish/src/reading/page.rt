@@ -152,15 +152,15 @@ fn read_entry(alloc: Global, members: &mut Members<'_>) -> Result<PageEntry, Unp
     let value = members.number("value")?;
     members.close_object()?;
     Ok(PageEntry {
-        value,
         label: text_of(alloc, label.as_bytes())?,
-        assignee,
+        value,
         term: Term {
             first,
             expires,
             renewed,
             held,
         },
+        assignee,
         status,
     })
 }
