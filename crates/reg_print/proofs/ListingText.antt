@@ -1,5 +1,6 @@
 -- Listings that are printed read back as their records.
-use Rattle.std.proofs.Common.{◌≡◌, ℕ, zero, suc, ◌+◌, ◌≤◌, List, [], ◌∷◌, map, length, length-append, None, refl, ap, arith}
+use Rattle.std.proofs.Common.{◌≡◌, ℕ, zero, suc, ◌+◌, ◌<◌, ◌≤◌, List, [], ◌∷◌, ◌++◌, map, length, length-append, None, refl, ap, arith}
+use Rattle.std.proofs.lemmas.Grind.{flat_map-append}
 use Rattle.csv.specs.Machine.{next_record}
 use Rattle.csv.specs.Reading.{default_config, records_from, strip_bom}
 use Rattle.csv.specs.Writing.{default_writer, escaped, fields_text, is_blank, row_text}
@@ -44,6 +45,15 @@ csv_text-long (row ∷ rows) =
     let here = row_text-long row in
     let more = csv_text-long rows in
     omega (arith, length-append (row_text default_writer row) (csv_text rows))
+
+-- a record has a byte
+pub record_some : (fields : List (List ℕ)) → 0 < length (csv_text (fields ∷ []))
+record_some fields = let long = csv_text-long (fields ∷ []) in omega (arith, long)
+
+-- records are the first of them, and then the others
+pub record_then : (fields : List (List ℕ)) (records : List (List (List ℕ)))
+    → csv_text (fields ∷ records) ≡ csv_text (fields ∷ []) ++ csv_text records
+record_then fields records = flat_map-append (row_text default_writer) (fields ∷ []) records
 
 rows_have_fields : (rows : List ListedRow) → HaveFields (map row_fields rows)
 rows_have_fields [] = tt

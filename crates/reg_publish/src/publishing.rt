@@ -21,10 +21,10 @@ use reg_core::text::Name;
 use reg_core::told::Told;
 use reg_print::answer::{Answer, body_of};
 use reg_print::listing::blocks::block_listing;
-use reg_print::listing::registry::listing;
 use reg_site::blocks::{BlocksPage, assignments};
 use reg_site::files::File;
 use reg_site::index::index_page;
+use reg_site::listing::RegistryListing;
 use reg_site::portions::{Portions, Whole};
 use reg_site::registry::RegistryPage;
 use reg_site::style::style;
@@ -141,8 +141,8 @@ fn publish_page<F: Folder>(
     let mut html = RegistryPage::of(alloc, page)?;
     put_portions(alloc, folder, File::RegistryPage(name), &mut html)?;
     drop(html);
-    let csv = listing(alloc, page)?;
-    put(alloc, folder, File::RegistryListing(name), &csv)?;
+    let mut csv = RegistryListing::of(alloc, page)?;
+    put_portions(alloc, folder, File::RegistryListing(name), &mut csv)?;
     drop(csv);
     let mut tree = RegistryTree::of(page);
     put_portions(alloc, folder, File::RegistryTree(name), &mut tree)

@@ -9,17 +9,20 @@ use Rattle.reg_core.specs.declared.told.Told.TheVariants as tells
 use Rattle.reg_core.specs.declared.holding.Listed.{Listed}
 use Rattle.reg_ranges.specs.declared.range.Range.{Range}
 use Rattle.reg_print.specs.Answer.{body_text}
-use Rattle.reg_print.specs.Listing.{ListedRow}
+use Rattle.reg_print.specs.Listing.{ListedRow, csv_text, header, row_fields, row_view}
+use Rattle.reg_print.specs.declared.listing.rows.ListingRow.{ListingRow}
 use Rattle.reg_print.specs.Parts.{end_text, entry_text, front_text, listed_text}
 use Rattle.reg_print.specs.Trees.Page.{entry_tree}
 use Rattle.reg_print.specs.declared.answer.Answer.TheVariants.{Reply}
 use Rattle.reg_print.proofs.ComparedTexts.{body_text-page}
+use Rattle.reg_print.proofs.ListingText.{record_then}
 use Rattle.reg_site.specs.Appended.{Appended}
 use Rattle.reg_site.specs.Markup.{markup_then}
 use Rattle.reg_site.specs.Portions.{GivesPortion, after}
 use Rattle.reg_site.specs.Registry as registry
 use Rattle.reg_site.specs.Blocks as blocks
 use Rattle.reg_site.specs.Table.{below_rows}
+use Rattle.reg_site.specs.Listing.{records}
 use Rattle.reg_site.specs.Tree.{entries_left}
 use Rattle.reg_site.specs.declared.portions.Next.TheVariants as next
 use Rattle.reg_site.specs.declared.summary.Summary.{Summary}
@@ -88,6 +91,29 @@ pub page_parts : (name : List ℕ) (counts : Summary) (ranges : List Range) (row
     ≡ registry.above_rows name counts ranges (registry.rows_left rows)
 unfolding registry.page_by
 page_parts name counts ranges rows = refl
+
+-- ---- The listing of a registry
+
+-- the listing is the record of its columns, and then those of its rows
+pub listing_parts : (rows : List ListingRow)
+    → csv_text (header ∷ records (map row_view rows))
+    ≡ csv_text (header ∷ []) ++ csv_text (records (map row_view (drop 0 rows)))
+listing_parts rows = record_then header (records (map row_view rows))
+
+-- from a row that is there it is that row's record, and then what is left
+pub record_of_row : (rows : List ListingRow) (place : ℕ) (row : ListingRow) → place < length rows
+    → row ≡ get_or rows place row
+    → csv_text (records (map row_view (drop place rows)))
+    ≡ csv_text (row_fields (row_view row) ∷ []) ++ csv_text (records (map row_view (drop (place + 1) rows)))
+record_of_row rows place row h is =
+    ap (λ left. csv_text (records (map row_view left))) (at_place rows place row h is)
+    ∙ record_then (row_fields (row_view row)) (records (map row_view (drop (place + 1) rows)))
+
+-- behind the last row nothing is left
+pub records_none : (rows : List ListingRow) (place : ℕ) → length rows ≤ place
+    → csv_text (records (map row_view (drop place rows))) ≡ []
+records_none rows place h =
+    ap (λ left. csv_text (records (map row_view left))) (drop_all place rows h)
 
 -- ---- The page of the blocks
 

@@ -9,6 +9,7 @@ pub mod Summary
 pub mod Bar
 pub mod Registry
 pub mod Blocks
+pub mod Listing
 pub mod Tree
 pub mod Moment
 pub mod Index

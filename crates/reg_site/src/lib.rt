@@ -9,6 +9,7 @@ mod escape;
 pub mod files;
 pub mod index;
 pub mod laws;
+pub mod listing;
 mod markup;
 mod moment;
 pub mod portions;

@@ -1,11 +1,11 @@
 //! Writes registries as CSV (RFC 4180 section 2), each record ended by a line feed.
-ghost use Rattle.std.specs.Prelude.{◌≡◌, ◌∷◌, [], IfOk, OnOk};
+ghost use Rattle.std.specs.Prelude.{◌≡◌, ◌∷◌, ◌++◌, [], IfOk, OnOk};
 ghost use Rattle.std.specs.String.{string_bytes};
-ghost use Rattle.reg_print.specs.Listing.{assignee_text, expiry_text, first_text, header, policy_text, row_fields, row_view, listing_text};
+ghost use Rattle.reg_print.specs.Listing.{assignee_text, csv_text, expiry_text, first_text, header, policy_text, row_fields, row_view, listing_text};
 ghost use Rattle.reg_print.specs.Records.{Adds};
 
 use crate::listing::rows::{ListingRow, rows};
-use crate::listing::writing::{empty, text_of, write_record};
+use crate::listing::writing::{empty, push_text_of, text_of, write_record};
 use csv::Writer;
 use reg_core::page::Page;
 use reg_early::day::day_text;
@@ -23,7 +23,7 @@ const HEADER: [&[u8]; 7] = [
     b"Assignee",
 ];
 
-/// A registry as a listing. One writer writes all of its records, and one text has the values of
+/// A registry as a listing, whole. One writer writes all of its records, and one text has the values of
 /// each in turn.
 pub fn listing(alloc: Global, page: &Page) -> Result<Vec<u8>, AllocError>
     ensures { IfOk result (λ v. v.items ≡ listing_text page.now) }
@@ -36,6 +36,28 @@ pub fn listing(alloc: Global, page: &Page) -> Result<Vec<u8>, AllocError>
         write_row(alloc, &mut writer, &mut values, row)?;
     }
     text_of(writer)
+}
+
+/// Appends what stands above the rows of a listing: the record of its columns. Only want of memory
+/// is an error.
+pub fn push_header(out: &mut Vec<u8>) -> Result<(), AllocError>
+    ensures { OnOk result (out.new.items ≡ out.old.items ++ csv_text (header ∷ [])) }
+{
+    let mut writer = empty(*out.allocator());
+    write_header(&mut writer)?;
+    push_text_of(out, writer)
+}
+
+/// Appends the record of a row. Only want of memory is an error.
+pub fn push_record(out: &mut Vec<u8>, row: &ListingRow<'_>) -> Result<(), AllocError>
+    ensures { OnOk result
+        (out.new.items ≡ out.old.items ++ csv_text (row_fields (row_view row.now) ∷ [])) }
+{
+    let alloc = *out.allocator();
+    let mut writer = empty(alloc);
+    let mut values = String::new(alloc);
+    write_row(alloc, &mut writer, &mut values, row)?;
+    push_text_of(out, writer)
 }
 
 fn write_header<W: Write + Drop>(writer: &mut Writer<W>) -> Result<(), AllocError>

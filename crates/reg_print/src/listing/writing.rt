@@ -1,5 +1,5 @@
 //! Writes CSV (RFC 4180 section 2) a record at a time, each ended by a line feed.
-ghost use Rattle.std.specs.Prelude.{◌≡◌, ℕ, List, [], map, IfOk, OnOk};
+ghost use Rattle.std.specs.Prelude.{◌≡◌, ◌++◌, ℕ, List, [], map, IfOk, OnOk};
 ghost use Rattle.reg_print.specs.Listing.{csv_text};
 ghost use Rattle.reg_print.specs.Records.{Adds, HasWritten};
 
@@ -37,4 +37,15 @@ pub fn text_of(writer: Writer<Vec<u8>>) -> Result<Vec<u8>, AllocError>
         Ok(text) => Ok(text),
         Err(_) => Err(AllocError),
     }
+}
+
+/// Appends the text of the records that were written. Only want of memory is an error.
+pub fn push_text_of(out: &mut Vec<u8>, writer: Writer<Vec<u8>>) -> Result<(), AllocError>
+    ensures { (records : List (List (List ℕ)))
+        → HasWritten ⟦<Vec<u8> as Write>⟧.contents writer records
+        → OnOk result (out.new.items ≡ out.old.items ++ csv_text records) }
+{
+    let text = text_of(writer)?;
+    out.extend_from_slice(text.as_slice())?;
+    Ok(())
 }
