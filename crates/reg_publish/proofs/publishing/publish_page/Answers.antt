@@ -1,5 +1,6 @@
-use Rattle.std.proofs.Common.{[], ◌∷◌, ◌++◌, Some, ◌∙◌}
+use Rattle.std.proofs.Common.{[], ◌∷◌, ◌++◌, Some}
 use Rattle.reg_site.specs.Files.{path_of}
+use Rattle.reg_site.specs.Listing.{listing_left}
 use Rattle.reg_site.specs.Registry.{page_left}
 use Rattle.reg_site.specs.Tree.{tree_left}
 use Rattle.reg_site.specs.declared.files.File.TheVariants.{RegistryPage, RegistryListing, RegistryTree}
@@ -11,18 +12,17 @@ pub returns : goal.returns
 returns g c =
     let files = g.F.Folder.files in
     let name = c.args.name in
-    let csv = c.deref.ensures.value ∙ c.in_ok-csv.ensures in
     let none = files c.args.folder.now in
     let first = files c.put_portions.new.folder in
-    let second = files c.put.new.folder in
-    let third = files c.put_portions-2.new.folder in
+    let second = files c.put_portions-2.new.folder in
+    let third = files c.put_portions-3.new.folder in
     let html = one_file (RegistryPage name) (page_left c.in_ok-html.html) in
-    let listing = one_file (RegistryListing name) c.deref.result.now in
+    let csv = one_file (RegistryListing name) (listing_left c.in_ok-csv.csv) in
     let tree = one_file (RegistryTree name) (tree_left c.of-tree.result) in
-    places_then c.put_portions-2.result none second third (html ++ listing) tree
+    places_then c.put_portions-3.result none second third (html ++ csv) tree
     (files_by_page name c.args.page.now)
     (λ i. (path_of (RegistryPage name), Some (c.in_ok-html.ensures i))
-    ∷ (path_of (RegistryListing name), Some (csv i))
+    ∷ (path_of (RegistryListing name), Some (c.in_ok-csv.ensures i))
     ∷ (path_of (RegistryTree name), Some (c.of-tree.ensures i)) ∷ [])
-    (places_both none first second html listing c.in_ok-put_portions.ensures c.in_ok-put.ensures)
-    c.put_portions-2.ensures
+    (places_both none first second html csv c.in_ok-put_portions.ensures c.in_ok-put_portions-2.ensures)
+    c.put_portions-3.ensures

@@ -1,8 +1,8 @@
-use Rattle.std.proofs.Common.{◌∷◌, map, ap}
+use Rattle.std.proofs.Common.{◌∷◌, ap}
 use Rattle.reg_print.specs.Listing.{csv_text, header, listing_text}
 use Rattle.reg_site.specs.Listing.{records}
 use Rattle.reg_site.proofs.listing.RegistryListing.of.Goals as goal
 
 pub returns : goal.returns
 unfolding listing_text
-returns c i = ap (λ rows. csv_text (header ∷ records rows)) (c.in_ok-rows.ensures i)
+returns c = ap (λ rows. csv_text (header ∷ records rows)) c.in_ok-rows.ensures
