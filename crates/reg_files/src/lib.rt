@@ -9,10 +9,11 @@ use reg_program::checking::check_in;
 use reg_program::console::Console;
 use reg_program::faults::{JobFailure, Undone};
 use reg_program::tasks::{Offices, Task, moment};
+use reg_sql::keeper::SqlKeeper;
 use reg_sql::look::{Look, look_at};
 use reg_sql::open::{OpenFault, from_path};
 use reg_sql::trouble::Trouble;
-use sqlite::Unknown;
+use sqlite::{Alter, Unknown};
 use std::alloc::{AllocError, Global};
 use std::io::{Read, Write};
 
@@ -35,10 +36,7 @@ impl Offices for Files {
                 if task.serves() {
                     warn_of_readers(rt, path, console.errors);
                 }
-                let mut office = Office::new(rt.alloc(), keeper);
-                let done = task.carry_out(rt, &mut office, console);
-                drop(office);
-                done
+                carry_out_in(rt, keeper, task, console)
             }
             Err(fault) => Err(Undone::Fault(failure(fault))),
         }
@@ -46,17 +44,38 @@ impl Offices for Files {
 
     fn check<W: Write>(&self, rt: &HostRuntime, path: &str, output: &mut W) -> Result<(), Undone> {
         match look_at(rt, path) {
-            Ok(look) => {
-                let Look { version, keeper } = look;
-                let alloc = rt.alloc();
-                let mut office = Office::new(alloc, keeper);
-                let done = check_in(alloc, &mut office, version.number(), moment(rt), output);
-                drop(office);
-                done
-            }
+            Ok(look) => check_look(rt, look, output),
             Err(trouble) => Err(explained(rt.alloc(), trouble)?),
         }
     }
+}
+
+// Does the task with the office that is kept there. It is over any store, since what is over a known
+// one unfolds all that it holds.
+fn carry_out_in<S: Alter + Drop, R: Read, W: Write, E: Write>(
+    rt: &HostRuntime,
+    keeper: SqlKeeper<S>,
+    task: &Task<'_>,
+    console: &mut Console<'_, R, W, E>,
+) -> Result<(), Undone> {
+    let mut office = Office::new(rt.alloc(), keeper);
+    let done = task.carry_out(rt, &mut office, console);
+    drop(office);
+    done
+}
+
+// Says how well the office is kept that was looked at.
+fn check_look<S: Alter + Drop, W: Write>(
+    rt: &HostRuntime,
+    look: Look<S>,
+    output: &mut W,
+) -> Result<(), Undone> {
+    let Look { version, keeper } = look;
+    let alloc = rt.alloc();
+    let mut office = Office::new(alloc, keeper);
+    let done = check_in(alloc, &mut office, version.number(), moment(rt), output);
+    drop(office);
+    done
 }
 
 fn explained(alloc: Global, trouble: Trouble) -> Result<Undone, AllocError> {
