@@ -1,4 +1,2 @@
 //! The tests, and what they share.
-mod carriers;
 mod disks;
-mod transcripts;

@@ -1,6 +1,5 @@
-//! Tests of the program over offices in lists, to the byte: the jobs that it does, and the lines of
-//! scripts. They stand in a crate of their own because the gate proves a crate that has tests a second
-//! time, whole, together with them.
+//! Tests of the program over offices in lists where what is around it fails: stores, readers, writers,
+//! peers, folders, sources and moments.
 #![tactic(auto)]
 
 #[cfg(test)]

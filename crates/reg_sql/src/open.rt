@@ -21,10 +21,10 @@ ghost use Rattle.reg_sql.specs.declared.open.OpenFault.TheVariants as refusals;
 
 use crate::keeper::SqlKeeper;
 use reg_keeper::keeper::Fault;
+use reg_migration::migrate::migrate;
 use reg_opening::kind::{Found, find};
 use reg_statements::write::fault;
 use reg_tables::make::make_office;
-use reg_tables::migrate::migrate;
 use reg_tables::schema::has_room;
 use reg_tables::version::Version;
 use reg_vacancies::vacancies::Vacancies;

@@ -2,7 +2,6 @@
 #![tactic(auto)]
 
 pub mod make;
-pub mod migrate;
 mod same;
 pub mod schema;
 pub mod texts;

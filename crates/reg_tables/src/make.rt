@@ -39,7 +39,7 @@ const TABLES: [&str; 13] = [
 ];
 
 /// Those of them that make the tables that a version lacks.
-pub(crate) fn later_texts(from: Version) -> &'static [&'static str]
+pub fn later_texts(from: Version) -> &'static [&'static str]
     ensures { map (λ text. text.now) result.now ≡ drop (table_count from) office_texts }
 {
     &TABLES[from.tables()..]
@@ -64,10 +64,7 @@ fn make<S: Alter>(tx: &mut Transaction<'_, S>, text: &str) -> Result<(), Error>
 }
 
 /// Makes tables, one after the other.
-pub(crate) fn make_each<S: Alter>(
-    tx: &mut Transaction<'_, S>,
-    mut texts: &[&str],
-) -> Result<(), Error>
+pub fn make_each<S: Alter>(tx: &mut Transaction<'_, S>, mut texts: &[&str]) -> Result<(), Error>
     ensures same_reference { tx.new.conn.ghost_name ≡ tx.old.conn.ghost_name }
     ensures inside { StaysInside (state S.Store tx.old.conn.now) (state S.Store tx.new.conn.now) }
     ensures went { map (λ text. text.now) texts.entry.now ≢ []

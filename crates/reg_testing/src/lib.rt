@@ -1,7 +1,8 @@
-//! What tests are written with: facts that they want to hold, and readers and writers that give and
-//! take little, and fail.
+//! What tests are written with: facts that they want to hold, transcripts, and readers and writers that
+//! give and take little, and fail.
 #![tactic(auto)]
 
 pub mod devices;
 pub mod facts;
 pub mod folders;
+pub mod transcript;

@@ -1,7 +1,7 @@
 //! Tests of what the program does not reach: blocks and the free places for them, the days of early
-//! allocation, sets of numbers, and range files that no text can hold. They stand in a crate of their
-//! own because the gate proves a crate that has tests a second time, whole, together with them. What
-//! the program answers is tested in `reg_program_tests`.
+//! allocation, and sets of numbers. They stand in a crate of their own because the gate proves a crate
+//! that has tests a second time, whole, together with them. What the program answers is tested on the
+//! built program.
 #![tactic(auto)]
 
 #[cfg(test)]

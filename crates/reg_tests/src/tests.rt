@@ -5,4 +5,3 @@ mod early;
 mod expecting;
 mod free_values;
 mod places;
-mod range_files;

@@ -1,7 +1,6 @@
-//! Offices in tables over disks in memory: disks that stop at each call of a line, and stores by other
-//! hands.
+//! Offices in tables over disks in memory, which stop at each call of a line, of a founding and of an
+//! opening; and an office of many rows.
 mod asking;
-mod beside;
 mod calls;
 mod counted;
 mod founding;
@@ -11,6 +10,5 @@ mod lines;
 mod making;
 mod many;
 mod migrating;
-mod openings;
 mod rows;
 mod sessions;

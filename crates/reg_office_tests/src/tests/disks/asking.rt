@@ -1,6 +1,6 @@
 //! Lines that an office is asked, and their answers.
 use crate::tests::disks::rows::ROWS;
-use reg_transcripts::transcript::{answered, sent};
+use reg_testing::transcript::{answered, sent};
 use std::alloc::{AllocError, Global};
 
 /// The token of the first clerk.
@@ -55,24 +55,9 @@ pub fn all_lines(alloc: Global) -> Result<String, AllocError> {
 
 /// The first so many lines of the transcript, in one text.
 pub fn first_lines(alloc: Global, count: usize) -> Result<String, AllocError> {
-    some_lines(alloc, all_lines(alloc)?.as_str(), 0, count)
-}
-
-/// The lines after these, in one text.
-pub fn last_lines(alloc: Global, count: usize) -> Result<String, AllocError> {
-    some_lines(alloc, all_lines(alloc)?.as_str(), count, usize::MAX)
-}
-
-/// The answers to the lines after these, in one text.
-pub fn last_answers(alloc: Global, count: usize) -> Result<String, AllocError> {
-    let answers = answered(alloc, &[ROWS])?;
-    some_lines(alloc, answers.as_str(), count, usize::MAX)
-}
-
-// So many lines of a text, after these.
-fn some_lines(alloc: Global, text: &str, after: usize, count: usize) -> Result<String, AllocError> {
+    let all = all_lines(alloc)?;
     let mut lines = String::new(alloc);
-    for line in text.lines().skip(after).take(count) {
+    for line in all.lines().take(count) {
         lines.push_str(line)?;
         lines.push('\n')?;
     }

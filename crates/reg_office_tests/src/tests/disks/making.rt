@@ -43,18 +43,14 @@ pub fn blank(alloc: Global) -> Result<Image, Fail> {
 
 /// The files of an office with rows in every table.
 pub fn prepared(alloc: Global) -> Result<Image, Fail> {
-    filled(alloc, &blank(alloc)?)
+    let lines = all_lines(alloc)?;
+    filled_by(alloc, &blank(alloc)?, lines.as_bytes())
 }
 
 /// The files of an office after the first so many rows of the transcript.
 pub fn prepared_by(alloc: Global, count: usize) -> Result<Image, Fail> {
     let lines = first_lines(alloc, count)?;
     filled_by(alloc, &blank(alloc)?, lines.as_bytes())
-}
-
-/// These files of an office without rows, after the rows of the transcript.
-pub fn filled(alloc: Global, image: &Image) -> Result<Image, Fail> {
-    filled_by(alloc, image, all_lines(alloc)?.as_bytes())
 }
 
 /// These files of an office, once the first clerk has a token, and after these lines.

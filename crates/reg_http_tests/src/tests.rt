@@ -1,8 +1,0 @@
-//! The tests, and what they share.
-mod allocations;
-mod asking;
-mod exchanges;
-mod failures;
-mod heads;
-mod listening;
-mod rows;

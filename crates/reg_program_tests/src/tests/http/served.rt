@@ -1,0 +1,126 @@
+//! An office that is asked over HTTP.
+use crate::tests::http::messages::request;
+use reg_http::listener::{Connections, serve_listener};
+use reg_http::log::Unlogged;
+use reg_http::serving::serve_one;
+use reg_http::watch::Watch;
+use reg_http::wire_fault::WireFault;
+use reg_keeper::keeper::Keeper;
+use reg_office::Office;
+use reg_parse::route::Routes;
+use reg_testing::facts::ensure;
+use std::alloc::{AllocError, Global};
+use std::io::{Read, Write};
+use std::net::TcpListener;
+use std::test::Fail;
+use std::time::{Clock, Duration};
+
+// The moment of all requests.
+const MOMENT: u64 = 1_700_000_000;
+
+/// The token of the first clerk.
+pub const CLERK: &str = "clerk-token-00001";
+
+const GRANT: &[u8] =
+    b"{\"account\":\"alice\",\"kind\":\"applicant\",\"token\":\"alice-token-00001\",\"until\":1800000000}";
+
+const RANGES: &[u8] =
+    b"lo,hi,treatment,note\n0,63,standards-action,\n64,191,first-come-first-served,\n192,255,reserved,\n";
+
+/// What came back.
+#[derive(Drop)]
+pub struct Answered {
+    pub status: Result<u16, WireFault>,
+    pub bytes: Vec<u8>,
+}
+
+impl Answered {
+    /// The test fails at this, unless this answer came back whole.
+    pub fn assert_is(&self, status: u16, bytes: &[u8]) -> Result<(), Fail> {
+        ensure(self.status == Ok(status), "the status")?;
+        ensure(self.bytes.as_slice() == bytes, "the answer")
+    }
+}
+
+/// An office with its router.
+#[derive(Drop)]
+pub struct Served<K> {
+    office: Office<K>,
+    routes: Routes,
+}
+
+impl<K: Keeper + Drop> Served<K> {
+    /// An office over this keeper that is founded, and nothing else.
+    pub fn founded(alloc: Global, keeper: K) -> Result<Served<K>, Fail> {
+        let routes = Routes::new(alloc)?;
+        let mut office = Office::new(alloc, keeper);
+        office.found(CLERK.as_bytes())?;
+        Ok(Served { office, routes })
+    }
+
+    /// An office over this keeper with an applicant, alice, and a registry, `flags`.
+    pub fn opened(alloc: Global, keeper: K) -> Result<Served<K>, Fail> {
+        let mut served = Served::founded(alloc, keeper)?;
+        served.open(alloc)?;
+        Ok(served)
+    }
+
+    fn open(&mut self, alloc: Global) -> Result<(), Fail> {
+        let grant = request(alloc, "PUT", "/desk/tokens", Some(CLERK), GRANT)?;
+        let granted = self.asked(alloc, grant.as_slice())?;
+        ensure(granted.status == Ok(200), "a grant")?;
+        let path = "/desk/registries/flags/255";
+        let define = request(alloc, "PUT", path, Some(CLERK), RANGES)?;
+        let defined = self.asked(alloc, define.as_slice())?;
+        ensure(defined.status == Ok(200), "a definition")
+    }
+
+    /// Sends bytes, and gives what came back.
+    pub fn asked(&mut self, alloc: Global, input: &[u8]) -> Result<Answered, AllocError> {
+        let mut reader = input;
+        let mut bytes = Vec::new(alloc);
+        let status = self.serve(alloc, &mut reader, &mut bytes);
+        Ok(Answered { status, bytes })
+    }
+
+    /// Serves one request of a reader.
+    pub fn serve<R: Read, W: Write>(
+        &mut self,
+        alloc: Global,
+        reader: &mut R,
+        writer: &mut W,
+    ) -> Result<u16, WireFault> {
+        let mut watch = Watch::new();
+        serve_one(
+            alloc,
+            &mut self.office,
+            &self.routes,
+            MOMENT,
+            reader,
+            writer,
+            &mut watch,
+            &mut Unlogged,
+        )
+    }
+
+    /// Serves so many connections of a listener.
+    pub fn listen<R: Clock + AllocGlobal>(
+        &mut self,
+        rt: &R,
+        listener: &TcpListener,
+        count: u32,
+        patience: Duration,
+    ) -> Connections {
+        let alloc = rt.alloc();
+        serve_listener(
+            alloc,
+            rt,
+            &mut self.office,
+            &self.routes,
+            listener,
+            count,
+            patience,
+            &mut Unlogged,
+        )
+    }
+}

@@ -1,0 +1,120 @@
+//! Folders and sources that fail.
+ghost use Rattle.std.specs.Prelude.{◌≡◌, None, IfOk};
+ghost use Rattle.reg_core.specs.View.{published as shown};
+ghost use Rattle.reg_core.specs.World.{empty_world};
+
+use crate::tests::sites::office::FILES;
+use reg_core::command::PublicCommand;
+use reg_core::told::Told;
+use reg_keeper::keeper::Keeper;
+use reg_office::Office;
+use reg_publish::folder::Folder;
+use reg_publish::source::Source;
+use reg_publish::unpublished::Unpublished;
+use reg_site::portions::Portions;
+use reg_testing::facts::ensure;
+use std::alloc::{AllocError, Global};
+use std::test::Fail;
+
+/// A file that was published.
+#[derive(Drop)]
+pub struct Placed {
+    pub path: String,
+    pub bytes: Vec<u8>,
+}
+
+/// A folder in memory: it keeps what is published, in turn, and fails when it has room for no more.
+#[derive(Drop)]
+pub struct Kept {
+    alloc: Global,
+    room: usize,
+    pub files: Vec<Placed>,
+}
+
+impl Kept {
+    /// A folder with room for so many files.
+    pub fn new(alloc: Global, room: usize) -> Self {
+        Kept {
+            alloc,
+            room,
+            files: Vec::new(alloc),
+        }
+    }
+
+    /// The bytes of the file at a path.
+    pub fn bytes(&self, path: &str) -> Result<&[u8], Fail> {
+        for file in &self.files {
+            if file.path.as_str() == path {
+                return Ok(file.bytes.as_slice());
+            }
+        }
+        Err(path.into())
+    }
+
+    /// The test fails, unless just the first files of a site were published, in their order.
+    pub fn assert_first(&self, count: usize) -> Result<(), Fail> {
+        ensure(self.files.len() == count, "how many files there are")?;
+        for (file, path) in self.files.iter().zip(FILES.iter()) {
+            ensure(file.path.as_str() == *path, path)?;
+        }
+        Ok(())
+    }
+
+    /// The test fails, unless each file has the bytes that it has in this folder.
+    pub fn assert_begins(&self, whole: &Kept) -> Result<(), Fail> {
+        for (file, wanted) in self.files.iter().zip(whole.files.iter()) {
+            ensure(file.bytes == wanted.bytes, file.path.as_str())?;
+        }
+        Ok(())
+    }
+}
+
+impl Folder for Kept {
+    ghost files = { λ _. None };
+
+    fn publish<P: Portions>(&mut self, path: &str, bytes: &mut P) -> Result<(), Unpublished> {
+        if self.room == 0 {
+            return Err(Unpublished::Write);
+        }
+        self.room -= 1;
+        let path = String::from_str(self.alloc, path)?;
+        let bytes = whole(self.alloc, bytes)?;
+        self.files.push(Placed { path, bytes })?;
+        Ok(())
+    }
+}
+
+// All bytes that are given in portions.
+fn whole<P: Portions>(alloc: Global, bytes: &mut P) -> Result<Vec<u8>, AllocError>
+    ensures { IfOk result (λ v. v.items ≡ P.rest bytes.old) }
+{
+    let mut given = Vec::new(alloc);
+    while bytes.push_next(&mut given)? {}
+    Ok(given)
+}
+
+/// An office that answers so many commands, and then fails for this reason, or tells what was not
+/// asked for.
+#[derive(Drop)]
+pub struct Faulty<K: Keeper> {
+    pub office: Office<K>,
+    pub asks: usize,
+    pub why: Option<Unpublished>,
+}
+
+impl<K: Keeper> Source for Faulty<K> {
+    ghost published = { λ _. shown empty_world };
+
+    ghost Holds = { λ _. ⊥ };
+
+    fn ask(&mut self, moment: u64, command: &PublicCommand) -> Result<Told, Unpublished> {
+        if self.asks > 0 {
+            self.asks -= 1;
+            return self.office.ask(moment, command);
+        }
+        match self.why {
+            Some(why) => Err(why),
+            None => Ok(Told::Revoked),
+        }
+    }
+}
