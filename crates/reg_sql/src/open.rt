@@ -3,7 +3,6 @@ ghost use Rattle.std.specs.Prelude.{◌≡◌, true, false, IfErr, IfOk, IsTrue,
 ghost use Rattle.std.specs.Bool.{Decides};
 ghost use Rattle.sqlite.specs.Held.{state};
 ghost use Rattle.sqlite.specs.State.{HasCleanDisk};
-ghost use Rattle.sqlite.specs.Steps.{IsEmpty, over_memory};
 ghost use Rattle.sqlite_wal.specs.Files.{image_at};
 ghost use Rattle.reg_core.specs.World.{empty_world};
 ghost use Rattle.reg_keeper.specs.declared.keeper.Fault.{Fault as KeeperFault};
@@ -28,8 +27,8 @@ use reg_tables::make::make_office;
 use reg_tables::schema::has_room;
 use reg_tables::version::Version;
 use reg_vacancies::vacancies::Vacancies;
-use sqlite::{Alter, Connection, Error, ErrorCode, FileFrom, FileStore, Leftover, MemStore, Start};
-use std::alloc::{AllocError, Global};
+use sqlite::{Alter, Connection, Error, ErrorCode, FileFrom, FileStore, Leftover, Start};
+use std::alloc::Global;
 
 /// Why no office is opened. The store is as it was.
 #[derive(Clone, Copy, Debug, PartialEq, Eq)]
@@ -181,25 +180,6 @@ fn found<S: Alter>(alloc: Global, conn: &mut Connection<S>) -> Result<Vacancies,
         Ok(()) => Ok(Vacancies::new(alloc)),
         Err(error) => Err(OpenFault::Fault(fault(&error))),
     }
-}
-
-/// A store in memory, without tables.
-fn empty_memory(alloc: Global) -> Result<Connection<MemStore>, Fault>
-    ensures { IfOk result (λ conn. IsEmpty (state over_memory conn)) }
-{
-    let conn = Connection::open_in_memory(alloc)?;
-    Ok(conn)
-}
-
-/// The empty office in a store in memory.
-pub fn in_memory(alloc: Global) -> Result<SqlKeeper<MemStore>, OpenFault>
-    ensures empty { IfOk result (λ keeper. Holds (state over_memory keeper.tables)
-        × (world_in (state over_memory keeper.tables) ≡ empty_world)) }
-    ensures fault { IfErr result (λ refusal. (given : KeeperFault) × (refusal ≡ refusals.Fault given)) }
-{
-    let mut conn = empty_memory(alloc)?;
-    let vacancies = found(alloc, &mut conn)?;
-    Ok(SqlKeeper::new(alloc, conn, vacancies))
 }
 
 /// What was opened of files in which no office is: the store, as it was found; or none, and what is

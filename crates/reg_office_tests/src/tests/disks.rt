@@ -1,5 +1,5 @@
 //! Offices in tables over disks in memory, which stop at each call of a line, of a founding and of an
-//! opening; and an office of many rows.
+//! opening.
 mod asking;
 mod calls;
 mod counted;
@@ -8,7 +8,6 @@ mod image;
 mod left;
 mod lines;
 mod making;
-mod many;
 mod migrating;
 mod rows;
 mod sessions;

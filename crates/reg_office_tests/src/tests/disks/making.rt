@@ -53,8 +53,8 @@ pub fn prepared_by(alloc: Global, count: usize) -> Result<Image, Fail> {
     filled_by(alloc, &blank(alloc)?, lines.as_bytes())
 }
 
-/// These files of an office, once the first clerk has a token, and after these lines.
-pub fn filled_by(alloc: Global, image: &Image, lines: &[u8]) -> Result<Image, Fail> {
+// These files of an office, once the first clerk has a token, and after these lines.
+fn filled_by(alloc: Global, image: &Image, lines: &[u8]) -> Result<Image, Fail> {
     let filling = Asking {
         fresh: false,
         token: Some(CLERK.as_bytes()),
