@@ -2,4 +2,5 @@
 mod exercise;
 mod http;
 mod jobs;
+mod libraries;
 mod sites;

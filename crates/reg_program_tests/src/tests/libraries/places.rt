@@ -1,16 +1,13 @@
-//! The block due by free places: worked by hand, and against the sweep over all given blocks.
-use crate::tests::digits::{block, block_if, is_free};
-use crate::tests::expecting::{expect, expect_true};
+//! The block due by free places, worked by hand.
+use crate::tests::libraries::digits::{block, block_if};
+use crate::tests::libraries::expecting::{expect, expect_true};
 use reg_blocks::block::Block;
-use reg_blocks::due::{ascends, least_free};
-use reg_blocks::pool::{Add, Pool, is_pool_prefix};
+use reg_blocks::pool::is_pool_prefix;
 use reg_blocks::size::Size;
 use reg_places::places::Places;
 use std::alloc::{AllocError, Global};
 use std::process::Abort;
 use std::test::Fail;
-
-const SIZES: [Size; 3] = [Size::MaL, Size::MaM, Size::MaS];
 
 // Places with these prefixes, of which nothing is given.
 fn places_of(alloc: Global, prefixes: &[u32]) -> Result<Places, AllocError> {
@@ -97,101 +94,6 @@ fn due_past_a_hundred_full_prefixes(rt: HostRuntime) -> Result<(), Fail> {
         &places,
         [Some("002064"), Some("0020640"), Some("002064000")],
     );
-    Ok(())
-}
-
-// The next number of a sequence that looks like chance (SplitMix64).
-fn next(state: &mut u64) -> u64 {
-    *state = state.wrapping_add(0x9E37_79B9_7F4A_7C15);
-    let mut n = *state;
-    n = (n ^ (n >> 30)).wrapping_mul(0xBF58_476D_1CE4_E5B9);
-    n = (n ^ (n >> 27)).wrapping_mul(0x94D0_49BB_1331_11EB);
-    n ^ (n >> 31)
-}
-
-// A block in one of the prefixes from 001A2B on: most often of the middle size, so that prefixes
-// fill up; and small ones lie close together.
-fn some_block(state: &mut u64) -> Option<Block> {
-    let prefix = 0x00_1A2B + next(state) % 3;
-    match next(state) % 16 {
-        0 => Block::make(Size::MaL, prefix),
-        1..=9 => Block::make(Size::MaM, prefix * 16 + next(state) % 16),
-        _ => Block::make(
-            Size::MaS,
-            prefix * 4096 + next(state) % 4 * 256 + next(state) % 8,
-        ),
-    }
-}
-
-// The same block is due by the free places and by the sweep over all given blocks.
-fn compare(rt: &impl Abort, places: &Places, pool: &Pool, given: &[Block]) {
-    expect_true(rt, ascends(given), "in order");
-    for size in SIZES {
-        let due = least_free(pool, given, size);
-        expect(rt, places.due(size), due, size.word());
-    }
-}
-
-// Whether an office may give the block: it is free.
-fn may_give(rt: &impl Abort, pool: &Pool, given: &[Block], block: &Block) -> bool {
-    let prefix = u32::try_from(block.first() >> 24).expect(rt, "24 bits");
-    pool.prefixes().contains(&prefix) && is_free(given, block)
-}
-
-// A prefix more in the pool and among the places.
-fn grow(
-    rt: &impl Abort,
-    places: &mut Places,
-    pool: &mut Pool,
-    prefix: u32,
-) -> Result<(), AllocError> {
-    expect_true(rt, is_pool_prefix(prefix), "a prefix");
-    places.add_prefix(prefix)?;
-    expect_true(rt, pool.add(prefix) != Add::Memory, "memory");
-    Ok(())
-}
-
-// Gives the block if it is free.
-fn give_free(
-    rt: &impl Abort,
-    places: &mut Places,
-    pool: &Pool,
-    given: &mut Vec<Block>,
-    block: Block,
-) -> Result<(), AllocError> {
-    if may_give(rt, pool, given.as_slice(), &block) {
-        places.give(block)?;
-        given.push(block)?;
-        given.sort_unstable();
-    }
-    Ok(())
-}
-
-// An office whose pool grows, and which gives blocks in any order. Whether nothing is due at last.
-fn office(rt: &impl Abort, alloc: Global, seed: u64) -> Result<bool, AllocError> {
-    let mut state = seed;
-    let mut places = Places::new(alloc);
-    let mut pool = Pool::new(alloc);
-    let mut given = Vec::new(alloc);
-    for turn in 0..48 {
-        if turn % 16 == 0 {
-            let prefix = (0x00_1A2B + next(&mut state) % 3) as u32;
-            grow(rt, &mut places, &mut pool, prefix)?;
-        }
-        let block = some_block(&mut state).expect(rt, "a block");
-        give_free(rt, &mut places, &pool, &mut given, block)?;
-        compare(rt, &places, &pool, &given);
-    }
-    Ok(places.due(Size::MaS).is_none())
-}
-
-#[test]
-fn due_in_a_thousand_offices(rt: HostRuntime) -> Result<(), Fail> {
-    let mut is_one_full = false;
-    for seed in 0..1000 {
-        is_one_full |= office(&rt, rt.alloc(), seed)?;
-    }
-    expect_true(&rt, is_one_full, "a full office");
     Ok(())
 }
 

@@ -1,8 +1,6 @@
-//! Blocks, prefixes and the pool, and the block that is due by trial of each.
-ghost use Rattle.std.specs.Prelude.{◌≤◌};
-
-use crate::tests::digits::{block, block_if, is_free};
-use crate::tests::expecting::{expect, expect_at, expect_text, expect_true};
+//! Blocks, prefixes and the pool, and the block that is due.
+use crate::tests::libraries::digits::{block, block_if};
+use crate::tests::libraries::expecting::{expect, expect_at, expect_text, expect_true};
 use reg_blocks::block::Block;
 use reg_blocks::due::{ascends, least_free};
 use reg_blocks::pool::{Add, Pool, is_pool_prefix};
@@ -144,36 +142,9 @@ fn what_a_pool_takes(rt: HostRuntime) -> Result<(), Fail> {
     Ok(())
 }
 
-// How many blocks of the size a prefix of 24 bits has.
-fn blocks_in_prefix(size: Size) -> u64
-    ensures { result ≤ 4096 }
-{
-    match size {
-        Size::MaL => 1,
-        Size::MaM => 16,
-        Size::MaS => 4096,
-    }
-}
-
-// The block due by trial of each block of the size in each prefix, in order.
-fn by_trial(pool: &Pool, given: &[Block], size: Size) -> Option<Block> {
-    for prefix in pool.prefixes() {
-        let count = blocks_in_prefix(size);
-        for k in 0..count {
-            let candidate = Block::make(size, u64::from(*prefix) * count + k)?;
-            if is_free(given, &candidate) {
-                return Some(candidate);
-            }
-        }
-    }
-    None
-}
-
 fn expect_due_of(rt: &impl Abort, pool: &Pool, given: &[Block], size: Size, want: Option<Block>) {
     expect_true(rt, ascends(given), "in order");
-    let trial = by_trial(pool, given, size);
-    expect(rt, least_free(pool, given, size), trial, "due by trial");
-    expect(rt, least_free(pool, given, size), want, "due by hand");
+    expect(rt, least_free(pool, given, size), want, "the block due");
 }
 
 fn expect_due(rt: &impl Abort, pool: &Pool, given: &[Block], want: [Option<&str>; 3]) {

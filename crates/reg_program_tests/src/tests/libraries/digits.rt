@@ -1,4 +1,4 @@
-//! Blocks by their digits, and whether they are free.
+//! Blocks by their digits.
 use reg_blocks::block::Block;
 use std::process::Abort;
 
@@ -13,14 +13,4 @@ pub fn block_if(rt: &impl Abort, digits: Option<&str>) -> Option<Block> {
         Some(digits) => Some(block(rt, digits)),
         None => None,
     }
-}
-
-/// Whether the block has no address with one that was given.
-pub fn is_free(given: &[Block], block: &Block) -> bool {
-    for other in given {
-        if block.overlaps(other) {
-            return false;
-        }
-    }
-    true
 }
