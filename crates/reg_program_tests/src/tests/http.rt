@@ -1,8 +1,6 @@
-//! Requests over HTTP that break off, fail or are silent, and requests whose allocations are refused.
-mod allocations;
+//! Requests over HTTP that break off, fail or are silent.
 mod asking;
 mod failures;
 mod listening;
 mod messages;
-mod rows;
 pub mod served;

@@ -53,15 +53,3 @@ fn put_token(text: &mut String, token: &str) -> Result<(), AllocError> {
     text.push_str(token)?;
     text.push_str("\r\n")
 }
-
-/// A text with CR LF for each line feed.
-pub fn with_line_ends(alloc: Global, text: &str) -> Result<Vec<u8>, AllocError> {
-    let mut bytes = Vec::new(alloc);
-    for byte in text.as_bytes() {
-        if *byte == b'\n' {
-            bytes.push(b'\r')?;
-        }
-        bytes.push(*byte)?;
-    }
-    Ok(bytes)
-}
