@@ -1,5 +1,5 @@
 //! Tests of the program over offices in lists where what is around it fails: stores, readers, writers,
-//! peers, folders, sources and moments; and of the low libraries, where the program does not reach them.
+//! peers, folders, sources and moments.
 #![tactic(auto)]
 
 #[cfg(test)]

@@ -2,5 +2,4 @@
 mod exercise;
 mod http;
 mod jobs;
-mod libraries;
 mod sites;

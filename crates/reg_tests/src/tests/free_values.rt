@@ -1,5 +1,5 @@
 //! Sets of numbers, and the least free value by them, worked by hand.
-use crate::tests::libraries::expecting::{expect, expect_at, expect_true};
+use crate::tests::expecting::{expect, expect_at, expect_true};
 use reg_free::least::least_free_of;
 use reg_free::runs::Runs;
 use reg_ranges::policy::Policy;

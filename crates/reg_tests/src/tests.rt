@@ -1,0 +1,7 @@
+//! The tests, and what they share.
+mod blocks;
+mod digits;
+mod early;
+mod expecting;
+mod free_values;
+mod places;
