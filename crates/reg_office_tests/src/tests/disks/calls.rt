@@ -1,6 +1,6 @@
 //! The calls of an office and of its store. Each is over any store, whose parts its proof need not
 //! unfold, and none has a clause, so that who makes several does not carry what each of them leaves.
-use crate::tests::disks::sessions::{Asking, Done, Outcome, Statement, Task};
+use crate::tests::disks::sessions::{Asking, Outcome, Statement};
 use reg_keeper::keeper::{Fault, Keeper};
 use reg_office::Office;
 use reg_opening::kind::{StoreKind, check};
@@ -11,23 +11,10 @@ use reg_wire::script::run;
 use sqlite::{Alter, Connection, Error, FileStore, Files};
 use sqlite_disk::Disk;
 use std::alloc::Global;
+use std::test::Fail;
 
-/// Does a task with a store, and gives it back.
-pub fn done<S: Alter>(alloc: Global, conn: Connection<S>, task: Task<'_>) -> (Done, Connection<S>) {
-    match task {
-        Task::CarryOut(statement) => {
-            let (outcome, conn) = carried_out(alloc, conn, statement);
-            (Done::CarriedOut(outcome), conn)
-        }
-        Task::Ask(asking) => {
-            let (answers, fault, conn) = asked(alloc, conn, asking);
-            (Done::Asked(answers, fault), conn)
-        }
-    }
-}
-
-// Carries a statement out, and tells what the store is then.
-fn carried_out<S: Alter>(
+/// Carries a statement out, and tells what the store is then.
+pub fn carried_out<S: Alter>(
     alloc: Global,
     mut conn: Connection<S>,
     statement: Statement<'_>,
@@ -75,23 +62,23 @@ fn judge<S: Alter>(alloc: Global, conn: &mut Connection<S>) -> Result<Option<Sto
     Ok(Some(check(alloc, conn)?))
 }
 
-// Takes the store over, and tells what the office answers, or why there is none.
-fn asked<S: Alter>(
+/// Takes the store over, and tells what the office answers, or why there is none.
+pub fn asked<S: Alter>(
     alloc: Global,
     conn: Connection<S>,
     asking: Asking<'_>,
-) -> (Option<Vec<u8>>, Option<OpenFault>, Connection<S>) {
+) -> (Result<Vec<u8>, Fail>, Option<OpenFault>, Connection<S>) {
     match SqlKeeper::adopt(alloc, conn, asking.fresh) {
         Ok(keeper) => {
             let (answers, keeper) = answers(alloc, keeper, asking);
             (answers, None, keeper.into_connection())
         }
-        Err((fault, conn)) => (None, Some(fault), conn),
+        Err((fault, conn)) => (Ok(Vec::new(alloc)), Some(fault), conn),
     }
 }
 
-// What an office over this keeper answers, if the lines are run.
-fn answers<K: Keeper>(alloc: Global, keeper: K, asking: Asking<'_>) -> (Option<Vec<u8>>, K) {
+// What an office over this keeper answers.
+fn answers<K: Keeper>(alloc: Global, keeper: K, asking: Asking<'_>) -> (Result<Vec<u8>, Fail>, K) {
     let mut office = Office::new(alloc, keeper);
     let answers = answers_of(alloc, &mut office, asking);
     (answers, office.into_keeper())
@@ -101,14 +88,14 @@ fn answers_of<K: Keeper>(
     alloc: Global,
     office: &mut Office<K>,
     asking: Asking<'_>,
-) -> Option<Vec<u8>> {
+) -> Result<Vec<u8>, Fail> {
     if let Some(token) = asking.token {
-        office.found(token).ok()?;
+        office.found(token)?;
     }
     let mut reader = asking.lines;
     let mut answers = Vec::new(alloc);
-    run(alloc, office, &mut reader, &mut answers).ok()?;
-    Some(answers)
+    run(alloc, office, &mut reader, &mut answers)?;
+    Ok(answers)
 }
 
 /// The files of a store that is closed, or ends without that.

@@ -2,13 +2,12 @@
 //! ends.
 ghost use Rattle.std.specs.Prelude.{IfOk, IsTrue};
 
-use crate::tests::disks::calls::{done, ended};
+use crate::tests::disks::calls::{asked, carried_out, ended};
 use crate::tests::disks::image::Image;
 use crate::tests::disks::left::{Left, Stop, Stopping, disk_with, left_of};
 use reg_keeper::keeper::Fault;
 use reg_opening::kind::StoreKind;
 use reg_sql::open::OpenFault;
-use reg_testing::facts::ensure;
 use sqlite::{Connection, Error, FileStore, Files, Options};
 use sqlite_disk::Disk;
 use std::alloc::Global;
@@ -60,21 +59,6 @@ pub struct Asked {
     pub left: Left,
 }
 
-/// What is done with a store, whatever it is: the one or the other.
-#[derive(Clone, Copy)]
-pub enum Task<'a> {
-    CarryOut(Statement<'a>),
-    Ask(Asking<'a>),
-}
-
-/// What came of a task.
-#[derive(Drop)]
-pub enum Done {
-    CarriedOut(Outcome),
-    /// What the lines were answered, if they were run; or why no office was opened.
-    Asked(Option<Vec<u8>>, Option<OpenFault>),
-}
-
 /// Carries a statement out in the store of these files, if that is opened, and closes the store
 /// then, or does not.
 pub fn carry_out(
@@ -84,24 +68,20 @@ pub fn carry_out(
     statement: Statement<'_>,
     closes: bool,
 ) -> Result<(Option<Outcome>, Left), Fail> {
-    match session(alloc, image, stop, Task::CarryOut(statement), closes)? {
-        (Some(Done::CarriedOut(outcome)), left) => Ok((Some(outcome), left)),
-        (_, left) => Ok((None, left)),
+    match opened(alloc, image, stop)? {
+        Ok(conn) => {
+            let (outcome, conn) = carried_out(alloc, conn, statement);
+            Ok((Some(outcome), left_by(alloc, conn, closes)?))
+        }
+        Err(left) => Ok((None, left)),
     }
 }
 
 /// Asks the office in the store of these files, if there is one.
 pub fn ask(alloc: Global, image: &Image, stop: Stop, asking: Asking<'_>) -> Result<Asked, Fail> {
-    match session(alloc, image, stop, Task::Ask(asking), asking.closes)? {
-        (Some(Done::Asked(answers, fault)), left) => {
-            ensure(answers.is_some() || fault.is_some(), "lines that are run")?;
-            Ok(Asked {
-                answers,
-                fault,
-                left,
-            })
-        }
-        (_, left) => Ok(Asked {
+    match opened(alloc, image, stop)? {
+        Ok(conn) => ask_in(alloc, conn, asking),
+        Err(left) => Ok(Asked {
             answers: None,
             fault: None,
             left,
@@ -109,23 +89,16 @@ pub fn ask(alloc: Global, image: &Image, stop: Stop, asking: Asking<'_>) -> Resu
     }
 }
 
-// Opens the store of these files, does this with it if it is opened, and tells what is left. No other
-// function hands a store on disks that stop to what is over any store.
-fn session(
-    alloc: Global,
-    image: &Image,
-    stop: Stop,
-    task: Task<'_>,
-    closes: bool,
-) -> Result<(Option<Done>, Left), Fail> {
-    match opened(alloc, image, stop)? {
-        Ok(conn) => {
-            let (done, conn) = done(alloc, conn, task);
-            let left = left_by(alloc, conn, closes)?;
-            Ok((Some(done), left))
-        }
-        Err(left) => Ok((None, left)),
-    }
+fn ask_in(alloc: Global, conn: Connection<Store>, asking: Asking<'_>) -> Result<Asked, Fail> {
+    let (answers, fault, conn) = asked(alloc, conn, asking);
+    let left = left_by(alloc, conn, asking.closes);
+    let answers = answers?;
+    let left = left?;
+    Ok(Asked {
+        answers: if fault.is_none() { Some(answers) } else { None },
+        fault,
+        left,
+    })
 }
 
 // What is left of a store that is closed, or ends without that.
