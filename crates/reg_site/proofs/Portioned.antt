@@ -16,17 +16,17 @@ use Rattle.reg_print.specs.Trees.Page.{entry_tree}
 use Rattle.reg_print.specs.declared.answer.Answer.TheVariants.{Reply}
 use Rattle.reg_print.proofs.ComparedTexts.{body_text-page}
 use Rattle.reg_print.proofs.ListingText.{record_then}
-use Rattle.reg_site.specs.Appended.{Appended}
-use Rattle.reg_site.specs.Markup.{markup_then}
+use Rattle.reg_html.specs.Appended.{Appended}
+use Rattle.reg_html.specs.Markup.{markup_then}
 use Rattle.reg_site.specs.Portions.{GivesPortion, after}
 use Rattle.reg_site.specs.Registry as registry
 use Rattle.reg_site.specs.Blocks as blocks
-use Rattle.reg_site.specs.Table.{below_rows}
+use Rattle.reg_html.specs.Table.{below_rows}
 use Rattle.reg_site.specs.Listing.{records}
 use Rattle.reg_site.specs.Tree.{entries_left}
 use Rattle.reg_site.specs.declared.portions.Next.TheVariants as next
 use Rattle.reg_site.specs.declared.summary.Summary.{Summary}
-use Rattle.reg_site.proofs.Pieces.{bytes}
+use Rattle.reg_html.proofs.Pieces.{bytes}
 
 -- what was appended was the next portion, and has a byte
 pub gives : {old new rest rest' : List ℕ} {f : List ℕ → List ℕ} → Appended old new f

@@ -1,8 +1,8 @@
 -- A picture of a registry's values, and its legend in words.
 use Rattle.std.specs.Prelude.{ℕ, ◌+◌, ◌-◌, ◌*◌, ◌/◌, ◌==◌, min, max, List, [], ◌∷◌, map, codes, if◌then◌else◌}
 use Rattle.std.specs.Fmt.{decimal}
-use Rattle.reg_site.specs.Document.{attribute, plain}
-use Rattle.reg_site.specs.Markup.{Markup, nothing, text, element, beside, all_of}
+use Rattle.reg_html.specs.Document.{attribute, plain}
+use Rattle.reg_html.specs.Markup.{Markup, nothing, text, element, beside, all_of}
 use Rattle.reg_site.specs.Summary.{rest_of}
 use Rattle.reg_site.specs.declared.summary.Rest.{Rest}
 use Rattle.reg_site.specs.declared.summary.Rest.TheVariants.{Free, SetAside, Reserved}

@@ -6,9 +6,9 @@ use Rattle.reg_blocks.specs.declared.size.Size.{Size}
 use Rattle.reg_blocks.specs.declared.size.Size.TheVariants.{MaL, MaM, MaS}
 use Rattle.reg_core.specs.declared.holding.Listed.{Listed}
 use Rattle.reg_print.specs.BlockListing.{block_header, block_listing_text}
-use Rattle.reg_site.specs.Document.{document, link, page, page_start, plain}
-use Rattle.reg_site.specs.Markup.{Markup, text, all_of, markup_then}
-use Rattle.reg_site.specs.Table.{below_rows, row, table, table_start}
+use Rattle.reg_html.specs.Document.{document, link, page, page_start, plain}
+use Rattle.reg_html.specs.Markup.{Markup, text, all_of, markup_then}
+use Rattle.reg_html.specs.Table.{below_rows, row, table, table_start}
 use Rattle.reg_site.specs.declared.blocks.BlocksPage.{BlocksPage}
 use Rattle.reg_site.specs.declared.portions.Next.{Next}
 use Rattle.reg_site.specs.declared.portions.Next.TheVariants as next

@@ -9,10 +9,10 @@ use Rattle.reg_blocks.specs.declared.size.Size.TheVariants.{MaL, MaM, MaS}
 use Rattle.reg_core.specs.declared.holding.Listed.{Listed}
 use Rattle.reg_print.specs.Listing.{run_text}
 use Rattle.reg_site.specs.Blocks.{rows_of}
-use Rattle.reg_site.specs.Document.{document, link, page, plain}
-use Rattle.reg_site.specs.Markup.{Markup, text, beside, all_of}
+use Rattle.reg_html.specs.Document.{document, link, page, plain}
+use Rattle.reg_html.specs.Markup.{Markup, text, beside, all_of}
 use Rattle.reg_site.specs.Moment.{moment_text}
-use Rattle.reg_site.specs.Table.{table}
+use Rattle.reg_html.specs.Table.{table}
 use Rattle.reg_site.specs.declared.summary.Share.{Share}
 use Rattle.reg_site.specs.declared.summary.Summary.{Summary}
 

@@ -16,7 +16,7 @@ use Rattle.reg_core.specs.declared.holding.Holder.{Holder}
 use Rattle.reg_site.specs.Blocks.{block_row}
 use Rattle.reg_site.specs.Files.{path_of, site_files}
 use Rattle.reg_site.specs.Site.{bytes_of, site, told_to_all}
-use Rattle.reg_site.specs.Table.{row}
+use Rattle.reg_html.specs.Table.{row}
 use Rattle.reg_site.specs.declared.files.File.{File}
 use Rattle.reg_site.specs.declared.files.File.TheVariants.{Index}
 

@@ -1,10 +1,4 @@
-pub mod Appended
 pub mod Portions
-pub mod Escape
-pub mod Markup
-pub mod Document
-pub mod Pieces
-pub mod Table
 pub mod Summary
 pub mod Bar
 pub mod Registry
@@ -14,6 +8,5 @@ pub mod Tree
 pub mod Moment
 pub mod Index
 pub mod Files
-pub mod Nesting
 pub mod Site
 pub mod Laws

@@ -5,11 +5,11 @@ use Rattle.reg_ranges.specs.declared.range.Range.{Range}
 use Rattle.reg_core.specs.declared.page.Page.{Page}
 use Rattle.reg_print.specs.Listing.{ListedRow, assignee_text, expiry_text, first_text, page_rows, policy_text, row_view, run_text, status_word, whole}
 use Rattle.reg_site.specs.Bar.{bar}
-use Rattle.reg_site.specs.Document.{document, link, page, page_start, plain}
-use Rattle.reg_site.specs.Markup.{Markup, text, all_of, markup_then}
+use Rattle.reg_html.specs.Document.{document, link, page, page_start, plain}
+use Rattle.reg_html.specs.Markup.{Markup, text, all_of, markup_then}
 use Rattle.reg_site.specs.Summary.{summary}
 use Rattle.reg_site.specs.declared.summary.Summary.{Summary}
-use Rattle.reg_site.specs.Table.{below_rows, row, table, table_start}
+use Rattle.reg_html.specs.Table.{below_rows, row, table, table_start}
 use Rattle.reg_site.specs.declared.portions.Next.{Next}
 use Rattle.reg_site.specs.declared.portions.Next.TheVariants as next
 use Rattle.reg_site.specs.declared.registry.RegistryPage.{RegistryPage}

@@ -1,13 +1,13 @@
 //! A picture of a registry's values, and its legend in words.
 ghost use Rattle.std.specs.Prelude.{◌≡◌, map, OnOk};
-ghost use Rattle.reg_site.specs.Appended.{Shown};
+ghost use Rattle.reg_html.specs.Appended.{Shown};
+ghost use Rattle.reg_html.specs.Markup.{all_of};
 ghost use Rattle.reg_site.specs.Bar.{bar, counted, legend, part, picture, rest_word, share_parts, thousandths, used_part, whole_part};
-ghost use Rattle.reg_site.specs.Markup.{all_of};
 ghost use Rattle.reg_site.specs.Summary.{rest_of};
 
-use crate::markup::Piece::{Markup, Number, Text};
-use crate::markup::{push, push_all};
 use crate::summary::{Rest, Share, Summary, rest_of};
+use reg_html::markup::Piece::{Markup, Number, Text};
+use reg_html::markup::{push, push_all};
 use std::alloc::AllocError;
 
 /// Appends a bar of a registry's values: each range as long as it has values, and of those the ones

@@ -1,18 +1,18 @@
 //! The page of the blocks that were given, and IEEE's files of them.
 ghost use Rattle.std.specs.Prelude.{◌≡◌, ◌++◌, ◌∷◌, [], codes, length, string_bytes, Some, IfOk, OnOk};
-ghost use Rattle.reg_site.specs.Appended.{Appended, Shown};
+ghost use Rattle.reg_html.specs.Appended.{Appended, Shown};
+ghost use Rattle.reg_html.specs.Table.{row, table_start};
 ghost use Rattle.reg_site.specs.Blocks.{above_rows, assignments_text, block_links, block_row, blocks_page, page_left, rows_of, same_size};
-ghost use Rattle.reg_site.specs.Table.{row, table_start};
 ghost use Rattle.reg_print.specs.BlockListing.{block_header};
 
-use crate::document::push_start;
-use crate::markup::Piece::{Link, Markup};
-use crate::markup::push_all;
 use crate::portions::{Next, Portions};
-use crate::table;
-use crate::table::push_row;
 use reg_blocks::size::Size;
 use reg_core::holding::Listed;
+use reg_html::document::push_start;
+use reg_html::markup::Piece::{Link, Markup};
+use reg_html::markup::push_all;
+use reg_html::table;
+use reg_html::table::push_row;
 use reg_print::listing::blocks::{address_text, block_listing, organization_text};
 use std::alloc::{AllocError, Global};
 

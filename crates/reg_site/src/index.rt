@@ -1,21 +1,21 @@
 //! The first page of the site.
 ghost use Rattle.std.specs.Prelude.{◌≡◌, map, string_bytes, IfOk, OnOk};
-ghost use Rattle.reg_site.specs.Appended.{Shown};
+ghost use Rattle.reg_html.specs.Appended.{Shown};
+ghost use Rattle.reg_html.specs.Markup.{all_of};
 ghost use Rattle.reg_site.specs.Index.{as_of, as_of_text, block_counts, counted_file, index_page, item, linked_cell, name_cell, number_cell, page_place, pool_list, prefix_item, registries_table, registry_row, share_item, share_texts, size_item};
-ghost use Rattle.reg_site.specs.Markup.{all_of};
 
 use crate::blocks::count_of;
-use crate::document::{push_end, push_start};
-use crate::markup::Piece::{Link, Markup, Number, Text};
-use crate::markup::{push, push_all};
 use crate::moment::moment_text;
 use crate::summary::{Share, Summary};
-use crate::table;
 use reg_blocks::pool::Pool;
 use reg_blocks::prefix;
 use reg_blocks::size::Size;
 use reg_core::holding::Listed;
 use reg_core::text::Name;
+use reg_html::document::{push_end, push_start};
+use reg_html::markup::Piece::{Link, Markup, Number, Text};
+use reg_html::markup::{push, push_all};
+use reg_html::table;
 use std::alloc::{AllocError, Global};
 
 /// The first page: the moment, in seconds since 1970-01-01T00:00:00Z; the registries with the policies

@@ -4,17 +4,13 @@
 
 mod bar;
 pub mod blocks;
-mod document;
-mod escape;
 pub mod files;
 pub mod index;
 pub mod laws;
 pub mod listing;
-mod markup;
 mod moment;
 pub mod portions;
 pub mod registry;
 pub mod style;
 pub mod summary;
-mod table;
 pub mod tree;

@@ -1,21 +1,21 @@
 //! The page of a registry.
 ghost use Rattle.std.specs.Prelude.{◌≡◌, ◌∷◌, [], codes, map, option_map, string_bytes, None, IfOk, OnOk};
 ghost use Rattle.reg_print.specs.Listing.{row_view};
-ghost use Rattle.reg_site.specs.Appended.{Appended, Shown};
-ghost use Rattle.reg_site.specs.Markup.{all_of};
+ghost use Rattle.reg_html.specs.Appended.{Appended, Shown};
+ghost use Rattle.reg_html.specs.Markup.{all_of};
+ghost use Rattle.reg_html.specs.Table.{row, table_start};
 ghost use Rattle.reg_site.specs.Registry.{above_rows, entry_columns, entry_row, forms, links, name_of, page_left, range_row, ranges_table, registry_page};
 ghost use Rattle.reg_site.specs.Summary.{summary};
-ghost use Rattle.reg_site.specs.Table.{row, table_start};
 
 use crate::bar::push_bar;
-use crate::document::push_start;
-use crate::markup::Piece::{Link, Markup};
-use crate::markup::push_all;
 use crate::portions::{Next, Portions};
 use crate::summary::Summary;
-use crate::table;
-use crate::table::push_row;
 use reg_core::page::Page;
+use reg_html::document::push_start;
+use reg_html::markup::Piece::{Link, Markup};
+use reg_html::markup::push_all;
+use reg_html::table;
+use reg_html::table::push_row;
 use reg_print::listing::registry::{assignee_text, expiry_text, first_text, policy_word};
 use reg_print::listing::rows::{ListingRow, Run, rows};
 use reg_print::note::note_text;

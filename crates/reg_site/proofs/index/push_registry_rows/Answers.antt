@@ -1,7 +1,7 @@
 use Rattle.std.proofs.Common.{map, refl}
-use Rattle.reg_site.specs.Markup.{all_of, markup_then}
+use Rattle.reg_html.specs.Markup.{all_of, markup_then}
 use Rattle.reg_site.specs.Index.{registry_row}
-use Rattle.reg_site.proofs.Pieces.{begins, ends, goes_on}
+use Rattle.reg_html.proofs.Pieces.{begins, ends, goes_on}
 use Rattle.reg_site.proofs.index.push_registry_rows.Goals as goal
 
 pub loop-registry-init : goal.loop-registry-init

@@ -1,11 +1,11 @@
 use Rattle.std.proofs.Common.{◌≡◌, ◌+◌, ◌<◌, ◌≤◌, ◌++◌, ◌∙◌, length, get_or, map, ap, sym, append-nil, rules}
 use Rattle.std.proofs.lemmas.List.{drop_all}
 use Rattle.reg_print.specs.Listing.{row_view}
-use Rattle.reg_site.specs.Markup.{markup_then}
+use Rattle.reg_html.specs.Markup.{markup_then}
 use Rattle.reg_site.specs.Portions.{after}
 use Rattle.reg_site.specs.Registry.{above_rows, entry_row, left_from, rows_left}
 use Rattle.reg_site.specs.Summary.{summary}
-use Rattle.reg_site.specs.Table.{below_rows}
+use Rattle.reg_html.specs.Table.{below_rows}
 use Rattle.reg_site.specs.declared.portions.Next.TheVariants as next
 use Rattle.reg_site.proofs.Portioned.{above_some, after_last, after_row, at_place, below_some, gives, page_parts, row_some}
 use Rattle.reg_site.proofs.registry.RegistryPagePortions.push_next.Goals as goal

@@ -1,0 +1,10 @@
+use Rattle.reg_html.proofs.Pieces.{joined, shown}
+use Rattle.reg_html.proofs.table.push_row.Goals as goal
+
+pub returns : goal.returns
+returns c =
+    shown
+    (joined c.in_ok-push_row_start.ensures
+    (joined c.in_ok-push_all.ensures
+    (joined c.in_ok-push_cells.ensures.bytes
+    (c.in_ok-push.ensures))))
