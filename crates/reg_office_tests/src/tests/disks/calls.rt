@@ -1,6 +1,8 @@
-//! The calls of an office and of its store. Each is over any store, whose parts its proof need not
-//! unfold, and none has a clause, so that who makes several does not carry what each of them leaves.
-use crate::tests::disks::sessions::{Asking, Outcome, Statement};
+//! The calls of an office and of its store. Each is over any store, or any disks, whose parts its
+//! proof need not unfold, and none says what it leaves, so that who makes several does not carry it.
+ghost use Rattle.std.specs.Prelude.{IsTrue};
+
+use crate::tests::disks::sessions::{Asking, Done, Outcome, Statement, Task};
 use reg_keeper::keeper::{Fault, Keeper};
 use reg_office::Office;
 use reg_opening::kind::{StoreKind, check};
@@ -8,13 +10,43 @@ use reg_sql::keeper::SqlKeeper;
 use reg_sql::open::OpenFault;
 use reg_tables::make::make_office;
 use reg_wire::script::run;
-use sqlite::{Alter, Connection, Error, FileStore, Files};
+use sqlite::{Alter, Connection, Error, FileStore, Files, Options};
 use sqlite_disk::Disk;
 use std::alloc::Global;
-use std::test::Fail;
 
-/// Carries a statement out, and tells what the store is then.
-pub fn carried_out<S: Alter>(
+/// Opens the store of these files, does the task with it if it is opened, and gives its files back
+/// when it is closed, or ends without that.
+pub fn session<D: Disk + Drop>(
+    alloc: Global,
+    files: Files<D>,
+    task: Task<'_>,
+    closes: bool,
+) -> Result<(Option<Done>, Files<D>), Error>
+    requires log { IsTrue (D.Disk.is_usable files.log) }
+    requires db { IsTrue (D.Disk.is_usable files.db) }
+{
+    match Connection::open_files(alloc, files, Options::new(1)) {
+        Ok(conn) => {
+            let (done, conn) = done(alloc, conn, task);
+            Ok((Some(done), ended(conn, closes)?))
+        }
+        Err((_, left)) => Ok((None, left.into_files())),
+    }
+}
+
+// Does a task with a store, and gives it back.
+fn done<S: Alter>(alloc: Global, conn: Connection<S>, task: Task<'_>) -> (Done, Connection<S>) {
+    match task {
+        Task::CarryOut(statement) => {
+            let (outcome, conn) = carried_out(alloc, conn, statement);
+            (Done::CarriedOut(outcome), conn)
+        }
+        Task::Ask(asking) => asked(alloc, conn, asking),
+    }
+}
+
+// Carries a statement out, and tells what the store is then.
+fn carried_out<S: Alter>(
     alloc: Global,
     mut conn: Connection<S>,
     statement: Statement<'_>,
@@ -62,23 +94,27 @@ fn judge<S: Alter>(alloc: Global, conn: &mut Connection<S>) -> Result<Option<Sto
     Ok(Some(check(alloc, conn)?))
 }
 
-/// Takes the store over, and tells what the office answers, or why there is none.
-pub fn asked<S: Alter>(
+// Takes the store over, and tells what the office answers, or why there is none.
+fn asked<S: Alter>(
     alloc: Global,
     conn: Connection<S>,
     asking: Asking<'_>,
-) -> (Result<Vec<u8>, Fail>, Option<OpenFault>, Connection<S>) {
+) -> (Done, Connection<S>) {
     match SqlKeeper::adopt(alloc, conn, asking.fresh) {
         Ok(keeper) => {
             let (answers, keeper) = answers(alloc, keeper, asking);
-            (answers, None, keeper.into_connection())
+            let done = match answers {
+                Some(answers) => Done::Answered(answers),
+                None => Done::Unanswered,
+            };
+            (done, keeper.into_connection())
         }
-        Err((fault, conn)) => (Ok(Vec::new(alloc)), Some(fault), conn),
+        Err((fault, conn)) => (Done::Unopened(fault), conn),
     }
 }
 
-// What an office over this keeper answers.
-fn answers<K: Keeper>(alloc: Global, keeper: K, asking: Asking<'_>) -> (Result<Vec<u8>, Fail>, K) {
+// What an office over this keeper answers, if the lines are run to their end.
+fn answers<K: Keeper>(alloc: Global, keeper: K, asking: Asking<'_>) -> (Option<Vec<u8>>, K) {
     let mut office = Office::new(alloc, keeper);
     let answers = answers_of(alloc, &mut office, asking);
     (answers, office.into_keeper())
@@ -88,21 +124,18 @@ fn answers_of<K: Keeper>(
     alloc: Global,
     office: &mut Office<K>,
     asking: Asking<'_>,
-) -> Result<Vec<u8>, Fail> {
+) -> Option<Vec<u8>> {
     if let Some(token) = asking.token {
-        office.found(token)?;
+        office.found(token).ok()?;
     }
     let mut reader = asking.lines;
     let mut answers = Vec::new(alloc);
-    run(alloc, office, &mut reader, &mut answers)?;
-    Ok(answers)
+    run(alloc, office, &mut reader, &mut answers).ok()?;
+    Some(answers)
 }
 
-/// The files of a store that is closed, or ends without that.
-pub fn ended<D: Disk + Drop>(
-    conn: Connection<FileStore<D>>,
-    closes: bool,
-) -> Result<Files<D>, Error> {
+// The files of a store that is closed, or ends without that.
+fn ended<D: Disk + Drop>(conn: Connection<FileStore<D>>, closes: bool) -> Result<Files<D>, Error> {
     if closes {
         conn.close_files().map_err(error_of)
     } else {

@@ -2,22 +2,38 @@
 //! ends.
 ghost use Rattle.std.specs.Prelude.{IfOk, IsTrue};
 
-use crate::tests::disks::calls::{asked, carried_out, ended};
+use crate::tests::disks::calls::session;
 use crate::tests::disks::image::Image;
-use crate::tests::disks::left::{Left, Stop, Stopping, disk_with, left_of};
+use crate::tests::disks::left::{Left, Stop, disk_with, left_of};
 use reg_keeper::keeper::Fault;
 use reg_opening::kind::StoreKind;
 use reg_sql::open::OpenFault;
-use sqlite::{Connection, Error, FileStore, Files, Options};
+use sqlite::Files;
 use sqlite_disk::Disk;
 use std::alloc::Global;
 use std::io;
 use std::test::Fail;
 
-// A store on disks that stop.
-type Store = FileStore<Stopping>;
+/// What is done with a store that is opened.
+#[derive(Clone, Copy)]
+pub enum Task<'a> {
+    CarryOut(Statement<'a>),
+    Ask(Asking<'a>),
+}
 
-/// What is done with a store.
+/// What came of a task.
+#[derive(Drop)]
+pub enum Done {
+    CarriedOut(Outcome),
+    /// What the lines were answered.
+    Answered(Vec<u8>),
+    /// The lines were not run to their end.
+    Unanswered,
+    /// Why no office was opened in the store.
+    Unopened(OpenFault),
+}
+
+/// What is carried out in a store.
 #[derive(Clone, Copy)]
 pub enum Statement<'a> {
     Nothing,
@@ -68,56 +84,43 @@ pub fn carry_out(
     statement: Statement<'_>,
     closes: bool,
 ) -> Result<(Option<Outcome>, Left), Fail> {
-    match opened(alloc, image, stop)? {
-        Ok(conn) => {
-            let (outcome, conn) = carried_out(alloc, conn, statement);
-            Ok((Some(outcome), left_by(alloc, conn, closes)?))
-        }
-        Err(left) => Ok((None, left)),
-    }
+    let (done, left) = session_on(alloc, image, stop, Task::CarryOut(statement), closes)?;
+    let outcome = match done {
+        Some(Done::CarriedOut(outcome)) => Some(outcome),
+        _ => None,
+    };
+    Ok((outcome, left))
 }
 
 /// Asks the office in the store of these files, if there is one.
 pub fn ask(alloc: Global, image: &Image, stop: Stop, asking: Asking<'_>) -> Result<Asked, Fail> {
-    match opened(alloc, image, stop)? {
-        Ok(conn) => ask_in(alloc, conn, asking),
-        Err(left) => Ok(Asked {
-            answers: None,
-            fault: None,
-            left,
-        }),
-    }
-}
-
-fn ask_in(alloc: Global, conn: Connection<Store>, asking: Asking<'_>) -> Result<Asked, Fail> {
-    let (answers, fault, conn) = asked(alloc, conn, asking);
-    let left = left_by(alloc, conn, asking.closes);
-    let answers = answers?;
-    let left = left?;
+    let (done, left) = session_on(alloc, image, stop, Task::Ask(asking), asking.closes)?;
+    let (answers, fault) = match done {
+        Some(Done::Answered(answers)) => (Some(answers), None),
+        Some(Done::Unanswered) => return Err("lines that are run to their end".into()),
+        Some(Done::Unopened(fault)) => (None, Some(fault)),
+        _ => (None, None),
+    };
     Ok(Asked {
-        answers: if fault.is_none() { Some(answers) } else { None },
+        answers,
         fault,
         left,
     })
 }
 
-// What is left of a store that is closed, or ends without that.
-fn left_by(alloc: Global, conn: Connection<Store>, closes: bool) -> Result<Left, Error> {
-    Ok(left_of(alloc, ended(conn, closes)?)?)
-}
-
-// A connection to files that hold this on disks that stop; or what is left of them.
-fn opened(
+// The session over files that hold this, on disks that stop, and what is left of them. No other
+// function hands disks of a known type to what is over any.
+fn session_on(
     alloc: Global,
     image: &Image,
     stop: Stop,
-) -> Result<Result<Connection<Store>, Left>, Fail> {
+    task: Task<'_>,
+    closes: bool,
+) -> Result<(Option<Done>, Left), Fail> {
     let log = disk_with(alloc, image.log.as_slice(), stop.log);
     let db = disk_with(alloc, image.db.as_slice(), stop.db);
-    match Connection::open_files(alloc, usable(log, db)?, Options::new(1)) {
-        Ok(conn) => Ok(Ok(conn)),
-        Err((_, left)) => Ok(Err(left_of(alloc, left.into_files())?)),
-    }
+    let (done, files) = session(alloc, usable(log, db)?, task, closes)?;
+    Ok((done, left_of(alloc, files)?))
 }
 
 // Files on these disks, which may be used.
