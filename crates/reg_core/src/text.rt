@@ -1,7 +1,7 @@
 //! The names that the office goes by: accounts, references, registry names, tokens and their
 //! digests. A name is kept in place, in as many bytes as the longest of its form: it is copied without
 //! memory.
-ghost use Rattle.std.specs.Prelude.{◌≡◌, ◌≤◌, ℕ, Bool, true, nat_eq, List, Some, length, refl};
+ghost use Rattle.std.specs.Prelude.{◌≡◌, ◌≤◌, ⊤, ℕ, Bool, true, nat_eq, List, Some, length, refl};
 ghost use Rattle.std.specs.Cmp.{partial_equiv_from_equiv};
 ghost use Rattle.std.specs.Cmp.Lexicographic.{slice_cmp, pointwise, nat_list_cmp_total, nat_list_eq_equiv, texts_po, texts_ties};
 ghost use Rattle.std.specs.Ordering.{nat_cmp};
@@ -12,6 +12,7 @@ ghost use Rattle.reg_core.specs.Names.{is_name_byte as name_byte, is_token_byte 
 
 use reg_ranges::formed::Formed;
 pub use reg_ranges::text::Text;
+use std::alloc::AllocError;
 use std::cmp::Ordering;
 use std::marker::{Model, PhantomData};
 use std::str;
@@ -29,7 +30,7 @@ pub const MOST_TOKEN_BYTES: usize = 64;
 pub const DIGEST_BYTES: usize = 64;
 
 /// Which bytes a kind of name may have, which are at most `N`.
-pub trait Form<const N: usize>: Copy {
+pub trait Form<const N: usize> {
     /// The names of this form.
     ghost fits: { List ℕ → Bool };
 
@@ -48,7 +49,6 @@ pub trait Form<const N: usize>: Copy {
 }
 
 /// A name of the form `F`, kept in place.
-#[derive(Clone, Copy)]
 pub struct Word<F: Form<N>, const N: usize> {
     // The bytes, and zeros after them.
     place: [u8; N],
@@ -72,6 +72,23 @@ impl<F: Form<N>, const N: usize> Model for Word<F, N> {
 
     ghost inverse_ok = { λ w h i. record { place = h.0 i; len = h.1 i; form = record {} } };
 }
+
+// Not derived: a name is copied whatever its form is, which has no value.
+impl<F: Form<N>, const N: usize> Clone for Word<F, N> {
+    ghost is_clone = { λ word copy. copy ≡ word };
+
+    ghost is_infallible = { λ _. ⊤ };
+
+    fn clone(&self) -> Result<Self, AllocError> {
+        Ok(Word {
+            place: self.place,
+            len: self.len,
+            form: PhantomData,
+        })
+    }
+}
+
+impl<F: Form<N>, const N: usize> Copy for Word<F, N> {}
 
 impl<F: Form<N>, const N: usize> Word<F, N> {
     /// The name of these bytes; none where they have not the form.
@@ -162,12 +179,11 @@ impl<F: Form<N>, const N: usize> Ord for Word<F, N> {
 }
 
 /// 1 to 32 of `a` to `z`, `0` to `9` and `-`: what things of the kind `T` are called.
-#[derive(Clone, Copy)]
 pub struct NameForm<T> {
     kind: PhantomData<T>,
 }
 
-impl<T: Copy> Form<MOST_NAME_BYTES> for NameForm<T> {
+impl<T> Form<MOST_NAME_BYTES> for NameForm<T> {
     ghost fits = { name };
 
     ghost ascii = { ascii_name };
@@ -182,20 +198,16 @@ impl<T: Copy> Form<MOST_NAME_BYTES> for NameForm<T> {
 }
 
 /// Whose capability, request or entry it is.
-#[derive(Clone, Copy)]
 pub struct AccountKind;
 
 /// The applicant's own word for a request.
-#[derive(Clone, Copy)]
 pub struct RefKind;
 
 /// What a registry is called.
-#[derive(Clone, Copy)]
 pub struct RegistryKind;
 
 /// 16 to 64 of letters, digits, `-`, `.`, `_` and `~`: a bearer token (RFC 6750 section 2.1,
 /// narrowed).
-#[derive(Clone, Copy)]
 pub struct TokenForm;
 
 impl Form<MOST_TOKEN_BYTES> for TokenForm {
@@ -213,7 +225,6 @@ impl Form<MOST_TOKEN_BYTES> for TokenForm {
 }
 
 /// 64 lower-case hexadecimal digits: what the office keeps of a token.
-#[derive(Clone, Copy)]
 pub struct DigestForm;
 
 impl Form<DIGEST_BYTES> for DigestForm {
