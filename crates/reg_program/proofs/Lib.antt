@@ -7,3 +7,4 @@ pub mod Gotten
 pub mod Listed
 pub mod Results
 pub mod Revoked
+pub mod Taken

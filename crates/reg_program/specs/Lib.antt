@@ -2,6 +2,7 @@ pub mod Asking
 pub mod Checking
 pub mod Doing
 pub mod Founding
+pub mod Inputs
 pub mod Looking
 pub mod Performing
 pub mod Printing

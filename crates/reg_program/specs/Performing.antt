@@ -1,5 +1,6 @@
 -- What becomes of a job: which task is carried out, with the office in which file.
 use Rattle.std.specs.Prelude.{◌≡◌, ⊤, ℕ, [], List, Option, Some, None, Result, Ok, codes, option_map}
+use Rattle.std.specs.Option.{option_copied}
 use Rattle.std.specs.String.{string_bytes}
 use Rattle.reg_jobs.specs.declared.jobs.Definition.{Definition}
 use Rattle.reg_jobs.specs.declared.jobs.Job.{Job}
@@ -12,10 +13,11 @@ use Rattle.reg_jobs.specs.declared.jobs.Which.TheVariants as which
 use Rattle.reg_office.specs.declared.revocation.Choice.TheVariants as choice
 use Rattle.reg_parse.specs.Command.{asked}
 use Rattle.reg_program.specs.Asking.{definition_at, listing_at}
+use Rattle.reg_program.specs.Inputs.{AreKnown, IsServed, IsTokenOf, body_in, token_in}
 use Rattle.reg_program.specs.declared.asking.Form.TheVariants.{Body, Line}
 use Rattle.reg_program.specs.declared.faults.Undone.{Undone}
 use Rattle.reg_program.specs.declared.tasks.Task.{Task}
-use Rattle.reg_program.specs.declared.tasks.Task.TheVariants.{Found, Run, Serve, Ask, Tokens, Revoke}
+use Rattle.reg_program.specs.declared.tasks.Task.TheVariants.{Found, Run, Serve, Ask, Tokens, Revoke, Publish}
 
 -- the exit status where there is no job
 abbrev pub refused_status : JobFault → ℕ
@@ -24,25 +26,29 @@ refused_status fault.Memory = 1
 
 -- ---- Tasks
 
-abbrev pub IsFounding : Task → Type 0
-IsFounding (Found clerk) = ⊤
-IsFounding _ = ⊥
+-- the first clerk's token is the one that a word says
+abbrev pub IsFounding : List ℕ → Task → Type 0
+IsFounding word (Found clerk) = AreKnown (token_in word) clerk.now
+IsFounding word _ = ⊥
 
-abbrev pub IsRunning : Task → Type 0
-IsRunning (Run clerk) = ⊤
-IsRunning _ = ⊥
+abbrev pub IsRunning : List ℕ → Task → Type 0
+IsRunning word (Run clerk) = AreKnown (token_in word) clerk.now
+IsRunning word _ = ⊥
 
--- the command is the one that a method, a path and some body spell
-abbrev pub IsRequestedBy : Request → Task → Type 0
-IsRequestedBy order (Ask token command form) =
-    (form ≡ Body) × (body : List ℕ)
+-- the token is the one that its word says, and the command is the one that the method, the path and
+-- the body spell, where so much stands on standard input
+abbrev pub IsRequestedBy : Request → Option (List ℕ) → Task → Type 0
+IsRequestedBy order input (Ask token command form) =
+    (form ≡ Body) × IsTokenOf (option_map string_bytes order.token) (option_copied token)
+    × (body : List ℕ) × AreKnown (body_in (option_map string_bytes order.body) input) body
     × (asked (string_bytes order.method) (string_bytes order.path) body ≡ Ok command)
-IsRequestedBy order _ = ⊥
+IsRequestedBy order input _ = ⊥
 
--- the command is the one that defines a registry of some range file, for a clerk
+-- the token is the one that its word says, and the command is the one that defines a registry of some
+-- range file
 abbrev pub IsDefinedBy : Definition → Task → Type 0
 IsDefinedBy order (Ask (Some token) command form) =
-    (form ≡ Line) × (ranges : List ℕ)
+    (form ≡ Line) × AreKnown (token_in (string_bytes order.clerk)) token.now × (ranges : List ℕ)
     × (asked (codes "PUT") (definition_at (string_bytes order.name) (string_bytes order.max)) ranges
     ≡ Ok command)
 IsDefinedBy order _ = ⊥
@@ -53,6 +59,12 @@ IsListedBy registry (Ask None command form) =
     (form ≡ Body) × (asked (codes "GET") (listing_at registry) [] ≡ Ok command)
 IsListedBy registry _ = ⊥
 
+-- the office is published in this folder
+abbrev pub IsPublishedTo : List ℕ → Task → Type 0
+IsPublishedTo folder (Publish given) = given.now ≡ folder
+IsPublishedTo folder _ = ⊥
+
+-- just these capabilities are taken away
 abbrev pub IsTakenBy : Which → Task → Type 0
 IsTakenBy (which.Digest digits) (Revoke (choice.Digits given)) = given.now ≡ string_bytes digits
 IsTakenBy (which.Account name) (Revoke (choice.Account given)) = given.now ≡ string_bytes name
@@ -66,29 +78,38 @@ abbrev pub Carries : (List ℕ → Task → Result ⊤ Undone → Type 0) → Li
 Carries Carried file Is done = (task : Task) × Is task × Carried file task done
 
 -- the script is run with the office in a file; without one nothing is said here
-abbrev pub RunsIn : (List ℕ → Task → Result ⊤ Undone → Type 0) → Option (List ℕ)
+abbrev pub RunsIn : (List ℕ → Task → Result ⊤ Undone → Type 0) → Option (List ℕ) → List ℕ
     → Result ⊤ Undone → Type 0
-RunsIn Carried None done = ⊤
-RunsIn Carried (Some file) done = Carries Carried file IsRunning done
+RunsIn Carried None clerk done = ⊤
+RunsIn Carried (Some file) clerk done = Carries Carried file (IsRunning clerk) done
 
--- What a job that is done had carried out. Of a script without a file, of what is published, of a
--- check and of help nothing is said here.
-abbrev pub DoesJob : (List ℕ → Task → Result ⊤ Undone → Type 0) → Result ⊤ Undone → Job → Type 0
-DoesJob Carried done (job.Script clerk file) =
-    RunsIn Carried (option_map string_bytes file) done
-DoesJob Carried done (job.Init file clerk) = Carries Carried (string_bytes file) IsFounding done
-DoesJob Carried done (job.Serve file port connections log) =
+-- the office in a file is published in a folder; of one that is served nothing is said here
+abbrev pub PublishesFrom : (List ℕ → Task → Result ⊤ Undone → Type 0) → List ℕ → List ℕ
+    → Result ⊤ Undone → Type 0
+PublishesFrom Carried source folder done =
+    (IsServed source → ⊥) → Carries Carried source (IsPublishedTo folder) done
+
+-- What a job that is done had carried out, where so much stands on standard input. Of a script without
+-- a file, of what a served office publishes, of a check and of help nothing is said here.
+abbrev pub DoesJob : (List ℕ → Task → Result ⊤ Undone → Type 0) → Option (List ℕ)
+    → Result ⊤ Undone → Job → Type 0
+DoesJob Carried input done (job.Script clerk file) =
+    RunsIn Carried (option_map string_bytes file) (string_bytes clerk) done
+DoesJob Carried input done (job.Init file clerk) =
+    Carries Carried (string_bytes file) (IsFounding (string_bytes clerk)) done
+DoesJob Carried input done (job.Serve file port connections log) =
     Carries Carried (string_bytes file) (λ task. task ≡ Serve port connections log) done
-DoesJob Carried done (job.Request order) =
-    Carries Carried (string_bytes order.file) (IsRequestedBy order) done
-DoesJob Carried done (job.Define order) =
+DoesJob Carried input done (job.Request order) =
+    Carries Carried (string_bytes order.file) (IsRequestedBy order input) done
+DoesJob Carried input done (job.Define order) =
     Carries Carried (string_bytes order.file) (IsDefinedBy order) done
-DoesJob Carried done (job.Listing file registry) =
+DoesJob Carried input done (job.Listing file registry) =
     Carries Carried (string_bytes file) (IsListedBy (option_map string_bytes registry)) done
-DoesJob Carried done (job.Publish source folder) = ⊤
-DoesJob Carried done (job.Check file) = ⊤
-DoesJob Carried done (job.Tokens file) =
+DoesJob Carried input done (job.Publish source folder) =
+    PublishesFrom Carried (string_bytes source) (string_bytes folder) done
+DoesJob Carried input done (job.Check file) = ⊤
+DoesJob Carried input done (job.Tokens file) =
     Carries Carried (string_bytes file) (λ task. task ≡ Tokens) done
-DoesJob Carried done (job.Revoke file chosen) =
+DoesJob Carried input done (job.Revoke file chosen) =
     Carries Carried (string_bytes file) (IsTakenBy chosen) done
-DoesJob Carried done (job.Help text) = ⊤
+DoesJob Carried input done (job.Help text) = ⊤

@@ -1,7 +1,8 @@
 //! Doing the jobs of the program.
-ghost use Rattle.std.specs.Prelude.{◌≡◌, ◌⊎◌, ⊤, Some, Ok, OnOk, option_map};
+ghost use Rattle.std.specs.Prelude.{◌≡◌, ◌⊎◌, ⊤, Some, Ok, IfOk, OnOk, option_map};
 ghost use Rattle.std.specs.String.{string_bytes};
-ghost use Rattle.reg_program.specs.Performing.{Carries, DoesJob, IsDefinedBy, IsFounding, IsListedBy, IsRequestedBy, IsRunning, IsTakenBy, RunsIn, refused_status};
+ghost use Rattle.reg_program.specs.Inputs.{AreKnown, body_in};
+ghost use Rattle.reg_program.specs.Performing.{Carries, DoesJob, IsDefinedBy, IsFounding, IsListedBy, IsRequestedBy, IsRunning, IsTakenBy, PublishesFrom, RunsIn, refused_status};
 
 use crate::asking::{Form, definition, listing, print, requested};
 use crate::console::Console;
@@ -28,7 +29,8 @@ pub fn perform<O: Offices, R: Read, W: Write, E: Write>(
     console: &mut Console<'_, R, W, E>,
 ) -> u8
     ensures status { (result ≡ 0) ⊎ (result ≡ 1) }
-    ensures done { result ≡ 0 → DoesJob (O.Carried offices.now) (Ok tt) job }
+    ensures done { result ≡ 0
+        → DoesJob (O.Carried offices.now) (R.remaining console.old.input.now) (Ok tt) job }
 {
     match attempt(rt, offices, &job, console) {
         Ok(()) => 0,
@@ -80,7 +82,8 @@ fn attempt<O: Offices, R: Read, W: Write, E: Write>(
     job: &Job,
     console: &mut Console<'_, R, W, E>,
 ) -> Result<(), Undone>
-    ensures { OnOk result (DoesJob (O.Carried offices.now) result job.now) }
+    ensures { OnOk result
+        (DoesJob (O.Carried offices.now) (R.remaining console.old.input.now) result job.now) }
 {
     match job {
         Job::Script { clerk, file } => script(rt, offices, clerk.as_str(), file, console),
@@ -132,7 +135,7 @@ fn script<O: Offices, R: Read, W: Write, E: Write>(
     console: &mut Console<'_, R, W, E>,
 ) -> Result<(), Undone>
     ensures { OnOk result (RunsIn (O.Carried offices.now)
-        (option_map string_bytes file.now) result) }
+        (option_map string_bytes file.now) clerk.now result) }
 {
     let alloc = rt.alloc();
     let token = token_of(rt, alloc, clerk)?;
@@ -161,7 +164,8 @@ fn init<O: Offices, R: Read, W: Write, E: Write>(
     clerk: &str,
     console: &mut Console<'_, R, W, E>,
 ) -> Result<(), Undone>
-    ensures { OnOk result (Carries (O.Carried offices.now) file.now IsFounding result) }
+    ensures { OnOk result
+        (Carries (O.Carried offices.now) file.now (IsFounding clerk.now) result) }
 {
     let token = token_of(rt, rt.alloc(), clerk)?;
     let clerk = token.as_slice();
@@ -175,7 +179,7 @@ fn request<O: Offices, R: Read, W: Write, E: Write>(
     console: &mut Console<'_, R, W, E>,
 ) -> Result<(), Undone>
     ensures { OnOk result (Carries (O.Carried offices.now) (string_bytes order.now.file)
-        (IsRequestedBy order.now) result) }
+        (IsRequestedBy order.now (R.remaining console.old.input.now)) result) }
 {
     let alloc = rt.alloc();
     let token = optional_token(rt, alloc, &order.token)?;
@@ -191,11 +195,10 @@ fn request<O: Offices, R: Read, W: Write, E: Write>(
 
 // The body that a word says: its bytes, or what stands on standard input for `-`; without a word,
 // nothing.
-fn body_of<R: Read>(
-    alloc: Global,
-    word: &Option<String>,
-    input: &mut R,
-) -> Result<Vec<u8>, Undone> {
+fn body_of<R: Read>(alloc: Global, word: &Option<String>, input: &mut R) -> Result<Vec<u8>, Undone>
+    ensures { IfOk result (λ body. AreKnown
+        (body_in (option_map string_bytes word.now) (R.remaining input.old)) body.items) }
+{
     match word {
         Some(word) if word.as_str() == "-" => Ok(all_of(alloc, input)?),
         Some(word) => Ok(all_of(alloc, &mut word.as_bytes())?),
@@ -249,7 +252,10 @@ fn publish_at<O: Offices, R: Read, W: Write, E: Write>(
     source: &str,
     folder: &str,
     console: &mut Console<'_, R, W, E>,
-) -> Result<(), Undone> {
+) -> Result<(), Undone>
+    ensures { OnOk result
+        (PublishesFrom (O.Carried offices.now) source.now folder.now result) }
+{
     match port_of(source)? {
         Some(port) => publish_served(rt, port, moment(rt), folder, console.output),
         None => carry_out(rt, offices, source, Task::Publish { folder }, console),

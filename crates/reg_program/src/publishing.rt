@@ -1,5 +1,6 @@
 //! The job that publishes an office.
-ghost use Rattle.std.specs.Prelude.{◌≡◌, OnOk};
+ghost use Rattle.std.specs.Prelude.{◌≡◌, ◌<◌, IfOk, OnOk, IfSome, MatchOption};
+ghost use Rattle.reg_program.specs.Inputs.{IsServed};
 
 use crate::asking::{print, refusal_line};
 use crate::faults::{JobFailure, Undone};
@@ -18,7 +19,11 @@ const SERVED: &str = "http://127.0.0.1:";
 
 /// The port of the office that is served at this address, if it is such an address. `Read` where
 /// what comes after the colon is no port.
-pub fn port_of(source: &str) -> Result<Option<u16>, JobFailure> {
+pub fn port_of(source: &str) -> Result<Option<u16>, JobFailure>
+    ensures served { IfOk result (λ port. MatchOption port (IsServed source.now → ⊥)
+        (λ _. IsServed source.now)) }
+    ensures least { IfOk result (λ port. IfSome port (λ p. 0 < p)) }
+{
     let Some(port) = source.strip_prefix(SERVED) else {
         return Ok(None);
     };

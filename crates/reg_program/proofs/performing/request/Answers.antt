@@ -1,11 +1,20 @@
-use Rattle.std.proofs.Common.{refl}
+use Rattle.std.proofs.Common.{refl, subst, sym}
+use Rattle.std.specs.Option.{option_map}
 use Rattle.std.specs.String.{string_bytes}
+use Rattle.reg_program.specs.Inputs.{AreKnown, IsTokenOf, body_in}
 use Rattle.reg_program.specs.Performing.{IsRequestedBy}
 use Rattle.reg_program.proofs.Carried.{carries_at}
 use Rattle.reg_program.proofs.performing.request.Goals as goal
 
 pub returns : goal.returns
 returns g c =
+    let order = c.args.order.now in
+    let input = g.R.Read.remaining c.args.console.now.input.now in
+    let token = subst (IsTokenOf (option_map string_bytes order.token)) (sym c.as_deref.ensures.value)
+    c.in_ok-token.ensures in
+    let body = subst (AreKnown (body_in (option_map string_bytes order.body) input))
+    (sym c.as_slice.ensures.value) c.in_ok-body.ensures in
     carries_at (g.O.Offices.Carried c.args.offices.now) c.as_str.result.now
-    (string_bytes c.args.order.now.file) (IsRequestedBy c.args.order.now) _ c.carry_out.result
-    c.as_str.ensures.value c.carry_out.ensures (refl, c.as_slice.result.now, c.in_ok-command.ensures.spelled)
+    (string_bytes order.file) (IsRequestedBy order input) _ c.carry_out.result
+    c.as_str.ensures.value c.carry_out.ensures
+    (refl, token, c.as_slice.result.now, body, c.in_ok-command.ensures.spelled)

@@ -1,0 +1,27 @@
+-- What the words of a command line, and standard input, give to a job.
+use Rattle.std.specs.Prelude.{◌≡◌, ℕ, List, [], ◌∷◌, ◌++◌, Option, Some, None, IfSome, ◌==◌, codes, if◌then◌else◌}
+use Rattle.std.specs.Str.{bytes_eq}
+
+-- the bytes are those that are known, where they are
+abbrev pub AreKnown : Option (List ℕ) → List ℕ → Type 0
+AreKnown known bytes = IfSome known (λ all. bytes ≡ all)
+
+-- the token that a word is; nothing is known of it where a @ before a path says that it stands in a file
+abbrev pub token_in : List ℕ → Option (List ℕ)
+token_in [] = Some []
+token_in (b ∷ path) = if b == 64 then None else Some (b ∷ path)
+
+-- the token of who asks: none without a word, and else the one that the word is
+abbrev pub IsTokenOf : Option (List ℕ) → Option (List ℕ) → Type 0
+IsTokenOf None token = token ≡ None
+IsTokenOf (Some word) None = ⊥
+IsTokenOf (Some word) (Some token) = AreKnown (token_in word) token
+
+-- the body of a request: nothing without a word, what stands on standard input for -, and else the word
+abbrev pub body_in : Option (List ℕ) → Option (List ℕ) → Option (List ℕ)
+body_in None input = Some []
+body_in (Some word) input = if bytes_eq word (codes "-") then input else Some word
+
+-- the address of an office that is served on this machine
+abbrev pub IsServed : List ℕ → Type 0
+IsServed source = (port : List ℕ) × (source ≡ codes "http://127.0.0.1:" ++ port)
