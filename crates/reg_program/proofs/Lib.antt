@@ -4,6 +4,7 @@ pub mod Checked
 pub mod Did
 pub mod Founded
 pub mod Gotten
+pub mod InMemory
 pub mod Listed
 pub mod Results
 pub mod Revoked

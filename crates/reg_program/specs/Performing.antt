@@ -1,5 +1,5 @@
 -- What becomes of a job: which task is carried out, with the office in which file.
-use Rattle.std.specs.Prelude.{◌≡◌, ⊤, ℕ, [], List, Option, Some, None, Result, Ok, codes, option_map}
+use Rattle.std.specs.Prelude.{◌≡◌, ⊤, ℕ, false, [], List, Option, Some, None, Result, Ok, codes, option_map}
 use Rattle.std.specs.Option.{option_copied}
 use Rattle.std.specs.String.{string_bytes}
 use Rattle.reg_jobs.specs.declared.jobs.Definition.{Definition}
@@ -12,8 +12,13 @@ use Rattle.reg_jobs.specs.declared.jobs.Which.{Which}
 use Rattle.reg_jobs.specs.declared.jobs.Which.TheVariants as which
 use Rattle.reg_office.specs.declared.revocation.Choice.TheVariants as choice
 use Rattle.reg_parse.specs.Command.{asked}
+use Rattle.reg_store.specs.Lists.{world_in}
+use Rattle.reg_store.specs.declared.lists.ListKeeper.{ListKeeper}
+use Rattle.reg_core.specs.World.{empty_world}
 use Rattle.reg_program.specs.Asking.{definition_at, listing_at}
+use Rattle.reg_program.specs.Founding.{RunsAll, told_beside}
 use Rattle.reg_program.specs.Inputs.{AreKnown, IsServed, IsTokenOf, body_in, token_in}
+use Rattle.reg_program.specs.Tasks.{Streams}
 use Rattle.reg_program.specs.declared.asking.Form.TheVariants.{Body, Line}
 use Rattle.reg_program.specs.declared.faults.Undone.{Undone}
 use Rattle.reg_program.specs.declared.tasks.Task.{Task}
@@ -77,11 +82,22 @@ abbrev pub Carries : (List ℕ → Task → Result ⊤ Undone → Type 0) → Li
     → Result ⊤ Undone → Type 0
 Carries Carried file Is done = (task : Task) × Is task × Carried file task done
 
--- the script is run with the office in a file; without one nothing is said here
-abbrev pub RunsIn : (List ℕ → Task → Result ⊤ Undone → Type 0) → Option (List ℕ) → List ℕ
+-- an office in memory that was empty is founded, with the token that a word says, and answers all lines
+-- of standard input on standard output
+pub record RunsInMemory (word : List ℕ) (io : Streams) : Type 0 where
+  pub token : List ℕ
+  pub said : AreKnown (token_in word) token
+  pub first : ListKeeper
+  pub is_empty : world_in first ≡ empty_world
+  pub last : ListKeeper
+  pub runs : RunsAll world_in (λ _. ⊤) (λ _. ⊤) false first last token io.unread io.left
+      (told_beside io.is_watched io.had) (told_beside io.is_watched io.has)
+
+-- the script is run with the office in a file or, without one, with one in memory
+abbrev pub RunsIn : (List ℕ → Task → Result ⊤ Undone → Type 0) → Option (List ℕ) → List ℕ → Streams
     → Result ⊤ Undone → Type 0
-RunsIn Carried None clerk done = ⊤
-RunsIn Carried (Some file) clerk done = Carries Carried file (IsRunning clerk) done
+RunsIn Carried None clerk io done = RunsInMemory clerk io
+RunsIn Carried (Some file) clerk io done = Carries Carried file (IsRunning clerk) done
 
 -- the office in a file is published in a folder; of one that is served nothing is said here
 abbrev pub PublishesFrom : (List ℕ → Task → Result ⊤ Undone → Type 0) → List ℕ → List ℕ
@@ -89,27 +105,27 @@ abbrev pub PublishesFrom : (List ℕ → Task → Result ⊤ Undone → Type 0) 
 PublishesFrom Carried source folder done =
     (IsServed source → ⊥) → Carries Carried source (IsPublishedTo folder) done
 
--- What a job that is done had carried out, where so much stands on standard input. Of a script without
--- a file, of what a served office publishes, of a check and of help nothing is said here.
-abbrev pub DoesJob : (List ℕ → Task → Result ⊤ Undone → Type 0) → Option (List ℕ)
-    → Result ⊤ Undone → Job → Type 0
-DoesJob Carried input done (job.Script clerk file) =
-    RunsIn Carried (option_map string_bytes file) (string_bytes clerk) done
-DoesJob Carried input done (job.Init file clerk) =
+-- What a job that is done had carried out, by what is known of standard input and output. Of what a
+-- served office publishes, of a check and of help nothing is said here.
+abbrev pub DoesJob : (List ℕ → Task → Result ⊤ Undone → Type 0) → Streams → Result ⊤ Undone → Job
+    → Type 0
+DoesJob Carried io done (job.Script clerk file) =
+    RunsIn Carried (option_map string_bytes file) (string_bytes clerk) io done
+DoesJob Carried io done (job.Init file clerk) =
     Carries Carried (string_bytes file) (IsFounding (string_bytes clerk)) done
-DoesJob Carried input done (job.Serve file port connections log) =
+DoesJob Carried io done (job.Serve file port connections log) =
     Carries Carried (string_bytes file) (λ task. task ≡ Serve port connections log) done
-DoesJob Carried input done (job.Request order) =
-    Carries Carried (string_bytes order.file) (IsRequestedBy order input) done
-DoesJob Carried input done (job.Define order) =
+DoesJob Carried io done (job.Request order) =
+    Carries Carried (string_bytes order.file) (IsRequestedBy order io.unread) done
+DoesJob Carried io done (job.Define order) =
     Carries Carried (string_bytes order.file) (IsDefinedBy order) done
-DoesJob Carried input done (job.Listing file registry) =
+DoesJob Carried io done (job.Listing file registry) =
     Carries Carried (string_bytes file) (IsListedBy (option_map string_bytes registry)) done
-DoesJob Carried input done (job.Publish source folder) =
+DoesJob Carried io done (job.Publish source folder) =
     PublishesFrom Carried (string_bytes source) (string_bytes folder) done
-DoesJob Carried input done (job.Check file) = ⊤
-DoesJob Carried input done (job.Tokens file) =
+DoesJob Carried io done (job.Check file) = ⊤
+DoesJob Carried io done (job.Tokens file) =
     Carries Carried (string_bytes file) (λ task. task ≡ Tokens) done
-DoesJob Carried input done (job.Revoke file chosen) =
+DoesJob Carried io done (job.Revoke file chosen) =
     Carries Carried (string_bytes file) (IsTakenBy chosen) done
-DoesJob Carried input done (job.Help text) = ⊤
+DoesJob Carried io done (job.Help text) = ⊤

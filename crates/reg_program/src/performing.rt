@@ -1,8 +1,10 @@
 //! Doing the jobs of the program.
 ghost use Rattle.std.specs.Prelude.{◌≡◌, ◌⊎◌, ⊤, Some, Ok, IfOk, OnOk, option_map};
 ghost use Rattle.std.specs.String.{string_bytes};
+ghost use Rattle.reg_program.specs.Founding.{RunsAll, told_beside};
 ghost use Rattle.reg_program.specs.Inputs.{AreKnown, body_in};
 ghost use Rattle.reg_program.specs.Performing.{Carries, DoesJob, IsDefinedBy, IsFounding, IsListedBy, IsRequestedBy, IsRunning, IsTakenBy, PublishesFrom, RunsIn, refused_status};
+ghost use Rattle.reg_program.specs.Tasks.{streams};
 
 use crate::asking::{Form, definition, listing, print, requested};
 use crate::console::Console;
@@ -29,8 +31,10 @@ pub fn perform<O: Offices, R: Read, W: Write, E: Write>(
     console: &mut Console<'_, R, W, E>,
 ) -> u8
     ensures status { (result ≡ 0) ⊎ (result ≡ 1) }
-    ensures done { result ≡ 0
-        → DoesJob (O.Carried offices.now) (R.remaining console.old.input.now) (Ok tt) job }
+    ensures done { let io = streams console.old.is_watched
+        (R.remaining console.old.input.now) (R.remaining console.new.input.now)
+        (W.contents console.old.output.now) (W.contents console.new.output.now) in
+        result ≡ 0 → DoesJob (O.Carried offices.now) io (Ok tt) job }
 {
     match attempt(rt, offices, &job, console) {
         Ok(()) => 0,
@@ -82,8 +86,10 @@ fn attempt<O: Offices, R: Read, W: Write, E: Write>(
     job: &Job,
     console: &mut Console<'_, R, W, E>,
 ) -> Result<(), Undone>
-    ensures { OnOk result
-        (DoesJob (O.Carried offices.now) (R.remaining console.old.input.now) result job.now) }
+    ensures { let io = streams console.old.is_watched
+        (R.remaining console.old.input.now) (R.remaining console.new.input.now)
+        (W.contents console.old.output.now) (W.contents console.new.output.now) in
+        OnOk result (DoesJob (O.Carried offices.now) io result job.now) }
 {
     match job {
         Job::Script { clerk, file } => script(rt, offices, clerk.as_str(), file, console),
@@ -134,8 +140,11 @@ fn script<O: Offices, R: Read, W: Write, E: Write>(
     file: &Option<String>,
     console: &mut Console<'_, R, W, E>,
 ) -> Result<(), Undone>
-    ensures { OnOk result (RunsIn (O.Carried offices.now)
-        (option_map string_bytes file.now) clerk.now result) }
+    ensures { let io = streams console.old.is_watched
+        (R.remaining console.old.input.now) (R.remaining console.new.input.now)
+        (W.contents console.old.output.now) (W.contents console.new.output.now) in
+        OnOk result (RunsIn (O.Carried offices.now)
+        (option_map string_bytes file.now) clerk.now io result) }
 {
     let alloc = rt.alloc();
     let token = token_of(rt, alloc, clerk)?;
@@ -152,7 +161,13 @@ fn run_over<K: Keeper + Drop, R: Read, W: Write, E: Write>(
     keeper: K,
     clerk: &[u8],
     console: &mut Console<'_, R, W, E>,
-) -> Result<(), Undone> {
+) -> Result<(), Undone>
+    ensures { let known = λ (w : W). told_beside console.old.is_watched (W.contents w) in
+        OnOk result ((last : K)
+        × RunsAll K.world K.Holds K.Sound K.FAILS keeper last clerk.now
+        (R.remaining console.old.input.now) (R.remaining console.new.input.now)
+        (known console.old.output.now) (known console.new.output.now)) }
+{
     let mut office = Office::new(rt.alloc(), keeper);
     run_in(rt, &mut office, clerk, console)
 }

@@ -2,14 +2,19 @@ use Rattle.std.proofs.Common.{subst, sym}
 use Rattle.std.specs.Prelude.{OnOk}
 use Rattle.reg_jobs.specs.declared.jobs.Job.{Job}
 use Rattle.reg_program.specs.Performing.{DoesJob}
+use Rattle.reg_program.specs.Tasks.{streams}
 use Rattle.reg_program.proofs.performing.attempt.Goals as goal
 
 pub returns-in-Publish : goal.returns-in-Publish
 returns-in-Publish g c =
     let done = c.publish_at.result in
+    let io = streams c.args.console.now.is_watched
+    (g.R.Read.remaining c.args.console.now.input.now)
+    (g.R.Read.remaining c.publish_at.new.console.input.now)
+    (g.W.Write.contents c.args.console.now.output.now)
+    (g.W.Write.contents c.publish_at.new.console.output.now) in
     subst (λ (job : Job). OnOk done
-    (DoesJob (g.O.Offices.Carried c.args.offices.now)
-    (g.R.Read.remaining c.args.console.now.input.now) done job))
+    (DoesJob (g.O.Offices.Carried c.args.offices.now) io done job))
     (sym c.in-Publish.is)
     (rw (c.as_str-in-Publish.ensures.value, c.as_str-in-Publish-2.ensures.value)
     at c.publish_at.ensures)
