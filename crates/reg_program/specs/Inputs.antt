@@ -1,10 +1,23 @@
 -- What the words of a command line, and standard input, give to a job.
-use Rattle.std.specs.Prelude.{◌≡◌, ℕ, List, [], ◌∷◌, ◌++◌, Option, Some, None, IfSome, ◌==◌, codes, if◌then◌else◌}
+use Rattle.std.specs.Prelude.{◌≡◌, ℕ, Bool, List, [], ◌∷◌, ◌++◌, Option, Some, None, IfSome, ◌==◌, take, position, codes, if◌then◌else◌}
+use Rattle.std.specs.Io.BufRead.{strip_last}
 use Rattle.std.specs.Str.{bytes_eq}
 
 -- the bytes are those that are known, where they are
 abbrev pub AreKnown : Option (List ℕ) → List ℕ → Type 0
 AreKnown known bytes = IfSome known (λ all. bytes ≡ all)
+
+abbrev pub is_line_feed : ℕ → Bool
+is_line_feed b = b == 10
+
+-- what stands before the line feed at a place, or all where there is none
+abbrev pub line_before : List ℕ → Option ℕ → List ℕ
+line_before text None = text
+line_before text (Some at) = take at text
+
+-- the first line of a text, without its line end: a line feed, or a carriage return and one
+abbrev pub line_in : List ℕ → List ℕ
+line_in text = strip_last 13 (line_before text (position is_line_feed text))
 
 -- the token that a word is; nothing is known of it where a @ before a path says that it stands in a file
 abbrev pub token_in : List ℕ → Option (List ℕ)

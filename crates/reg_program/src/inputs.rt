@@ -1,7 +1,8 @@
 //! Reads files and standard input whole, and the tokens that words of a command line stand for.
-ghost use Rattle.std.specs.Prelude.{◌≤◌, length, IfOk, option_map};
+ghost use Rattle.std.specs.Prelude.{◌≡◌, ◌<◌, ◌≤◌, length, position, IfOk, IfSome, option_map};
+ghost use Rattle.std.specs.Io.BufRead.{strip_last};
 ghost use Rattle.std.specs.String.{string_bytes};
-ghost use Rattle.reg_program.specs.Inputs.{AreKnown, IsTokenOf, token_in};
+ghost use Rattle.reg_program.specs.Inputs.{AreKnown, IsTokenOf, is_line_feed, line_in, token_in};
 
 use crate::faults::JobFailure;
 use std::alloc::Global;
@@ -45,9 +46,8 @@ pub fn token_of<H: Files>(rt: &H, alloc: Global, word: &str) -> Result<Vec<u8>, 
 {
     match word.strip_prefix('@') {
         Some(path) => {
-            let mut bytes = bytes_of(rt, alloc, path)?;
-            cut_to_first_line(&mut bytes);
-            Ok(bytes)
+            let bytes = bytes_of(rt, alloc, path)?;
+            Ok(first_line(bytes.as_slice()).to_vec(alloc)?)
         }
         None => Ok(word.as_bytes().to_vec(alloc)?),
     }
@@ -68,13 +68,29 @@ pub fn optional_token<H: Files>(
     }
 }
 
-// Leaves the first line of a text, without its line end: a line feed, or a carriage return and one.
-fn cut_to_first_line(bytes: &mut Vec<u8>) {
-    if let Some(at) = bytes.iter().position(|byte| *byte == b'\n') {
-        bytes.truncate(at);
+// The first line of a text, without its line end: a line feed, or a carriage return and one.
+fn first_line(text: &[u8]) -> &[u8]
+    ensures { result.now ≡ line_in text.now }
+{
+    match line_feed(text) {
+        Some(at) => without_return(&text[..at]),
+        None => without_return(text),
     }
-    if bytes.last().is_some_and(|byte| *byte == b'\r') {
-        let _ = bytes.pop();
+}
+
+fn line_feed(text: &[u8]) -> Option<usize>
+    ensures value { result ≡ position is_line_feed text.now }
+    ensures within { IfSome result (λ at. at < length text.now) }
+{
+    text.iter().position(|byte| *byte == b'\n')
+}
+
+fn without_return(line: &[u8]) -> &[u8]
+    ensures { result.now ≡ strip_last 13 line.now }
+{
+    match line {
+        [rest @ .., b'\r'] => rest,
+        _ => line,
     }
 }
 
