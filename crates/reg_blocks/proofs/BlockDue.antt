@@ -23,15 +23,6 @@ pub record IsLooking (pool : List ℕ) (given : List SizedPrefix) (size : Size) 
       → EndBefore given passed (get_or pool j 0 * 2 ^ 24)
   pub none : (j : ℕ) → j < index → j < length pool → NoneIsFree (get_or pool j 0 ∷ []) given size
 
-pub looking-init : (pool : List ℕ) (given : List SizedPrefix) (size : Size)
-    → IsLooking pool given size 0 0
-looking-init pool given size =
-    record {
-      within = omega arith;
-      before = λ j le lt m d lo h. absurd (omega arith);
-      none = λ j h lt. absurd (omega arith);
-    }
-
 pub looking-next : (pool : List ℕ) (given : List SizedPrefix) (size : Size) (passed index end : ℕ)
     → IsStrictlyIncreasing pool → index < length pool → IsLooking pool given size passed index
     → IsFull (get_or pool index 0) given size end → IsLooking pool given size end (index + 1)

@@ -123,12 +123,6 @@ candidate-leading MaL p k lo hi = omega arith
 candidate-leading MaM p k lo hi = omega arith
 candidate-leading MaS p k lo hi = omega arith
 
-pub prefix-first : (size : Size) (p : ℕ)
-    → p * 2 ^ 24 ≡ p * blocks_in_prefix size * address_count size
-prefix-first MaL p = omega arith
-prefix-first MaM p = omega arith
-prefix-first MaS p = omega arith
-
 pub candidate-end : (size : Size) (p c : ℕ) → c < p * blocks_in_prefix size + blocks_in_prefix size
     → (c + 1) * address_count size ≤ (p + 1) * 2 ^ 24
 candidate-end MaL p c h = omega arith

@@ -9,7 +9,7 @@ use Rattle.reg_blocks.specs.Size.{address_count, blocks_in_prefix}
 use Rattle.reg_blocks.specs.Block.{SizedPrefix, Clash, first_address, last_address, leading_24}
 use Rattle.reg_blocks.specs.Due.{IsFree, IsDue}
 use Rattle.reg_blocks.specs.Sweep.{EndBefore, IsFull}
-use Rattle.reg_blocks.proofs.EndsDecideClash.{sized, of_every, apart_before, apart_after, clash_by_ends, ends_in_prefix, last-next, last-above, first-below, below-past, first-up, candidate-low, candidate-high, candidate-leading, prefix-first, candidate-end}
+use Rattle.reg_blocks.proofs.EndsDecideClash.{sized, of_every, apart_before, apart_after, clash_by_ends, ends_in_prefix, last-next, last-above, first-below, below-past, first-up, candidate-low, candidate-high, candidate-leading, candidate-end}
 
 -- the block shares no address with a given one
 abbrev pub IsApart : List SizedPrefix → SizedPrefix → Type 0
@@ -24,20 +24,6 @@ pub record IsSweeping (prefix : ℕ) (given : List SizedPrefix) (size : Size) (n
   pub passed : EndBefore given next (candidate * address_count size)
   pub clashing : (k : ℕ) → prefix * blocks_in_prefix size ≤ k → k < candidate
       → ¬ IsApart given (sized size k)
-
--- the candidate of the next given block, if there is one
-pub sweeping-init : (prefix : ℕ) (given : List SizedPrefix) (size : Size) (next : ℕ)
-    → prefix * blocks_in_prefix size < prefix * blocks_in_prefix size + blocks_in_prefix size
-    → EndBefore given next (prefix * 2 ^ 24)
-    → IsSweeping prefix given size next (prefix * blocks_in_prefix size)
-sweeping-init prefix given size next h before =
-    record {
-      low = omega arith;
-      high = h;
-      passed = λ m d lo lt. let b = before m d lo lt in let e = prefix-first size prefix in
-          omega arith;
-      clashing = λ k lo lt. absurd (omega arith);
-    }
 
 -- what a pool of one prefix contains
 pub only_prefix : (prefix x : ℕ) → Contains (prefix ∷ []) x → x ≡ prefix

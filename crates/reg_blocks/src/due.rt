@@ -1,4 +1,7 @@
-//! The block that is given next.
+//! The block that is given next, by the list of the blocks that were given.
+//!
+//! These calls are for users of this library. The program does not run them: an office keeps what
+//! is free as runs of blocks, by `reg_vacancies`.
 ghost use Rattle.std.specs.Prelude.{◌≡◌, ◌*◌, ◌^◌, ◌<◌, ◌≤◌, ◌↔◌, length, IsTrue, IsNone, IfSome};
 ghost use Rattle.std.specs.List.Sorted.{IsNonDecreasingBy};
 ghost use Rattle.reg_blocks.specs.Block.{first_address};

@@ -1,12 +1,13 @@
 //! The office of an assignment authority as a program.
 #![tactic(auto)]
 
-use reg_files::Files;
+use reg_files::offices;
+use reg_http::dates::ClockDates;
 use reg_jobs::command_line::job;
 use reg_jobs::jobs::{Job, JobFault};
 use reg_program::console::Console;
 use reg_program::performing::{perform, refuse};
-use std::io::IsTerminal;
+use std::io::{IsTerminal, Read, Write};
 use std::process::ExitCode;
 use std::{env, io};
 
@@ -22,11 +23,24 @@ fn main(rt: HostRuntime) -> ExitCode {
                 errors: &mut errors,
                 is_watched,
             };
-            perform(&rt, &Files, job, &mut console)
+            carried_out(&rt, job, &mut console)
         }
         Err(fault) => refuse(fault, &mut errors),
     };
     ExitCode::from(status)
+}
+
+// Does a job by the clock, the files, the ports and the folders of the system.
+fn carried_out<R: Read, W: Write, E: Write>(
+    rt: &HostRuntime,
+    job: Job,
+    console: &mut Console<'_, R, W, E>,
+) -> u8 {
+    let mut dates = ClockDates { clock: rt };
+    let mut offices = offices(rt);
+    let status = perform(rt, &mut dates, &mut offices, job, console);
+    drop(offices);
+    status
 }
 
 // The job that the program's arguments ask for.

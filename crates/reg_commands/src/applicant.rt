@@ -1,5 +1,5 @@
 //! What an applicant may do, once admitted.
-ghost use Rattle.std.specs.Prelude.{◌≡◌, true, IfOk, option_map};
+ghost use Rattle.std.specs.Prelude.{◌≡◌, true, IfOk, IsOk, IsSome, option_map};
 ghost use Rattle.std.specs.Option.{option_copied};
 ghost use Rattle.reg_core.specs.Allowance.{allowed};
 ghost use Rattle.reg_core.specs.Request.{case_of, request_row};
@@ -113,8 +113,9 @@ fn told_of(
     reference: &Ref,
     ask: &Ask,
 ) -> Result<Told, AllocError>
-    ensures { IfOk result
+    ensures told { IfOk result
         (λ told. told ≡ told_made (account.now, reference.now) ask.now existing) }
+    ensures same { IsSome existing → IsOk result }
 {
     match existing {
         Some(request) => Ok(Told::Row(request)),

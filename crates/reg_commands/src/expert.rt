@@ -1,5 +1,5 @@
 //! What an expert may do, once admitted.
-ghost use Rattle.std.specs.Prelude.{◌≡◌, IfOk};
+ghost use Rattle.std.specs.Prelude.{◌≡◌, ◌↔◌, IfOk, IsOk, IsTrue};
 ghost use Rattle.reg_core.specs.declared.command.ExpertCommand.TheVariants as command;
 ghost use Rattle.reg_commands.specs.Answers.{answer_to_expert};
 ghost use Rattle.reg_commands.specs.Performs.{Performs};
@@ -64,10 +64,24 @@ fn advise<K: Keeper>(
     Ok(Told::Queued(conclude(keeper, advised, decision)?))
 }
 
-// A queued request after its expert gave this advice.
-fn with_advice(mut row: QueueRow, advice: &Advice) -> Result<QueueRow, AllocError>
-    ensures { IfOk result (λ r. r ≡ advised_row advice.now row) }
+// Whether the expert gave just this advice.
+fn has_advice(row: &QueueRow, advice: &Advice) -> bool
+    ensures { IsTrue result ↔ (row.now.advice ≡ Some advice.now) }
 {
+    match &row.advice {
+        Some(old) => old == advice,
+        None => false,
+    }
+}
+
+// A queued request after its expert gave this advice. Where it is there already, that needs no memory.
+fn with_advice(mut row: QueueRow, advice: &Advice) -> Result<QueueRow, AllocError>
+    ensures advised { IfOk result (λ r. r ≡ advised_row advice.now row) }
+    ensures same { row.advice ≡ Some advice.now → IsOk result }
+{
+    if has_advice(&row, advice) {
+        return Ok(row);
+    }
     match advice.copy() {
         Ok(advice) => {
             row.advice = Some(advice);

@@ -1,5 +1,5 @@
 -- A call that only looks at the tables leaves an office's rows.
-use Rattle.std.proofs.Common.{◌≡◌, sym, subst, refl, Option, Some, None, option_to_list, slice_get, ap, Ok, Err}
+use Rattle.std.proofs.Common.{◌≡◌, sym, subst, refl, ap, Ok, Err}
 use Rattle.std.specs.Prelude.{Result, IfOk, IsErr}
 use Rattle.std.proofs.lemmas.Result.{IfOk-from_err, IfOk-weaker}
 use Rattle.sqlite.specs.Effect.{Database}
@@ -106,10 +106,6 @@ looks_made {old = old} it gives = record {
   value = λ h. gives (parts_of old.now) (it.value h);
 }
 
-pub first_of : {T : Type 0} (o : Option T) → slice_get (option_to_list o) 0 ≡ o
-first_of None = refl
-first_of (Some x) = refl
-
 -- a call that does nothing looks
 pub looks_still : {W T E : Type 0} {seen : Database → W} {s : State} {x : T}
     {Gives : W → T → Type 0} → IsKeeping s → ((w : W) → Gives w x)
@@ -141,14 +137,6 @@ pub looks_then : {W T U V E : Type 0} {seen : Database → W} {a b c : State} {x
     → LooksAt {E = E} seen a b (Ok x) F → LooksAt {E = E} seen b c (Ok y) G
     → ((w : W) → F w x → G w y → H w z) → LooksAt {E = E} seen a c (Ok z) H
 looks_then first second joins = looks_both first second joins
-
--- of the result of the second
-pub looks_before : {W T U E : Type 0} {seen : Database → W} {a b c : State} {x : T}
-    {result : Result U E} {F : W → T → Type 0} {G H : W → U → Type 0}
-    → LooksAt {E = E} seen a b (Ok x) F → LooksAt seen b c result G
-    → ((w : W) (y : U) → F w x → G w y → H w y) → LooksAt seen a c result H
-looks_before {result = result} {G = G} {H = H} first second joins =
-    looks_both first second (λ w f. IfOk-weaker result (G w) (H w) (λ y. joins w y f))
 
 -- and where the second was given up, nothing is told
 pub looks_failed : {W T U V E : Type 0} {seen : Database → W} {a b c : State} {first : Result T E}

@@ -59,10 +59,6 @@ pub record StepsAt {W T E : Type 0} (seen : Database → W) (old new : State) (r
   pub tables : HasCleanDisk new → OnOk result (new.now.schema ≡ old.now.schema)
   pub turns : HasCleanDisk new → OnOk result (TurnsAt seen Fits changed old.now new.now)
 
--- to the content of the office
-abbrev pub Turns : (World → Type 0) → (World → World) → Database → Database → Type 0
-Turns Fits changed old new = TurnsAt content_of Fits changed old new
-
 -- a write in a transaction
 abbrev pub Steps : {T E : Type 0} → State → State → Result T E → (World → Type 0)
     → (World → World) → Type 0

@@ -27,12 +27,14 @@ has_advice_form advice = is_text advice.text
 
 -- ---- Sameness
 
+-- the two verdicts are the same
 abbrev pub same_verdict : Verdict → Verdict → Bool
 same_verdict For For = true
 same_verdict Against Against = true
 same_verdict For Against = false
 same_verdict Against For = false
 
+-- the two advices have the same verdict and the same text
 abbrev pub same_advice : Advice → Advice → Bool
 same_advice a b = same_verdict a.verdict b.verdict && bytes_eq a.text b.text
 

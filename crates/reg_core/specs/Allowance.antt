@@ -229,10 +229,12 @@ allowed_on rows account ask = do
 
 -- ---- In the published registers
 
+-- the entry at the value that is wanted, if a value is named
 abbrev pub entry_wanted : Published → List ℕ → Want → Option Registration
 entry_wanted p registry (Value v) = get p.entries (registry, v)
 entry_wanted p registry (Least policy) = None
 
+-- the least free value under the policy, if the least one is wanted
 abbrev pub least_wanted : Published → List ℕ → Want → Option ℕ
 least_wanted p registry (Value v) = None
 least_wanted p registry (Least policy) = least_free_in p.registries p.entries registry policy

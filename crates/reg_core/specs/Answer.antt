@@ -163,8 +163,7 @@ expert_answer account my (Advise applicant reference advice) = do
 -- ---- A caller who acts as no clerk
 
 -- the answer to a caller who sees this view, at an open moment, and at any: a clerk's command is
--- kind there, since a clerk is answered over the whole world; told and effect are its reply and its
--- change
+-- kind there, since a clerk is answered over the whole world; told is its reply
 abbrev pub answer_at : View → ℕ → Command → Answer
 answer_at v moment (Public command) = public_answer v.published (utc_day moment) command
 answer_at v moment (Applicant command) =
@@ -176,9 +175,6 @@ answer_at v moment (Clerk command) = as_kind kind.Clerk v.me moment (λ account 
 abbrev pub answer : View → ℕ → Command → Answer
 answer v moment command = if is_in_clock moment then answer_at v moment command else Err no.Clock
 
--- the reply, and the change, to a caller who sees this view
+-- the reply to a caller who sees this view
 abbrev pub told : View → ℕ → Command → Reply
 told v moment command = reply_of (answer v moment command)
-
-abbrev pub effect : View → ℕ → Command → Option Change
-effect v moment command = change_of (answer v moment command)

@@ -1,5 +1,5 @@
 -- The laws of the office.
-use Rattle.std.specs.Prelude.{◌≡◌, ◌<◌, ◌≤◌, ◌↔◌, ◌⊎◌, ℕ, Bool, true, false, List, Option, Some, None, IsSome, Ok, IsTrue, codes}
+use Rattle.std.specs.Prelude.{◌≡◌, ◌<◌, ◌≤◌, ◌↔◌, ◌⊎◌, ℕ, max, Bool, true, false, List, [], ◌∷◌, Option, Some, None, IsSome, Ok, IsTrue, codes}
 use Rattle.std.specs.FinMap.{get, contains_key, keys}
 use Rattle.reg_blocks.specs.Block.{SizedPrefix}
 use Rattle.reg_blocks.specs.Pool.{is_pool_prefix}
@@ -93,6 +93,7 @@ RunsKeepWell digest_of =
 
 -- ---- What is answered was done
 
+-- the request was approved, and given something
 abbrev pub IsApproved : State → Type 0
 IsApproved state = (given : Given) × (state ≡ Approved given)
 
@@ -237,6 +238,7 @@ RefusalsChangeNothing digest_of =
 
 -- ---- Repeats act once
 
+-- the reply is a refusal
 abbrev pub is_refused : Reply → Bool
 is_refused (Accepted told) = false
 is_refused (Refused refusal) = true
@@ -268,30 +270,37 @@ RepeatsActOnce digest_of =
 
 -- ---- What was given stays
 
--- the day is a year after another one, which is no earlier than the old expiry day
-pub record IsYearOn (was is : ℕ) : Type 0 where
-  pub from : ℕ
-  pub is_day : IsDay from
-  pub no_earlier : was ≤ from
-  pub year : is ≡ year_after from
+-- the expiry day after a renewal on the day of an event: a year after the later of that day and of
+-- the expiry day before
+abbrev pub renewed_by : Event → ℕ → ℕ
+renewed_by event expiry = year_after (max expiry (utc_day event.moment))
+
+-- renewals by events of a run, one or more, each event by one at most, lead from one expiry day to
+-- the other
+abbrev pub IsRenewedIn : List Event → ℕ → ℕ → Type 0
+IsRenewedIn [] was is = ⊥
+IsRenewedIn (event ∷ events) was is =
+    IsRenewedIn events was is
+    ⊎ (IsDay (utc_day event.moment)
+    × ((is ≡ renewed_by event was) ⊎ IsRenewedIn events (renewed_by event was) is))
 
 -- what a term has come to: its first day stays; what is permanent stays as it is; what was renewed
--- stays renewed; an expiry day moves by renewal alone, to a year after a day that is no earlier, or
--- goes away for good, and with it a clerk's mark
-pub record TermStands (before now : Term) : Type 0 where
+-- stays renewed; an expiry day moves by such renewals alone, or goes away for good, and with it a
+-- clerk's mark
+pub record TermStands (IsRenewed : ℕ → ℕ → Type 0) (before now : Term) : Type 0 where
   pub first : now.first ≡ before.first
   pub permanent : before.expires ≡ None → now ≡ before
   pub renewed : before.renewed ≡ true → now.renewed ≡ true
   pub expires : (was is : ℕ) → before.expires ≡ Some was → now.expires ≡ Some is
       → (was ≤ is)
-      × (((is ≡ was) × (now.renewed ≡ before.renewed)) ⊎ ((now.renewed ≡ true) × IsYearOn was is))
+      × (((is ≡ was) × (now.renewed ≡ before.renewed)) ⊎ ((now.renewed ≡ true) × IsRenewed was is))
   pub settled : IsSome before.expires → now.expires ≡ None → now.held ≡ false
 
 -- an entry keeps its label and its assignee, and its term is what it may have come to
-abbrev pub StillGiven : Registration → Option Registration → Type 0
-StillGiven a None = ⊥
-StillGiven a (Some now) =
-    (now.label ≡ a.label) × (now.assignee ≡ a.assignee) × TermStands a.term now.term
+abbrev pub StillGiven : (ℕ → ℕ → Type 0) → Registration → Option Registration → Type 0
+StillGiven IsRenewed a None = ⊥
+StillGiven IsRenewed a (Some now) =
+    (now.label ≡ a.label) × (now.assignee ≡ a.assignee) × TermStands IsRenewed a.term now.term
 
 -- a block keeps its holder, its organization and its address
 abbrev pub StillHeld : Holder → Option Holder → Type 0
@@ -318,12 +327,12 @@ SameReview w v name =
     × (get v.advice (name, expert) ≡ get w.advice (name, expert))
 
 -- no registry, entry, request, prefix of the pool or block goes away, and each keeps what it is; a
--- request that is decided keeps its experts and all advice on it
-pub record Stays (w v : World) : Type 0 where
+-- request that is decided keeps its experts and all advice on it; where such renewals move terms
+pub record Stays (IsRenewed : ℕ → ℕ → Type 0) (w v : World) : Type 0 where
   pub registries : (name : List ℕ) (table : Table) → get w.registries name ≡ Some table
       → get v.registries name ≡ Some table
   pub entries : (place : Place) (a : Registration) → get w.entries place ≡ Some a
-      → StillGiven a (get v.entries place)
+      → StillGiven IsRenewed a (get v.entries place)
   pub requests : (name : RequestName) (case : Case) → get w.requests name ≡ Some case
       → StillAsks case (get v.requests name)
   pub reviews : (name : RequestName) (case : Case) → get w.requests name ≡ Some case
@@ -332,11 +341,11 @@ pub record Stays (w v : World) : Type 0 where
   pub blocks : (block : SizedPrefix) (h : Holder) → get w.blocks block ≡ Some h
       → StillHeld h (get v.blocks block)
 
--- what a well kept world has stays in every run
+-- what a well kept world has stays in every run, and only its renewals move terms
 abbrev pub GivenStays : (List ℕ → List ℕ) → Type 0
 GivenStays digest_of =
     (w : World) (events : List Event) → WellKept w → have_forms events ≡ true
-    → Stays w (world_after digest_of w events)
+    → Stays (IsRenewedIn events) w (world_after digest_of w events)
 
 -- ---- The same again, later
 
@@ -377,6 +386,7 @@ ApprovalsStand digest_of =
 
 -- ---- Tests of sameness
 
+-- the test is true of two values exactly if they are equal
 abbrev pub DecidesSame : {A : Type 0} → (A → A → Bool) → Type 0
 DecidesSame {A} same = (a b : A) → IsTrue (same a b) ↔ (a ≡ b)
 

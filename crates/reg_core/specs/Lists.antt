@@ -100,9 +100,11 @@ pub record BlockList (w : World) (rows : List Listed) : Type 0 where
 
 -- ---- Requests
 
+-- the world has this request, as the row shows it
 abbrev pub HasRow : World → Request → Type 0
 HasRow w row = get w.requests (row.account, row.reference) ≡ Some (case_of row)
 
+-- the same, and the account is the applicant
 abbrev pub HasRowOf : World → List ℕ → Request → Type 0
 HasRowOf w account row = (row.account ≡ account) × HasRow w row
 

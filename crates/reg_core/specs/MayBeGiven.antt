@@ -168,6 +168,7 @@ pub record AsksMeetTheirPolicy (digest_of : List ℕ → List ℕ) : Type 0 wher
 
 -- ---- No value twice
 
+-- the registry and the value of an entry
 abbrev pub place_of : Entry → Place
 place_of entry = (entry.registry, entry.value)
 

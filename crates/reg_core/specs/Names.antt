@@ -7,7 +7,6 @@ use Rattle.std.specs.Cmp.{first_so, second_so}
 use Rattle.std.proofs.Common.{arith}
 use Rattle.std.proofs.lemmas.Bool.Decides.{nat_tests}
 use Rattle.reg_ranges.specs.Texts.{is_within, is_run, ascii_run}
-use Rattle.reg_core.specs.declared.text.TheConstants.{MOST_NAME_BYTES, LEAST_TOKEN_BYTES, MOST_TOKEN_BYTES, DIGEST_BYTES}
 
 abbrev pub is_lower : ℕ → Bool
 is_lower b = is_within 97 122 b
@@ -31,15 +30,17 @@ is_token_byte b =
 abbrev pub is_digest_byte : ℕ → Bool
 is_digest_byte b = is_digit b || is_within 97 102 b
 
--- an account, a reference, a registry's name
+-- an account, a reference, a registry's name: 1 to 32 bytes
 abbrev pub is_name : List ℕ → Bool
-is_name s = is_run is_name_byte 1 MOST_NAME_BYTES s
+is_name s = is_run is_name_byte 1 32 s
 
+-- 16 to 64 bytes
 abbrev pub is_token : List ℕ → Bool
-is_token s = is_run is_token_byte LEAST_TOKEN_BYTES MOST_TOKEN_BYTES s
+is_token s = is_run is_token_byte 16 64 s
 
+-- 64 digits
 abbrev pub is_digest : List ℕ → Bool
-is_digest s = is_run is_digest_byte DIGEST_BYTES DIGEST_BYTES s
+is_digest s = is_run is_digest_byte 64 64 s
 
 -- a name in so many bytes, with zeros after it
 abbrev pub in_place : ℕ → List ℕ → List ℕ
@@ -47,13 +48,13 @@ in_place room s = s ++ replicate (room - length s) 0
 
 -- each form is of ASCII texts
 pub ascii_name : (s : List ℕ) → is_name s ≡ true → IsAscii s
-ascii_name s h = ascii_run is_name_byte 1 MOST_NAME_BYTES (λ b h. grind (arith, nat_tests)) s h
+ascii_name s h = ascii_run is_name_byte 1 32 (λ b h. grind (arith, nat_tests)) s h
 
 pub ascii_token : (s : List ℕ) → is_token s ≡ true → IsAscii s
-ascii_token s h = ascii_run is_token_byte LEAST_TOKEN_BYTES MOST_TOKEN_BYTES (λ b h. grind (arith, nat_tests)) s h
+ascii_token s h = ascii_run is_token_byte 16 64 (λ b h. grind (arith, nat_tests)) s h
 
 pub ascii_digest : (s : List ℕ) → is_digest s ≡ true → IsAscii s
-ascii_digest s h = ascii_run is_digest_byte DIGEST_BYTES DIGEST_BYTES (λ b h. grind (arith, nat_tests)) s h
+ascii_digest s h = ascii_run is_digest_byte 64 64 (λ b h. grind (arith, nat_tests)) s h
 
 -- each form is of no more bytes than it says
 short_run : (kind : ℕ → Bool) (low high : ℕ) (s : List ℕ)
@@ -64,21 +65,21 @@ short_run kind low high s h =
     second_so (nat_le low (length s)) (nat_le (length s) high) within in
     grind (arith, nat_tests)
 
-pub short_name : (s : List ℕ) → is_name s ≡ true → length s ≤ MOST_NAME_BYTES
-short_name s h = short_run is_name_byte 1 MOST_NAME_BYTES s h
+pub short_name : (s : List ℕ) → is_name s ≡ true → length s ≤ 32
+short_name s h = short_run is_name_byte 1 32 s h
 
-pub short_token : (s : List ℕ) → is_token s ≡ true → length s ≤ MOST_TOKEN_BYTES
-short_token s h = short_run is_token_byte LEAST_TOKEN_BYTES MOST_TOKEN_BYTES s h
+pub short_token : (s : List ℕ) → is_token s ≡ true → length s ≤ 64
+short_token s h = short_run is_token_byte 16 64 s h
 
-pub short_digest : (s : List ℕ) → is_digest s ≡ true → length s ≤ DIGEST_BYTES
-short_digest s h = short_run is_digest_byte DIGEST_BYTES DIGEST_BYTES s h
+pub short_digest : (s : List ℕ) → is_digest s ≡ true → length s ≤ 64
+short_digest s h = short_run is_digest_byte 64 64 s h
 
 -- one byte counts the bytes of each
-pub counted_name : MOST_NAME_BYTES ≤ 255
+pub counted_name : 32 ≤ 255
 counted_name = grind (arith)
 
-pub counted_token : MOST_TOKEN_BYTES ≤ 255
+pub counted_token : 64 ≤ 255
 counted_token = grind (arith)
 
-pub counted_digest : DIGEST_BYTES ≤ 255
+pub counted_digest : 64 ≤ 255
 counted_digest = grind (arith)

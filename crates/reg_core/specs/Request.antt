@@ -43,6 +43,7 @@ has_state_form Withdrawn = true
 
 -- ---- States
 
+-- the request waits: it is neither decided nor withdrawn
 abbrev pub is_pending : State → Bool
 is_pending Pending = true
 is_pending (Approved given) = false

@@ -18,6 +18,7 @@ abbrev pub have_forms : List Event → Bool
 have_forms events = list_all (λ (e : Event). has_command_form e.command) events
 
 module _ (digest_of : List ℕ → List ℕ) where
+  -- the step of an event
   abbrev pub step_of : World → Event → Stepped
   step_of w e = step digest_of w e.caller e.moment e.command
 

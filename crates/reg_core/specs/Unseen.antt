@@ -29,6 +29,7 @@ pub record Stage : Type 0 where
   pub after : World
 
 module _ (digest_of : List ℕ → List ℕ) where
+  -- the event with its reply and its change, and the worlds before and after it
   abbrev pub stage : World → Event → Stage
   stage w e = record {
     before = w;

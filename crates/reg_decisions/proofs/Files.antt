@@ -168,3 +168,15 @@ module _ (w : World) (name : RequestName) where
       let for = first_so (same_verdict o.advice.verdict For)
       (is_among o.expert (experts_of w name)) one.2 in
       (o.expert, among_assigned o.expert among, o.advice, one.1, verdict_for o.advice.verdict for)
+
+  -- and one that has such an expert was advised
+  pub advised_is : IsAdvised w name → was_advised w name ≡ true
+  advised_is so =
+      let test : Opinion → Bool = λ o. is_favourable (experts_of w name) o in
+      let row = Contains-entries seat_keys (seats_of name w.advice) (name, so.0) so.2
+      (found_seat name w.advice so.0 so.2 so.3) in
+      let among = Contains-map (λ (e : Seat × Advice). opinion e.0 e.1)
+      (entries (seats_of name w.advice)) ((name, so.0), so.2) row in
+      All-contains (λ o. test o ≡ true → list_any test (opinions_of w name) ≡ true)
+      (opinions_of w name) (opinion (name, so.0) so.2) (each_passes test (opinions_of w name)) among
+      (both_true (ap (λ v. same_verdict v For) so.4) (assigned_among so.0 so.1))

@@ -1,17 +1,13 @@
 -- The calendar of the specs is jiff's.
 use Rattle.std.proofs.Common.{◌≡◌, ℕ, zero, suc, ◌+◌, ◌-◌, ◌<◌, ◌≤◌, get_or, ℤ, pos, neg_ℤ, ◌+ℤ◌, ◌≤ℤ◌, refl, sym, ap, ◌∙◌, arith, rules}
 use Rattle.jiff.specs.Types.{Date}
-use Rattle.jiff.specs.Words.{epoch_day, IsYmd, days_in_month, is_leap_year as is_leap_year_of_jiff}
+use Rattle.jiff.specs.Words.{epoch_day, IsYmd, days_in_month}
 use Rattle.jiff.proofs.Family.{days_from_civil-day, days_from_civil-next_month, days_from_civil-next_year, days_from_civil-max, epoch_day_same, epoch_day_injective}
 use Rattle.jiff.proofs.SpanFacts.{signed_arith}
 use Rattle.reg_early.specs.Calendar.{CivilDate, civil_date, IsDate, IsDay, is_leap_year, month_lengths, leap_years_before, start_of_year, start_of_month, day_number, date_of}
 use Rattle.reg_early.specs.Laws.{IsSameDate, IsJiffsDay}
 use Rattle.reg_early.proofs.DaysAreDates.{IsDate-date_of, day_number-date_of}
 use Rattle.reg_early.proofs.StartsOfYears.{start_of_month-next, start_of_month-first, start_of_month-end, start_of_year_end}
-
-leap_year_agrees : (y : ℕ) → is_leap_year_of_jiff (pos y) ≡ is_leap_year y
-unfolding is_leap_year
-leap_year_agrees y = refl
 
 month_length_agrees : (y n : ℕ) → n < 12
     → days_in_month (pos y) (suc n) ≡ get_or (month_lengths y) n 0

@@ -4,78 +4,95 @@
 mod access;
 
 use crate::access::{make_private, warn_of_readers};
-use reg_office::Office;
-use reg_program::checking::check_in;
-use reg_program::console::Console;
+use reg_http::tcp::TcpPorts;
 use reg_program::faults::{JobFailure, Undone};
-use reg_program::tasks::{Offices, Task, moment};
+use reg_program::publishing::Directories;
+use reg_program::stores::{Look, OfficesIn, Stores};
 use reg_sql::keeper::SqlKeeper;
-use reg_sql::look::{Look, look_at};
-use reg_sql::open::{OpenFault, from_path};
+use reg_sql::look::look_at;
+use reg_sql::open::{OpenFault, Opened, open_by};
+use reg_sql::opener::SystemFiles;
 use reg_sql::trouble::Trouble;
-use sqlite::{Alter, Unknown};
+use sqlite::{Alter, FileFrom, FileStore, Start, Unknown};
+use sqlite_disk::Memory;
 use std::alloc::{AllocError, Global};
-use std::io::{Read, Write};
+use std::io::Write;
 
-/// The offices in files of which nothing is known before they are opened. A file that is made is its
-/// owner's alone.
+/// The files of which nothing is known before they are opened. One that is made is its owner's
+/// alone.
+#[derive(Drop)]
 pub struct Files;
 
-impl Offices for Files {
-    fn carry_out<R: Read, W: Write, E: Write>(
-        &self,
+/// The offices in files, which are served on the ports of the system, and published in its folders.
+pub fn offices(rt: &HostRuntime) -> OfficesIn<Files, TcpPorts<'_, HostRuntime>, Directories<'_>> {
+    OfficesIn {
+        stores: Files,
+        ports: TcpPorts { rt },
+        folders: Directories { rt },
+    }
+}
+
+impl Stores for Files {
+    type Kept = SqlKeeper<FileStore<FileFrom<Unknown>>>;
+
+    type Copied = SqlKeeper<FileStore<Memory>>;
+
+    fn open(
+        &mut self,
         rt: &HostRuntime,
         path: &str,
-        task: &Task<'_>,
-        console: &mut Console<'_, R, W, E>,
-    ) -> Result<(), Undone> {
+        begins: bool,
+    ) -> Result<SqlKeeper<FileStore<FileFrom<Unknown>>>, Undone> {
         // Where it cannot be made, opening it says why.
         let _ = make_private(rt, path);
-        match from_path(rt, path, task.begins(), Unknown) {
-            Ok(keeper) => {
-                if task.serves() {
-                    warn_of_readers(rt, path, console.errors);
-                }
-                carry_out_in(rt, keeper, task, console)
-            }
-            Err(fault) => Err(Undone::Fault(failure(fault))),
-        }
+        opened(rt, Unknown, path, begins)
     }
 
-    fn check<W: Write>(&self, rt: &HostRuntime, path: &str, output: &mut W) -> Result<(), Undone> {
+    fn warn_of_readers<E: Write>(&self, rt: &HostRuntime, path: &str, errors: &mut E) {
+        warn_of_readers(rt, path, errors);
+    }
+
+    fn close(&mut self, keeper: SqlKeeper<FileStore<FileFrom<Unknown>>>) {
+        let_go(keeper);
+    }
+
+    fn look(
+        &mut self,
+        rt: &HostRuntime,
+        path: &str,
+    ) -> Result<Look<SqlKeeper<FileStore<Memory>>>, Undone> {
         match look_at(rt, path) {
-            Ok(look) => check_look(rt, look, output),
+            Ok(look) => Ok(Look {
+                version: look.version.number(),
+                keeper: look.keeper,
+            }),
             Err(trouble) => Err(explained(rt.alloc(), trouble)?),
         }
     }
 }
 
-// Does the task with the office that is kept there. It is over any store, since what is over a known
-// one unfolds all that it holds.
-fn carry_out_in<S: Alter + Drop, R: Read, W: Write, E: Write>(
-    rt: &HostRuntime,
-    keeper: SqlKeeper<S>,
-    task: &Task<'_>,
-    console: &mut Console<'_, R, W, E>,
-) -> Result<(), Undone> {
-    let mut office = Office::new(rt.alloc(), keeper);
-    let done = task.carry_out(rt, &mut office, console);
-    drop(office);
-    done
+// It is over any store, since what is over a known one unfolds all that it holds.
+fn let_go<S: Alter + Drop>(keeper: SqlKeeper<S>) {
+    drop(keeper);
 }
 
-// Says how well the office is kept that was looked at.
-fn check_look<S: Alter + Drop, W: Write>(
+// The office in the files at a path, whatever is known of them.
+fn opened<T: Start>(
     rt: &HostRuntime,
-    look: Look<S>,
-    output: &mut W,
-) -> Result<(), Undone> {
-    let Look { version, keeper } = look;
-    let alloc = rt.alloc();
-    let mut office = Office::new(alloc, keeper);
-    let done = check_in(alloc, &mut office, version.number(), moment(rt), output);
-    drop(office);
-    done
+    start: T,
+    path: &str,
+    begins: bool,
+) -> Result<SqlKeeper<FileStore<FileFrom<T>>>, Undone> {
+    match open_by(rt, SystemFiles { start }, path, begins) {
+        Ok(keeper) => Ok(keeper),
+        Err((fault, left)) => Err(refused(fault, left)),
+    }
+}
+
+// What a job is told that finds no office. What was opened is dropped, over any store too.
+fn refused<S: Alter + Drop, L: Drop>(fault: OpenFault, left: Opened<S, L>) -> Undone {
+    drop(left);
+    Undone::Fault(failure(fault))
 }
 
 fn explained(alloc: Global, trouble: Trouble) -> Result<Undone, AllocError> {

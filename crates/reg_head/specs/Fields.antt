@@ -4,7 +4,6 @@ use Rattle.std.specs.Char.{is_ascii_digit}
 use Rattle.std.specs.List.{list_all}
 use Rattle.std.specs.Str.{str_eq_ignore_ascii_case}
 use Rattle.reg_head.specs.Head.{named}
-use Rattle.reg_head.specs.declared.fields.TheConstants.{MOST_BODY_BYTES}
 use Rattle.reg_head.specs.declared.malformed.Malformed.{Malformed}
 use Rattle.reg_head.specs.declared.malformed.Malformed.TheVariants as malformed
 
@@ -12,7 +11,7 @@ use Rattle.reg_head.specs.declared.malformed.Malformed.TheVariants as malformed
 
 -- the most bytes of a body
 abbrev pub most_body_bytes : ℕ
-most_body_bytes = MOST_BODY_BYTES
+most_body_bytes = 65536
 
 -- one digit or more, and nothing else
 abbrev pub is_number : List ℕ → Bool

@@ -3,15 +3,14 @@ use Rattle.std.specs.Prelude.{◌≤◌, ◌<◌, ℕ, List, [], ◌∷◌, leng
 use Rattle.std.specs.Str.{str_eq_ignore_ascii_case}
 use Rattle.httparse.specs.Grammar.{RequestHead, print_request, ReadsRequest, MayBecomeRequest}
 use Rattle.httparse.specs.Spans.{name_and_value}
-use Rattle.reg_head.specs.declared.head.TheConstants.{MOST_BYTES, MOST_FIELDS}
 
 -- the most bytes of a head, from the first byte read to its empty line
 abbrev pub most_bytes : ℕ
-most_bytes = MOST_BYTES
+most_bytes = 8192
 
 -- the most fields of a head
 abbrev pub most_fields : ℕ
-most_fields = MOST_FIELDS
+most_fields = 32
 
 -- the bytes are this head, which is within the limits, and then the rest
 pub record HasHead (bytes : List ℕ) (head : RequestHead) (rest : List ℕ) : Type 0 where

@@ -115,9 +115,6 @@ requests_of_model of_model first last xs ran =
 -- ---- Striking
 
 module _ (account : List ℕ) (unseen : RequestName → Bool) where
-  abbrev written : Stage → List ℕ
-  written s = reply_text (answer.Reply s.reply)
-
   written_alike : (s t : Stage) → AreAlikeTo account unseen s t
       → AreWrittenAlike account unseen s t
   written_alike s t alike = record {

@@ -3,3 +3,5 @@ mod AlikeRequests
 mod Exchanges
 mod StandSoFar
 mod Turns
+mod Meetings
+mod KnownOnes

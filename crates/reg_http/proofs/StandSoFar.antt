@@ -26,7 +26,7 @@ malformed_is_no_storage : (why : Malformed) → response.Malformed why ≢ stora
 malformed_is_no_storage why same = false≢true (ap is_storage same)
 
 module _ {S : Type 0} (world : S → World) (Holds Sound : S → Type 0) (fails : Bool) where
-  abbrev Over : S → Call → Response → S → Type 0
+  abbrev pub Over : S → Call → Response → S → Type 0
   Over = AnswersOver world Holds Sound fails
 
   -- ---- One request
@@ -80,7 +80,7 @@ module _ {S : Type 0} (world : S → World) (Holds Sound : S → Type 0) (fails 
         goes_on = goes_on_both one.2 rest.goes_on;
       }
 
-  exchanged : (xs : List Exchange) (first last : S) → Lead Over first xs last → Holds last
+  pub exchanged : (xs : List Exchange) (first last : S) → Lead Over first xs last → Holds last
       → Exchanged (world first) xs (world last)
   exchanged [] first last h holds = ap world h
   exchanged (x ∷ xs) first last h holds =

@@ -1,5 +1,7 @@
+pub mod Known
 pub mod Laws
 pub mod Listening
+pub mod Meeting
 pub mod Response
 pub mod Responding
 pub mod Sending

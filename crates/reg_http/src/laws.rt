@@ -1,4 +1,5 @@
 //! Laws of requests and answers in bytes, over their definitions: by those of calls.
+ghost use Rattle.reg_http.specs.Known.{KnownConnectionsAreAnswered};
 ghost use Rattle.reg_http.specs.Laws.{RequestsAreAnsweredAlike, RequestsRunAsTheModel, UnseenRequestsLeaveNoTrace, RequestsStandSoFar};
 
 pub use reg_head::laws::{bytes_ask_one_thing, readers_ask_by_all_their_bytes};
@@ -45,4 +46,16 @@ pub fn unseen_requests_leave_no_trace()
     ensures { UnseenRequestsLeaveNoTrace }
 {
     unseen_calls_leave_no_trace();
+}
+
+/// What is promised of connections of which all bytes are known: to each there is one answer at most,
+/// to all its bytes, at the moment that the clock said when it came; where there is none nothing is
+/// written over it. What is written is the answer, whole or its first bytes, and exactly the whole ones
+/// are counted. By these answers, in turn, and by nothing else the office is changed; under the premise
+/// of the store they are those of the model's run of their events.
+pub fn known_connections_are_answered<K: Keeper>()
+    ensures { KnownConnectionsAreAnswered K.world K.Holds K.Sound K.FAILS }
+{
+    calls_run_as_the_model();
+    readers_ask_by_all_their_bytes();
 }

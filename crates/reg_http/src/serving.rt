@@ -1,6 +1,7 @@
 //! Serves one request.
 ghost use Rattle.std.specs.Prelude.{◌≡◌, IfOk, IfErr};
 ghost use Rattle.reg_http.specs.Serving.{AnswersOver, IsAnswered, IsServed, FailsBy, call_at};
+ghost use Rattle.reg_http.specs.Meeting.{IsSentBy};
 ghost use Rattle.reg_http.specs.Responding.{IsUnanswered};
 ghost use Rattle.reg_http.specs.Watched.{IsWatched};
 ghost use Rattle.reg_head.specs.Reading.{IsMessage, IsPlaced};
@@ -58,8 +59,22 @@ pub fn serve_one<K: Keeper, R: Read, W: Write, L: Log>(
     send_response(alloc, writer, response)
 }
 
-// Reads a request and answers it, without writing.
-fn respond<K: Keeper, R: Read, L: Log>(
+/// Writes what is to be told, if anything is.
+pub(crate) fn send_told<W: Write>(
+    alloc: Global,
+    writer: &mut W,
+    told: Result<Response, WireFault>,
+) -> Result<u16, WireFault>
+    ensures { IsSentBy told result (W.contents writer.old) (W.contents writer.new) }
+{
+    match told {
+        Ok(response) => send_response(alloc, writer, response),
+        Err(fault) => Err(fault),
+    }
+}
+
+/// Reads a request and answers it, without writing.
+pub(crate) fn respond<K: Keeper, R: Read, L: Log>(
     alloc: Global,
     office: &mut Office<K>,
     routes: &Routes,

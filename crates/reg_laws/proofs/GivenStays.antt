@@ -1,12 +1,11 @@
 -- What a well kept world has stays in every run.
-use Rattle.std.proofs.Common.{◌≡◌, ℕ, Bool, true, false, cond, List, [], ◌∷◌, refl, sym, ap, subst, ◌∙◌}
+use Rattle.std.proofs.Common.{◌≡◌, ℕ, Bool, true, false, cond, List, [], ◌∷◌, inl, inr, refl, sym, ap, subst, ◌∙◌}
 use Rattle.std.specs.Prelude.{Option, Some, None, IsSome, is_some, option_map}
 use Rattle.std.specs.Cmp.{first_so, second_so}
 use Rattle.std.specs.declared.cmp.Ordering.{Ordering}
 use Rattle.std.specs.Ordering.{eq_by_cmp}
-use Rattle.std.specs.FinMap.{FinMap, get, insert, remove}
-use Rattle.std.specs.FinSet.{FinSet}
-use Rattle.reg_maps.specs.Maps.{text_cmp, update}
+use Rattle.std.specs.FinMap.{FinMap, get, insert}
+use Rattle.reg_maps.specs.Maps.{update}
 use Rattle.reg_maps.proofs.KeySets.{still_in}
 use Rattle.reg_maps.proofs.MapLaws.{IsKeyOrder, number_keys, text_keys, tied, get-at_insert, get-update}
 use Rattle.reg_early.specs.Calendar.{IsDay}
@@ -17,16 +16,15 @@ use Rattle.reg_core.specs.Command.{has_command_form}
 use Rattle.reg_core.specs.Entry.{registration_in, with_hold}
 use Rattle.reg_core.specs.Holding.{holder_in, with_mark}
 use Rattle.reg_blocks.specs.Block.{SizedPrefix, block_cmp}
-use Rattle.reg_core.specs.Laws.{GivesDigests, GivenStays, SameReview, Stays, StillGiven, StillHeld, StillStands, StillAsks}
+use Rattle.reg_core.specs.Laws.{GivesDigests, GivenStays, renewed_by, IsRenewedIn, SameReview, Stays, StillGiven, StillHeld, StillStands, StillAsks}
 use Rattle.reg_core.specs.MayBeGiven.{IsDuly, place_of}
 use Rattle.reg_core.specs.Request.{is_pending}
 use Rattle.reg_core.specs.Run.{Event, have_forms, step_of, world_after}
 use Rattle.reg_core.specs.WellKept.{WellKept}
-use Rattle.reg_core.specs.World.{World, RequestName, Place, Seat, name_cmp, place_cmp, seat_cmp, link_cmp, in_state, pending, applied, applied_if}
+use Rattle.reg_core.specs.World.{World, RequestName, Place, Seat, name_cmp, place_cmp, seat_cmp, in_state, pending, applied, applied_if}
 use Rattle.reg_core.specs.declared.advice.Advice.{Advice}
 use Rattle.reg_core.specs.declared.ask.Ask.{Ask}
 use Rattle.reg_core.specs.declared.change.Change.{Change}
-use Rattle.reg_core.specs.declared.capability.Cap.{Cap}
 use Rattle.reg_core.specs.declared.entry.Registration.{Registration}
 use Rattle.reg_core.specs.declared.entry.Entry.{Entry}
 use Rattle.reg_core.specs.declared.holding.Holder.{Holder}
@@ -36,11 +34,11 @@ use Rattle.reg_core.specs.declared.request.Given.TheVariants.{Value, Block}
 use Rattle.reg_core.specs.declared.request.State.{State}
 use Rattle.reg_core.specs.declared.request.State.TheVariants.{Pending, Approved, Declined, Withdrawn}
 use Rattle.reg_decisions.proofs.Keeping.RunsKeepWell.{step_keeps_well}
-use Rattle.reg_core.specs.declared.change.Change.TheVariants.{Grant, Revoke, Define, AddPool, Submit, Close, Assign, Advise, GiveValue, GiveBlock, SetPrivate, SetHold, SetAgent}
+use Rattle.reg_core.specs.declared.change.Change.TheVariants.{Define, AddPool, Submit, Close, Assign, Advise, GiveValue, GiveBlock, SetPrivate, SetHold}
 use Rattle.reg_core.proofs.KeyOrders.{name_keys, place_keys, seat_keys, block_keys}
 use Rattle.reg_decisions.proofs.Blocks.{due_is_new}
 use Rattle.reg_decisions.proofs.Outcomes.Dues.{WasPending, MarksEntry, Due, each_step}
-use Rattle.reg_laws.proofs.TermsStand.{term_stands, marked_stands, term_stands_on, given_duly, still_given}
+use Rattle.reg_laws.proofs.TermsStand.{Renews, GoOn, term_stands, marked_stands, term_stands_on, given_duly, still_given}
 
 -- ---- Nothing goes away
 
@@ -50,9 +48,10 @@ stands_itself (Approved given) = refl
 stands_itself (Declined reason) = refl
 stands_itself Withdrawn = refl
 
-given_itself : (a : Registration) (existing : Option Registration) → existing ≡ Some a
-    → StillGiven a existing
-given_itself a existing is = subst (StillGiven a) (sym is) (refl, refl, term_stands a.term)
+given_itself : (IsRenewed : ℕ → ℕ → Type 0) (a : Registration) (existing : Option Registration)
+    → existing ≡ Some a → StillGiven IsRenewed a existing
+given_itself IsRenewed a existing is =
+    subst (StillGiven IsRenewed a) (sym is) (refl, refl, term_stands IsRenewed a.term)
 
 held_itself : (h : Holder) (existing : Option Holder) → existing ≡ Some h → StillHeld h existing
 held_itself h existing is = subst (StillHeld h) (sym is) (refl, refl, refl)
@@ -61,10 +60,10 @@ asks_itself : (case : Case) (existing : Option Case) → existing ≡ Some case
     → StillAsks case existing
 asks_itself case existing is = subst (StillAsks case) (sym is) (refl, stands_itself case.state)
 
-pub stays_itself : (w : World) → Stays w w
-stays_itself w = record {
+pub stays_itself : (IsRenewed : ℕ → ℕ → Type 0) (w : World) → Stays IsRenewed w w
+stays_itself IsRenewed w = record {
   registries = λ name table is. is;
-  entries = λ place a is. given_itself a (get w.entries place) is;
+  entries = λ place a is. given_itself IsRenewed a (get w.entries place) is;
   requests = λ name case is. asks_itself case (get w.requests name) is;
   reviews = λ name case is decided expert. (refl, refl);
   pool = λ prefix there. there;
@@ -95,14 +94,19 @@ stands_on (Approved given) now later h k = subst (λ s. StillStands s later) h k
 stands_on (Declined reason) now later h k = subst (λ s. StillStands s later) h k
 stands_on Withdrawn now later h k = subst (λ s. StillStands s later) h k
 
-given_on : (a : Registration) (now later : Option Registration) → StillGiven a now
-    → ((b : Registration) → now ≡ Some b → StillGiven b later) → StillGiven a later
-given_on a None later h k = absurd h
-given_on a (Some b) later h k = on later (k b refl)
+given_on : (First More All : ℕ → ℕ → Type 0) → GoOn First More All → (a : Registration)
+    (now later : Option Registration) → StillGiven First a now
+    → ((b : Registration) → now ≡ Some b → StillGiven More b later) → StillGiven All a later
+given_on First More All on a None later h k = absurd h
+given_on First More All on a (Some b) later h k = lasts later (k b refl)
   where
-    on : (later : Option Registration) → StillGiven b later → StillGiven a later
-    on None k = k
-    on (Some c) k = (k.0 ∙ h.0, k.1 ∙ h.1, term_stands_on a.term b.term c.term h.2 k.2)
+    lasts : (later : Option Registration) → StillGiven More b later → StillGiven All a later
+    lasts None k = k
+    lasts (Some c) k = (
+      k.0 ∙ h.0,
+      k.1 ∙ h.1,
+      term_stands_on First More All on a.term b.term c.term h.2 k.2,
+    )
 
 held_on : (h : Holder) (now later : Option Holder) → StillHeld h now
     → ((k : Holder) → now ≡ Some k → StillHeld k later) → StillHeld h later
@@ -122,11 +126,12 @@ asks_on case (Some b) later h k = on later (k b refl)
     on None k = k
     on (Some c) k = (k.0 ∙ h.0, stands_on case.state b.state c.state h.1 k.1)
 
-pub stays_on : (w v u : World) → Stays w v → Stays v u → Stays w u
-stays_on w v u first then = record {
+pub stays_on : (First More All : ℕ → ℕ → Type 0) → GoOn First More All → (w v u : World)
+    → Stays First w v → Stays More v u → Stays All w u
+stays_on First More All on w v u first then = record {
   registries = λ name table is. then.registries name table (first.registries name table is);
   entries = λ place a is.
-      given_on a (get v.entries place) (get u.entries place) (first.entries place a is)
+      given_on First More All on a (get v.entries place) (get u.entries place) (first.entries place a is)
       (λ b at. then.entries place b at);
   requests = λ name case is.
       asks_on case (get v.requests name) (get u.requests name) (first.requests name case is)
@@ -153,16 +158,6 @@ module _ {K X : Type 0} {R : K → K → Ordering} (o : IsKeyOrder R) (m : FinMa
       by : (b : Bool) → eq_by_cmp R q k ≡ b → get (insert m k v) q ≡ Some x
       by true t = let none : get m q ≡ None = ap (get m) (tied o q k t) ∙ free in absurd (cc)
       by false t = get-at_insert o m k v q ∙ ap (λ b. cond b (Some v) (get m q)) t ∙ is
-
--- of capabilities and agents nothing is said, nor of who reviews a pending request, and of advice on
--- one
-registers_stay : (w : World) (caps : FinMap text_cmp Cap) (queue : FinSet seat_cmp)
-    (advice : FinMap seat_cmp Advice) (agents : FinSet link_cmp)
-    → ((name : RequestName) (case : Case) → get w.requests name ≡ Some case
-    → is_pending case.state ≡ false
-    → SameReview w (record w { caps = caps; queue = queue; advice = advice; agents = agents }) name)
-    → Stays w (record w { caps = caps; queue = queue; advice = advice; agents = agents })
-registers_stay w caps queue advice agents reviewed = assumption (reviewed, stays_itself w)
 
 -- a row for a pending request is none of one that is decided
 of_another : (w : World) (name other : RequestName) (case : Case) → WasPending w name
@@ -204,17 +199,17 @@ module _ (w : World) (name : RequestName) (was : WasPending w name) (reviewer : 
         (of_another w name other case was is decided expert reviewer),
   )
 
-define_stays : (w : World) (name : List ℕ) (table : Table) → get w.registries name ≡ None
-    → Stays w (applied w (Define name table))
-define_stays w name table free =
-    assumption (stays_there text_keys w.registries name table free, stays_itself w)
+define_stays : (IsRenewed : ℕ → ℕ → Type 0) (w : World) (name : List ℕ) (table : Table) → get w.registries name ≡ None
+    → Stays IsRenewed w (applied w (Define name table))
+define_stays IsRenewed w name table free =
+    assumption (stays_there text_keys w.registries name table free, stays_itself IsRenewed w)
 
-pool_stays : (w : World) (prefix : ℕ) → Stays w (applied w (AddPool prefix))
-pool_stays w prefix = assumption (still_in number_keys w.pool prefix tt, stays_itself w)
+pool_stays : (IsRenewed : ℕ → ℕ → Type 0) (w : World) (prefix : ℕ) → Stays IsRenewed w (applied w (AddPool prefix))
+pool_stays IsRenewed w prefix = assumption (still_in number_keys w.pool prefix tt, stays_itself IsRenewed w)
 
-submit_stays : (w : World) (name : RequestName) (ask : Ask) → get w.requests name ≡ None
-    → Stays w (applied w (Submit name.0 name.1 ask))
-submit_stays w name ask free = assumption (asked, stays_itself w)
+submit_stays : (IsRenewed : ℕ → ℕ → Type 0) (w : World) (name : RequestName) (ask : Ask) → get w.requests name ≡ None
+    → Stays IsRenewed w (applied w (Submit name.0 name.1 ask))
+submit_stays IsRenewed w name ask free = assumption (asked, stays_itself IsRenewed w)
   where
     asked : (other : RequestName) (case : Case) → get w.requests other ≡ Some case
         → StillAsks case (get (insert w.requests name (pending ask)) other)
@@ -245,38 +240,38 @@ state_stays w name state was other old is =
         )
     by false t = asks_itself old (get w.requests other) is
 
-close_stays : (w : World) (name : RequestName) (state : State) → WasPending w name
-    → Stays w (applied w (Close name.0 name.1 state))
-close_stays w name state was = assumption (state_stays w name state was, stays_itself w)
+close_stays : (IsRenewed : ℕ → ℕ → Type 0) (w : World) (name : RequestName) (state : State) → WasPending w name
+    → Stays IsRenewed w (applied w (Close name.0 name.1 state))
+close_stays IsRenewed w name state was = assumption (state_stays w name state was, stays_itself IsRenewed w)
 
 -- an entry is given at a place that has none, or in place of the same entry in another term
-give_stays : (w : World) → WellKept w → (name : RequestName) (today : ℕ) → IsDay today → (ask : Ask)
+give_stays : (IsRenewed : ℕ → ℕ → Type 0) (w : World) → WellKept w → (name : RequestName) (today : ℕ) → IsDay today → Renews IsRenewed today → (ask : Ask)
     (entry : Entry) → WasPending w name → IsDuly w today name.0 ask entry
-    → Stays w (applied w (GiveValue name.0 name.1 entry))
-give_stays w kept name today day ask entry was duly =
-    assumption (given, state_stays w name (Approved (Value entry.value)) was, stays_itself w)
+    → Stays IsRenewed w (applied w (GiveValue name.0 name.1 entry))
+give_stays IsRenewed w kept name today day on ask entry was duly =
+    assumption (given, state_stays w name (Approved (Value entry.value)) was, stays_itself IsRenewed w)
   where
     a : Registration
     a = registration_in entry
 
     given : (place : Place) (old : Registration) → get w.entries place ≡ Some old
-        → StillGiven old (get (insert w.entries (place_of entry) a) place)
+        → StillGiven IsRenewed old (get (insert w.entries (place_of entry) a) place)
     given place old is =
-        subst (StillGiven old) (sym (get-at_insert place_keys w.entries (place_of entry) a place))
+        subst (StillGiven IsRenewed old) (sym (get-at_insert place_keys w.entries (place_of entry) a place))
         (by (eq_by_cmp place_cmp place (place_of entry)) refl)
       where
         by : (b : Bool) → eq_by_cmp place_cmp place (place_of entry) ≡ b
-            → StillGiven old (cond b (Some a) (get w.entries place))
+            → StillGiven IsRenewed old (cond b (Some a) (get w.entries place))
         by true t =
-            still_given w today name.0 entry kept day ask duly old
+            still_given w today name.0 entry IsRenewed on kept day ask duly old
             (ap (get w.entries) (sym (tied place_keys place (place_of entry) t)) ∙ is)
-        by false t = given_itself old (get w.entries place) is
+        by false t = given_itself IsRenewed old (get w.entries place) is
 
-give_block_stays : (w : World) (name : RequestName) (holding : Holding) → WasPending w name
+give_block_stays : (IsRenewed : ℕ → ℕ → Type 0) (w : World) (name : RequestName) (holding : Holding) → WasPending w name
     → get w.blocks holding.block ≡ None
-    → Stays w (applied w (GiveBlock name.0 name.1 holding))
-give_block_stays w name holding was free =
-    assumption (held, state_stays w name (Approved (Block holding.block)) was, stays_itself w)
+    → Stays IsRenewed w (applied w (GiveBlock name.0 name.1 holding))
+give_block_stays IsRenewed w name holding was free =
+    assumption (held, state_stays w name (Approved (Block holding.block)) was, stays_itself IsRenewed w)
   where
     h : Holder
     h = holder_in holding
@@ -287,9 +282,9 @@ give_block_stays w name holding was free =
         held_itself old _ (stays_there block_keys w.blocks holding.block h free block old is)
 
 -- the mark of a block may change
-mark_stays : (w : World) (block : SizedPrefix) (private : Bool)
-    → Stays w (applied w (SetPrivate block private))
-mark_stays w block private = assumption (held, stays_itself w)
+mark_stays : (IsRenewed : ℕ → ℕ → Type 0) (w : World) (block : SizedPrefix) (private : Bool)
+    → Stays IsRenewed w (applied w (SetPrivate block private))
+mark_stays IsRenewed w block private = assumption (held, stays_itself IsRenewed w)
   where
     held : (other : SizedPrefix) (h : Holder) → get w.blocks other ≡ Some h
         → StillHeld h (get (update w.blocks block (with_mark private)) other)
@@ -308,85 +303,87 @@ mark_stays w block private = assumption (held, stays_itself w)
         by false t = held_itself h (get w.blocks other) is
 
 -- so may the mark of an entry that expires
-hold_stays : (w : World) (place : Place) (held : Bool) {today : ℕ} → MarksEntry w today place held
-    → Stays w (applied w (SetHold place.0 place.1 held))
-hold_stays w place held marks = assumption (given, stays_itself w)
+hold_stays : (IsRenewed : ℕ → ℕ → Type 0) (w : World) (place : Place) (held : Bool) {today : ℕ} → MarksEntry w today place held
+    → Stays IsRenewed w (applied w (SetHold place.0 place.1 held))
+hold_stays IsRenewed w place held marks = assumption (given, stays_itself IsRenewed w)
   where
     given : (other : Place) (a : Registration) → get w.entries other ≡ Some a
-        → StillGiven a (get (update w.entries place (with_hold held)) other)
+        → StillGiven IsRenewed a (get (update w.entries place (with_hold held)) other)
     given other a is =
-        subst (StillGiven a)
+        subst (StillGiven IsRenewed a)
         (sym (get-update place_keys w.entries place (with_hold held) other))
         (by (eq_by_cmp place_cmp other place) refl)
       where
         by : (b : Bool) → eq_by_cmp place_cmp other place ≡ b
-            → StillGiven a
+            → StillGiven IsRenewed a
             (cond b (option_map (with_hold held) (get w.entries place)) (get w.entries other))
         by true t =
             let there : get w.entries place ≡ Some a =
             ap (get w.entries) (sym (tied place_keys other place t)) ∙ is in
             let both : Some marks.entry ≡ Some a = sym marks.is_there ∙ there in
             let same : marks.entry ≡ a = cc in
-            subst (λ o. StillGiven a (option_map (with_hold held) o)) (sym there) (
+            subst (λ o. StillGiven IsRenewed a (option_map (with_hold held) o)) (sym there) (
               refl,
               refl,
-              marked_stands a.term held
+              marked_stands IsRenewed a.term held
                   (subst (λ (r : Registration). IsSome r.term.expires) same marks.expires),
             )
-        by false t = given_itself a (get w.entries other) is
+        by false t = given_itself IsRenewed a (get w.entries other) is
 
 -- ---- Each change of a step
 
--- a line for each change
-module _ (w : World) (kept : WellKept w) (caller : Option (List ℕ)) (moment : ℕ)
-    (is_open : is_in_clock moment ≡ true) where
-  due_stays : (change : Change) → Due w caller moment change → Stays w (applied w change)
-  due_stays (Grant digest cap) due =
-      registers_stay w (insert w.caps digest cap) w.queue w.advice w.agents
-      (λ name case is decided expert. (refl, refl))
-  due_stays (Revoke digest) due =
-      registers_stay w (remove w.caps digest) w.queue w.advice w.agents
-      (λ name case is decided expert. (refl, refl))
-  due_stays (Define name table) due = define_stays w name table due.1
-  due_stays (AddPool prefix) due = pool_stays w prefix
-  due_stays (Submit account reference ask) due = submit_stays w (account, reference) ask due.1
-  due_stays (Close account reference state) due = close_stays w (account, reference) state due.0
+-- a line for each change of which something is said
+module _ (IsRenewed : ℕ → ℕ → Type 0) (w : World) (kept : WellKept w) (caller : Option (List ℕ))
+    (moment : ℕ) (on : Renews IsRenewed (utc_day moment)) (is_open : is_in_clock moment ≡ true) where
+  due_stays : (change : Change) → Due w caller moment change → Stays IsRenewed w (applied w change)
+  due_stays (Define name table) due = define_stays IsRenewed w name table due.1
+  due_stays (AddPool prefix) due = pool_stays IsRenewed w prefix
+  due_stays (Submit account reference ask) due = submit_stays IsRenewed w (account, reference) ask due.1
+  due_stays (Close account reference state) due = close_stays IsRenewed w (account, reference) state due.0
   due_stays (Assign account reference expert) due =
-      registers_stay w w.caps (insert w.queue ((account, reference), expert) tt) w.advice w.agents
-      (assigned_review w (account, reference) due.1 expert)
+      assumption (assigned_review w (account, reference) due.1 expert, stays_itself IsRenewed w)
   due_stays (Advise account reference expert advice) due =
-      registers_stay w w.caps w.queue (insert w.advice ((account, reference), expert) advice) w.agents
-      (advised_review w (account, reference) due.1 expert advice)
+      assumption (advised_review w (account, reference) due.1 expert advice, stays_itself IsRenewed w)
   due_stays (GiveValue account reference entry) due =
       let is = given_duly w kept (utc_day moment) account reference entry due.1 in
-      give_stays w kept (account, reference) (utc_day moment) (IsDay-utc_day moment is_open) is.ask entry
+      give_stays IsRenewed w kept (account, reference) (utc_day moment) (IsDay-utc_day moment is_open) on is.ask entry
       due.1.pending is.duly
   due_stays (GiveBlock account reference holding) due =
       let is = due.1 in
-      give_block_stays w (account, reference) holding is.pending
+      give_block_stays IsRenewed w (account, reference) holding is.pending
       (due_is_new w is.ask.size holding.block is.due)
-  due_stays (SetPrivate block private) due = mark_stays w block private
-  due_stays (SetHold name value held) due = hold_stays w (name, value) held due.1
-  due_stays (SetAgent principal agent true) due =
-      registers_stay w w.caps w.queue w.advice (insert w.agents (principal, agent) tt)
-      (λ name case is decided expert. (refl, refl))
-  due_stays (SetAgent principal agent false) due =
-      registers_stay w w.caps w.queue w.advice (remove w.agents (principal, agent))
-      (λ name case is decided expert. (refl, refl))
+  due_stays (SetPrivate block private) due = mark_stays IsRenewed w block private
+  due_stays (SetHold name value held) due = hold_stays IsRenewed w (name, value) held due.1
+  -- of capabilities and agents nothing is said
+  due_stays change due = assumption (stays_itself IsRenewed w)
 
 -- ---- Steps and runs
 
+-- the renewals of a run are one by its first event, and those of the others
+run_goes_on : (e : Event) (events : List Event)
+    → GoOn (λ was is. IsDay (utc_day e.moment) × (is ≡ renewed_by e was)) (IsRenewedIn events)
+    (IsRenewedIn (e ∷ events))
+run_goes_on e events = record {
+  first = λ was is by. inr (by.0, inl by.1);
+  more = λ was is by. inl by;
+  both = λ was mid is by more.
+      inr (by.0, inr (subst (λ day. IsRenewedIn events day is) by.1 more));
+}
+
 module _ (digest_of : List ℕ → List ℕ) where
-  step_stays : (w : World) → WellKept w → (e : Event) → Stays w (step_of digest_of w e).world
-  step_stays w kept e =
-      each_step digest_of w e.caller e.moment e.command (λ change. Stays w (applied_if w change))
-      (stays_itself w) (λ change is. due_stays w kept e.caller e.moment is.is_open change is.due)
+  step_stays : (IsRenewed : ℕ → ℕ → Type 0) (w : World) → WellKept w → (e : Event)
+      → Renews IsRenewed (utc_day e.moment) → Stays IsRenewed w (step_of digest_of w e).world
+  step_stays IsRenewed w kept e on =
+      each_step digest_of w e.caller e.moment e.command
+      (λ change. Stays IsRenewed w (applied_if w change)) (stays_itself IsRenewed w)
+      (λ change is. due_stays IsRenewed w kept e.caller e.moment on is.is_open change is.due)
 
   pub runs_stay : GivesDigests digest_of → GivenStays digest_of
-  runs_stay digests w [] kept forms = stays_itself w
+  runs_stay digests w [] kept forms = stays_itself (IsRenewedIn []) w
   runs_stay digests w (e ∷ events) kept forms =
       let first = first_so (has_command_form e.command) (have_forms events) forms in
       let rest = second_so (has_command_form e.command) (have_forms events) forms in
       let v = (step_of digest_of w e).world in
-      stays_on w v (world_after digest_of v events) (step_stays w kept e)
+      stays_on _ _ _ (run_goes_on e events) w v (world_after digest_of v events)
+      (step_stays _ w kept e (λ is_day was is by. (is_day, by)))
       (runs_stay digests v events (step_keeps_well digest_of digests w kept e first) rest)

@@ -1,6 +1,7 @@
 pub mod Outcomes
 pub mod Agents
 pub mod FirstRefusals
+pub mod Lines
 pub mod TermsStand
 pub mod GivenStays
 pub mod BlocksAreGivenDuly

@@ -8,7 +8,7 @@ use Rattle.reg_core.specs.Agents.{IsSaid, LinksAreTheirPrincipals}
 use Rattle.reg_core.specs.World.{World, Link, link_cmp, applied, applied_if}
 use Rattle.reg_core.specs.declared.capability.Kind.TheVariants as kind
 use Rattle.reg_core.specs.declared.change.Change.{Change}
-use Rattle.reg_core.specs.declared.change.Change.TheVariants.{Grant, Revoke, Define, AddPool, Submit, Close, Assign, Advise, GiveValue, GiveBlock, SetPrivate, SetHold, SetAgent}
+use Rattle.reg_core.specs.declared.change.Change.TheVariants.{SetAgent}
 use Rattle.reg_core.specs.declared.command.Command.{Command}
 use Rattle.reg_core.specs.declared.command.Command.TheVariants.{Applicant}
 use Rattle.reg_core.specs.declared.command.ApplicantCommand.TheVariants as applicant
@@ -47,22 +47,10 @@ module _ (digest_of : List ℕ → List ℕ) (w : World) (caller : Option (List 
           })
       by false t = inl (link_stays w (principal, agent) reads link t)
 
-  -- a line for each change
   due_stands : (change : Change) → IsDue digest_of w caller moment command change
       → Stands (applied w change)
-  due_stands (Grant digest cap) is = inl refl
-  due_stands (Revoke digest) is = inl refl
-  due_stands (Define name table) is = inl refl
-  due_stands (AddPool prefix) is = inl refl
-  due_stands (Submit account reference ask) is = inl refl
-  due_stands (Close account reference state) is = inl refl
-  due_stands (Assign account reference expert) is = inl refl
-  due_stands (Advise account reference expert advice) is = inl refl
-  due_stands (GiveValue account reference entry) is = inl refl
-  due_stands (GiveBlock account reference holding) is = inl refl
-  due_stands (SetPrivate block private) is = inl refl
-  due_stands (SetHold name value held) is = inl refl
   due_stands (SetAgent principal agent reads) is = said principal agent reads is
+  due_stands change is = inl refl
 
 pub links_are_theirs : (digest_of : List ℕ → List ℕ) → LinksAreTheirPrincipals digest_of
 links_are_theirs digest_of w caller moment command link =

@@ -16,7 +16,7 @@ use Rattle.reg_core.specs.Step.{answer_to}
 use Rattle.reg_core.specs.WellKept.{WellKept}
 use Rattle.reg_core.specs.World.{World, Place, place_cmp, applied_if}
 use Rattle.reg_core.specs.declared.change.Change.{Change}
-use Rattle.reg_core.specs.declared.change.Change.TheVariants.{Grant, Revoke, Define, AddPool, Submit, Close, Assign, Advise, GiveValue, GiveBlock, SetPrivate, SetHold, SetAgent}
+use Rattle.reg_core.specs.declared.change.Change.TheVariants.{GiveValue, SetHold}
 use Rattle.reg_core.specs.declared.command.Command.{Command}
 use Rattle.reg_core.specs.declared.command.Command.TheVariants.{Clerk}
 use Rattle.reg_core.specs.declared.command.ClerkCommand.TheVariants.{Approve, SetHold as SetHoldOf}
@@ -135,24 +135,12 @@ module _ (digest_of : List ℕ → List ℕ) (w : World) (caller : Option (List 
           )
       by false t = (before, found false t ∙ stood, inl refl)
 
-  -- a line for each change
   change_moves : (change : Change)
       → change_of (answer_to digest_of w caller moment command) ≡ Some change
       → MovesIn (applied_if w (Some change))
-  change_moves (Grant digest cap) made = unmoved
-  change_moves (Revoke digest) made = unmoved
-  change_moves (Define name table) made = unmoved
-  change_moves (AddPool prefix) made = unmoved
-  change_moves (Submit account reference ask) made = unmoved
-  change_moves (Close account reference state) made = unmoved
-  change_moves (Assign account reference expert) made = unmoved
-  change_moves (Advise account reference expert advice) made = unmoved
   change_moves (GiveValue account reference entry) made = given_value account reference entry made
-  change_moves (GiveBlock account reference holding) made = unmoved
-  change_moves (SetPrivate block private) made = unmoved
   change_moves (SetHold name value held) made = given_mark name value held made
-  change_moves (SetAgent principal agent true) made = unmoved
-  change_moves (SetAgent principal agent false) made = unmoved
+  change_moves change made = unmoved
 
   step_moves : (change : Option Change)
       → change_of (answer_to digest_of w caller moment command) ≡ change

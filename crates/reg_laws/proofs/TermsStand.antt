@@ -11,7 +11,7 @@ use Rattle.reg_early.specs.declared.term.SettleFault.TheVariants as settle_fault
 use Rattle.reg_early.specs.declared.term.Term.{Term}
 use Rattle.reg_core.specs.EarlyAllocations.{MovesTerm}
 use Rattle.reg_core.specs.Entry.{registration_in}
-use Rattle.reg_core.specs.Laws.{IsYearOn, TermStands, StillGiven}
+use Rattle.reg_core.specs.Laws.{TermStands, StillGiven}
 use Rattle.reg_core.specs.MayBeGiven.{IsDuly, IsOwnEntry, IsEntry, IsGivenDuly, place_of}
 use Rattle.reg_core.specs.WellKept.{WellKept}
 use Rattle.reg_core.specs.World.{World, Place, pending}
@@ -32,8 +32,8 @@ not_permanent : {P : Type 0} (expires : Option ℕ) → IsSome expires → expir
 not_permanent expires some none = let gone = ap is_some none in absurd (cc)
 
 -- a term may have come to itself
-pub term_stands : (term : Term) → TermStands term term
-term_stands term = record {
+pub term_stands : (IsRenewed : ℕ → ℕ → Type 0) (term : Term) → TermStands IsRenewed term term
+term_stands IsRenewed term = record {
   first = refl;
   permanent = λ none. refl;
   renewed = λ h. h;
@@ -44,9 +44,9 @@ term_stands term = record {
 }
 
 -- and, if it expires, to itself with the other mark
-pub marked_stands : (term : Term) (held : Bool) → IsSome term.expires
-    → TermStands term (held_term held term)
-marked_stands term held some = record {
+pub marked_stands : (IsRenewed : ℕ → ℕ → Type 0) (term : Term) (held : Bool) → IsSome term.expires
+    → TermStands IsRenewed term (held_term held term)
+marked_stands IsRenewed term held some = record {
   first = refl;
   permanent = not_permanent term.expires some;
   renewed = λ h. h;
@@ -56,17 +56,20 @@ marked_stands term held some = record {
   settled = not_permanent term.expires;
 }
 
--- a day that a year leads to, by way of another
-year_on : (was mid is : ℕ) → was ≤ mid → IsYearOn mid is → IsYearOn was is
-year_on was mid is low on = record {
-  from = on.from;
-  is_day = on.is_day;
-  no_earlier = omega (arith, low, on.no_earlier);
-  year = on.year;
-}
+-- a renewal on the day is one of these
+abbrev pub Renews : (ℕ → ℕ → Type 0) → ℕ → Type 0
+Renews IsRenewed day =
+    IsDay day → (was is : ℕ) → is ≡ year_after (max was day) → IsRenewed was is
+
+-- renewals, and others after them, are renewals of a third kind
+pub record GoOn (First More All : ℕ → ℕ → Type 0) : Type 0 where
+  pub first : (was is : ℕ) → First was is → All was is
+  pub more : (was is : ℕ) → More was is → All was is
+  pub both : (was mid is : ℕ) → First was mid → More mid is → All was is
 
 -- what a term has come to goes on
-module _ (before now later : Term) (h : TermStands before now) (k : TermStands now later) where
+module _ (First More All : ℕ → ℕ → Type 0) (on : GoOn First More All) (before now later : Term)
+    (h : TermStands First before now) (k : TermStands More now later) where
   -- where it once has no expiry it never has one again
   gone : now.expires ≡ None → later.expires ≡ None
   gone none = ap (λ (t : Term). t.expires) (k.permanent none) ∙ none
@@ -74,25 +77,31 @@ module _ (before now later : Term) (h : TermStands before now) (k : TermStands n
   moved_on : (was mid is : ℕ) → before.expires ≡ Some was → now.expires ≡ Some mid
       → later.expires ≡ Some is
       → (was ≤ is) × (((is ≡ was) × (later.renewed ≡ before.renewed))
-      ⊎ ((later.renewed ≡ true) × IsYearOn was is))
+      ⊎ ((later.renewed ≡ true) × All was is))
   moved_on was mid is at_was at_mid at_is =
       let first = h.expires was mid at_was at_mid in
       let second = k.expires mid is at_mid at_is in
       let low : was ≤ is = omega (arith, first.0, second.0) in
       elim second.1 [
-        | inr moved ↦ (low, inr (moved.0, year_on was mid is first.0 moved.1))
+        | inr moved ↦
+            elim first.1 [
+              | inl before ↦
+                  (low, inr (moved.0, on.more was is (subst (λ day. More day is) before.0 moved.1)))
+              | inr earlier ↦
+                  (low, inr (moved.0, on.both was mid is earlier.1 moved.1))
+            ]
         | inl same ↦
             elim first.1 [
               | inl before ↦ (low, inl (same.0 ∙ before.0, same.1 ∙ before.1))
               | inr moved ↦
-                  (low, inr (same.1 ∙ moved.0, subst (IsYearOn was) (sym same.0) moved.1))
+                  (low, inr (same.1 ∙ moved.0, on.first was is (subst (First was) (sym same.0) moved.1)))
             ]
       ]
 
   expires_on : (mid : Option ℕ) → now.expires ≡ mid → (was is : ℕ) → before.expires ≡ Some was
       → later.expires ≡ Some is
       → (was ≤ is) × (((is ≡ was) × (later.renewed ≡ before.renewed))
-      ⊎ ((later.renewed ≡ true) × IsYearOn was is))
+      ⊎ ((later.renewed ≡ true) × All was is))
   expires_on None none was is at_was at_is = let never = gone none in absurd (cc)
   expires_on (Some mid) at_mid was is at_was at_is = moved_on was mid is at_was at_mid at_is
 
@@ -102,7 +111,7 @@ module _ (before now later : Term) (h : TermStands before now) (k : TermStands n
       ap (λ (t : Term). t.held) (k.permanent none) ∙ h.settled some none
   settled_on (Some mid) at_mid some is = k.settled (ap is_some at_mid) is
 
-  pub term_stands_on : TermStands before later
+  pub term_stands_on : TermStands All before later
   term_stands_on = record {
     first = k.first ∙ h.first;
     permanent = λ none.
@@ -137,10 +146,11 @@ settled_from before now = by (is_some before.expires)
     by true h = refl
     by false h = absurd (cc)
 
-renewed_stands : (before now : Term) (today : ℕ) (iesg : Bool) → has_term_form before ≡ true
-    → IsDay today → renewal before today iesg ≡ Ok now → TermStands before now
-renewed_stands before now today iesg form day is =
-    subst (TermStands before) (renewal_is before today iesg now is) (record {
+renewed_stands : (IsRenewed : ℕ → ℕ → Type 0) (before now : Term) (today : ℕ) (iesg : Bool)
+    → has_term_form before ≡ true → IsDay today → Renews IsRenewed today
+    → renewal before today iesg ≡ Ok now → TermStands IsRenewed before now
+renewed_stands IsRenewed before now today iesg form day on is =
+    subst (TermStands IsRenewed before) (renewal_is before today iesg now is) (record {
       first = refl;
       permanent = not_permanent before.expires (renewed_from before now today iesg is);
       renewed = λ h. refl;
@@ -156,7 +166,7 @@ renewed_stands before now today iesg form day is =
 
     moved : (was is : ℕ) → before.expires ≡ Some was
         → (renewed_term before today).expires ≡ Some is
-        → (was ≤ is) × (((is ≡ was) × (true ≡ before.renewed)) ⊎ ((true ≡ true) × IsYearOn was is))
+        → (was ≤ is) × (((is ≡ was) × (true ≡ before.renewed)) ⊎ ((true ≡ true) × IsRenewed was is))
     moved was is at_was at_is =
         let latest : IsDay (max was today) = latest_day before was today form day at_was in
         let to : Some (year_after (max was today)) ≡ Some is =
@@ -166,18 +176,14 @@ renewed_stands before now today iesg form day is =
           omega (arith, year, later),
           inr (
             refl,
-            record {
-              from = max was today;
-              is_day = latest;
-              no_earlier = omega arith;
-              year = year;
-            },
+            on day was is year,
           ),
         )
 
-settled_stands : (before now : Term) → settlement before ≡ Ok now → TermStands before now
-settled_stands before now is =
-    subst (TermStands before) (settlement_is before now is) (record {
+settled_stands : (IsRenewed : ℕ → ℕ → Type 0) (before now : Term) → settlement before ≡ Ok now
+    → TermStands IsRenewed before now
+settled_stands IsRenewed before now is =
+    subst (TermStands IsRenewed before) (settlement_is before now is) (record {
       first = refl;
       permanent = not_permanent before.expires (settled_from before now is);
       renewed = λ was. was;
@@ -186,16 +192,16 @@ settled_stands before now is =
     })
 
 -- a term that an approval moves may have come to that
-moved_term_stands : (place : Place) (today : ℕ) (ask : Ask) (before now : Term)
-    → has_term_form before ≡ true → IsDay today → MovesTerm place today ask before now
-    → TermStands before now
-moved_term_stands place today (Code ask) before now form day moves = absurd moves
-moved_term_stands place today (Early ask) before now form day moves = absurd moves
-moved_term_stands place today (Renew ask) before now form day moves =
-    renewed_stands before now today (is_some ask.iesg) form day moves.1
-moved_term_stands place today (Permanent ask) before now form day moves =
-    settled_stands before now moves.1
-moved_term_stands place today (Block ask) before now form day moves = absurd moves
+moved_term_stands : (IsRenewed : ℕ → ℕ → Type 0) (place : Place) (today : ℕ) (ask : Ask)
+    (before now : Term) → has_term_form before ≡ true → IsDay today → Renews IsRenewed today
+    → MovesTerm place today ask before now → TermStands IsRenewed before now
+moved_term_stands IsRenewed place today (Code ask) before now form day on moves = absurd moves
+moved_term_stands IsRenewed place today (Early ask) before now form day on moves = absurd moves
+moved_term_stands IsRenewed place today (Renew ask) before now form day on moves =
+    renewed_stands IsRenewed before now today (is_some ask.iesg) form day on moves.1
+moved_term_stands IsRenewed place today (Permanent ask) before now form day on moves =
+    settled_stands IsRenewed before now moves.1
+moved_term_stands IsRenewed place today (Block ask) before now form day on moves = absurd moves
 
 -- ---- What is given
 
@@ -272,13 +278,14 @@ module _ (w : World) (today : ℕ) (account : List ℕ) (entry : Entry) where
   given_moves (Block ask) duly a is = absurd duly
 
   -- so what stood there is still given
-  pub still_given : WellKept w → IsDay today → (ask : Ask) → IsDuly w today account ask entry
-      → (a : Registration) → get w.entries (place_of entry) ≡ Some a
-      → StillGiven a (Some (registration_in entry))
-  still_given kept day ask duly a is =
+  pub still_given : (IsRenewed : ℕ → ℕ → Type 0) → Renews IsRenewed today → WellKept w → IsDay today → (ask : Ask)
+      → IsDuly w today account ask entry → (a : Registration)
+      → get w.entries (place_of entry) ≡ Some a
+      → StillGiven IsRenewed a (Some (registration_in entry))
+  still_given IsRenewed on kept day ask duly a is =
       let moves = given_moves ask duly a is in
       let form = standing_term w kept account entry (place_of entry) a is in (
         moves.label,
         moves.assignee,
-        moved_term_stands (place_of entry) today ask a.term entry.term form day moves.term,
+        moved_term_stands IsRenewed (place_of entry) today ask a.term entry.term form day on moves.term,
       )

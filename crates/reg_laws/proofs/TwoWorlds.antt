@@ -18,7 +18,7 @@ use Rattle.reg_core.specs.declared.capability.Cap.{Cap}
 use Rattle.reg_core.specs.declared.capability.Kind.{Kind}
 use Rattle.reg_core.specs.declared.capability.Kind.TheVariants.{Applicant, Expert, Clerk}
 use Rattle.reg_core.specs.declared.change.Change.{Change}
-use Rattle.reg_core.specs.declared.change.Change.TheVariants.{Grant, Revoke, Define, AddPool, Submit, Close, Assign, Advise, GiveValue, GiveBlock, SetPrivate, SetHold, SetAgent}
+use Rattle.reg_core.specs.declared.change.Change.TheVariants.{Submit, Close, Advise, SetPrivate, SetAgent}
 use Rattle.reg_core.specs.declared.command.Command.{Command}
 use Rattle.reg_core.specs.declared.command.Command.TheVariants as command
 use Rattle.reg_core.specs.declared.holding.Holder.{Holder}
@@ -223,13 +223,9 @@ module _ (w v : World) (caller : Option (List ℕ)) (moment : ℕ) (kept_w : Wel
       ∙ sym (ap (option_map (with_personal y)) (in_y ∙ found_v)) in
       λ i. record { published = later.published i; me = me i }
 
-  -- a line for each change: only a clerk makes it, or it is of the account's own
+  -- it is of the account's own, or only a clerk makes it
   due_after : (change : Change) → Due w caller moment change
       → view_of (applied w change) caller ≡ view_of (applied v change) caller
-  due_after (Grant digest cap) due = absurd (no_clerk_serves due.0)
-  due_after (Revoke digest) due = absurd (no_clerk_serves due.0)
-  due_after (Define name table) due = absurd (no_clerk_serves due.0)
-  due_after (AddPool prefix) due = absurd (no_clerk_serves due.0)
   due_after (Submit account reference ask) due =
       own_after due.0.serves.cap account due.0.serves.is_there due.0.own _ _ refl refl
       (λ alike. submit_alike account w v kept_w kept_v alike reference ask)
@@ -239,20 +235,17 @@ module _ (w v : World) (caller : Option (List ℕ)) (moment : ℕ) (kept_w : Wel
   due_after (Close account reference Withdrawn) due =
       own_after due.1.serves.cap account due.1.serves.is_there due.1.own _ _ refl refl
       (λ alike. close_alike account w v kept_w kept_v alike reference Withdrawn)
-  due_after (Assign account reference expert) due = absurd (no_clerk_serves due.0)
   due_after (Advise account reference expert advice) due =
       own_after due.0.serves.cap expert due.0.serves.is_there due.0.own _ _ refl refl
       (λ alike. advise_alike expert w v kept_w kept_v alike account reference advice)
-  due_after (GiveValue account reference entry) due = absurd (no_clerk_serves due.0)
-  due_after (GiveBlock account reference holding) due = absurd (no_clerk_serves due.0)
   due_after (SetPrivate block private) due =
       own_after due.serves.cap due.serves.cap.account due.serves.is_there refl _ _ refl refl
       (λ alike. mark_alike due.serves.cap.account w v kept_w kept_v alike block private due.holder
       due.is_there due.own)
-  due_after (SetHold name value held) due = absurd (no_clerk_serves due.0)
   due_after (SetAgent principal agent reads) due =
       own_after due.0.serves.cap principal due.0.serves.is_there due.0.own _ _ refl refl
       (λ alike. link_alike principal w v kept_w kept_v alike agent reads due.1)
+  due_after change due = absurd (no_clerk_serves due.0)
 
 -- ---- A caller who is no clerk
 

@@ -7,7 +7,7 @@ use Rattle.reg_maps.proofs.MapLaws.{get-inserted}
 use Rattle.reg_early.specs.Calendar.{IsDay}
 use Rattle.reg_early.proofs.MomentsHaveDays.{IsDay-utc_day}
 use Rattle.reg_core.specs.Entry.{registration_in}
-use Rattle.reg_core.specs.Laws.{GivesDigests, StillGiven}
+use Rattle.reg_core.specs.Laws.{GivesDigests, IsRenewedIn, StillGiven}
 use Rattle.reg_core.specs.Run.{Event, world_after}
 use Rattle.reg_core.specs.MayBeGiven.{IsDuly, AsksMeetTheirPolicy, IsSameEntry, NoValueIsGivenTwice, place_of}
 use Rattle.reg_core.specs.Step.{step}
@@ -49,16 +49,17 @@ asks_meet_their_policy digest_of = record {
 -- what is given duly where an entry stands, which was given before, is the same entry
 given_again : (w : World) → WellKept w → (today : ℕ) → IsDay today → (account : List ℕ) (ask : Ask) (entry other : Entry)
     → place_of entry ≡ place_of other → IsDuly w today account ask other
-    → StillGiven (registration_in entry) (get w.entries (place_of entry)) → IsSameEntry entry other
-given_again w kept today day account ask entry other same duly =
+    → (IsRenewed : ℕ → ℕ → Type 0) → StillGiven IsRenewed (registration_in entry) (get w.entries (place_of entry))
+    → IsSameEntry entry other
+given_again w kept today day account ask entry other same duly IsRenewed =
     by (get w.entries (place_of entry)) refl
   where
     by : (existing : Option Registration) → get w.entries (place_of entry) ≡ existing
-        → StillGiven (registration_in entry) existing → IsSameEntry entry other
+        → StillGiven IsRenewed (registration_in entry) existing → IsSameEntry entry other
     by None is still = absurd still
     by (Some a) is still =
         let there = ap (get w.entries) (sym same) ∙ is in
-        let again = still_given w today account other kept day ask duly a there in
+        let again = still_given w today account other (λ was is. Unit {0}) (λ is_day was is by. tt) kept day ask duly a there in
         record {
           label = again.0 ∙ still.0;
           assignee = again.1 ∙ still.1;
@@ -82,5 +83,5 @@ no_value_is_given_twice digest_of digests w caller later_caller moment later_mom
     ∙ get-inserted place_keys w.entries (place_of entry) (registration_in entry) in
     let due = changes_due digest_of v later_caller later_moment later _ again in
     let duly = given_duly v v_kept _ other_account other_reference other due.due.1 in
-    given_again v v_kept _ (IsDay-utc_day later_moment due.is_open) other_account duly.ask entry other same duly.duly
+    given_again v v_kept _ (IsDay-utc_day later_moment due.is_open) other_account duly.ask entry other same duly.duly (IsRenewedIn events)
     (stays.entries (place_of entry) (registration_in entry) there)

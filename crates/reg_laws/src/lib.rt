@@ -10,6 +10,7 @@ ghost use Rattle.reg_core.specs.FirstRefusals.{FirstRefusalsAreAnswered};
 ghost use Rattle.reg_core.specs.Laws.{AnswersAreDone, ApprovalsAreAdvised, ApprovalsGiveWhatIsAllowed, ApprovalsStand, ChangesFit, FirstWorldsAreWellKept, GivenStays, GivesDigests, RefusalsChangeNothing, RepeatsActOnce, RunsKeepWell, SubmissionsStand, TwoWorlds};
 ghost use Rattle.reg_core.specs.MayBeGiven.{AsksMeetTheirPolicy, NoValueIsGivenTwice};
 ghost use Rattle.reg_core.specs.Striking.{StagesAreOfRun, UnseenLeaveNoTrace};
+ghost use Rattle.reg_laws.specs.CommandLines.{CommandsGoByTheirLines};
 
 /// Isolation: two well kept worlds that show a caller who is no clerk the same view answer its
 /// command alike, and then show it the same view again.
@@ -60,6 +61,13 @@ pub fn approvals_are_advised()
 /// one that stands first in the order of all refusals; and none applies to an ask that is allowed.
 pub fn first_refusals_are_answered()
     ensures { FirstRefusalsAreAnswered }
+{}
+
+/// Each command goes by its lines: it gets the first of its refusals whose condition holds, in the
+/// words of the registers, of the requests and of the caller's capability; what is as it asks already
+/// changes nothing; and where no line applies it is accepted.
+pub fn commands_go_by_their_lines()
+    ensures { (digest_of : List ℕ → List ℕ) → CommandsGoByTheirLines digest_of }
 {}
 
 /// Asks meet their policy: a request is taken in, and approved, only for a value of its registry's

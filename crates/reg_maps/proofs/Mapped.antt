@@ -1,11 +1,11 @@
 -- A map whose values are changed, each by its key.
-use Rattle.std.proofs.Common.{◌≡◌, true, false, cond, List, [], ◌∷◌, map, filter_map}
+use Rattle.std.proofs.Common.{◌≡◌, true, false, cond}
 use Rattle.std.proofs.Common.{Option, Some, None, option_map, option_and_then, refl, sym, ap, ◌∙◌}
-use Rattle.std.specs.FinMap.{FinMap, get, insert, entries}
+use Rattle.std.specs.FinMap.{FinMap, get, insert}
 use Rattle.std.specs.Ordering.{eq_by_cmp}
 use Rattle.std.specs.declared.cmp.Ordering.{Ordering}
-use Rattle.reg_maps.specs.Maps.{keyed, select, update}
-use Rattle.reg_maps.proofs.MapLaws.{IsKeyOrder, entries-select, get-at_insert, get-select, get-update, same_at, tied}
+use Rattle.reg_maps.specs.Maps.{select, update}
+use Rattle.reg_maps.proofs.MapLaws.{IsKeyOrder, get-at_insert, get-select, get-update, same_at, tied}
 
 -- ---- Values that may be missing
 
@@ -39,15 +39,6 @@ module _ {K X Y : Type 0} {R : K → K → Ordering} (o : IsKeyOrder R) where
   pub get-mapped : (f : K → X → Y) (m : FinMap R X) (k : K)
       → get (mapped f m) k ≡ option_map (f k) (get m k)
   get-mapped f m k = get-select o (λ k x. Some (f k x)) m k ∙ then_some (f k) (get m k)
-
-  pub entries-mapped : (f : K → X → Y) (m : FinMap R X)
-      → entries (mapped f m) ≡ map (λ e. (e.0, f e.0 e.1)) (entries m)
-  entries-mapped f m = entries-select o (λ k x. Some (f k x)) m ∙ go (entries m)
-    where
-      go : (es : List (K × X))
-          → filter_map (λ e. keyed e.0 (Some (f e.0 e.1))) es ≡ map (λ e. (e.0, f e.0 e.1)) es
-      go [] = refl
-      go (e ∷ es) = ap (λ rest. (e.0, f e.0 e.1) ∷ rest) (go es)
 
   pub select-mapped : {Z : Type 0} (p : K → Y → Option Z) (f : K → X → Y) (m : FinMap R X)
       → select p (mapped f m) ≡ select (λ k x. p k (f k x)) m

@@ -43,14 +43,6 @@ is_open_on moment today h = by (is_in_clock moment) refl h
     by true t e = let same : utc_day moment ≡ today = cc in (t, same)
     by false t e = absurd (cc)
 
-pub is_closed : (moment : ℕ) → day_of_moment moment ≡ None → is_in_clock moment ≡ false
-is_closed moment h = by (is_in_clock moment) refl h
-  where
-    by : (b : Bool) → is_in_clock moment ≡ b
-        → (if b then Some (utc_day moment) else None) ≡ None → is_in_clock moment ≡ false
-    by true t e = absurd (cc)
-    by false t e = t
-
 -- ---- A kind
 
 -- who is admitted at this digest

@@ -8,6 +8,7 @@ ghost use Rattle.reg_core.specs.FirstRefusals.{FirstRefusalsAreAnswered};
 ghost use Rattle.reg_core.specs.Laws.{AnswersAreDone, ApprovalsAreAdvised, ApprovalsGiveWhatIsAllowed, ApprovalsStand, ChangesFit, FirstWorldsAreWellKept, GivenStays, RefusalsChangeNothing, RepeatsActOnce, RunsKeepWell, SubmissionsStand, TwoWorlds};
 ghost use Rattle.reg_core.specs.MayBeGiven.{AsksMeetTheirPolicy, NoValueIsGivenTwice};
 ghost use Rattle.reg_core.specs.Striking.{StagesAreOfRun, UnseenLeaveNoTrace};
+ghost use Rattle.reg_laws.specs.CommandLines.{CommandsGoByTheirLines};
 ghost use Rattle.reg_commands.specs.Caller.{token_digest};
 
 /// Isolation: two well kept offices that show a caller who is no clerk the same view answer its
@@ -74,6 +75,15 @@ pub fn first_refusals_are_answered()
     ensures { FirstRefusalsAreAnswered }
 {
     reg_laws::first_refusals_are_answered();
+}
+
+/// Each command goes by its lines: it gets the first of its refusals whose condition holds, in the
+/// words of the registers, of the requests and of the caller's capability; what is as it asks already
+/// changes nothing; and where no line applies it is accepted.
+pub fn commands_go_by_their_lines()
+    ensures { CommandsGoByTheirLines token_digest }
+{
+    reg_laws::commands_go_by_their_lines();
 }
 
 /// Asks meet their policy: a request is taken in, and approved, only for a value of its registry's

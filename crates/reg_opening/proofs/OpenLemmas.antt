@@ -1,8 +1,8 @@
 -- What the version and the rows of tables tell of a store.
-use Rattle.std.proofs.Common.{◌≡◌, ℤ, List, [], ◌∷◌, map, length, refl, sym, ap, subst, ◌∙◌, arith, inl, inr}
-use Rattle.std.proofs.Common.{IsPermutation, Option, Some, None, IsSome, is_some}
+use Rattle.std.proofs.Common.{◌≡◌, ℤ, List, [], ◌∷◌, map, length, refl, sym, ap, subst, ◌∙◌, arith}
+use Rattle.std.proofs.Common.{IsPermutation, Option, Some, None, IsSome, is_some, slice_get, take, true}
 use Rattle.std.specs.Prelude.{IfOk, Ok, Result}
-use Rattle.std.specs.List.{AllByRecursion}
+use Rattle.std.specs.List.{AllByRecursion, position_from}
 use Rattle.std.proofs.lemmas.Result.{IfOk-weaker}
 use Rattle.std.proofs.lemmas.List.{length-map}
 use Rattle.std.proofs.lemmas.List.Sorted.{IsPermutation-sym, length_permutation}
@@ -10,6 +10,8 @@ use Rattle.sqlite.specs.Effect.{Database}
 use Rattle.sqlite.specs.Order.{Row}
 use Rattle.sqlite.specs.Schema.{Schema}
 use Rattle.sqlite.specs.State.{State, IsLive}
+use Rattle.sqlite.specs.Table.{Table}
+use Rattle.sqlite_schema.specs.Names.{same_name}
 use Rattle.reg_maps.proofs.RowMaps.Lists.{all_permuted, shown_rows}
 use Rattle.reg_audit.specs.Audits.{Audits}
 use Rattle.reg_audit.specs.declared.audit.Audit.{Audit}
@@ -18,12 +20,11 @@ use Rattle.reg_core.specs.World.{empty_world}
 use Rattle.reg_records.specs.Office.{version_in}
 use Rattle.reg_tables.specs.Connection.{Endures, IsIdle, Stays, Works}
 use Rattle.reg_tables.specs.Editing.{AreKeyed}
-use Rattle.reg_tables.specs.Having.{FindsTablesOf, HasTable}
+use Rattle.reg_tables.specs.Having.{HasTable}
 use Rattle.reg_tables.specs.Schema.{office_schema, office_table}
 use Rattle.reg_tables.specs.Selecting.{BeginsWith, stored}
 use Rattle.reg_tables.specs.Version.{IsOther, number_of, rows_of, schema_of, table_count}
 use Rattle.reg_tables.specs.declared.version.Version.{Version}
-use Rattle.reg_tables.specs.declared.version.Version.TheVariants.{First, Second, Third}
 use Rattle.reg_tables.proofs.HavingLemmas.{version_found}
 use Rattle.reg_tables.proofs.Enduring.{endures_then}
 use Rattle.reg_tables.proofs.RestLemmas.{stays_then}
@@ -31,23 +32,20 @@ use Rattle.reg_statements.specs.Content.{HasVersion, content, content_at}
 use Rattle.reg_statements.specs.Loading.{ReadAs}
 use Rattle.reg_statements.specs.Tables.{Tables, tables_in}
 use Rattle.reg_opening.specs.Feeding.{FeedsTable, tables_at}
-use Rattle.reg_opening.specs.Opening.{HasVersionTable, AreRowsOf, FindsKind, HasVersionTables, ComesFirst, IsFoundAs, IsFree, IsFreeBy}
-use Rattle.reg_opening.specs.Opening.{IsOurs, IsReadAs, IsVersionOf, LeaveFree, Reads, only, kind_of}
+use Rattle.reg_opening.specs.Opening.{AreRowsOf, IsOfVersion, FindsKind, HasVersionTables, ComesFirst, IsFlawIn, IsFlawOf, IsFoundAs, IsFree, IsFreeBy}
+use Rattle.reg_opening.specs.Opening.{HasFlaw, IsOurs, IsReadAs, IsVersionOf, LeaveFree, Reads, only, kind_of}
 use Rattle.reg_opening.specs.Partitions.{AreRegistries}
 use Rattle.reg_opening.specs.Parts.{AreParts, IsBlankWorld, with_parts}
 use Rattle.reg_opening.specs.Rowids.{AreOrderedKeyed}
+use Rattle.reg_opening.specs.declared.flaw.Flaw.{Flaw}
+use Rattle.reg_opening.specs.declared.flaw.Flaw.TheVariants as flaws
 use Rattle.reg_opening.specs.declared.kind.Found.{Found}
 use Rattle.reg_opening.specs.declared.kind.Found.TheVariants as found
-use Rattle.reg_opening.specs.declared.kind.StoreKind.TheVariants as kind
 use Rattle.reg_opening.proofs.Versions.{first_begins, keyed_version, number_exact, office_rows, ranges_rows, registries_rows, schema_first, version_keyed}
 use Rattle.reg_vacancies.specs.Vacancies.{AreVacanciesOf}
 use Rattle.reg_vacancies.specs.declared.vacancies.Vacancies.{Vacancies}
 
 -- ---- The version
-
-no_rows : (rows : List Row) → length rows ≡ 0 → rows ≡ []
-no_rows [] none = refl
-no_rows (row ∷ rows) none = absurd (omega (arith, none))
 
 one_row : (rows : List Row) → length rows ≡ 1 → (row : Row) × (rows ≡ row ∷ [])
 one_row [] one = absurd (omega (arith, one))
@@ -100,6 +98,62 @@ one_version m n rows a b =
     let row : a.0 ≡ b.0 = cc in
     let is : Some m ≡ Some n = sym a.2 ∙ ap (λ row. version_in (stored 1 row)) row ∙ b.2 in
     cc
+
+-- ---- The table of the version
+
+-- a name is of one table
+one_table : (schema : Schema) (t : Table) (a b : HasTable schema t) → a.table ≡ b.table
+one_table schema t a b =
+    let both : Some a.at ≡ Some b.at = sym a.named ∙ b.named in
+    let same : a.at ≡ b.at = cc in
+    let also : Some a.table ≡ Some b.table =
+    sym a.there ∙ ap (slice_get schema.tables) same ∙ b.there in
+    cc
+
+office_named : same_name office_table.name office_table.name ≡ true
+unfolding same_name
+office_named = refl
+
+-- where it comes first it is in the first tree
+at_front : (schema : Schema) (tables : List Table) → schema.tables ≡ tables
+    → take 1 tables ≡ office_table ∷ [] → (has : HasTable schema office_table) × (has.table.tree ≡ 0)
+at_front schema [] is front = absurd (cc)
+at_front schema (t ∷ tables) is front =
+    let office : t ≡ office_table = cc in (
+      record {
+        at = 0;
+        table = office_table;
+        named = ap (position_from (λ (t : Table). same_name t.name office_table.name) 0) is
+            ∙ ap (λ (s : Table). position_from (λ (t : Table). same_name t.name office_table.name) 0
+            (s ∷ tables)) office
+            ∙ rw office_named refl;
+        there = ap (λ all. slice_get all 0) is ∙ ap Some office;
+        same = refl;
+      },
+      refl,
+    )
+
+front_there : (schema : Schema) → BeginsWith 1 schema
+    → (has : HasTable schema office_table) × (has.table.tree ≡ 0)
+front_there schema begins = at_front schema schema.tables refl begins.tables
+
+front_tree : (schema : Schema) → BeginsWith 1 schema → (has : HasTable schema office_table)
+    → has.table.tree ≡ 0
+front_tree schema begins has =
+    let front = front_there schema begins in
+    ap (λ (t : Table). t.tree) (one_table schema office_table has front.0) ∙ front.1
+
+-- a store says one version
+pub one_number : (m n : ℤ) (db : Database) → IsOfVersion m db → IsOfVersion n db → m ≡ n
+one_number m n db a b =
+    let same = ap (λ (t : Table). t.tree) (one_table db.schema office_table a.has b.has) in
+    one_version m n (db.trees b.has.table.tree) (subst (λ k. HasVersion m (db.trees k)) same a.says) b.says
+
+-- where its table comes first, that has the row
+front_says : (n : ℤ) (db : Database) → BeginsWith 1 db.schema → IsOfVersion n db
+    → HasVersion n (tables_in db.trees).office
+front_says n db begins is =
+    subst (λ k. HasVersion n (db.trees k)) (front_tree db.schema begins is.has) is.says
 
 -- ---- The rows
 
@@ -298,31 +352,49 @@ first_parts v db first =
       first.well,
     )
 
--- a store that has not the tables of a version
-pub lacks_tables : (v : Version) (s : State) → (¬ HasVersionTables v s.now)
-    → IsReadAs v s.now found.NotOurs
-lacks_tables v s lacks has = absurd (lacks has)
+-- whatever flaw a store has that says a version, its rows are no office's where its tables come first
+unread_rows : (v : Version) (db : Database) (flaw : Flaw) → IsFlawOf v db flaw → HasVersionTables v db
+    → BeginsWith (table_count v) db.schema → AreRowsOf v db None
+unread_rows v db flaws.NoOffice is has = absurd is
+unread_rows v db flaws.NoVersion is has = absurd is
+unread_rows v db flaws.OtherTables is has = absurd (is has)
+unread_rows v db (flaws.Rows rows) is has = is.1
 
--- where a store says a version, it is none of another
-other_first : (v w : Version) (db : Database)
-    → HasVersion (number_of v) (tables_in db.trees).office → ComesFirst w db → w ≡ v
-other_first v w db says first =
-    number_exact w v
-    (one_version (number_of w) (number_of v) (tables_in db.trees).office
-    (subst (HasVersion (number_of w)) (office_rows w db.trees) first.kept.whole.0) says)
+-- the flaw of a store that says a version
+flaw_in : (v : Version) (db : Database) (flaw : Flaw) → IsOfVersion (number_of v) db
+    → IsFlawOf v db flaw → IsFlawIn db flaw
+flaw_in v db flaws.NoOffice says is = absurd is
+flaw_in v db flaws.NoVersion says is = absurd is
+flaw_in v db flaws.OtherTables says is = (v, says, is)
+flaw_in v db (flaws.Rows rows) says is = (v, says, is)
 
 -- the tables of a version begin with the table of the version
 pub schema_begins : (v : Version) (db : Database) → BeginsWith (table_count v) db.schema
     → BeginsWith 1 db.schema
 schema_begins v db begins = first_begins v 1 (omega arith) begins
 
+-- an office whose tables come first says its version
+first_says : (v : Version) (db : Database) → ComesFirst v db → IsOfVersion (number_of v) db
+first_says v db first =
+    let front = front_there db.schema (schema_begins v db first.begins) in
+    record {
+      has = front.0;
+      says = subst (λ k. HasVersion (number_of v) (db.trees k)) (sym front.1)
+          (subst (HasVersion (number_of v)) (office_rows v db.trees) first.kept.whole.0);
+    }
+
+-- where a store says a version, it is none of another
+other_first : (v w : Version) (db : Database) → IsOfVersion (number_of v) db → ComesFirst w db → w ≡ v
+other_first v w db says first =
+    number_exact w v (one_number (number_of w) (number_of v) db (first_says w db first) says)
+
 module _ (v : Version) (old new : State) (stays : Stays old new) (live : IsLive old)
-    (version : Works new → BeginsWith 1 old.now.schema
-    → HasVersion (number_of v) (tables_in old.now.trees).office) where
+    (version : Works new → IsOfVersion (number_of v) old.now) where
   as_first : (free : Vacancies) → Works new → BeginsWith (table_count v) old.now.schema
       → AreRowsOf v old.now (Some free) → ComesFirst v old.now
   as_first free works begins rows =
-      is_first v old.now begins (version works (schema_begins v old.now begins)) rows.0
+      is_first v old.now begins
+      (front_says (number_of v) old.now (schema_begins v old.now begins) (version works)) rows.0
       rows.1.0.0 rows.1.0.1
 
   as_ours : (free : Vacancies) → Works new → old.now.schema ≡ schema_of v
@@ -333,34 +405,34 @@ module _ (v : Version) (old new : State) (stays : Stays old new) (live : IsLive 
       is_ours v old live (stays.worked works) is (as_first free works begins (rows begins))
 
   -- an office whose tables come first was not read as none
-  no_first : IsReadAs v old.now found.NotOurs → Works new → (w : Version)
+  no_first : (flaw : Flaw) → IsFlawOf v old.now flaw → Works new → (w : Version)
       → HasVersionTables w old.now → ComesFirst w old.now → ⊥
-  no_first read works w tables first =
-      let same = other_first v w old.now (version works (schema_begins w old.now first.begins)) first
-      in
+  no_first flaw read works w tables first =
+      let same = other_first v w old.now (version works) first in
       let mine = subst (λ (w : Version). ComesFirst w old.now) same first in
-      read (subst (λ (w : Version). HasVersionTables w old.now) same tables) mine.begins
-      (first_parts v old.now mine)
+      unread_rows v old.now flaw read (subst (λ (w : Version). HasVersionTables w old.now) same tables)
+      mine.begins (first_parts v old.now mine)
 
   -- what the rows of a store that says this version tell
   pub read_as : (f : Found) → Works new → IsReadAs v old.now f → IsFoundAs old.now (kind_of f)
   read_as (found.Ours w free) works read =
       subst (λ (w : Version). HasVersionTables w old.now
       × (old.now.schema ≡ schema_of w → IsOurs w old.now)
-      × (BeginsWith (table_count w) old.now.schema → ComesFirst w old.now)) (sym read.0) (
+      × (BeginsWith (table_count w) old.now.schema → ComesFirst w old.now)
+      × IsOfVersion (number_of w) old.now) (sym read.0) (
         read.1,
         (λ is. as_ours free works is read.2),
-        λ begins. as_first free works begins (read.2 begins),
+        (λ begins. as_first free works begins (read.2 begins)),
+        version works,
       )
   read_as (found.OtherVersion n) works read = absurd read
-  read_as found.NotOurs works read = (
+  read_as (found.NotOurs flaw) works read = (
     (
-      (λ w ours. no_first read works w (version_found w old.now.schema ours.0.office.schema)
+      (λ w ours. no_first flaw read works w (version_found w old.now.schema ours.0.office.schema)
           (ours_first w old.now ours)),
-      (λ n is other. other v (one_version n (number_of v) (tables_in old.now.trees).office is.1
-          (version works is.0))),
+      (λ n is other. other v (one_number n (number_of v) old.now is (version works))),
     ),
-    λ w has. no_first read works w has.0 has.1,
+    λ w has. no_first flaw read works w has.0 has.1,
   )
 
   pub read_free : (f : Found) → IsReadAs v old.now f → IsFree old.now f
@@ -368,21 +440,24 @@ module _ (v : Version) (old new : State) (stays : Stays old new) (live : IsLive 
       subst (λ (w : Version). BeginsWith (table_count w) old.now.schema
       → AreVacanciesOf (content_at w old.now) free) (sym read.0) (λ begins. (read.2 begins).1.1)
   read_free (found.OtherVersion n) read = absurd read
-  read_free found.NotOurs read = tt
+  read_free (found.NotOurs flaw) read = tt
+
+  pub read_flaw : (f : Found) → Works new → IsReadAs v old.now f → HasFlaw old.now f
+  read_flaw (found.Ours w free) works read = tt
+  read_flaw (found.OtherVersion n) works read = tt
+  read_flaw (found.NotOurs flaw) works read = flaw_in v old.now flaw (version works) read
 
 -- ---- What is found, call after call
 
 -- the rows were read of a store that says this version
 pub read_finds : {E : Type 0} (v : Version) (old mid new : State) (result : Result Found E)
     → IsLive old → Endures old mid → Stays old mid
-    → (BeginsWith 1 old.now.schema → Works mid
-    → HasVersion (number_of v) (tables_in old.now.trees).office)
+    → (Works mid → IsOfVersion (number_of v) old.now)
     → Reads v mid new result → FindsKind old new result
 read_finds v old mid new result live endures stays version reads =
     let both = stays_then old mid new stays reads.stays in
-    let says : Works new → BeginsWith 1 old.now.schema
-    → HasVersion (number_of v) (tables_in old.now.trees).office =
-    λ works begins. version begins (reads.stays.worked works) in
+    let says : Works new → IsOfVersion (number_of v) old.now =
+    λ works. version (reads.stays.worked works) in
     let found : Works new → IfOk result (IsReadAs v old.now) =
     λ works. subst (λ db. IfOk result (IsReadAs v db)) (stays.unchanged (reads.stays.worked works))
     (reads.found works) in
@@ -396,52 +471,40 @@ read_finds v old mid new result live endures stays version reads =
       free = λ works.
           IfOk-weaker result _ _ (λ f read. read_free v old new both live says f read)
           (found works);
+      flaw = λ works.
+          IfOk-weaker result _ _ (λ f read. read_flaw v old new both live says f works read)
+          (found works);
     }
 
--- the store says no version, if it begins with the table of the version
-pub none_finds : {E : Type 0} (old new : State) → IsIdle new → Endures old new → Stays old new
-    → (BeginsWith 1 old.now.schema → Works new
-    → (n : ℤ) → ¬ HasVersion n (tables_in old.now.trees).office)
-    → FindsKind {E = E} old new (Ok found.NotOurs)
-none_finds old new rest endures stays none = record {
+-- the store says no version
+pub none_finds : {E : Type 0} (old new : State) (flaw : Flaw) → IsIdle new → Endures old new
+    → Stays old new → (Works new → IsFlawIn old.now flaw)
+    → (Works new → (n : ℤ) → ¬ IsOfVersion n old.now)
+    → FindsKind {E = E} old new (Ok (found.NotOurs flaw))
+none_finds old new flaw rest endures stays is none = record {
   rest = rest;
   endures = endures;
   stays = stays;
   kind = λ works. (
     (
-      (λ v ours. no_version works v (ours_first v old.now ours)),
-      (λ n is. absurd (none is.0 works n is.1)),
+      (λ v ours. none works (number_of v) (first_says v old.now (ours_first v old.now ours))),
+      (λ n is. absurd (none works n is)),
     ),
-    λ v has. no_version works v has.1,
+    λ v has. none works (number_of v) (first_says v old.now has.1),
   );
   free = λ works. tt;
+  flaw = is;
 }
-  where
-    no_version : Works new → (v : Version) → ComesFirst v old.now → ⊥
-    no_version works v first =
-        none (schema_begins v old.now first.begins) works (number_of v)
-        (subst (HasVersion (number_of v)) (office_rows v old.now.trees) first.kept.whole.0)
 
--- it says a version that is not known, if it begins with the table of the version; that is there
+-- it says a version that is not known
 pub other_finds : {E : Type 0} (n : ℤ) (old new : State) → IsIdle new → Endures old new
-    → Stays old new → IsOther n
-    → (BeginsWith 1 old.now.schema → Works new → HasVersion n (tables_in old.now.trees).office)
-    → HasVersionTable old.now.schema → FindsKind {E = E} old new (Ok (found.OtherVersion n))
-other_finds n old new rest endures stays other version at = record {
+    → Stays old new → IsOther n → (Works new → IsOfVersion n old.now)
+    → FindsKind {E = E} old new (Ok (found.OtherVersion n))
+other_finds n old new rest endures stays other version = record {
   rest = rest;
   endures = endures;
   stays = stays;
-  kind = λ works. found_at works at;
+  kind = λ works. (version works, other);
   free = λ works. tt;
+  flaw = λ works. tt;
 }
-  where
-    found_at : Works new → HasVersionTable old.now.schema → IsFoundAs old.now (kind.OtherVersion n)
-    found_at works (inl begins) = inl ((begins, version begins works), other)
-    found_at works (inr beside) = inr (other, beside.0, beside.1)
-
--- the first of a version's tables is that of the version
-pub has_first : (v : Version) (schema : Schema) → FindsTablesOf v schema
-    → HasTable schema office_table
-has_first First schema finds = finds.0.has
-has_first Second schema finds = finds.0.has
-has_first Third schema finds = finds.0.has

@@ -38,9 +38,6 @@ AreMade gs rows found =
 equal : (x y : List ℕ) → same_text x y ≡ true → x ≡ y
 equal x y is = tied text_keys x y (sym (text_test x y) ∙ is)
 
-itself : (x : List ℕ) → same_text x x ≡ true
-itself x = text_test x x ∙ (eq_by_cmp_equiv text_keys.total).refl x
-
 turned : (x y : List ℕ) → same_text x y ≡ same_text y x
 turned x y = text_test x y ∙ (eq_by_cmp_equiv text_keys.total).symm x y ∙ sym (text_test y x)
 

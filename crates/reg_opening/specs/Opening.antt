@@ -1,9 +1,8 @@
 -- What a store is to an office that opens it.
-use Rattle.std.specs.Prelude.{◌≡◌, ◌⊎◌, ℤ, List, [], ◌∷◌, Option, Some, None, MatchOption, Result, IfOk, IsTrue}
+use Rattle.std.specs.Prelude.{◌≡◌, ℤ, List, [], ◌∷◌, Option, Some, None, MatchOption, Result, Ok, Err, IfOk, IsTrue}
 use Rattle.std.specs.List.{AllByRecursion}
 use Rattle.sqlite.specs.Effect.{Database}
 use Rattle.sqlite.specs.Order.{Row}
-use Rattle.sqlite.specs.Schema.{Schema}
 use Rattle.sqlite.specs.State.{State}
 use Rattle.sqlite.specs.Table.{Table}
 use Rattle.reg_core.specs.WellKept.{WellKept}
@@ -26,6 +25,9 @@ use Rattle.reg_opening.specs.Parts.{AreParts}
 use Rattle.reg_opening.specs.Rowids.{AreOrderedKeyed}
 use Rattle.reg_opening.specs.declared.kind.Found.{Found}
 use Rattle.reg_opening.specs.declared.kind.Found.TheVariants as found
+use Rattle.reg_opening.specs.declared.flaw.Flaw.{Flaw}
+use Rattle.reg_opening.specs.declared.flaw.Flaw.TheVariants.{NoOffice, NoVersion, OtherTables, Rows}
+use Rattle.reg_opening.specs.declared.flaw.RowFlaw.{RowFlaw}
 use Rattle.reg_opening.specs.declared.kind.StoreKind.{StoreKind}
 use Rattle.reg_opening.specs.declared.kind.StoreKind.TheVariants.{Ours, OtherVersion, NotOurs}
 
@@ -59,9 +61,11 @@ pub record ComesFirst (v : Version) (db : Database) : Type 0 where
   pub kept : AreKept v (tables_in (rows_of v db.trees))
   pub well : WellKept (content_at v db)
 
--- the first table is the office's, and says this version; there are no views
-abbrev pub IsOfVersion : ℤ → Database → Type 0
-IsOfVersion n db = BeginsWith 1 db.schema × HasVersion n (tables_in db.trees).office
+-- there is the table `office` with its one column, wherever it stands, and its one row says this
+-- version
+pub record IsOfVersion (n : ℤ) (db : Database) : Type 0 where
+  pub has : HasTable db.schema office_table
+  pub says : HasVersion n (db.trees has.table.tree)
 
 -- what a store is whose tables stand alone: an office's of a version, with the tables of this and no
 -- others and a content that is well kept; an office's of a version that this library does not know;
@@ -87,26 +91,25 @@ IsFreeBy audit (Some free) =
 abbrev pub kind_of : Found → StoreKind
 kind_of (found.Ours v free) = Ours v
 kind_of (found.OtherVersion n) = OtherVersion n
-kind_of found.NotOurs = NotOurs
+kind_of (found.NotOurs flaw) = NotOurs
 
 -- and what is free in it, if it is an office's whose tables come first
 abbrev pub IsFree : Database → Found → Type 0
 IsFree db (found.Ours v free) =
     BeginsWith (table_count v) db.schema → AreVacanciesOf (content_at v db) free
 IsFree db (found.OtherVersion n) = Unit {0}
-IsFree db found.NotOurs = Unit {0}
+IsFree db (found.NotOurs flaw) = Unit {0}
 
--- What a store is told to be. Where it is an office's of a version, its tables are there, and where
--- they come first, or there are no others, its rows are what is told. Where it is one of a version
--- that is not known, the first table says so; or there are other tables or views before it, and it is
--- there. Else there is no office whose tables come first, or have no others beside them.
+-- What a store is told to be. Where it is an office's of a version, the row of the version says so and
+-- its tables are there, and where they come first, or there are no others, its rows are what is told.
+-- It is one of a version that is not known exactly where the row of the version says such a one,
+-- whatever tables there are. Else there is no office whose tables come first, or have no others
+-- beside them.
 abbrev pub IsFoundAs : Database → StoreKind → Type 0
 IsFoundAs db (Ours v) =
     HasVersionTables v db × (db.schema ≡ schema_of v → IsKind db (Ours v))
-    × (BeginsWith (table_count v) db.schema → ComesFirst v db)
-IsFoundAs db (OtherVersion n) =
-    IsKind db (OtherVersion n)
-    ⊎ (IsOther n × (¬ BeginsWith 1 db.schema) × HasTable db.schema office_table)
+    × (BeginsWith (table_count v) db.schema → ComesFirst v db) × IsOfVersion (number_of v) db
+IsFoundAs db (OtherVersion n) = IsKind db (OtherVersion n)
 IsFoundAs db NotOurs =
     IsKind db NotOurs × ((v : Version) → ¬ (HasVersionTables v db × ComesFirst v db))
 
@@ -115,20 +118,42 @@ abbrev pub AreRowsOf : Version → Database → Option Vacancies → Type 0
 AreRowsOf v db None = LeaveFree (tables_at v db) None
 AreRowsOf v db (Some free) = AreOrderedKeyed db.trees × LeaveFree (tables_at v db) (Some free)
 
+-- what the rows leave free, if they have no flaw
+abbrev pub free_in : Result Vacancies RowFlaw → Option Vacancies
+free_in (Ok free) = Some free
+free_in (Err flaw) = None
+
+-- of a store that says this version: its tables are not there; or they are, and where they come first
+-- their rows are no office's that is well kept
+abbrev pub IsFlawOf : Version → Database → Flaw → Type 0
+IsFlawOf v db NoOffice = ⊥
+IsFlawOf v db NoVersion = ⊥
+IsFlawOf v db OtherTables = ¬ HasVersionTables v db
+IsFlawOf v db (Rows flaw) =
+    HasVersionTables v db × (BeginsWith (table_count v) db.schema → AreRowsOf v db None)
+
+-- the condition that fails: there is no table of the version; or no version in it; or it is one that is
+-- known, and has that flaw
+abbrev pub IsFlawIn : Database → Flaw → Type 0
+IsFlawIn db NoOffice = ¬ HasTable db.schema office_table
+IsFlawIn db NoVersion = HasTable db.schema office_table × ((n : ℤ) → ¬ IsOfVersion n db)
+IsFlawIn db OtherTables = (v : Version) × IsOfVersion (number_of v) db × IsFlawOf v db OtherTables
+IsFlawIn db (Rows flaw) = (v : Version) × IsOfVersion (number_of v) db × IsFlawOf v db (Rows flaw)
+
+-- so it is of what was found, if it is none of an office's
+abbrev pub HasFlaw : Database → Found → Type 0
+HasFlaw db (found.Ours v free) = Unit {0}
+HasFlaw db (found.OtherVersion n) = Unit {0}
+HasFlaw db (found.NotOurs flaw) = IsFlawIn db flaw
+
 -- it has the tables of this version, if it is told to be an office's, and where they come first, its
--- rows are what is told
+-- rows are what is told; else it has the flaw that is told
 abbrev pub IsReadAs : Version → Database → Found → Type 0
 IsReadAs v db (found.Ours w free) =
     (w ≡ v) × HasVersionTables v db
     × (BeginsWith (table_count v) db.schema → AreRowsOf v db (Some free))
 IsReadAs v db (found.OtherVersion n) = ⊥
-IsReadAs v db found.NotOurs =
-    HasVersionTables v db → BeginsWith (table_count v) db.schema → AreRowsOf v db None
-
--- the first table is that of the version, and there are no views; or it is beside other tables or views
-abbrev pub HasVersionTable : Schema → Type 0
-HasVersionTable schema =
-    BeginsWith 1 schema ⊎ ((¬ BeginsWith 1 schema) × HasTable schema office_table)
+IsReadAs v db (found.NotOurs flaw) = IsFlawOf v db flaw
 
 -- A call that reads the rows of a store of a version. The store stays as it was.
 pub record Reads {E : Type 0} (v : Version) (old new : State) (result : Result Found E) : Type 0 where
@@ -137,14 +162,15 @@ pub record Reads {E : Type 0} (v : Version) (old new : State) (result : Result F
   pub stays : Stays old new
   pub found : Works new → IfOk result (IsReadAs v old.now)
 
--- A call that finds what a store is, whatever tables it has, and what is free in it, if it is an
--- office's whose tables come first. The store stays as it was.
+-- A call that finds what a store is, whatever tables it has; what is free in it, if it is an office's
+-- whose tables come first; and why it is none of an office's. The store stays as it was.
 pub record FindsKind {E : Type 0} (old new : State) (result : Result Found E) : Type 0 where
   pub rest : IsIdle new
   pub endures : Endures old new
   pub stays : Stays old new
   pub kind : Works new → IfOk result (λ found. IsFoundAs old.now (kind_of found))
   pub free : Works new → IfOk result (IsFree old.now)
+  pub flaw : Works new → IfOk result (HasFlaw old.now)
 
 -- A call that tells what a store is, whatever tables it has. The store stays as it was.
 pub record Decides {E : Type 0} (old new : State) (result : Result StoreKind E) : Type 0 where

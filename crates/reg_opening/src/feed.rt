@@ -19,6 +19,7 @@ ghost use Rattle.reg_opening.specs.Feeding.{FeedsPart, FeedsRows, IsFed, MakesPa
 ghost use Rattle.reg_opening.specs.Numbered.{ShowsNumbered, numbered_columns, numbered_in};
 
 use crate::feeder::Feeder;
+use crate::flaw::RowFlaw;
 use crate::numbered::Numbered;
 use reg_audit::audit::Audit;
 use reg_audit::row::Row;
@@ -169,6 +170,8 @@ impl<T: FedRow> Part for Vec<T> {
         if reading.version.tables() <= T::slot() {
             return Ok(true);
         }
-        feed_table::<S, T>(reading.alloc, conn, feeder, T::all())
+        let is_whole = feed_table::<S, T>(reading.alloc, conn, feeder, T::all())?;
+        feeder.end(T::slot(), is_whole, RowFlaw::Unread(T::slot()));
+        Ok(is_whole)
     }
 }

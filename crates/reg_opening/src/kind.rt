@@ -3,16 +3,16 @@ ghost use Rattle.std.specs.Prelude.{◌≡◌, IfOk};
 ghost use Rattle.sqlite.specs.Held.{state};
 ghost use Rattle.sqlite.specs.State.{IsLive};
 ghost use Rattle.reg_tables.specs.Connection.{Endures, IsIdle, Stays, Tells, Works};
-ghost use Rattle.reg_tables.specs.Having.{AreFreeLater, FindsTablesOf};
+ghost use Rattle.reg_tables.specs.Having.{AreFreeLater, FindsTablesOf, HasTable};
+ghost use Rattle.reg_tables.specs.Schema.{office_table};
 ghost use Rattle.reg_tables.specs.Selecting.{BeginsWith};
 ghost use Rattle.reg_tables.specs.Version.{table_count};
-ghost use Rattle.reg_tables.specs.declared.version.Version.{Version as OfVersion};
-ghost use Rattle.reg_statements.specs.Tables.{tables_in};
-ghost use Rattle.reg_opening.specs.Opening.{AreRowsOf, Decides, FindsKind, HasVersionTable, IsFreeBy, IsNumberOf, IsVersionOf};
-ghost use Rattle.reg_opening.specs.Opening.{Reads, only, kind_of};
+ghost use Rattle.reg_opening.specs.Opening.{AreRowsOf, Decides, FindsKind, IsFreeBy, IsNumberOf, IsVersionOf};
+ghost use Rattle.reg_opening.specs.Opening.{Reads, free_in, only, kind_of};
 
 use crate::feed::Reading;
 use crate::feeder::Feeder;
+use crate::flaw::{Flaw, RowFlaw};
 use crate::parts::feed_parts;
 use crate::rowids::check_rowids;
 use reg_audit::audit::Audit;
@@ -20,7 +20,7 @@ use reg_keeper::keeper::Fault;
 use reg_records::office::Version as VersionRow;
 use reg_statements::read::load;
 use reg_statements::write::fault;
-use reg_tables::schema::{begins_with_office, has_version};
+use reg_tables::schema::{has_office, has_version};
 use reg_tables::texts::SELECT_VERSION;
 use reg_tables::version::Version;
 use reg_vacancies::vacancies::Vacancies;
@@ -45,8 +45,8 @@ pub enum Found {
     Ours(Version, Vacancies),
     /// An office's, of a version that this library does not know.
     OtherVersion(i64),
-    /// Anything else.
-    NotOurs,
+    /// Anything else, and why.
+    NotOurs(Flaw),
 }
 
 impl Found {
@@ -57,7 +57,7 @@ impl Found {
         match self {
             Found::Ours(version, _) => StoreKind::Ours(version),
             Found::OtherVersion(number) => StoreKind::OtherVersion(number),
-            Found::NotOurs => StoreKind::NotOurs,
+            Found::NotOurs(_) => StoreKind::NotOurs,
         }
     }
 }
@@ -74,43 +74,27 @@ pub fn check<S: Alter>(alloc: Global, conn: &mut Connection<S>) -> Result<StoreK
 
 /// Tells what a store is, and finds what is free in an office's. The columns of each row are read
 /// once; of the version, and of registries and their ranges, the rowids are read by themselves. The
-/// version is read before any other table is looked at, where its table is the first.
+/// version is read before any other table is looked at, wherever its table stands.
 pub fn find<S: Alter>(alloc: Global, conn: &mut Connection<S>) -> Result<Found, Fault>
     requires { IsIdle (state S.Store conn.old) }
     ensures { FindsKind (state S.Store conn.old) (state S.Store conn.new) result }
 {
-    match begins_with_office(alloc, conn.schema()) {
+    match has_office(alloc, conn.schema()) {
         Ok(true) => find_version(alloc, conn),
-        Ok(false) => find_beside(alloc, conn),
+        Ok(false) => Ok(Found::NotOurs(Flaw::NoOffice)),
         Err(error) => Err(fault(&error)),
     }
 }
 
-/// Tells what a store is that begins with another table, or has views. An office's tables are looked
-/// for by their names.
-fn find_beside<S: Alter>(alloc: Global, conn: &mut Connection<S>) -> Result<Found, Fault>
-    requires idle { IsIdle (state S.Store conn.old) }
-    requires live { IsLive (state S.Store conn.old) }
-    requires beside { ¬ BeginsWith 1 (state S.Store conn.old).now.schema }
-    ensures { FindsKind (state S.Store conn.old) (state S.Store conn.new) result }
-{
-    if has_any(alloc, conn)? {
-        find_version(alloc, conn)
-    } else {
-        Ok(Found::NotOurs)
-    }
-}
-
-/// Tells what a store is that has the table of the version: as its first table, and no view, or
-/// beside others.
+/// Tells what a store is that has the table of the version.
 fn find_version<S: Alter>(alloc: Global, conn: &mut Connection<S>) -> Result<Found, Fault>
     requires idle { IsIdle (state S.Store conn.old) }
     requires live { IsLive (state S.Store conn.old) }
-    requires there { HasVersionTable (state S.Store conn.old).now.schema }
+    requires there { HasTable (state S.Store conn.old).now.schema office_table }
     ensures { FindsKind (state S.Store conn.old) (state S.Store conn.new) result }
 {
     let Some(number) = version(alloc, conn)? else {
-        return Ok(Found::NotOurs);
+        return Ok(Found::NotOurs(Flaw::NoVersion));
     };
     match version_of(number) {
         Some(version) => find_office(alloc, conn, version),
@@ -139,18 +123,18 @@ fn find_office<S: Alter>(
     requires { IsIdle (state S.Store conn.old) }
     ensures { Reads version (state S.Store conn.old) (state S.Store conn.new) result }
 {
-    if !has_office(alloc, conn, version)? {
-        return Ok(Found::NotOurs);
+    if !has_tables(alloc, conn, version)? {
+        return Ok(Found::NotOurs(Flaw::OtherTables));
     }
     match read_rows(alloc, conn, version)? {
-        Some(free) => Ok(Found::Ours(version, free)),
-        None => Ok(Found::NotOurs),
+        Ok(free) => Ok(Found::Ours(version, free)),
+        Err(flaw) => Ok(Found::NotOurs(Flaw::Rows(flaw))),
     }
 }
 
 /// Whether a store has the tables of a version, wherever they stand, and no other of the name of a
 /// table that the version lacks.
-fn has_office<S: Alter>(
+fn has_tables<S: Alter>(
     alloc: Global,
     conn: &Connection<S>,
     version: Version,
@@ -165,27 +149,15 @@ fn has_office<S: Alter>(
     }
 }
 
-/// Whether a store has the tables of a version, of whichever.
-fn has_any<S: Alter>(alloc: Global, conn: &Connection<S>) -> Result<bool, Fault>
-    ensures { IfOk result (λ has. Tells has ((v : OfVersion)
-        × FindsTablesOf v (state S.Store conn.now).now.schema
-        × AreFreeLater v (state S.Store conn.now).now.schema)) }
-{
-    if has_office(alloc, conn, Version::Third)? || has_office(alloc, conn, Version::Second)? {
-        return Ok(true);
-    }
-    has_office(alloc, conn, Version::First)
-}
-
 /// The number of the version of the tables, if there is one.
 fn version<S: Alter>(alloc: Global, conn: &mut Connection<S>) -> Result<Option<i64>, Fault>
     requires { IsIdle (state S.Store conn.old) }
     ensures idle { IsIdle (state S.Store conn.new) }
     ensures endures { Endures (state S.Store conn.old) (state S.Store conn.new) }
     ensures stays { Stays (state S.Store conn.old) (state S.Store conn.new) }
-    ensures version { BeginsWith 1 (state S.Store conn.old).now.schema
-        → Works (state S.Store conn.new) → IfOk result
-        (IsVersionOf (tables_in (state S.Store conn.old).now.trees).office) }
+    ensures version { Works (state S.Store conn.new)
+        → (has : HasTable (state S.Store conn.old).now.schema office_table)
+        → IfOk result (IsVersionOf ((state S.Store conn.old).now.trees has.table.tree)) }
 {
     match load::<S, VersionRow>(alloc, conn, SELECT_VERSION, &[])? {
         Some(rows) => Ok(only(rows.as_slice())),
@@ -203,27 +175,32 @@ fn only(versions: &[VersionRow]) -> Option<i64>
     }
 }
 
-/// What the rows of the tables of a version leave free, if they make an office that is well kept.
+/// What the rows of the tables of a version leave free, if they make an office that is well kept; else
+/// their first flaw.
 fn read_rows<S: Alter>(
     alloc: Global,
     conn: &mut Connection<S>,
     version: Version,
-) -> Result<Option<Vacancies>, Fault>
+) -> Result<Result<Vacancies, RowFlaw>, Fault>
     requires { IsIdle (state S.Store conn.old) }
     ensures idle { IsIdle (state S.Store conn.new) }
     ensures endures { Endures (state S.Store conn.old) (state S.Store conn.new) }
     ensures stays { Stays (state S.Store conn.old) (state S.Store conn.new) }
     ensures rows { Works (state S.Store conn.new)
         → BeginsWith (table_count version) (state S.Store conn.old).now.schema
-        → IfOk result (AreRowsOf version (state S.Store conn.old).now) }
+        → IfOk result (λ read. AreRowsOf version (state S.Store conn.old).now (free_in read)) }
 {
     check_rowids(alloc, conn)?;
     let mut feeder = Feeder::new(Audit::new(alloc));
     let reading = Reading { alloc, version };
     if !feed_parts(reading, conn, &mut feeder)? {
-        return Ok(None);
+        return Ok(Err(feeder.first_flaw()));
     }
-    free_of(feeder.audit)
+    let flaw = feeder.first_flaw();
+    match free_of(feeder.audit)? {
+        Some(free) => Ok(Ok(free)),
+        None => Ok(Err(flaw)),
+    }
 }
 
 /// What the rows that an audit was fed leave free, if they make an office that is well kept.

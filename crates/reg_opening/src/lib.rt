@@ -4,6 +4,7 @@
 mod fed;
 mod feed;
 mod feeder;
+pub mod flaw;
 pub mod kind;
 mod numbered;
 mod partitions;

@@ -7,6 +7,7 @@ ghost use Rattle.reg_opening.specs.Partitions.{is_named, left_over, partition_ro
 
 use crate::feed::{Fed, Part, Reading, feed_all};
 use crate::feeder::Feeder;
+use crate::flaw::RowFlaw;
 use reg_audit::audit::Audit;
 use reg_audit::row::Row;
 use reg_core::text::Name;
@@ -21,6 +22,11 @@ use reg_tables::texts::{SELECT_RANGES, SELECT_REGISTRIES};
 use sqlite::{Alter, Connection};
 use std::alloc::{AllocError, Global};
 use std::marker::Model;
+
+/// The places of the two tables among those of an office.
+const REGISTRY_PLACE: usize = 2;
+
+const RANGE_PLACE: usize = 3;
 
 /// A registry with its ranges, which are a partition of its values.
 #[derive(Drop)]
@@ -137,17 +143,21 @@ impl Part for Registries {
     ) -> Result<bool, Fault> {
         let alloc = reading.alloc;
         let Some(registries) = load::<S, Registry>(alloc, conn, SELECT_REGISTRIES, &[])? else {
+            feeder.end(REGISTRY_PLACE, false, RowFlaw::Unread(REGISTRY_PLACE));
             return Ok(false);
         };
         let Some(rows) = load::<S, RegistryRange>(alloc, conn, SELECT_RANGES, &[])? else {
+            feeder.end(RANGE_PLACE, false, RowFlaw::Unread(RANGE_PLACE));
             return Ok(false);
         };
-        feed_partitions(
+        let is_whole = feed_partitions(
             alloc,
             &mut feeder.audit,
             registries.as_slice(),
             rows.as_slice(),
-        )
+        )?;
+        feeder.end(REGISTRY_PLACE, is_whole, RowFlaw::Unfit(RANGE_PLACE));
+        Ok(is_whole)
     }
 }
 

@@ -19,6 +19,7 @@ operation_for method at =
 
 -- ---- the patterns that name parts
 
+-- of one registry, as a page and as a listing
 abbrev pub registry_path : List ℕ
 registry_path = codes "/registries/{name}"
 

@@ -7,7 +7,7 @@ use Rattle.std.proofs.lemmas.List.Elements.{All-append, All-cons, All-nil}
 use Rattle.json.specs.Json as json
 use Rattle.json.specs.Lex.{tokens}
 use Rattle.json.specs.Print.{print}
-use Rattle.json.specs.Token.{Token, begin_object, end_object, begin_array, end_array, key}
+use Rattle.json.specs.Token.{Token, begin_object, end_object, begin_array, end_array}
 use Rattle.json.specs.Tree.{members_tokens, items_tokens}
 use Rattle.json.specs.Tree as tree
 use Rattle.json.specs.Written.{Written}
@@ -76,23 +76,6 @@ pub ◌▸◌ : {a b c : Written} {n m : ℕ} {xs ys : Listed} → PrintedMember
   exact =
       both_exact (max n m) xs ys (none_deeper n (max n m) xs (omega arith) one.exact)
       (none_deeper m (max n m) ys (omega arith) more.exact);
-}
-
--- a name and its value
-pub prints_member : {a b c : Written} {n : ℕ} (k : List ℕ) (d : Data)
-    → Added a b (key k ∷ []) → Printed b c n d → PrintedMembers a c n ((k, Some d) ∷ [])
-prints_member {a} {b} {c} {n} k d name one = record {
-  added =
-      same_added (ap (λ ts. key k ∷ ts) (sym (append-nil (data_tokens d))))
-      (behind name one.added);
-  exact = (one.exact, tt);
-}
-
--- a member that is absent
-pub prints_none : (a : Written) (n : ℕ) (k : List ℕ) → PrintedMembers a a n ((k, None) ∷ [])
-prints_none a n k = record {
-  added = record { before = refl; tokens = sym (append-nil a.tokens) };
-  exact = (tt, tt);
 }
 
 -- ---- objects

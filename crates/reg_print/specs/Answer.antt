@@ -58,6 +58,7 @@ status_of answer.Storage = storage_row.status
 
 -- ---- Body
 
+-- the body of what is told, as JSON or as CSV
 abbrev pub told_body : Told → Body
 told_body (Names names) = json (names_tree names)
 told_body (Page page) = json (page_tree page)
@@ -82,14 +83,17 @@ told_body (Pooled prefix) = json (pooled_tree prefix)
 told_body (Granted cap) = json (cap_tree cap)
 told_body Revoked = json revoked_tree
 
+-- the body of a reply
 abbrev pub reply_body : Reply → Body
 reply_body (reply.Accepted told) = told_body told
 reply_body (reply.Refused refusal) = json (error_tree (office_row refusal))
 
+-- the body of an answer
 abbrev pub answer_body : Answer → Body
 answer_body (answer.Reply told) = reply_body told
 answer_body (answer.Wire refusal) = json (error_tree (wire_row refusal))
 answer_body answer.Storage = json (error_tree storage_row)
 
+-- the bytes of the body
 unfoldable pub body_text : Answer → List ℕ
 body_text answer = text_of (answer_body answer)

@@ -129,6 +129,7 @@ page_rows page = flat_map (range_rows page.entries) page.table.ranges
 
 -- ---- Text
 
+-- the word of a status in a listing
 abbrev pub status_word : Status → List ℕ
 status_word Unassigned = codes "Unassigned"
 status_word Reserved = codes "Reserved"

@@ -1,21 +1,39 @@
 -- Tasks that a job had carried out.
-use Rattle.std.proofs.Common.{◌≡◌, List, ℕ, Result, Ok, Err, subst}
-use Rattle.std.specs.Prelude.{⊤, OnOk}
-use Rattle.reg_program.specs.Performing.{Carries}
+use Rattle.std.proofs.Common.{◌≡◌, List, ℕ, Option, Result, Ok, Err, subst, inr}
+use Rattle.std.specs.Prelude.{⊤}
+use Rattle.reg_program.specs.Performing.{Carries, CarriesThen, Tries, after_reading}
+use Rattle.reg_program.specs.Tasks.{Streams}
 use Rattle.reg_program.specs.declared.faults.Undone.{Undone}
 use Rattle.reg_program.specs.declared.tasks.Task.{Task}
 
--- where it is done, such a task was carried out
-pub carries : (Carried : List ℕ → Task → Result ⊤ Undone → Type 0) (file : List ℕ)
-    (Is : Task → Type 0) (task : Task) (result : Result ⊤ Undone) → Carried file task result
-    → Is task → OnOk result (Carries Carried file Is result)
-carries Carried file Is task (Ok u) carried is = (task, is, carried)
-carries Carried file Is task (Err why) carried is = tt
+-- what was done with a result was tried
+pub tried : (Untouched : Type 0) (Does : Result ⊤ Undone → Type 0) (result : Result ⊤ Undone)
+    → Does result → Tries Untouched Does result
+tried Untouched Does (Ok u) does = does
+tried Untouched Does (Err why) does = inr does
 
--- the same, at the file that a job names
-pub carries_at : (Carried : List ℕ → Task → Result ⊤ Undone → Type 0) (at file : List ℕ)
-    (Is : Task → Type 0) (task : Task) (result : Result ⊤ Undone) → at ≡ file
-    → Carried at task result → Is task → OnOk result (Carries Carried file Is result)
-carries_at Carried at file Is task result same carried is =
-    let P : List ℕ → Type 0 = λ name. Carried name task result in
-    carries Carried file Is task result (subst P same carried) is
+module _ (Carried : List ℕ → Task → Streams → Result ⊤ Undone → Type 0) (Untouched : Type 0) where
+  -- such a task was carried out
+  pub carries : (file : List ℕ) (Is : Task → Type 0) (io : Streams) (task : Task)
+      (result : Result ⊤ Undone) → Carried file task io result → Is task
+      → Tries Untouched (Carries Carried file Is io) result
+  carries file Is io task result carried is =
+      tried Untouched (Carries Carried file Is io) result (task, is, carried)
+
+  -- the same, at the file that a job names
+  pub carries_at : (at file : List ℕ) (Is : Task → Type 0) (io : Streams) (task : Task)
+      (result : Result ⊤ Undone) → at ≡ file → Carried at task io result → Is task
+      → Tries Untouched (Carries Carried file Is io) result
+  carries_at at file Is io task result same carried is =
+      let P : List ℕ → Type 0 = λ name. Carried name task io result in
+      carries file Is io task result (subst P same carried) is
+
+  -- the same, once what is on standard input was read
+  pub carries_then : (at file : List ℕ) (Is : Task → Type 0) (io : Streams)
+      (unread : Option (List ℕ)) (task : Task) (result : Result ⊤ Undone) → at ≡ file
+      → Carried at task (after_reading unread io) result → Is task
+      → Tries Untouched (CarriesThen Carried file Is io) result
+  carries_then at file Is io unread task result same carried is =
+      let P : List ℕ → Type 0 = λ name. Carried name task (after_reading unread io) result in
+      tried Untouched (CarriesThen Carried file Is io) result
+      (unread, (task, is, subst P same carried))

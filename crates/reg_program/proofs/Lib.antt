@@ -1,6 +1,7 @@
 pub mod Asked
 pub mod Carried
 pub mod Checked
+pub mod Closed
 pub mod Did
 pub mod Founded
 pub mod Gotten

@@ -9,6 +9,10 @@ pub err_as : {T E : Type 0} {P Q : E → Type 0} (r : Result T E) → ((e : E) �
 err_as (Ok x) h p = tt
 err_as (Err e) h p = h e p
 
+pub ok_as : {T E : Type 0} {P Q : Type 0} (r : Result T E) → (P → Q) → OnOk r P → OnOk r Q
+ok_as (Ok x) h p = h p
+ok_as (Err e) h p = tt
+
 -- bytes that were written went out
 pub went_out : {T E : Type 0} (r : Result T E) (a b c : Option (List ℕ)) (bytes : List ℕ)
     → Appends a b bytes → Keeps b c → OnOk r (Appends a c bytes)

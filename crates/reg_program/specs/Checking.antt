@@ -1,5 +1,5 @@
 -- The job that counts what is in an office.
-use Rattle.std.specs.Prelude.{◌≡◌, ◌∷◌, ◌++◌, ℕ, ℤ, true, false, [], List, Option, codes}
+use Rattle.std.specs.Prelude.{◌≡◌, ◌∷◌, ◌++◌, ⊤, ℕ, ℤ, Bool, true, false, [], List, Option, Result, IfErr, codes}
 use Rattle.std.specs.Fmt.{decimal, signed_decimal}
 use Rattle.std.specs.Io.KnownBytes.{Appends}
 use Rattle.reg_early.specs.Moment.{is_in_clock, utc_day}
@@ -7,6 +7,8 @@ use Rattle.reg_core.specs.World.{World}
 use Rattle.reg_core.specs.declared.refusal.Refusal.TheVariants.{Clock}
 use Rattle.reg_office.specs.Counting.{counts}
 use Rattle.reg_office.specs.declared.counting.Counts.{Counts}
+use Rattle.reg_program.specs.Doing.{Does}
+use Rattle.reg_program.specs.Tasks.{Streams, IsMoment}
 use Rattle.reg_program.specs.Undone.{IsOfStoreOrPrinting, refusal_line}
 use Rattle.reg_program.specs.declared.faults.Undone.{Undone}
 use Rattle.reg_program.specs.declared.faults.Undone.TheVariants.{Fault, Explained, Refused}
@@ -58,3 +60,13 @@ IsUnchecked moment (Refused line) =
     (is_in_clock moment ≡ false) × (line.items ≡ refusal_line Clock)
 IsUnchecked moment (Fault failure) = IsOfStoreOrPrinting (Fault failure)
 IsUnchecked moment (Explained failure why) = ⊥
+
+-- The office that was looked at is counted as at the moment that the clock said, and its version is
+-- printed; or why not.
+pub record ChecksAt {S : Type 0} (world : S → World) (Holds Sound : S → Type 0) (fails : Bool)
+    (io : Streams) (result : Result ⊤ Undone) (version : ℤ) (before after : S) : Type 0 where
+  pub moment : ℕ
+  pub is_moment : IsMoment io moment
+  pub does : Does world Holds Sound fails before after result
+      (IsChecked version moment io.had io.has) (λ old new why. new ≡ old)
+  pub why : IfErr result (IsUnchecked moment)

@@ -1,11 +1,15 @@
 -- What the words of a command line, and standard input, give to a job.
-use Rattle.std.specs.Prelude.{◌≡◌, ℕ, Bool, List, [], ◌∷◌, ◌++◌, Option, Some, None, IfSome, ◌==◌, take, position, codes, if◌then◌else◌}
+use Rattle.std.specs.Prelude.{◌≡◌, ◌<◌, ℕ, length, Bool, List, [], ◌∷◌, ◌++◌, Option, Some, None, IfSome, ◌==◌, take, position, codes, if◌then◌else◌}
 use Rattle.std.specs.Io.BufRead.{strip_last}
 use Rattle.std.specs.Str.{bytes_eq}
 
 -- the bytes are those that are known, where they are
 abbrev pub AreKnown : Option (List ℕ) → List ℕ → Type 0
 AreKnown known bytes = IfSome known (λ all. bytes ≡ all)
+
+-- the bytes are more than so many, where they are known
+abbrev pub AreMore : ℕ → Option (List ℕ) → Type 0
+AreMore most known = IfSome known (λ all. most < length all)
 
 abbrev pub is_line_feed : ℕ → Bool
 is_line_feed b = b == 10

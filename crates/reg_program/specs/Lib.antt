@@ -1,4 +1,5 @@
 pub mod Asking
+pub mod Carrying
 pub mod Checking
 pub mod Doing
 pub mod Founding
@@ -6,7 +7,9 @@ pub mod Inputs
 pub mod Looking
 pub mod Performing
 pub mod Printing
+pub mod Publishing
 pub mod Revoking
+pub mod Serving
 pub mod Tasks
 pub mod Tokens
 pub mod Undone

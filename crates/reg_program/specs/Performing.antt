@@ -1,5 +1,5 @@
 -- What becomes of a job: which task is carried out, with the office in which file.
-use Rattle.std.specs.Prelude.{◌≡◌, ⊤, ℕ, false, [], List, Option, Some, None, Result, Ok, codes, option_map}
+use Rattle.std.specs.Prelude.{◌≡◌, ◌⊎◌, ⊤, ℕ, false, [], List, Option, Some, None, Result, Ok, Err, codes, option_map}
 use Rattle.std.specs.Option.{option_copied}
 use Rattle.std.specs.String.{string_bytes}
 use Rattle.reg_jobs.specs.declared.jobs.Definition.{Definition}
@@ -77,10 +77,21 @@ IsTakenBy which _ = ⊥
 
 -- ---- Jobs
 
--- a task of this kind was carried out with the office in a file, and this is what became of it
-abbrev pub Carries : (List ℕ → Task → Result ⊤ Undone → Type 0) → List ℕ → (Task → Type 0)
-    → Result ⊤ Undone → Type 0
-Carries Carried file Is done = (task : Task) × Is task × Carried file task done
+-- a task of this kind, and no other, was carried out with the office in a file, and this is what
+-- became of it
+abbrev pub Carries : (List ℕ → Task → Streams → Result ⊤ Undone → Type 0) → List ℕ
+    → (Task → Type 0) → Streams → Result ⊤ Undone → Type 0
+Carries Carried file Is io done = (task : Task) × Is task × Carried file task io done
+
+-- the same streams, but for what is left to be read
+abbrev pub after_reading : Option (List ℕ) → Streams → Streams
+after_reading unread io = record io { unread = unread }
+
+-- the same, once what is on standard input was read
+abbrev pub CarriesThen : (List ℕ → Task → Streams → Result ⊤ Undone → Type 0) → List ℕ
+    → (Task → Type 0) → Streams → Result ⊤ Undone → Type 0
+CarriesThen Carried file Is io done =
+    (unread : Option (List ℕ)) × Carries Carried file Is (after_reading unread io) done
 
 -- an office in memory that was empty is founded, with the token that a word says, and answers all lines
 -- of standard input on standard output
@@ -93,39 +104,53 @@ pub record RunsInMemory (word : List ℕ) (io : Streams) : Type 0 where
   pub runs : RunsAll world_in (λ _. ⊤) (λ _. ⊤) false first last token io.unread io.left
       (told_beside io.is_watched io.had) (told_beside io.is_watched io.has)
 
--- the script is run with the office in a file or, without one, with one in memory
-abbrev pub RunsIn : (List ℕ → Task → Result ⊤ Undone → Type 0) → Option (List ℕ) → List ℕ → Streams
-    → Result ⊤ Undone → Type 0
-RunsIn Carried None clerk io done = RunsInMemory clerk io
-RunsIn Carried (Some file) clerk io done = Carries Carried file (IsRunning clerk) done
+-- What a job does with the offices in files. Of a task that was carried out with the one in a file
+-- `Carried` tells, of one that was looked at `Checked`; and `Untouched` says that nothing was done
+-- with any of them.
+module _ (Carried : List ℕ → Task → Streams → Result ⊤ Undone → Type 0)
+    (Checked : List ℕ → Streams → Result ⊤ Undone → Type 0) (Untouched : Type 0) where
+  -- the script is run with the office in a file or, without one, with one in memory
+  abbrev pub RunsIn : Option (List ℕ) → List ℕ → Streams → Result ⊤ Undone → Type 0
+  RunsIn None clerk io done = Untouched × RunsInMemory clerk io
+  RunsIn (Some file) clerk io done = Carries Carried file (IsRunning clerk) io done
 
--- the office in a file is published in a folder; of one that is served nothing is said here
-abbrev pub PublishesFrom : (List ℕ → Task → Result ⊤ Undone → Type 0) → List ℕ → List ℕ
-    → Result ⊤ Undone → Type 0
-PublishesFrom Carried source folder done =
-    (IsServed source → ⊥) → Carries Carried source (IsPublishedTo folder) done
+  -- the office in a file is published in a folder; of one that is served nothing is said here
+  abbrev pub PublishesFrom : List ℕ → List ℕ → Streams → Result ⊤ Undone → Type 0
+  PublishesFrom source folder io done =
+      (IsServed source → Untouched)
+      × ((IsServed source → ⊥) → Carries Carried source (IsPublishedTo folder) io done)
 
--- What a job that is done had carried out, by what is known of standard input and output. Of what a
--- served office publishes, of a check and of help nothing is said here.
-abbrev pub DoesJob : (List ℕ → Task → Result ⊤ Undone → Type 0) → Streams → Result ⊤ Undone → Job
-    → Type 0
-DoesJob Carried io done (job.Script clerk file) =
-    RunsIn Carried (option_map string_bytes file) (string_bytes clerk) io done
-DoesJob Carried io done (job.Init file clerk) =
-    Carries Carried (string_bytes file) (IsFounding (string_bytes clerk)) done
-DoesJob Carried io done (job.Serve file port connections log) =
-    Carries Carried (string_bytes file) (λ task. task ≡ Serve port connections log) done
-DoesJob Carried io done (job.Request order) =
-    Carries Carried (string_bytes order.file) (IsRequestedBy order io.unread) done
-DoesJob Carried io done (job.Define order) =
-    Carries Carried (string_bytes order.file) (IsDefinedBy order) done
-DoesJob Carried io done (job.Listing file registry) =
-    Carries Carried (string_bytes file) (IsListedBy (option_map string_bytes registry)) done
-DoesJob Carried io done (job.Publish source folder) =
-    PublishesFrom Carried (string_bytes source) (string_bytes folder) done
-DoesJob Carried io done (job.Check file) = ⊤
-DoesJob Carried io done (job.Tokens file) =
-    Carries Carried (string_bytes file) (λ task. task ≡ Tokens) done
-DoesJob Carried io done (job.Revoke file chosen) =
-    Carries Carried (string_bytes file) (IsTakenBy chosen) done
-DoesJob Carried io done (job.Help text) = ⊤
+  -- What a job does, with this result, by what is known of standard input and output and of the
+  -- clock. Of what a served office publishes and of help nothing else is said here.
+  abbrev pub DoesJob : Streams → Job → Result ⊤ Undone → Type 0
+  DoesJob io (job.Script clerk file) done =
+      RunsIn (option_map string_bytes file) (string_bytes clerk) io done
+  DoesJob io (job.Init file clerk) done =
+      Carries Carried (string_bytes file) (IsFounding (string_bytes clerk)) io done
+  DoesJob io (job.Serve file port connections log) done =
+      Carries Carried (string_bytes file) (λ task. task ≡ Serve port connections log) io done
+  DoesJob io (job.Request order) done =
+      CarriesThen Carried (string_bytes order.file) (IsRequestedBy order io.unread) io done
+  DoesJob io (job.Define order) done =
+      Carries Carried (string_bytes order.file) (IsDefinedBy order) io done
+  DoesJob io (job.Listing file registry) done =
+      Carries Carried (string_bytes file) (IsListedBy (option_map string_bytes registry)) io done
+  DoesJob io (job.Publish source folder) done =
+      PublishesFrom (string_bytes source) (string_bytes folder) io done
+  DoesJob io (job.Check file) done = Checked (string_bytes file) io done
+  DoesJob io (job.Tokens file) done =
+      Carries Carried (string_bytes file) (λ task. task ≡ Tokens) io done
+  DoesJob io (job.Revoke file chosen) done =
+      Carries Carried (string_bytes file) (IsTakenBy chosen) io done
+  DoesJob io (job.Help text) done = Untouched
+
+-- Either this was done; or it was not, and then nothing was, or it itself failed.
+abbrev pub Tries : Type 0 → (Result ⊤ Undone → Type 0) → Result ⊤ Undone → Type 0
+Tries Untouched Does (Ok u) = Does (Ok u)
+Tries Untouched Does (Err why) = Untouched ⊎ Does (Err why)
+
+-- the job that ended with this exit status was done, or failed, as `Does` says
+abbrev pub EndsBy : Type 0 → (Result ⊤ Undone → Type 0) → ℕ → Type 0
+EndsBy Untouched Does status =
+    ((status ≡ 0) × Does (Ok tt))
+    ⊎ ((status ≡ 1) × (why : Undone) × Tries Untouched Does (Err why))

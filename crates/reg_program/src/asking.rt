@@ -20,13 +20,13 @@ use crate::faults::{JobFailure, Undone};
 use reg_core::command::Command;
 use reg_core::refusal::Refusal;
 use reg_core::reply::Reply;
+use reg_core::wire_refusal::ReadFault;
 use reg_jobs::jobs::{Definition, Request};
 use reg_keeper::keeper::Keeper;
 use reg_office::Office;
-use reg_wire::answer::{Answer, Format, body_of};
-use reg_wire::command::read_command;
-use reg_wire::refusal::ReadFault;
-use reg_wire::route::Routes;
+use reg_parse::command::read_command;
+use reg_parse::route::Routes;
+use reg_print::answer::{Answer, Format, body_of};
 use std::alloc::{AllocError, Global};
 use std::io::Write;
 

@@ -1,8 +1,8 @@
 //! Reads files and standard input whole, and the tokens that words of a command line stand for.
-ghost use Rattle.std.specs.Prelude.{◌≡◌, ◌<◌, ◌≤◌, length, position, IfOk, IfSome, option_map};
+ghost use Rattle.std.specs.Prelude.{◌≡◌, ◌<◌, ◌≤◌, ◌⊎◌, length, position, IfOk, IfSome, option_map};
 ghost use Rattle.std.specs.Io.BufRead.{strip_last};
 ghost use Rattle.std.specs.String.{string_bytes};
-ghost use Rattle.reg_program.specs.Inputs.{AreKnown, IsTokenOf, is_line_feed, line_in, token_in};
+ghost use Rattle.reg_program.specs.Inputs.{AreKnown, AreMore, IsTokenOf, is_line_feed, line_in, token_in};
 
 use crate::faults::JobFailure;
 use std::alloc::Global;
@@ -29,6 +29,7 @@ pub fn bytes_of<H: Files>(rt: &H, alloc: Global, path: &str) -> Result<Vec<u8>, 
 pub fn all_of<R: Read>(alloc: Global, reader: &mut R) -> Result<Vec<u8>, JobFailure>
     ensures all { IfOk result (λ bytes. AreKnown (R.remaining reader.old) bytes.items) }
     ensures most { IfOk result (λ bytes. length bytes.items ≤ 65536) }
+    ensures large { result ≡ Err JobFailure.Large → AreMore 65536 (R.remaining reader.old) }
 {
     let mut bytes = Vec::new(alloc);
     let mut limited = reader.take(MOST_BYTES as u64 + 1);
@@ -94,7 +95,9 @@ fn without_return(line: &[u8]) -> &[u8]
     }
 }
 
-fn failure(error: io::Error) -> JobFailure {
+fn failure(error: io::Error) -> JobFailure
+    ensures { (result ≡ JobFailure.Memory) ⊎ (result ≡ JobFailure.Read) }
+{
     match error.kind() {
         io::ErrorKind::OutOfMemory => JobFailure::Memory,
         _ => JobFailure::Read,

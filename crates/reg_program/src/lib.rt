@@ -12,5 +12,6 @@ pub mod performing;
 pub mod progress;
 pub mod publishing;
 pub mod scripts;
+pub mod stores;
 pub mod tasks;
 pub mod tokens;

@@ -1,75 +1,113 @@
 //! The job that serves an office over HTTP.
+ghost use Rattle.std.specs.Prelude.{◌≡◌, ℕ, IfOk, MatchResult};
+ghost use Rattle.reg_http.specs.Meeting.{ServesInTurn};
+ghost use Rattle.reg_http.specs.Serving.{AnswersOver};
+ghost use Rattle.reg_program.specs.Serving.{IsLoopback, IsOpened, IsPatience, ServesOn};
+
 use crate::asking::print;
 use crate::console::Console;
 use crate::faults::{JobFailure, Undone};
 use crate::log::Lines;
+use reg_http::dates::Dates;
 use reg_http::listener::{PATIENCE_SECONDS, serve_listener};
-use reg_http::log::{Log, Unlogged};
+use reg_http::log::Unlogged;
+use reg_http::peers::{Peers, Ports};
 use reg_keeper::keeper::Keeper;
 use reg_office::Office;
-use reg_wire::route::Routes;
+use reg_parse::route::Routes;
 use std::alloc::Global;
 use std::io::{Read, Write};
-use std::net::{Ipv4Addr, Net, SocketAddr, TcpListener, TcpStream};
-use std::time::{Clock, Duration};
+use std::net::{Ipv4Addr, SocketAddr, SocketAddrV4};
+use std::time::Duration;
 
 /// Listens on a port of loopback, says so on standard output, and serves so many connections, one
 /// after the other. With a log, a line on standard error tells of each. `Port` where it cannot be
-/// listened on.
-pub fn serve_in<
-    H: AllocGlobal + Clock + Net<Listener = TcpListener, Stream = TcpStream>,
-    K: Keeper,
-    R: Read,
-    W: Write,
-    E: Write,
->(
-    rt: &H,
+/// listened on. Where it fails, nothing is served.
+pub fn serve_in<N: Ports, D: Dates, K: Keeper, R: Read, W: Write, E: Write>(
+    alloc: Global,
+    ports: &N,
+    dates: &mut D,
     office: &mut Office<K>,
     port: u16,
     connections: u32,
     log: bool,
     console: &mut Console<'_, R, W, E>,
-) -> Result<(), Undone> {
-    let routes = Routes::new(rt.alloc())?;
-    let listener = listening(rt, port)?;
-    let said = say_listening(rt.alloc(), port, console.output);
-    if said.is_ok() && log {
-        let mut lines = Lines::new(rt.alloc(), console.errors);
-        serve_on(rt, office, &routes, &listener, connections, &mut lines);
-    } else if said.is_ok() {
-        serve_on(rt, office, &routes, &listener, connections, &mut Unlogged);
-    }
-    drop(listener);
-    said
+) -> Result<(), Undone>
+    ensures { MatchResult result
+        (λ _. ServesOn (AnswersOver K.world K.Holds K.Sound K.FAILS) (N.Opened ports.now)
+        N.Given.blank N.Given.coming N.Given.written (D.readings dates.old) (D.readings dates.new) port
+        connections office.old office.new)
+        (λ why. office.new ≡ office.old) }
+{
+    let routes = Routes::new(alloc)?;
+    let mut peers = listening(ports, port)?;
+    say_listening(alloc, port, console.output)?;
+    serve_on(
+        alloc,
+        dates,
+        office,
+        &routes,
+        &mut peers,
+        connections,
+        log,
+        console.errors,
+    );
+    Ok(())
 }
 
-fn serve_on<H: AllocGlobal + Clock, K: Keeper, L: Log>(
-    rt: &H,
+fn serve_on<D: Dates, K: Keeper, P: Peers, E: Write>(
+    alloc: Global,
+    dates: &mut D,
     office: &mut Office<K>,
     routes: &Routes,
-    listener: &TcpListener,
+    peers: &mut P,
     connections: u32,
-    log: &mut L,
-) {
-    let patience = Duration::from_secs(PATIENCE_SECONDS);
-    serve_listener(
-        rt.alloc(),
-        rt,
-        office,
-        routes,
-        listener,
-        connections,
-        patience,
-        log,
-    );
+    log: bool,
+    errors: &mut E,
+) -> u32
+    ensures { ServesInTurn (AnswersOver K.world K.Holds K.Sound K.FAILS) P.blank connections
+        result
+        (P.coming peers.old) (P.coming peers.new) (D.readings dates.old) (D.readings dates.new)
+        (P.written peers.old) (P.written peers.new) office.old office.new }
+{
+    if log {
+        let mut lines = Lines::new(alloc, errors);
+        serve_listener(alloc, dates, office, routes, peers, connections, &mut lines).answered
+    } else {
+        serve_listener(
+            alloc,
+            dates,
+            office,
+            routes,
+            peers,
+            connections,
+            &mut Unlogged,
+        )
+        .answered
+    }
 }
 
-fn listening<H: Net<Listener = TcpListener, Stream = TcpStream>>(
-    rt: &H,
-    port: u16,
-) -> Result<TcpListener, JobFailure> {
-    let address = SocketAddr::from((Ipv4Addr::LOCALHOST, port));
-    TcpListener::bind(rt, address).map_err(|_| JobFailure::Port)
+fn listening<N: Ports>(ports: &N, port: u16) -> Result<N::Given, JobFailure>
+    ensures { IfOk result (IsOpened (N.Opened ports.now) port) }
+{
+    match ports.listen(loopback(port), patience()) {
+        Ok(peers) => Ok(peers),
+        Err(_) => Err(JobFailure::Port),
+    }
+}
+
+// The address of a port of loopback.
+fn loopback(port: u16) -> SocketAddr
+    ensures { IsLoopback result port }
+{
+    SocketAddr::V4(SocketAddrV4::new(Ipv4Addr::LOCALHOST, port))
+}
+
+// How long a peer has to send its request, and again to take the answer.
+fn patience() -> Duration
+    ensures { IsPatience result }
+{
+    Duration::from_secs(PATIENCE_SECONDS)
 }
 
 fn say_listening<W: Write>(alloc: Global, port: u16, output: &mut W) -> Result<(), Undone> {

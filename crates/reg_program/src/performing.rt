@@ -1,9 +1,10 @@
 //! Doing the jobs of the program.
-ghost use Rattle.std.specs.Prelude.{◌≡◌, ◌⊎◌, ⊤, Some, Ok, IfOk, OnOk, option_map};
+ghost use Rattle.std.specs.Prelude.{◌≡◌, ◌⊎◌, IfOk, OnOk, option_map};
 ghost use Rattle.std.specs.String.{string_bytes};
 ghost use Rattle.reg_program.specs.Founding.{RunsAll, told_beside};
 ghost use Rattle.reg_program.specs.Inputs.{AreKnown, body_in};
-ghost use Rattle.reg_program.specs.Performing.{Carries, DoesJob, IsDefinedBy, IsFounding, IsListedBy, IsRequestedBy, IsRunning, IsTakenBy, PublishesFrom, RunsIn, refused_status};
+ghost use Rattle.reg_program.specs.Performing.{Carries, CarriesThen, DoesJob, EndsBy, IsDefinedBy, IsFounding, IsListedBy};
+ghost use Rattle.reg_program.specs.Performing.{IsRequestedBy, IsTakenBy, PublishesFrom, RunsIn, Tries, refused_status};
 ghost use Rattle.reg_program.specs.Tasks.{streams};
 
 use crate::asking::{Form, definition, listing, print, requested};
@@ -12,8 +13,9 @@ use crate::faults::Undone;
 use crate::inputs::{all_of, bytes_of, optional_token, token_of};
 use crate::publishing::{port_of, publish_served};
 use crate::scripts::run_in;
-use crate::tasks::{Offices, Task, moment};
+use crate::tasks::{Offices, Task};
 use crate::tokens::account_of;
+use reg_http::dates::{Dates, moment_now};
 use reg_jobs::jobs::{Definition, Job, JobFault, Request, Which};
 use reg_keeper::keeper::Keeper;
 use reg_office::{Choice, Office};
@@ -21,22 +23,25 @@ use reg_store::lists::ListKeeper;
 use std::alloc::Global;
 use std::io::{Read, Write};
 
-/// Does a job over the given standard input, output and error, and over the offices in files, and
-/// gives the exit status: 0, or 1 with one line on standard error that says why. The line is the
+/// Does a job over the given standard input, output and error, these dates, and the offices in files,
+/// and gives the exit status: 0, or 1 with one line on standard error that says why. The line is the
 /// status and the body of the answer where a command was refused, and else begins `fault: `.
-pub fn perform<O: Offices, R: Read, W: Write, E: Write>(
+pub fn perform<D: Dates, O: Offices, R: Read, W: Write, E: Write>(
     rt: &HostRuntime,
-    offices: &O,
+    dates: &mut D,
+    offices: &mut O,
     job: Job,
     console: &mut Console<'_, R, W, E>,
 ) -> u8
     ensures status { (result ≡ 0) ⊎ (result ≡ 1) }
     ensures done { let io = streams console.old.is_watched
         (R.remaining console.old.input.now) (R.remaining console.new.input.now)
-        (W.contents console.old.output.now) (W.contents console.new.output.now) in
-        result ≡ 0 → DoesJob (O.Carried offices.now) io (Ok tt) job }
+        (W.contents console.old.output.now) (W.contents console.new.output.now)
+        (D.readings dates.old) (D.readings dates.new) in
+        EndsBy (offices.new ≡ offices.old) (DoesJob (O.Carried offices.old offices.new)
+        (O.Checked offices.old offices.new) (offices.new ≡ offices.old) io job) result }
 {
-    match attempt(rt, offices, &job, console) {
+    match attempt(rt, dates, offices, &job, console) {
         Ok(()) => 0,
         Err(undone) => {
             report(&undone, console.errors);
@@ -80,20 +85,30 @@ fn report<E: Write>(undone: &Undone, errors: &mut E) {
     }
 }
 
-fn attempt<O: Offices, R: Read, W: Write, E: Write>(
+fn attempt<D: Dates, O: Offices, R: Read, W: Write, E: Write>(
     rt: &HostRuntime,
-    offices: &O,
+    dates: &mut D,
+    offices: &mut O,
     job: &Job,
     console: &mut Console<'_, R, W, E>,
 ) -> Result<(), Undone>
     ensures { let io = streams console.old.is_watched
         (R.remaining console.old.input.now) (R.remaining console.new.input.now)
-        (W.contents console.old.output.now) (W.contents console.new.output.now) in
-        OnOk result (DoesJob (O.Carried offices.now) io result job.now) }
+        (W.contents console.old.output.now) (W.contents console.new.output.now)
+        (D.readings dates.old) (D.readings dates.new) in
+        Tries (offices.new ≡ offices.old) (DoesJob (O.Carried offices.old offices.new)
+        (O.Checked offices.old offices.new) (offices.new ≡ offices.old) io job.now) result }
 {
     match job {
-        Job::Script { clerk, file } => script(rt, offices, clerk.as_str(), file, console),
-        Job::Init { file, clerk } => init(rt, offices, file.as_str(), clerk.as_str(), console),
+        Job::Script { clerk, file } => script(rt, dates, offices, clerk.as_str(), file, console),
+        Job::Init { file, clerk } => init(
+            rt,
+            dates,
+            offices,
+            file.as_str(),
+            clerk.as_str(),
+            console,
+        ),
         Job::Serve {
             file,
             port,
@@ -105,52 +120,81 @@ fn attempt<O: Offices, R: Read, W: Write, E: Write>(
                 connections: *connections,
                 log: *log,
             };
-            carry_out(rt, offices, file.as_str(), task, console)
+            carry_out(rt, dates, offices, file.as_str(), task, console)
         }
-        Job::Request(order) => request(rt, offices, order, console),
-        Job::Define(order) => define(rt, offices, order, console),
-        Job::Listing { file, registry } => list(rt, offices, file.as_str(), registry, console),
+        Job::Request(order) => request(rt, dates, offices, order, console),
+        Job::Define(order) => define(rt, dates, offices, order, console),
+        Job::Listing { file, registry } => list(
+            rt,
+            dates,
+            offices,
+            file.as_str(),
+            registry,
+            console,
+        ),
         Job::Publish { source, folder } => {
-            publish_at(rt, offices, source.as_str(), folder.as_str(), console)
+            publish_at(
+                rt,
+                dates,
+                offices,
+                source.as_str(),
+                folder.as_str(),
+                console,
+            )
         }
-        Job::Check { file } => offices.check(rt, file.as_str(), console.output),
-        Job::Tokens { file } => carry_out(rt, offices, file.as_str(), Task::Tokens, console),
-        Job::Revoke { file, which } => revoke(rt, offices, file.as_str(), which, console),
+        Job::Check { file } => offices.check(rt, dates, file.as_str(), console),
+        Job::Tokens { file } => carry_out(rt, dates, offices, file.as_str(), Task::Tokens, console),
+        Job::Revoke { file, which } => revoke(rt, dates, offices, file.as_str(), which, console),
         Job::Help { text } => print(console.output, text.as_bytes()),
     }
 }
 
 // Carries a task out with the office in the file at a path, and lets the task go.
-fn carry_out<O: Offices, R: Read, W: Write, E: Write>(
+fn carry_out<D: Dates, O: Offices, R: Read, W: Write, E: Write>(
     rt: &HostRuntime,
-    offices: &O,
+    dates: &mut D,
+    offices: &mut O,
     path: &str,
     task: Task<'_>,
     console: &mut Console<'_, R, W, E>,
 ) -> Result<(), Undone>
-    ensures { O.Carried offices.now path.now task.entry result }
+    ensures { let io = streams console.old.is_watched
+        (R.remaining console.old.input.now) (R.remaining console.new.input.now)
+        (W.contents console.old.output.now) (W.contents console.new.output.now)
+        (D.readings dates.old) (D.readings dates.new) in
+        O.Carried offices.old offices.new path.now task.entry io result }
 {
-    offices.carry_out(rt, path, &task, console)
+    offices.carry_out(rt, dates, path, &task, console)
 }
 
-fn script<O: Offices, R: Read, W: Write, E: Write>(
+fn script<D: Dates, O: Offices, R: Read, W: Write, E: Write>(
     rt: &HostRuntime,
-    offices: &O,
+    dates: &mut D,
+    offices: &mut O,
     clerk: &str,
     file: &Option<String>,
     console: &mut Console<'_, R, W, E>,
 ) -> Result<(), Undone>
     ensures { let io = streams console.old.is_watched
         (R.remaining console.old.input.now) (R.remaining console.new.input.now)
-        (W.contents console.old.output.now) (W.contents console.new.output.now) in
-        OnOk result (RunsIn (O.Carried offices.now)
-        (option_map string_bytes file.now) clerk.now io result) }
+        (W.contents console.old.output.now) (W.contents console.new.output.now)
+        (D.readings dates.old) (D.readings dates.new) in
+        Tries (offices.new ≡ offices.old) (RunsIn (O.Carried offices.old offices.new)
+        (O.Checked offices.old offices.new) (offices.new ≡ offices.old)
+        (option_map string_bytes file.now) clerk.now io) result }
 {
     let alloc = rt.alloc();
     let token = token_of(rt, alloc, clerk)?;
     let clerk = token.as_slice();
     match file {
-        Some(file) => carry_out(rt, offices, file.as_str(), Task::Run { clerk }, console),
+        Some(file) => carry_out(
+            rt,
+            dates,
+            offices,
+            file.as_str(),
+            Task::Run { clerk },
+            console,
+        ),
         None => run_over(rt, ListKeeper::new(alloc), clerk, console),
     }
 }
@@ -172,29 +216,39 @@ fn run_over<K: Keeper + Drop, R: Read, W: Write, E: Write>(
     run_in(rt, &mut office, clerk, console)
 }
 
-fn init<O: Offices, R: Read, W: Write, E: Write>(
+fn init<D: Dates, O: Offices, R: Read, W: Write, E: Write>(
     rt: &HostRuntime,
-    offices: &O,
+    dates: &mut D,
+    offices: &mut O,
     file: &str,
     clerk: &str,
     console: &mut Console<'_, R, W, E>,
 ) -> Result<(), Undone>
-    ensures { OnOk result
-        (Carries (O.Carried offices.now) file.now (IsFounding clerk.now) result) }
+    ensures { let io = streams console.old.is_watched
+        (R.remaining console.old.input.now) (R.remaining console.new.input.now)
+        (W.contents console.old.output.now) (W.contents console.new.output.now)
+        (D.readings dates.old) (D.readings dates.new) in
+        Tries (offices.new ≡ offices.old) (Carries (O.Carried offices.old offices.new) file.now
+        (IsFounding clerk.now) io) result }
 {
     let token = token_of(rt, rt.alloc(), clerk)?;
     let clerk = token.as_slice();
-    carry_out(rt, offices, file, Task::Found { clerk }, console)
+    carry_out(rt, dates, offices, file, Task::Found { clerk }, console)
 }
 
-fn request<O: Offices, R: Read, W: Write, E: Write>(
+fn request<D: Dates, O: Offices, R: Read, W: Write, E: Write>(
     rt: &HostRuntime,
-    offices: &O,
+    dates: &mut D,
+    offices: &mut O,
     order: &Request,
     console: &mut Console<'_, R, W, E>,
 ) -> Result<(), Undone>
-    ensures { OnOk result (Carries (O.Carried offices.now) (string_bytes order.now.file)
-        (IsRequestedBy order.now (R.remaining console.old.input.now)) result) }
+    ensures { let io = streams console.old.is_watched
+        (R.remaining console.old.input.now) (R.remaining console.new.input.now)
+        (W.contents console.old.output.now) (W.contents console.new.output.now)
+        (D.readings dates.old) (D.readings dates.new) in
+        Tries (offices.new ≡ offices.old) (CarriesThen (O.Carried offices.old offices.new)
+        (string_bytes order.now.file) (IsRequestedBy order.now io.unread) io) result }
 {
     let alloc = rt.alloc();
     let token = optional_token(rt, alloc, &order.token)?;
@@ -205,7 +259,7 @@ fn request<O: Offices, R: Read, W: Write, E: Write>(
         command,
         form: Form::Body,
     };
-    carry_out(rt, offices, order.file.as_str(), task, console)
+    carry_out(rt, dates, offices, order.file.as_str(), task, console)
 }
 
 // The body that a word says: its bytes, or what stands on standard input for `-`; without a word,
@@ -221,14 +275,19 @@ fn body_of<R: Read>(alloc: Global, word: &Option<String>, input: &mut R) -> Resu
     }
 }
 
-fn define<O: Offices, R: Read, W: Write, E: Write>(
+fn define<D: Dates, O: Offices, R: Read, W: Write, E: Write>(
     rt: &HostRuntime,
-    offices: &O,
+    dates: &mut D,
+    offices: &mut O,
     order: &Definition,
     console: &mut Console<'_, R, W, E>,
 ) -> Result<(), Undone>
-    ensures { OnOk result (Carries (O.Carried offices.now) (string_bytes order.now.file)
-        (IsDefinedBy order.now) result) }
+    ensures { let io = streams console.old.is_watched
+        (R.remaining console.old.input.now) (R.remaining console.new.input.now)
+        (W.contents console.old.output.now) (W.contents console.new.output.now)
+        (D.readings dates.old) (D.readings dates.new) in
+        Tries (offices.new ≡ offices.old) (Carries (O.Carried offices.old offices.new)
+        (string_bytes order.now.file) (IsDefinedBy order.now) io) result }
 {
     let alloc = rt.alloc();
     let token = token_of(rt, alloc, order.clerk.as_str())?;
@@ -239,63 +298,86 @@ fn define<O: Offices, R: Read, W: Write, E: Write>(
         command,
         form: Form::Line,
     };
-    carry_out(rt, offices, order.file.as_str(), task, console)
+    carry_out(rt, dates, offices, order.file.as_str(), task, console)
 }
 
-fn list<O: Offices, R: Read, W: Write, E: Write>(
+fn list<D: Dates, O: Offices, R: Read, W: Write, E: Write>(
     rt: &HostRuntime,
-    offices: &O,
+    dates: &mut D,
+    offices: &mut O,
     file: &str,
     registry: &Option<String>,
     console: &mut Console<'_, R, W, E>,
 ) -> Result<(), Undone>
-    ensures { OnOk result (Carries (O.Carried offices.now) file.now
-        (IsListedBy (option_map string_bytes registry.now)) result) }
+    ensures { let io = streams console.old.is_watched
+        (R.remaining console.old.input.now) (R.remaining console.new.input.now)
+        (W.contents console.old.output.now) (W.contents console.new.output.now)
+        (D.readings dates.old) (D.readings dates.new) in
+        Tries (offices.new ≡ offices.old) (Carries (O.Carried offices.old offices.new) file.now
+        (IsListedBy (option_map string_bytes registry.now)) io) result }
 {
     let task = Task::Ask {
         token: None,
         command: listing(rt.alloc(), registry)?,
         form: Form::Body,
     };
-    carry_out(rt, offices, file, task, console)
+    carry_out(rt, dates, offices, file, task, console)
 }
 
 // Publishes the office that is served at an address, or the one in a file.
-fn publish_at<O: Offices, R: Read, W: Write, E: Write>(
+fn publish_at<D: Dates, O: Offices, R: Read, W: Write, E: Write>(
     rt: &HostRuntime,
-    offices: &O,
+    dates: &mut D,
+    offices: &mut O,
     source: &str,
     folder: &str,
     console: &mut Console<'_, R, W, E>,
 ) -> Result<(), Undone>
-    ensures { OnOk result
-        (PublishesFrom (O.Carried offices.now) source.now folder.now result) }
+    ensures { let io = streams console.old.is_watched
+        (R.remaining console.old.input.now) (R.remaining console.new.input.now)
+        (W.contents console.old.output.now) (W.contents console.new.output.now)
+        (D.readings dates.old) (D.readings dates.new) in
+        Tries (offices.new ≡ offices.old) (PublishesFrom (O.Carried offices.old offices.new)
+        (O.Checked offices.old offices.new) (offices.new ≡ offices.old) source.now folder.now io)
+        result }
 {
     match port_of(source)? {
-        Some(port) => publish_served(rt, port, moment(rt), folder, console.output),
-        None => carry_out(rt, offices, source, Task::Publish { folder }, console),
+        Some(port) => publish_served(rt, port, moment_now(dates), folder, console.output),
+        None => carry_out(
+            rt,
+            dates,
+            offices,
+            source,
+            Task::Publish { folder },
+            console,
+        ),
     }
 }
 
-fn revoke<O: Offices, R: Read, W: Write, E: Write>(
+fn revoke<D: Dates, O: Offices, R: Read, W: Write, E: Write>(
     rt: &HostRuntime,
-    offices: &O,
+    dates: &mut D,
+    offices: &mut O,
     file: &str,
     which: &Which,
     console: &mut Console<'_, R, W, E>,
 ) -> Result<(), Undone>
-    ensures { OnOk result (Carries (O.Carried offices.now) file.now (IsTakenBy which.now)
-        result) }
+    ensures { let io = streams console.old.is_watched
+        (R.remaining console.old.input.now) (R.remaining console.new.input.now)
+        (W.contents console.old.output.now) (W.contents console.new.output.now)
+        (D.readings dates.old) (D.readings dates.new) in
+        Tries (offices.new ≡ offices.old) (Carries (O.Carried offices.old offices.new) file.now
+        (IsTakenBy which.now) io) result }
 {
     match which {
         Which::Digest(digits) => {
             let choice = Choice::Digits(digits.as_bytes());
-            carry_out(rt, offices, file, Task::Revoke { choice }, console)
+            carry_out(rt, dates, offices, file, Task::Revoke { choice }, console)
         }
         Which::Account(name) => {
             let account = account_of(rt.alloc(), name.as_str())?;
             let choice = Choice::Account(&account);
-            carry_out(rt, offices, file, Task::Revoke { choice }, console)
+            carry_out(rt, dates, offices, file, Task::Revoke { choice }, console)
         }
     }
 }

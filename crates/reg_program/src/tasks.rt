@@ -1,23 +1,28 @@
 //! What jobs do with the offices in files.
-ghost use Rattle.std.specs.Prelude.{◌≡◌, false, true, Err};
+ghost use Rattle.std.specs.Prelude.{◌≡◌, ℕ, List, false, true, Err};
 ghost use Rattle.reg_core.specs.Names.{is_token};
+ghost use Rattle.reg_core.specs.View.{published};
 ghost use Rattle.reg_program.specs.Doing.{Does};
 ghost use Rattle.reg_program.specs.Founding.{IsReady, IsUnready};
-ghost use Rattle.reg_program.specs.Tasks.{Did, looks_on, streams};
+ghost use Rattle.reg_program.specs.Publishing.{PublishesIn};
+ghost use Rattle.reg_program.specs.Serving.{ServesOn};
+ghost use Rattle.reg_http.specs.Serving.{AnswersOver};
+ghost use Rattle.reg_program.specs.Tasks.{Did, begins, looks_on, streams};
 ghost use Rattle.reg_program.specs.declared.faults.JobFailure.TheVariants as failure;
 
 use crate::asking::{Form, ask_in, print};
 use crate::console::Console;
 use crate::faults::Undone;
 use crate::listening::serve_in;
-use crate::publishing::publish_in;
+use crate::publishing::{Folders, publish_in};
 use crate::scripts::run_in;
 use crate::tokens::{revoke_in, tokens_in};
 use reg_core::command::Command;
+use reg_http::dates::{Dates, moment_now};
+use reg_http::peers::Ports;
 use reg_keeper::keeper::Keeper;
 use reg_office::{Choice, Office};
 use std::io::{Read, Write};
-use std::time::Clock;
 
 /// What a job does with the office in a file.
 #[derive(Drop)]
@@ -57,34 +62,57 @@ pub enum Task<'a> {
 /// What has the offices in files.
 pub trait Offices {
     ghost use Rattle.std.specs.Prelude.{⊤, ℕ, List, Result};
+    ghost use Rattle.reg_program.specs.Tasks.{Streams as OfConsole};
     ghost use Rattle.reg_program.specs.declared.faults.Undone.{Undone as OfJob};
     ghost use Rattle.reg_program.specs.declared.tasks.Task.{Task as OfOffice};
 
-    /// What is known of a task that was carried out with the office in the file at a path.
-    ghost Carried: { Self → List ℕ → OfOffice → Result ⊤ OfJob → Type 0 } = { λ _ _ _ _. Unit {0} };
+    /// What becomes of the offices, from before to after, by one task with the office in the file at a
+    /// path, with this result.
+    ghost Carried: { Self → Self → List ℕ → OfOffice → OfConsole → Result ⊤ OfJob → Type 0 };
+
+    /// What becomes of them by a look at the office in the file at a path, with this result.
+    ghost Checked: { Self → Self → List ℕ → OfConsole → Result ⊤ OfJob → Type 0 };
 
     /// Carries a task out with the office in the file at a path, which is begun, empty, where the
     /// task begins it and there is no file, or one with nothing in it. `NotOurs` where there is no
     /// office, or one that is not well kept, and `Version` where it is of another version; else as
     /// `Task::carry_out`.
-    fn carry_out<R: Read, W: Write, E: Write>(
-        &self,
+    fn carry_out<D: Dates, R: Read, W: Write, E: Write>(
+        &mut self,
         rt: &HostRuntime,
+        dates: &mut D,
         path: &str,
         task: &Task<'_>,
         console: &mut Console<'_, R, W, E>,
     ) -> Result<(), Undone>
-        ensures { Carried self.now path.now task.now result };
+        ensures { let io = streams console.old.is_watched
+            (R.remaining console.old.input.now) (R.remaining console.new.input.now)
+            (W.contents console.old.output.now) (W.contents console.new.output.now)
+            (D.readings dates.old) (D.readings dates.new) in
+            Carried self.old self.new path.now task.now io result };
 
     /// Looks at the office in the file at a path, as at the moment of the clock, and changes nothing:
     /// an older one stays as it is, and an absent file is not made. As `check_in`; `Explained` where
     /// there is no office, or one that is not well kept.
-    fn check<W: Write>(&self, rt: &HostRuntime, path: &str, output: &mut W) -> Result<(), Undone>;
+    fn check<D: Dates, R: Read, W: Write, E: Write>(
+        &mut self,
+        rt: &HostRuntime,
+        dates: &mut D,
+        path: &str,
+        console: &mut Console<'_, R, W, E>,
+    ) -> Result<(), Undone>
+        ensures { let io = streams console.old.is_watched
+            (R.remaining console.old.input.now) (R.remaining console.new.input.now)
+            (W.contents console.old.output.now) (W.contents console.new.output.now)
+            (D.readings dates.old) (D.readings dates.new) in
+            Checked self.old self.new path.now io result };
 }
 
 impl Task<'_> {
     /// Whether it begins an office where there is none.
-    pub fn begins(&self) -> bool {
+    pub fn begins(&self) -> bool
+        ensures { result ≡ begins self.now }
+    {
         matches!(self, Task::Found { .. } | Task::Run { .. })
     }
 
@@ -93,17 +121,30 @@ impl Task<'_> {
         matches!(self, Task::Serve { .. })
     }
 
-    /// Does it with an office that is open, at the moment of the clock.
-    pub fn carry_out<K: Keeper, R: Read, W: Write, E: Write>(
+    /// Does it with an office that is open, at the moment that these dates say, and serves it on one
+    /// of these ports, or publishes it in one of these folders.
+    pub fn carry_out<N: Ports, F: Folders, D: Dates, K: Keeper, R: Read, W: Write, E: Write>(
         &self,
         rt: &HostRuntime,
+        ports: &N,
+        folders: &F,
+        dates: &mut D,
         office: &mut Office<K>,
         console: &mut Console<'_, R, W, E>,
     ) -> Result<(), Undone>
         ensures did { let io = streams console.old.is_watched
             (R.remaining console.old.input.now) (R.remaining console.new.input.now)
-            (W.contents console.old.output.now) (W.contents console.new.output.now) in
-            Did K.world K.Holds K.Sound K.FAILS office.old office.new io result self.now }
+            (W.contents console.old.output.now) (W.contents console.new.output.now)
+            (D.readings dates.old) (D.readings dates.new) in
+            let served : ℕ → ℕ → Type 0 = λ port count.
+            ServesOn (AnswersOver K.world K.Holds K.Sound K.FAILS) (N.Opened ports.now)
+            N.Given.blank N.Given.coming N.Given.written (D.readings dates.old) (D.readings dates.new) port count
+            office.old office.new in
+            let placed : List ℕ → ℕ → Type 0 = λ folder moment.
+            PublishesIn (λ k. published (K.world k)) K.Holds F.Given.Puts
+            (F.Opened folders.now folder) office.old office.new moment in
+            Did K.world K.Holds K.Sound K.FAILS office.old office.new io served placed result
+            self.now }
         ensures looks { looks_on self.now ≡ true →
             K.Holds office.new → K.world office.new ≡ K.world office.old }
     {
@@ -114,13 +155,22 @@ impl Task<'_> {
                 port,
                 connections,
                 log,
-            } => serve_in(rt, office, *port, *connections, *log, console),
+            } => serve_in(
+                rt.alloc(),
+                ports,
+                dates,
+                office,
+                *port,
+                *connections,
+                *log,
+                console,
+            ),
             Task::Ask {
                 token,
                 command,
                 form,
             } => {
-                let moment = moment(rt);
+                let moment = moment_now(dates);
                 ask_in(
                     rt.alloc(),
                     office,
@@ -133,10 +183,12 @@ impl Task<'_> {
             }
             Task::Tokens => tokens_in(rt.alloc(), office, console.output),
             Task::Revoke { choice } => {
-                revoke_in(rt.alloc(), office, moment(rt), *choice, console.output)
+                let moment = moment_now(dates);
+                revoke_in(rt.alloc(), office, moment, *choice, console.output)
             }
             Task::Publish { folder } => {
-                publish_in(rt, office, moment(rt), folder, console.output)
+                let moment = moment_now(dates);
+                publish_in(rt.alloc(), folders, office, moment, folder, console.output)
             }
         }
     }
@@ -156,12 +208,4 @@ pub fn found_in<K: Keeper, W: Write>(
 {
     office.found(clerk)?;
     print(output, b"ready\n")
-}
-
-/// Seconds since 1970-01-01T00:00:00Z; 0 where the clock fails, or stands before.
-pub fn moment<C: Clock>(clock: &C) -> u64 {
-    match clock.since_1970() {
-        Ok(time) => time.as_secs(),
-        Err(_) => 0,
-    }
 }

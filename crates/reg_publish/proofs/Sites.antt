@@ -18,24 +18,24 @@ use Rattle.reg_publish.specs.Publishing.{Asks, Publishes, PublishesPage, Publish
 use Rattle.reg_publish.proofs.Placing.{places_as, places_both, publishes_as, publishes_both, publishes_none, publishes_told}
 use Rattle.reg_publish.proofs.Told.{files_of_page, other_files_told, others_by, placed_more, site_told, summaries_more, summaries_told, summary_of_page}
 
-module _ {S F : Type 0} (published : S → Published) (Holds : S → Type 0) (files : F → Option Files)
-    (moment : ℕ) where
+module _ {S F : Type 0} (published : S → Published) (Holds : S → Type 0)
+    (Puts : F → F → List ℕ → List ℕ → Type 0) (moment : ℕ) where
   -- names, registries, blocks, pool, style and index, in turn
   pub publishes_site : (s s1 s2 s3 s4 : S) (f f1 f2 f3 f4 : F) (names : List (List ℕ))
       (registries : List Summary) (rows : List Listed) (prefixes : List ℕ)
       → Asks published Holds s s1
       (λ p. told_to_all p moment Registries ≡ Accepted (tells.Names names))
-      → PublishesRegistries published Holds files s1 s2 f f1 moment names registries
+      → PublishesRegistries published Holds Puts s1 s2 f f1 moment names registries
       → Asks published Holds s2 s3
       (λ p. told_to_all p moment BlockListing ≡ Accepted (tells.Blocks rows))
-      → Places (files f1) (files f2) (files_by_blocks rows)
+      → Places Puts f1 f2 (files_by_blocks rows)
       → Asks published Holds s3 s4
       (λ p. told_to_all p moment PoolList ≡ Accepted (tells.Pool prefixes))
-      → Places (files f2) (files f3)
+      → Places Puts f2 f3
       (one_file file.Pool (told_text (tells.Pool prefixes)) ++ one_file file.Style STYLE.now)
-      → Places (files f3) (files f4)
+      → Places Puts f3 f4
       (one_file file.Index (index_page registries prefixes rows moment))
-      → Publishes published Holds files s s4 f f4 (λ p. site p moment)
+      → Publishes published Holds Puts s s4 f f4 (λ p. site p moment)
   publishes_site s s1 s2 s3 s4 f f1 f2 f3 f4 names registries rows prefixes named done
       given blocks pooled pool index =
       let listed = done.publishes in
@@ -57,26 +57,26 @@ module _ {S F : Type 0} (published : S → Published) (Holds : S → Type 0) (fi
             let ToldPool : Published → Type 0 =
             λ q. told_to_all q moment PoolList ≡ Accepted (tells.Pool prefixes) in
             let Listed : Published → Type 0 =
-            λ q. Places (files f) (files f1) (placed q moment (flat_map registry_files names)) in
+            λ q. Places Puts f f1 (placed q moment (flat_map registry_files names)) in
             let others = other_files_told p moment rows prefixes registries
             (subst ToldBlocks same2 (given.told holds3))
             (subst ToldPool same3 (pooled.told holds4))
             (subst Counted same1 (counted holds2) ∙ summaries_told p moment names told_names) in
-            let rest = places_both (files f1) (files f2) (files f4) (files_by_blocks rows)
+            let rest = places_both Puts f1 f2 f4 (files_by_blocks rows)
             ((one_file file.Pool (told_text (tells.Pool prefixes)) ++ one_file file.Style STYLE.now)
             ++ one_file file.Index (index_page registries prefixes rows moment))
             blocks
-            (places_both (files f2) (files f3) (files f4)
+            (places_both Puts f2 f3 f4
             (one_file file.Pool (told_text (tells.Pool prefixes)) ++ one_file file.Style STYLE.now)
             (one_file file.Index (index_page registries prefixes rows moment)) pool index) in
             let placed_rest =
-            places_as (files f1) (files f4) (others_by rows prefixes registries moment)
+            places_as Puts f1 f4 (others_by rows prefixes registries moment)
             (placed p moment other_files) others rest in
-            places_as (files f) (files f4)
+            places_as Puts f f4
             (placed p moment (flat_map registry_files names) ++ placed p moment other_files)
             (site p moment)
             (site_told p moment names told_names)
-            (places_both (files f) (files f1) (files f4)
+            (places_both Puts f f1 f4
             (placed p moment (flat_map registry_files names))
             (placed p moment other_files)
             (subst Listed same1 (listed.whole holds2))
@@ -91,9 +91,9 @@ module _ {S F : Type 0} (published : S → Published) (Holds : S → Type 0) (fi
 
   -- no registry yet
   pub registries_none : (s : S) (f : F)
-      → PublishesRegistries published Holds files s s f f moment [] []
+      → PublishesRegistries published Holds Puts s s f f moment [] []
   registries_none s f = record {
-    publishes = publishes_none published Holds files s f;
+    publishes = publishes_none published Holds Puts s f;
     counted = λ holds. refl;
   }
 
@@ -101,26 +101,26 @@ module _ {S F : Type 0} (published : S → Published) (Holds : S → Type 0) (fi
   pub registries_more : (s s' s'' : S) (f f' f'' : F) (names : List (List ℕ)) (i : ℕ)
       (name : List ℕ) (told : Told) (registries : List Summary) (registry : Summary)
       → i < length names → name ≡ get_or names i name
-      → PublishesRegistries published Holds files s s' f f' moment (take i names) registries
+      → PublishesRegistries published Holds Puts s s' f f' moment (take i names) registries
       → Asks published Holds s' s'' (λ p. told_to_all p moment (Registry name) ≡ Accepted told)
-      → PublishesPage (files f') (files f'') name told registry
-      → PublishesRegistries published Holds files s s'' f f'' moment (take (i + 1) names)
+      → PublishesPage Puts f' f'' name told registry
+      → PublishesRegistries published Holds Puts s s'' f f'' moment (take (i + 1) names)
       (registries ++ registry ∷ [])
   registries_more s s' s'' f f' f'' names i name told registries registry h is done asked page =
       let Front : Published → Files =
       λ p. placed p moment (flat_map registry_files (take i names)) in
       let Last : Published → Files = λ p. placed p moment (registry_files name) in
       let Told : Published → Type 0 = λ p. told_to_all p moment (Registry name) ≡ Accepted told in
-      let last = publishes_told published Holds files s' s'' f' f'' Told (files_by_page name page.page)
+      let last = publishes_told published Holds Puts s' s'' f' f'' Told (files_by_page name page.page)
       Last asked
       (λ p given. files_of_page p moment name page.page (given ∙ ap Accepted page.told_page))
       page.placed in
       record {
         publishes =
-            publishes_as published Holds files s s'' f f'' (λ p. Front p ++ Last p)
+            publishes_as published Holds Puts s s'' f f'' (λ p. Front p ++ Last p)
             (λ p. placed p moment (flat_map registry_files (take (i + 1) names)))
             (λ p. placed_more p moment names i name h is)
-            (publishes_both published Holds files s s' s'' f f' f'' Front Last done.publishes last);
+            (publishes_both published Holds Puts s s' s'' f f' f'' Front Last done.publishes last);
         counted = λ holds.
             let was = asked.before holds in
             let q = published s in

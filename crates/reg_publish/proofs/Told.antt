@@ -1,7 +1,6 @@
 -- What is published, by what is told.
-use Rattle.std.proofs.Common.{◌≡◌, ℕ, ◌+◌, ◌<◌, List, [], ◌∷◌, ◌++◌, length, take, get_or, filter_map, Option, Some, None, Result, Ok, Err, option_map, refl, sym, ap, ◌∙◌, append-nil}
+use Rattle.std.proofs.Common.{◌≡◌, ℕ, ◌+◌, ◌<◌, List, [], ◌∷◌, ◌++◌, length, take, get_or, filter_map, Option, Some, None, option_map, refl, sym, ap, ◌∙◌, append-nil}
 use Rattle.std.specs.FinMap.{get}
-use Rattle.std.specs.Prelude.{IfOk}
 use Rattle.std.specs.List.{flat_map}
 use Rattle.std.proofs.lemmas.Grind.{flat_map-append}
 use Rattle.std.proofs.lemmas.List.{map-append, take_more}
@@ -93,15 +92,6 @@ pub summary_of_page : (p : Published) (moment : ℕ) (name : List ℕ) (shown : 
     → told_to_all p moment (Registry name) ≡ Accepted (tells.Page shown)
     → summary_of p moment name ≡ Some (summary shown)
 summary_of_page p moment name shown h = ap (λ r. option_map summary (page_in r)) h
-
-pub summary_told : {E : Type 0} (result : Result Summary E) (p : Published) (moment : ℕ)
-    (name : List ℕ) (shown : Page)
-    → told_to_all p moment (Registry name) ≡ Accepted (tells.Page shown)
-    → IfOk result (λ registry. registry ≡ summary shown)
-    → IfOk result (λ registry. summary_of p moment name ≡ Some registry)
-summary_told (Ok registry) p moment name shown h is =
-    summary_of_page p moment name shown h ∙ ap Some (sym is)
-summary_told (Err e) p moment name shown h is = tt
 
 -- ---- The files of no one registry
 

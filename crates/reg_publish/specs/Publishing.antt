@@ -52,11 +52,11 @@ files_by_page name page =
     ∷ []
 
 -- What was told is a page: its files are published, and this is its summary.
-pub record PublishesPage (old new : Option Files) (name : List ℕ) (told : Told)
-    (registry : Summary) : Type 0 where
+pub record PublishesPage {F : Type 0} (Puts : F → F → List ℕ → List ℕ → Type 0) (folder folder' : F)
+    (name : List ℕ) (told : Told) (registry : Summary) : Type 0 where
   pub page : Page
   pub told_page : told ≡ tells.Page page
-  pub placed : Places old new (files_by_page name page)
+  pub placed : Places Puts folder folder' (files_by_page name page)
   pub counted : registry ≡ summary page
 
 -- the files of the blocks
@@ -81,17 +81,17 @@ pub record Asks {S : Type 0} (published : S → Published) (Holds : S → Type 0
 -- A step over a source and a folder. Under the source's premise after it, these files are published,
 -- which are a function of what is published there; that stays as it was.
 pub record Publishes {S F : Type 0} (published : S → Published) (Holds : S → Type 0)
-    (files : F → Option Files) (source source' : S) (folder folder' : F)
+    (Puts : F → F → List ℕ → List ℕ → Type 0) (source source' : S) (folder folder' : F)
     (placed : Published → Files) : Type 0 where
-  pub whole : Holds source' → Places (files folder) (files folder') (placed (published source))
+  pub whole : Holds source' → Places Puts folder folder' (placed (published source))
   pub same : Holds source' → published source' ≡ published source
   pub before : Holds source' → Holds source
 
 -- The files of registries are published, and these are their summaries.
 pub record PublishesRegistries {S F : Type 0} (published : S → Published) (Holds : S → Type 0)
-    (files : F → Option Files) (source source' : S) (folder folder' : F) (moment : ℕ)
+    (Puts : F → F → List ℕ → List ℕ → Type 0) (source source' : S) (folder folder' : F) (moment : ℕ)
     (names : List (List ℕ)) (registries : List Summary) : Type 0 where
-  pub publishes : Publishes published Holds files source source' folder folder'
+  pub publishes : Publishes published Holds Puts source source' folder folder'
       (λ p. placed p moment (flat_map registry_files names))
   pub counted : Holds source' → registries
       ≡ filter_map (summary_of (published source) moment) names

@@ -3,6 +3,7 @@
 
 pub mod answers;
 pub mod directory;
+pub mod disk;
 pub mod folder;
 pub mod offices;
 pub mod peer;

@@ -1,8 +1,10 @@
 //! Offices that are served over HTTP on loopback, as sources.
+ghost use Rattle.std.specs.Prelude.{◌≡◌, ◌*◌};
+ghost use Rattle.std.specs.Duration.{as_nanos};
 ghost use Rattle.reg_core.specs.View.{published as shown};
 ghost use Rattle.reg_core.specs.World.{empty_world};
 
-use crate::answers::{MOST_BYTES, body_of, read_answer};
+use crate::answers::{body_of, read_answer};
 use crate::reading::told_of;
 use crate::source::Source;
 use crate::timed::{Timed, left};
@@ -73,15 +75,21 @@ fn exchange<H: AllocGlobal + Clock + Net<Listener = TcpListener, Stream = TcpStr
         end,
     };
     timed.write_all(request).map_err(unread)?;
-    read_answer(rt.alloc(), MOST_BYTES, &mut timed)
+    read_answer(rt.alloc(), &mut timed)
 }
 
 fn end_of_patience<C: Clock>(clock: &C) -> io::Result<Duration> {
-    let patience = Duration::from_secs(PATIENCE_SECONDS);
-    match clock.monotonic()?.checked_add(patience) {
+    match clock.monotonic()?.checked_add(patience()) {
         Some(end) => Ok(end),
         None => Err(io::ErrorKind::TimedOut.into()),
     }
+}
+
+// How long an office that is served has for an answer.
+fn patience() -> Duration
+    ensures { as_nanos result ≡ 10 * 1000000000 }
+{
+    Duration::from_secs(PATIENCE_SECONDS)
 }
 
 fn connect<H: Clock + Net<Listener = TcpListener, Stream = TcpStream>>(

@@ -50,7 +50,7 @@ pub fn publish<S: Source, F: Folder>(
     folder: &mut F,
     moment: u64,
 ) -> Result<Count, Unpublished>
-    ensures { OnOk result (Publishes S.published S.Holds F.files source.old source.new folder.old
+    ensures { OnOk result (Publishes S.published S.Holds F.Puts source.old source.new folder.old
         folder.new (λ p. site p moment)) }
 {
     let names = source.ask(moment, &PublicCommand::Registries)?;
@@ -61,7 +61,7 @@ pub fn publish<S: Source, F: Folder>(
     let pool = source.ask(moment, &PublicCommand::PoolList)?;
     let index = index_page(alloc, &registries, pool_in(&pool)?, rows, moment)?;
     publish_pool_and_style(alloc, folder, pool)?;
-    put(alloc, folder, File::Index, &index)?;
+    put(folder, File::Index, &index)?;
     Ok(Count {
         registries: registries.len(),
         entries: entries_in(&registries),
@@ -69,29 +69,22 @@ pub fn publish<S: Source, F: Folder>(
     })
 }
 
-fn put<F: Folder>(
-    alloc: Global,
-    folder: &mut F,
-    file: File,
-    bytes: &[u8],
-) -> Result<(), Unpublished>
-    ensures { OnOk result (Places (F.files folder.old) (F.files folder.new)
+fn put<F: Folder>(folder: &mut F, file: File, bytes: &[u8]) -> Result<(), Unpublished>
+    ensures { OnOk result (Places F.Puts folder.old folder.new
         (one_file file bytes.now)) }
 {
-    put_portions(alloc, folder, file, &mut Whole::of(bytes))
+    put_portions(folder, file, &mut Whole::of(bytes))
 }
 
 fn put_portions<F: Folder, P: Portions>(
-    alloc: Global,
     folder: &mut F,
     file: File,
     bytes: &mut P,
 ) -> Result<(), Unpublished>
-    ensures { OnOk result (Places (F.files folder.old) (F.files folder.new)
+    ensures { OnOk result (Places F.Puts folder.old folder.new
         (one_file file (P.rest bytes.old))) }
 {
-    let path = file.path(alloc)?;
-    folder.publish(path.as_str(), bytes)
+    folder.publish(file, bytes)
 }
 
 // ---- Registries
@@ -103,7 +96,7 @@ fn publish_registries<S: Source, F: Folder>(
     moment: u64,
     names: &[Name],
 ) -> Result<Vec<Summary>, Unpublished>
-    ensures { IfOk result (λ registries. PublishesRegistries S.published S.Holds F.files source.old
+    ensures { IfOk result (λ registries. PublishesRegistries S.published S.Holds F.Puts source.old
         source.new folder.old folder.new moment names.now registries.items) }
 {
     let mut registries = Vec::new(alloc);
@@ -121,7 +114,7 @@ fn publish_registry<F: Folder>(
     name: Name,
     told: &Told,
 ) -> Result<Summary, Unpublished>
-    ensures { IfOk result (PublishesPage (F.files folder.old) (F.files folder.new) name told.now) }
+    ensures { IfOk result (PublishesPage F.Puts folder.old folder.new name told.now) }
 {
     let page = page_in(told)?;
     publish_page(alloc, folder, name, page)?;
@@ -135,17 +128,17 @@ fn publish_page<F: Folder>(
     name: Name,
     page: &Page,
 ) -> Result<(), Unpublished>
-    ensures { OnOk result (Places (F.files folder.old) (F.files folder.new)
+    ensures { OnOk result (Places F.Puts folder.old folder.new
         (files_by_page name page.now)) }
 {
     let mut html = RegistryPage::of(alloc, page)?;
-    put_portions(alloc, folder, File::RegistryPage(name), &mut html)?;
+    put_portions(folder, File::RegistryPage(name), &mut html)?;
     drop(html);
     let mut csv = RegistryListing::of(alloc, page)?;
-    put_portions(alloc, folder, File::RegistryListing(name), &mut csv)?;
+    put_portions(folder, File::RegistryListing(name), &mut csv)?;
     drop(csv);
     let mut tree = RegistryTree::of(page);
-    put_portions(alloc, folder, File::RegistryTree(name), &mut tree)
+    put_portions(folder, File::RegistryTree(name), &mut tree)
 }
 
 // How many entries they have.
@@ -165,13 +158,13 @@ fn publish_blocks<F: Folder>(
     folder: &mut F,
     blocks: &[Listed],
 ) -> Result<(), Unpublished>
-    ensures { OnOk result (Places (F.files folder.old) (F.files folder.new)
+    ensures { OnOk result (Places F.Puts folder.old folder.new
         (files_by_blocks blocks.now)) }
 {
     let mut html = BlocksPage::of(blocks);
-    put_portions(alloc, folder, File::BlocksPage, &mut html)?;
+    put_portions(folder, File::BlocksPage, &mut html)?;
     let csv = block_listing(alloc, blocks)?;
-    put(alloc, folder, File::BlocksListing, &csv)?;
+    put(folder, File::BlocksListing, &csv)?;
     drop(csv);
     publish_size(alloc, folder, Size::MaL, blocks)?;
     publish_size(alloc, folder, Size::MaM, blocks)?;
@@ -184,11 +177,11 @@ fn publish_size<F: Folder>(
     size: Size,
     blocks: &[Listed],
 ) -> Result<(), Unpublished>
-    ensures { OnOk result (Places (F.files folder.old) (F.files folder.new)
+    ensures { OnOk result (Places F.Puts folder.old folder.new
         (one_file (file.Assignments size) (assignments_text size blocks.now))) }
 {
     let csv = assignments(alloc, size, blocks)?;
-    put(alloc, folder, File::Assignments(size), &csv)
+    put(folder, File::Assignments(size), &csv)
 }
 
 // What is told of the pool, and how pages look.
@@ -197,12 +190,12 @@ fn publish_pool_and_style<F: Folder>(
     folder: &mut F,
     pool: Told,
 ) -> Result<(), Unpublished>
-    ensures { OnOk result (Places (F.files folder.old) (F.files folder.new)
+    ensures { OnOk result (Places F.Puts folder.old folder.new
         (one_file file.Pool (told_text pool) ++ one_file file.Style STYLE.now)) }
 {
     let tree = text_of(alloc, pool)?;
-    put(alloc, folder, File::Pool, &tree)?;
-    put(alloc, folder, File::Style, style().as_bytes())
+    put(folder, File::Pool, &tree)?;
+    put(folder, File::Style, style().as_bytes())
 }
 
 // ---- What anybody is told

@@ -2,6 +2,7 @@
 ghost use Rattle.std.specs.Prelude.{◌≡◌, ◌↔◌, IfOk, IsTrue};
 ghost use Rattle.reg_print.specs.Answer.{body_text};
 ghost use Rattle.reg_publish.specs.Publishing.{told_text};
+ghost use Rattle.reg_publish.specs.Reading.{IsToldBy};
 
 use crate::unpublished::Unpublished;
 use reg_core::command::PublicCommand;
@@ -20,8 +21,10 @@ mod pool;
 /// What anybody is told by a command, where these bytes are the body of its answer: what is read is
 /// printed again and compared, a registry an entry at a time, and has to be these bytes. `Read`
 /// where they are no such body. A listing of a registry is not read, since its page says more.
+#[tactic(auto, using(crate::proofs::ReadPages::told_as))]
 pub fn told_of(alloc: Global, command: &PublicCommand, body: &[u8]) -> Result<Told, Unpublished>
-    ensures { IfOk result (λ told. body.now ≡ told_text told) }
+    ensures whole { IfOk result (λ told. body.now ≡ told_text told) }
+    ensures asked { IfOk result (IsToldBy command.now) }
 {
     let told = read_told(alloc, command, body)?;
     let Told::Page(page) = &told else {
@@ -35,7 +38,8 @@ pub fn told_of(alloc: Global, command: &PublicCommand, body: &[u8]) -> Result<To
 
 // What is told, where these bytes are its text.
 fn compared(alloc: Global, told: Told, body: &[u8]) -> Result<Told, Unpublished>
-    ensures { IfOk result (λ told. body.now ≡ told_text told) }
+    ensures whole { IfOk result (λ given. body.now ≡ told_text given) }
+    ensures same { IfOk result (λ given. given ≡ told) }
 {
     let answer = Answer::Reply(Reply::Accepted(told));
     if !is_printed(alloc, &answer, body)? {
@@ -54,7 +58,10 @@ fn is_printed(alloc: Global, answer: &Answer, body: &[u8]) -> Result<bool, Alloc
     Ok(printed.as_slice() == body)
 }
 
-fn read_told(alloc: Global, command: &PublicCommand, body: &[u8]) -> Result<Told, Unpublished> {
+// What is told by an answer to this command, as far as its form goes.
+fn read_told(alloc: Global, command: &PublicCommand, body: &[u8]) -> Result<Told, Unpublished>
+    ensures { IfOk result (IsToldBy command.now) }
+{
     match command {
         PublicCommand::Registries => Ok(Told::Names(names::read(alloc, body)?)),
         PublicCommand::Registry(name) => Ok(Told::Page(page::read(alloc, name, body)?)),

@@ -1,115 +1,209 @@
-//! A file of a folder of a file system while it is published.
-use std::fs::{File, Files, OpenFile};
-use std::io::{Error, ErrorKind, Read, Seek, SeekFrom, Write};
-use std::{fs, io};
+//! A file that takes the place of another.
+ghost use Rattle.std.specs.Prelude.{◌≡◌, ◌≤◌, ◌++◌, [], length, take, IsTrue, IfOk, OnOk, OnErr, string_bytes};
+ghost use Rattle.std.specs.Io.KnownBytes.{Consumes, IsAtEnd};
+ghost use Rattle.reg_site.specs.Portions.{Gives};
+ghost use Rattle.reg_publish.specs.Copied.{IsCompared, IsCopied};
+ghost use Rattle.reg_publish.specs.Disk.{IsPut, IsStopped, StaysBeside, begins, names_of, replaces};
+ghost use Rattle.reg_publish.specs.Names.{names_by};
 
-/// How many bytes are compared at once.
+use crate::disk::Disk;
+use crate::unpublished::{Unpublished, unwritten};
+use reg_site::files::File;
+use reg_site::portions::Portions;
+use std::alloc::{AllocError, Global};
+use std::io::Read;
+
+/// How many bytes are gathered before they are compared or written.
+const GATHERED_BYTES: usize = 16_384;
+
+/// How many bytes are compared or copied at once.
 const COMPARED_BYTES: usize = 16_384;
 
-/// A file that is to take a place. As long as its bytes are those with which the file begins that is
-/// there, they are only compared; from the first other byte on they are written beside that place.
+/// The names of a file that is to take a place.
 #[derive(Drop)]
-pub(crate) struct Replacement<'a, H: Files> {
-    rt: &'a H,
-    place: &'a str,
-    beside: &'a str,
-    bytes: Bytes<H::File>,
+pub(crate) struct Names {
+    /// Where it is to be.
+    pub place: String,
+    /// Where it is made.
+    pub beside: String,
+    /// The folder of both.
+    pub folder: String,
 }
 
-/// Where the bytes of a replacement stand.
-#[derive(Drop)]
-enum Bytes<F> {
-    /// The file that is there begins with them; it was read so far.
-    There { file: F, count: u64 },
-    /// They were written to this file beside the place.
-    Beside { file: F },
-}
-
-impl<'a, H: Files> Replacement<'a, H> {
-    /// A file without a byte so far.
-    pub(crate) fn begin(rt: &'a H, place: &'a str, beside: &'a str) -> io::Result<Self> {
-        let bytes = match fs::open(rt, place) {
-            Ok(file) => Bytes::There { file, count: 0 },
-            Err(_) => Bytes::Beside {
-                file: create(rt, beside)?,
-            },
-        };
-        Ok(Replacement {
-            rt,
+impl Names {
+    /// Those of a file of a site, in a folder at a path. Only want of memory is an error.
+    pub(crate) fn of(alloc: Global, path: &str, file: File) -> Result<Self, AllocError>
+        ensures { IfOk result (λ names. names_by names ≡ names_of path.now file) }
+    {
+        let within = file.path(alloc)?;
+        let place = format!(in alloc; "{path}/{within}")?;
+        let inner = file.folder();
+        let beside = format!(in alloc; "{path}/{inner}.new")?;
+        let folder = format!(in alloc; "{path}/{inner}")?;
+        Ok(Names {
             place,
             beside,
-            bytes,
+            folder,
         })
     }
+}
 
-    /// Adds bytes to its end.
-    pub(crate) fn add(&mut self, more: &[u8]) -> io::Result<()> {
-        match &mut self.bytes {
-            Bytes::There { file, count } => {
-                if goes_on(file, more) {
-                    *count = count.saturating_add(more.len() as u64);
-                    return Ok(());
-                }
-                let mut copy = copied(self.rt, file, *count, self.beside)?;
-                copy.write_all(more)?;
-                self.bytes = Bytes::Beside { file: copy };
-                Ok(())
-            }
-            Bytes::Beside { file } => file.write_all(more),
+/// Lets these bytes take a place. Where the file that is there has all of them, and no other, nothing
+/// is done.
+pub(crate) fn put<D: Disk, P: Portions>(
+    disk: &mut D,
+    alloc: Global,
+    names: &Names,
+    bytes: &mut P,
+) -> Result<(), Unpublished>
+    ensures done { D.Tells → OnOk result (IsPut (names_by names.now)
+        (D.held disk.old (names_by names.now).place) (P.rest bytes.old) (D.done disk.old)
+        (D.done disk.new)) }
+    ensures failed { D.Tells → OnErr result (IsStopped (names_by names.now) (P.rest bytes.old)
+        (D.done disk.old) (D.done disk.new)) }
+{
+    let mut gathered = Vec::with_capacity(alloc, GATHERED_BYTES)?;
+    let Some(mut reader) = disk.open(names.place.as_str()) else {
+        return write(disk, names, 0, &mut gathered, bytes);
+    };
+    match compared(&mut reader, &mut gathered, bytes)? {
+        Some(same) => write(disk, names, same, &mut gathered, bytes),
+        None => Ok(()),
+    }
+}
+
+// Compares bytes with those that a reader gives, and gathers the first that are not the same: tells
+// how many are the same before them; none where all are, and the reader gives no other.
+fn compared<R: Read, P: Portions>(
+    reader: &mut R,
+    gathered: &mut Vec<u8>,
+    bytes: &mut P,
+) -> Result<Option<u64>, Unpublished>
+    ensures { IfOk result (λ same. IsCompared same (R.remaining reader.old) gathered.new.items
+        (P.rest bytes.old) (P.rest bytes.new)) }
+{
+    let mut same = 0u64;
+    while gather(bytes, gathered)? {
+        if !goes_on(reader, gathered) {
+            return Ok(Some(same));
+        }
+        let Some(more) = same.checked_add(gathered.len() as u64) else {
+            return Err(Unpublished::Write);
+        };
+        same = more;
+    }
+    if is_at_end(reader) {
+        Ok(None)
+    } else {
+        Ok(Some(same))
+    }
+}
+
+// Gathers the next bytes, and tells whether there are any.
+fn gather<P: Portions>(bytes: &mut P, gathered: &mut Vec<u8>) -> Result<bool, AllocError>
+    ensures { IfOk result
+        (λ more. Gives more [] gathered.new.items (P.rest bytes.old) (P.rest bytes.new)) }
+{
+    gathered.clear();
+    while bytes.push_next(gathered)? {
+        if gathered.len() >= GATHERED_BYTES {
+            return Ok(true);
         }
     }
-
-    /// Lets it take its place, and tells whether it did: it need not where the file that is there has
-    /// all of its bytes, and no other.
-    pub(crate) fn end(self) -> io::Result<bool> {
-        let Replacement {
-            rt,
-            place,
-            beside,
-            bytes,
-        } = self;
-        let mut written = match bytes {
-            Bytes::There { mut file, count } => {
-                if is_at_end(&mut file) {
-                    return Ok(false);
-                }
-                copied(rt, &mut file, count, beside)?
-            }
-            Bytes::Beside { file } => file,
-        };
-        written.flush()?;
-        written.sync_all()?;
-        drop(written);
-        rt.rename(beside, place)?;
-        Ok(true)
-    }
+    Ok(!gathered.is_empty())
 }
 
-fn create<H: Files>(rt: &H, path: &str) -> io::Result<H::File> {
-    // What a job that was ended left there.
-    let _ = rt.remove_file(path);
-    File::create_new(rt, path)
+// Writes a file beside its place, with so many bytes of the file that is there, those that were
+// gathered, and those that are still to be given; has it kept, and lets it take the place.
+fn write<D: Disk, P: Portions>(
+    disk: &mut D,
+    names: &Names,
+    same: u64,
+    gathered: &mut Vec<u8>,
+    bytes: &mut P,
+) -> Result<(), Unpublished>
+    ensures done { D.Tells → OnOk result (D.done disk.new ≡ D.done disk.old ++ replaces
+        (names_by names.now) (take same (D.held disk.old (names_by names.now).place)
+        ++ (gathered.old.items ++ P.rest bytes.old))) }
+    ensures failed { D.Tells → OnErr result (IsStopped (names_by names.now)
+        (take same (D.held disk.old (names_by names.now).place)
+        ++ (gathered.old.items ++ P.rest bytes.old)) (D.done disk.old) (D.done disk.new)) }
+{
+    let mut draft = begun(disk, names, same)?;
+    disk.add(&mut draft, gathered)?;
+    while gather(bytes, gathered)? {
+        disk.add(&mut draft, gathered)?;
+    }
+    disk.keep(draft)?;
+    disk.rename(names.beside.as_str(), names.place.as_str())?;
+    disk.keep_names(names.folder.as_str())
 }
 
-// A new file at a path, with so many bytes from the beginning of another one.
-fn copied<H: Files>(rt: &H, from: &mut H::File, count: u64, path: &str) -> io::Result<H::File> {
-    let mut file = create(rt, path)?;
-    from.seek(SeekFrom::Start(0))?;
-    if io::copy(&mut from.take(count), &mut file)? == count {
-        Ok(file)
-    } else {
-        Err(Error::from(ErrorKind::UnexpectedEof))
+// A new file beside a place, with so many bytes of the file that is there.
+fn begun<D: Disk>(disk: &mut D, names: &Names, same: u64) -> Result<D::Draft, Unpublished>
+    ensures named { D.Tells → IfOk result (λ draft. D.named draft ≡ (names_by names.now).beside) }
+    ensures copied { D.Tells → IfOk result (λ draft. D.written draft
+        ≡ take same (D.held disk.old ((names_by names.now).place))) }
+    ensures done { D.Tells → OnOk result
+        (D.done disk.new ≡ D.done disk.old ++ begins (names_by names.now)) }
+    ensures failed { D.Tells → OnErr result (StaysBeside ((names_by names.now).beside)
+        (D.done disk.old) (D.done disk.new)) }
+{
+    if same == 0 {
+        return created(disk, names);
     }
+    let Some(mut reader) = disk.open(names.place.as_str()) else {
+        return Err(Unpublished::Write);
+    };
+    let mut draft = created(disk, names)?;
+    copy(disk, &mut reader, same, &mut draft)?;
+    Ok(draft)
+}
+
+// A new file beside a place. What a job that was ended left there goes.
+fn created<D: Disk>(disk: &mut D, names: &Names) -> Result<D::Draft, Unpublished>
+    ensures named { D.Tells → IfOk result (λ draft. D.named draft ≡ (names_by names.now).beside) }
+    ensures empty { D.Tells → IfOk result (λ draft. D.written draft ≡ []) }
+    ensures done { D.Tells → OnOk result
+        (D.done disk.new ≡ D.done disk.old ++ begins (names_by names.now)) }
+    ensures failed { D.Tells → OnErr result (StaysBeside ((names_by names.now).beside)
+        (D.done disk.old) (D.done disk.new)) }
+{
+    disk.remove(names.beside.as_str());
+    disk.create(names.beside.as_str())
+}
+
+// Adds so many bytes of a reader to a new file.
+fn copy<D: Disk>(
+    disk: &D,
+    reader: &mut D::Reader,
+    count: u64,
+    draft: &mut D::Draft,
+) -> Result<(), Unpublished>
+    ensures named { D.Tells → D.named draft.new ≡ D.named draft.old }
+    ensures copied { D.Tells → OnOk result (IsCopied (D.Reader.remaining reader.old)
+        (D.Reader.remaining reader.new) (D.written draft.old) (D.written draft.new) count) }
+{
+    let mut piece = [0; COMPARED_BYTES];
+    let mut left = count;
+    while left > 0 {
+        let part = &mut piece[..left.min(COMPARED_BYTES as u64) as usize];
+        reader.read_exact(part).map_err(unwritten)?;
+        disk.add(draft, part)?;
+        left -= part.len() as u64;
+    }
+    Ok(())
 }
 
 // Whether a reader gives these bytes next; it is asked for no more.
-fn goes_on<R: Read>(reader: &mut R, bytes: &[u8]) -> bool {
+fn goes_on<R: Read>(reader: &mut R, bytes: &[u8]) -> bool
+    ensures { IsTrue result
+        → Consumes (R.remaining reader.old) (R.remaining reader.new) bytes.now }
+{
     let mut rest = bytes;
-    let mut read = [0; COMPARED_BYTES];
     while !rest.is_empty() {
         let (wanted, more) = rest.split_at(rest.len().min(COMPARED_BYTES));
-        let given = &mut read[..wanted.len()];
-        if reader.read_exact(given).is_err() || *given != *wanted {
+        if !gives(reader, wanted) {
             return false;
         }
         rest = more;
@@ -117,7 +211,22 @@ fn goes_on<R: Read>(reader: &mut R, bytes: &[u8]) -> bool {
     true
 }
 
+fn gives<R: Read>(reader: &mut R, wanted: &[u8]) -> bool
+    requires { length wanted.now ≤ COMPARED_BYTES }
+    ensures { IsTrue result
+        → Consumes (R.remaining reader.old) (R.remaining reader.new) wanted.now }
+{
+    let mut read = [0; COMPARED_BYTES];
+    let given = &mut read[..wanted.len()];
+    match reader.read_exact(given) {
+        Ok(()) => *given == *wanted,
+        Err(_) => false,
+    }
+}
+
 // Whether a reader has no byte more.
-fn is_at_end<R: Read>(reader: &mut R) -> bool {
+fn is_at_end<R: Read>(reader: &mut R) -> bool
+    ensures { IsTrue result → IsAtEnd (R.remaining reader.old) }
+{
     matches!(reader.read(&mut [0]), Ok(0))
 }

@@ -1,4 +1,6 @@
 //! Why nothing more was published.
+ghost use Rattle.std.specs.Prelude.{◌≡◌, ◌⊎◌};
+
 use reg_core::refusal::Refusal;
 use reg_keeper::keeper::Fault;
 use std::alloc::{AllocError, AllocFailed};
@@ -53,7 +55,9 @@ impl From<Fault> for Unpublished {
 }
 
 /// A read that failed, or there was no memory for it.
-pub fn unread(error: io::Error) -> Unpublished {
+pub fn unread(error: io::Error) -> Unpublished
+    ensures { (result ≡ Unpublished.Memory) ⊎ (result ≡ Unpublished.Read) }
+{
     match error.kind() {
         io::ErrorKind::OutOfMemory => Unpublished::Memory,
         _ => Unpublished::Read,

@@ -1,11 +1,9 @@
 -- Tests of sameness are true exactly of equal values.
-use Rattle.std.proofs.Common.{◌≡◌, ℕ, Bool, ◌&&◌, List, Option, Some, None, refl, sym, ap, ◌==◌}
+use Rattle.std.proofs.Common.{◌≡◌, ℕ, Bool, ◌&&◌, List, Option, Some, None, refl, ap, ◌==◌}
 use Rattle.std.specs.Bool.{Decides}
 use Rattle.std.specs.Option.{option_eq}
-use Rattle.std.specs.Cmp.{IsEquivalence}
 use Rattle.std.specs.Cmp.Lexicographic.{pointwise}
 use Rattle.std.specs.Str.{bytes_eq}
-use Rattle.std.proofs.lemmas.Bool.Decides.{same_from_decides}
 use Rattle.std.proofs.lemmas.Bool.{and_parts, and_from, eqb-true, eq-eqb}
 use Rattle.std.proofs.lemmas.Slice.Eq.{bytes_eq-Decides, slice_eq-Decides}
 use Rattle.reg_ranges.specs.declared.policy.Policy.{Policy}
@@ -141,18 +139,3 @@ table_decided a b =
           λ i. record { max = e.0 i; ranges = e.1 i },
       λ e. parts.1 (ap (λ (x : Table). x.max) e, ap (λ (x : Table). x.ranges) e),
     )
-
-same_back : {K : Type 0} (same : K → K → Bool) → ((x y : K) → Decides (same x y) (x ≡ y))
-    → (x y : K) → same x y ≡ same y x
-same_back {K} same each x y =
-    same_from_decides (same x y) (same y x) (each x y)
-    (λ h. sym ((each y x).0 h), λ e. (each y x).1 (sym e))
-
--- a test that is true exactly of equal values is an equivalence
-pub equivalence_from_decided : {K : Type 0} (same : K → K → Bool)
-    → ((x y : K) → Decides (same x y) (x ≡ y)) → IsEquivalence same
-equivalence_from_decided {K} same each = record {
-  refl = λ x. (each x x).1 refl;
-  symm = same_back same each;
-  congr = λ x y z h. ap (λ (w : K). same w z) ((each x y).0 h);
-}

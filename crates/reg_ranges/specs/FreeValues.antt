@@ -24,9 +24,11 @@ IsLeastFree table p taken o = IsLeastFreeWhere table p (Contains taken) o
 
 -- ---- the same by a search
 
+-- the value lies in a range under the policy
 abbrev pub is_under : Table → Policy → ℕ → Bool
 is_under table p v = option_eq same_treatment (treatment_of table v) (Some (treatment.Under p))
 
+-- the same, and the value is not taken
 abbrev pub is_free : Table → Policy → List ℕ → ℕ → Bool
 is_free table p taken v = is_under table p v && not (list_any (nat_eq v) taken)
 

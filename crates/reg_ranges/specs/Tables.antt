@@ -3,7 +3,6 @@ use Rattle.std.specs.Prelude.{◌≡◌, ℕ, ◌<◌, ◌≤◌, Bool, ◌&&◌
 use Rattle.std.specs.List.Sorted.{IsStrictlyIncreasing}
 use Rattle.reg_ranges.specs.declared.range.Range.{Range}
 use Rattle.reg_ranges.specs.declared.policy.Treatment.{Treatment}
-use Rattle.reg_ranges.specs.declared.table.TheConstants.RangeTable.{MOST}
 
 -- the largest value of a registry, and its ranges
 pub record Table : Type 0 where
@@ -16,7 +15,7 @@ lies_in v range = nat_le range.lo v && nat_le v range.hi
 
 -- the most ranges of a registry
 abbrev pub most_ranges : ℕ
-most_ranges = MOST
+most_ranges = 64
 
 -- there are 1 to 64 ranges, in ascending order, none is empty, and each number from 0 to the
 -- largest value, and no other, lies in exactly one of them

@@ -1,4 +1,7 @@
-//! The least free value of a registry under a policy.
+//! The least free value of a registry under a policy, by the list of the values that are taken.
+//!
+//! This call is for users of this library. The program does not run it: an office keeps what is
+//! taken as runs of values, by `reg_vacancies`.
 ghost use Rattle.std.specs.Prelude.{◌≡◌, ◌≤◌, Contains, filter, nat_le};
 ghost use Rattle.std.specs.List.Sorted.{IsStrictlyIncreasing};
 ghost use Rattle.reg_ranges.specs.FreeValues.{IsLeastFree, IsLeastGap, IsLeastIn, least_value};

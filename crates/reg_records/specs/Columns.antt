@@ -75,8 +75,10 @@ given found make = option_and_then make found
 
 -- ---- What is written in a column
 
+-- a whole number
 abbrev pub whole_value : ℕ → Value
 whole_value n = Int (pos n)
 
+-- a flag, as 1 or 0
 abbrev pub flag_value : Bool → Value
 flag_value flag = whole_value (if flag then 1 else 0)

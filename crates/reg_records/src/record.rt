@@ -1,5 +1,5 @@
 //! A row of a table as a value.
-ghost use Rattle.std.specs.Prelude.{◌≡◌, IfOk, Option};
+ghost use Rattle.std.specs.Prelude.{◌≡◌, IfOk, OnErr, Option};
 ghost use Rattle.std.specs.declared.cmp.Ordering.{Ordering};
 ghost use Rattle.sqlite.specs.Order.{Row as SqlRow};
 
@@ -24,9 +24,13 @@ pub trait Record: Drop {
     /// What the columns of a row hold, in the order of the table's columns.
     ghost of: { SqlRow → Option Self };
 
+    /// Memory was refused where such a row was read.
+    ghost Unread: { Type 0 } = { Unit {0} };
+
     /// The value of a row; none where a column has another form.
     fn read(alloc: Global, row: &Row) -> Result<Option<Self>, AllocError>
-        ensures { IfOk result (λ value. value ≡ of row.now) };
+        ensures value { IfOk result (λ value. value ≡ of row.now) }
+        ensures refused { OnErr result Unread };
 }
 
 /// A value of a row with a place among the others of its table.

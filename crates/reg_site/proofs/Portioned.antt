@@ -109,12 +109,6 @@ record_of_row rows place row h is =
     ap (λ left. csv_text (records (map row_view left))) (at_place rows place row h is)
     ∙ record_then (row_fields (row_view row)) (records (map row_view (drop (place + 1) rows)))
 
--- behind the last row nothing is left
-pub records_none : (rows : List ListingRow) (place : ℕ) → length rows ≤ place
-    → csv_text (records (map row_view (drop place rows))) ≡ []
-records_none rows place h =
-    ap (λ left. csv_text (records (map row_view left))) (drop_all place rows h)
-
 -- ---- The page of the blocks
 
 -- what stands above its rows has a byte

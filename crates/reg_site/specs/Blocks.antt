@@ -15,6 +15,7 @@ use Rattle.reg_site.specs.declared.portions.Next.TheVariants as next
 
 -- ---- IEEE's files
 
+-- the two sizes are the same
 abbrev pub same_size : Size → Size → Bool
 same_size MaL MaL = true
 same_size MaM MaM = true

@@ -18,6 +18,7 @@ use Rattle.reg_site.specs.declared.summary.Summary.{Summary}
 
 -- ---- The registries
 
+-- values and their policy, as an item of a list
 abbrev pub share_texts : List ℕ → List ℕ → Markup
 share_texts values policy =
     plain (codes "li") (all_of (text values ∷ text (codes " ") ∷ text policy ∷ []))
@@ -62,12 +63,15 @@ registries_table registries =
 
 -- ---- The pool and the blocks
 
+-- an item of a list
 abbrev pub item : List ℕ → Markup
 item words = plain (codes "li") (text words)
 
+-- a prefix of the pool, as an item
 abbrev pub prefix_item : ℕ → Markup
 prefix_item prefix = item (prefix_text prefix)
 
+-- the prefixes of the pool
 abbrev pub pool_list : List ℕ → Markup
 pool_list prefixes =
     beside (plain (codes "h2") (text (codes "Pool")))
@@ -93,13 +97,16 @@ block_counts rows =
 
 -- ---- The page
 
+-- when the site was published
 abbrev pub as_of_text : List ℕ → Markup
 as_of_text words =
     plain (codes "p") (beside (text (codes "As of ")) (plain (codes "time") (text words)))
 
+-- the same, of a moment
 abbrev pub as_of : ℕ → Markup
 as_of moment = as_of_text (moment_text moment)
 
+-- the first page: the moment, the registries, the pool and the blocks
 abbrev pub index_markup : List Summary → List ℕ → List Listed → ℕ → Markup
 index_markup registries prefixes rows moment =
     page (codes "style.css") (codes "Registries")

@@ -16,13 +16,16 @@ use Rattle.reg_site.specs.declared.registry.RegistryPage.{RegistryPage}
 
 -- ---- The ranges
 
+-- a range as a row: its values, its policy and its note
 abbrev pub range_row : Range → Markup
 range_row range =
     row None (run_text (whole range)) (treatment_word range.treatment ∷ unwrap_or range.note [] ∷ [])
 
+-- the heads of the columns
 abbrev pub range_columns : List (List ℕ)
 range_columns = codes "Values" ∷ codes "Policy" ∷ codes "Note" ∷ []
 
+-- the table of all ranges
 abbrev pub ranges_table : List Range → Markup
 ranges_table ranges =
     table (codes "Ranges and their policies") range_columns (all_of (map range_row ranges))

@@ -40,12 +40,14 @@ left s = (s.values.hi + 1 - s.values.lo) - s.used
 
 -- ---- Counts
 
+-- what is left of two ranges is of the same kind
 abbrev pub same_rest : Rest → Rest → Bool
 same_rest Free Free = true
 same_rest SetAside SetAside = true
 same_rest Reserved Reserved = true
 same_rest _ _ = false
 
+-- how many values of a share are left as this
 abbrev pub left_as : Rest → Share → ℕ
 left_as rest s = if same_rest (rest_of s.treatment) rest then left s else 0
 

@@ -7,7 +7,7 @@ use Rattle.reg_core.specs.Entry.{with_hold}
 use Rattle.reg_core.specs.Holding.{with_mark}
 use Rattle.reg_core.specs.World.{World, applied}
 use Rattle.reg_core.specs.declared.change.Change.{Change}
-use Rattle.reg_core.specs.declared.change.Change.TheVariants.{AddPool, Advise, Assign, Close, Define, GiveBlock, GiveValue, Grant, Revoke, SetAgent, SetHold, SetPrivate, Submit}
+use Rattle.reg_core.specs.declared.change.Change.TheVariants.{AddPool, GiveBlock, GiveValue, SetHold, SetPrivate}
 use Rattle.reg_core.specs.declared.entry.Entry.{Entry}
 use Rattle.reg_core.specs.declared.holding.Holding.{Holding}
 use Rattle.reg_core.proofs.KeyOrders.{place_keys}
@@ -28,14 +28,7 @@ pub left_free : (w : World) (vacancies : Vacancies) (change : Change)
     → ((account reference : List ℕ) (holding : Holding)
     → change ≡ GiveBlock account reference holding → ⊥)
     → AreVacanciesOf w vacancies → AreVacanciesOf (applied w change) vacancies
-left_free w vacancies (Grant digest cap) pool value block are = are
-left_free w vacancies (Revoke digest) pool value block are = are
-left_free w vacancies (Define name table) pool value block are = are
 left_free w vacancies (AddPool prefix) pool value block are = absurd (pool prefix refl)
-left_free w vacancies (Submit account reference ask) pool value block are = are
-left_free w vacancies (Close account reference state) pool value block are = are
-left_free w vacancies (Assign account reference expert) pool value block are = are
-left_free w vacancies (Advise account reference expert advice) pool value block are = are
 left_free w vacancies (GiveValue account reference entry) pool value block are =
     absurd (value account reference entry refl)
 left_free w vacancies (GiveBlock account reference holding) pool value block are =
@@ -45,4 +38,4 @@ left_free w vacancies (SetPrivate mark private) pool value block are =
 left_free w vacancies (SetHold name at held) pool value block are =
     keys_decide vacancies w.entries (update w.entries (name, at) (with_hold held)) w.pool w.blocks
     w.blocks (contains-changed place_keys w.entries (name, at) (with_hold held)) (λ block. refl) are
-left_free w vacancies (SetAgent principal agent reads) pool value block are = are
+left_free w vacancies change pool value block are = are

@@ -17,7 +17,7 @@ use Rattle.reg_tables.specs.Having.{AreFree, AreFreeLater, Extends, FindsTablesO
 use Rattle.reg_tables.specs.Making.{HasCounter, IsBegunBeside, IsMigrated, no_schema}
 use Rattle.reg_tables.specs.Schema.{office_schema}
 use Rattle.reg_tables.specs.Selecting.{BeginsWith}
-use Rattle.reg_tables.specs.Version.{later_than, newest, schema_of, table_count, tables_of}
+use Rattle.reg_tables.specs.Version.{later_than, newest, number_of, schema_of, table_count, tables_of}
 use Rattle.reg_tables.specs.declared.version.Version.{Version}
 use Rattle.reg_tables.specs.declared.version.Version.TheVariants.{First, Second, Third}
 use Rattle.reg_tables.proofs.HavingLemmas.{all_has}
@@ -26,8 +26,9 @@ use Rattle.reg_tables.proofs.PartLemmas.{part_before}
 use Rattle.reg_tables.proofs.RestLemmas.{stays_held, stays_same}
 use Rattle.reg_statements.specs.Content.{IsStoredAs, content_at, content_of, world_in}
 use Rattle.reg_statements.proofs.Migrated.{migrated_same}
-use Rattle.reg_opening.specs.Opening.{FindsKind, HasVersionTables, ComesFirst, IsFoundAs, IsFree, IsOurs, kind_of}
+use Rattle.reg_opening.specs.Opening.{FindsKind, HasVersionTables, ComesFirst, IsFoundAs, IsFree, IsOfVersion, IsOurs, kind_of}
 use Rattle.reg_opening.proofs.Versions.{both_all, schema_first}
+use Rattle.reg_opening.specs.declared.flaw.Flaw.{Flaw}
 use Rattle.reg_opening.specs.declared.kind.Found.{Found}
 use Rattle.reg_opening.specs.declared.kind.Found.TheVariants as finding
 use Rattle.reg_vacancies.specs.Vacancies.{AreVacanciesOf}
@@ -200,17 +201,14 @@ module _ (fresh : Bool) (old new : State) (idle : IsIdle old) {E : Type 0} (f : 
       → TakesOver fresh old new (Err (refusals.Version n))
   version_over n is =
       refused_over fresh old new idle finds.rest (refusals.Version n) finds.stays.worked finds.stays.unchanged
-      (λ w. elim (told (finding.OtherVersion n) is w) [
-        | inl first ↦ (first.1, inl first.0)
-        | inr beside ↦ (beside.0, inr (beside.1, beside.2))
-      ])
+      (λ w. told (finding.OtherVersion n) is w)
 
-  pub not_ours_over : f ≡ finding.NotOurs → (fresh ≡ true → ¬ AreFree old.now.schema)
+  pub not_ours_over : (flaw : Flaw) → f ≡ finding.NotOurs flaw → (fresh ≡ true → ¬ AreFree old.now.schema)
       → TakesOver fresh old new (Err refusals.NotOurs)
-  not_ours_over is taken =
+  not_ours_over flaw is taken =
       refused_over fresh old new idle finds.rest refusals.NotOurs finds.stays.worked finds.stays.unchanged
       (λ w.
-      let none = told finding.NotOurs is w in
+      let none = told (finding.NotOurs flaw) is w in
       (none.0.0, none.0.1, taken, none.1))
 
   module _ (v : Version) (free : Vacancies) (is : f ≡ finding.Ours v free) where
@@ -232,6 +230,10 @@ module _ (fresh : Bool) (old new : State) (idle : IsIdle old) {E : Type 0} (f : 
         (sym (one_version v u old.now.schema (had w) tables))
         (told (finding.Ours v free) is w).2
 
+    -- and the row of the version says so
+    says_was : Works new → IsOfVersion (number_of v) old.now
+    says_was w = (told (finding.Ours v free) is w).3
+
   -- ---- Of the newest version
 
   module _ (free : Vacancies) (is : f ≡ finding.Ours newest free) where
@@ -247,7 +249,7 @@ module _ (fresh : Bool) (old new : State) (idle : IsIdle old) {E : Type 0} (f : 
         record {
           has = subst (λ (db : Database). HasTables db.schema) (sym same) has;
           first = first_was newest free is w;
-          from = inl same;
+          from = inl (same, says_was newest free is w);
           alone = λ stands. elim stands [
             | inl version ↦
                 ap (λ (db : Database). db.schema) same ∙ version.1
@@ -325,7 +327,7 @@ module _ (fresh : Bool) (old new : State) (idle : IsIdle old) {E : Type 0} (f : 
               record {
                 has = brought v old.now.schema last.now.schema tables.0 gained;
                 first = first_was v free is (brings.worked w);
-                from = inr (inr (v, older, tables.0, tables.1));
+                from = inr (inr (v, older, says_was v free is (brings.worked w), tables.0, tables.1));
                 alone = λ stands. elim stands [
                   | inl version ↦
                       let is = migrated w (version.1

@@ -1,3 +1,4 @@
 pub mod Keeping
 pub mod Listed
 pub mod Opening
+pub mod Troubles

@@ -19,11 +19,11 @@ use Rattle.reg_keeper.specs.declared.keeper.Fault.{Fault as Given}
 use Rattle.reg_keeper.specs.declared.keeper.Fault.TheVariants.{Memory, Store}
 use Rattle.reg_vacancies.specs.declared.vacancies.Vacancies.{Vacancies}
 use Rattle.reg_tables.specs.Connection.{Holds, IsIdle, Works}
-use Rattle.reg_tables.specs.Having.{AreFree, AreFreeLater, FindsTablesOf, GainsTables, HasTable, HasTables}
+use Rattle.reg_tables.specs.Having.{AreFree, AreFreeLater, FindsTablesOf, GainsTables, HasTables}
 use Rattle.reg_tables.specs.Making.{HasCounter, IsBegunBeside, IsMigrated, no_schema}
-use Rattle.reg_tables.specs.Schema.{office_schema, office_table}
+use Rattle.reg_tables.specs.Schema.{office_schema}
 use Rattle.reg_tables.specs.Selecting.{BeginsWith}
-use Rattle.reg_tables.specs.Version.{IsOther, later_than, newest, schema_of, table_count}
+use Rattle.reg_tables.specs.Version.{IsOther, later_than, newest, number_of, schema_of, table_count}
 use Rattle.reg_tables.specs.declared.version.Version.{Version}
 use Rattle.reg_statements.specs.Content.{IsStoredAs, content_at, world_in}
 use Rattle.reg_opening.specs.Opening.{HasVersionTables, ComesFirst, IsOfVersion, IsOurs}
@@ -52,10 +52,12 @@ IsOpened fresh db w =
     ((v : Version) × IsOurs v db × (w ≡ content_at v db))
     ⊎ ((fresh ≡ true) × HasNoTables db × (w ≡ empty_world))
 
--- the tables of an older version are there, and no name of those that it lacks is taken
+-- the row of the version says an older one, whose tables are there, and no name of those that it
+-- lacks is taken
 abbrev pub WasOlder : Database → Type 0
 WasOlder db =
-    (v : Version) × (v ≢ newest) × FindsTablesOf v db.schema × AreFreeLater v db.schema
+    (v : Version) × (v ≢ newest) × IsOfVersion (number_of v) db × FindsTablesOf v db.schema
+    × AreFreeLater v db.schema
 
 -- A new office was wanted, and no name of its tables was taken. It is begun beside what is there,
 -- which stays as it was.
@@ -64,25 +66,24 @@ pub record IsBegun (fresh : Bool) (old new : Database) : Type 0 where
   pub free : AreFree old.schema
   pub beside : HasCounter old.schema → IsBegunBeside old new
 
--- The tables of an office are there, whatever stands beside them. They were there before, and
--- nothing was changed; or a new office was begun; or those of an older version were there, and no
--- name of the others was taken. Where those of a version came first, whatever followed them, their
--- rows were an office's that is well kept.
+-- The tables of an office are there, whatever stands beside them. They were there before, of the
+-- newest version, and nothing was changed; or a new office was begun; or those of an older version
+-- were there, and no name of the others was taken. Where those of a version came first, whatever
+-- followed them, their rows were an office's that is well kept.
 pub record IsTakenOver (fresh : Bool) (old new : Database) : Type 0 where
   pub has : HasTables new.schema
   pub first : (v : Version) → HasVersionTables v old → BeginsWith (table_count v) old.schema
       → ComesFirst v old
-  pub from : (new ≡ old) ⊎ (IsBegun fresh old new ⊎ WasOlder old)
+  pub from : ((new ≡ old) × IsOfVersion (number_of newest) old)
+      ⊎ (IsBegun fresh old new ⊎ WasOlder old)
   pub alone : StandsAlone old → new.schema ≡ office_schema
   pub was_alone : new.schema ≡ office_schema → StandsAlone old
 
--- why there is no office: the first table says a version that is none of the three, or another
--- table or a view stands before it; no office, neither alone nor before other tables, and no other
--- version, and a name is taken where a new one is wanted; a fault
+-- why there is no office: the row of the version says one that is none of the three, whatever tables
+-- there are; no office, neither alone nor before other tables, and no such version, and a name is
+-- taken where a new one is wanted; a fault
 abbrev pub IsRefused : Bool → Database → OpenFault → Type 0
-IsRefused fresh db (refusals.Version n) =
-    IsOther n
-    × (IsOfVersion n db ⊎ ((¬ BeginsWith 1 db.schema) × HasTable db.schema office_table))
+IsRefused fresh db (refusals.Version n) = IsOfVersion n db × IsOther n
 IsRefused fresh db refusals.NotOurs =
     ((v : Version) → ¬ IsOurs v db) × ((n : ℤ) → IsOfVersion n db → ¬ IsOther n)
     × (fresh ≡ true → ¬ AreFree db.schema)
@@ -154,35 +155,43 @@ module _ {D : Type 0} {g : disk.Ghosts D} where
   IsUnopened image (Some left) error =
       IsTrue (is_open_error error) × (IsCleanLeft left → IsUnread image left error)
 
--- the store that was found in files is refused, and no transaction is open on it
-pub record IsRefusedStore (fresh : Bool) (image : Image) (refusal : OpenFault) (s : State)
-    : Type 0 where
+-- what was found first in files that held this, where the disk returned it: it is open, and no
+-- transaction is
+pub record IsFoundFirst (image : Image) (s : State) : Type 0 where
   pub autocommit : s.in_transaction ≡ false
   pub settled : s.now ≡ s.committed
+  pub is_open : IsTrue s.is_open
   pub found : IsFoundIn image s.now
-  pub refused : IsRefused fresh s.now refusal
 
--- why there is no office in files that held this: the store that was opened is refused as it was
--- found; or none was opened, and the fault is what the library's error is to an office
+-- what an opening of files that held this may answer: what was found in them; or why there is none
 module _ {D : Type 0} {g : disk.Ghosts D} where
-  abbrev pub IsRefusedAt : Bool → Image → OpenFault
-      → Result (Held (FileStore D g)) (Option (Leftover D g)) → Type 0
-  IsRefusedAt fresh image refusal (Ok conn) =
-      Works (file_state conn) → IsRefusedStore fresh image refusal (file_state conn)
-  IsRefusedAt fresh image refusal (Err left) =
-      (error : Error) × IsUnopened image left error × (refusal ≡ refusal_of error)
+  abbrev pub OpensFiles : Image → Result (Held (FileStore D g)) (Error × Option (Leftover D g)) → Type 0
+  OpensFiles image (Ok conn) = HasCleanDisk (file_state conn) → IsFoundFirst image (file_state conn)
+  OpensFiles image (Err failed) = IsUnopened image failed.1 failed.0
 
-  -- the office that was opened in them: what it is of what was found there, and when it is one
-  pub record IsOpenedFrom (fresh : Bool) (image : Image) (conn : Held (FileStore D g)) : Type 0 where
-    pub opened : Holds (file_state conn)
-        → (found : Database) × IsFoundIn image found × IsOpened fresh found (world_in (file_state conn))
-    pub live : IsHonest (file_state conn)
-        → (found : Database) × IsFoundIn image found × (StandsAlone found → Holds (file_state conn))
+-- ---- Stores that something opens
 
-  -- so it is of a call that gives a keeper over such files, or the error alone: what was opened is
-  -- dropped
-  abbrev pub IsRefusedOf : {K : Type 0} → Result K OpenFault → (K → Held (FileStore D g)) → Bool
-      → Image → Type 0
-  IsRefusedOf result tables fresh image = IfErr result (λ refusal.
-      (left : Result (Held (FileStore D g)) (Option (Leftover D g)))
-      × IsRefusedAt fresh image refusal left)
+-- a store is taken over as it was opened
+pub record IsOpenedOf (fresh : Bool) (old new : State) : Type 0 where
+  pub opened : Holds new → Works old × IsOpened fresh old.now (world_in new)
+  pub taken : Works new → Works old × IsTakenOver fresh old.now new.now
+  pub live : IsHonest new
+      → HasCleanDisk old × (IsTrue old.is_open → StandsAlone old.now → Holds new)
+
+-- a store is refused as it was opened, and left as it was
+pub record IsRefusedOf (fresh : Bool) (refusal : OpenFault) (old new : State) : Type 0 where
+  pub unchanged : IsAsItWas old new
+  pub refused : old.in_transaction ≡ false → Works new → IsRefused fresh old.now refusal
+
+-- of what may be opened, by its state
+module _ {C L : Type 0} (state : C → State) (Opens : Result C (Error × L) → Type 0) where
+  -- an office is that of a store that was opened
+  abbrev pub IsOpenedBy : Bool → C → Type 0
+  IsOpenedBy fresh kept = (opened : C) × Opens (Ok opened) × IsOpenedOf fresh (state opened) (state kept)
+
+  -- why there is none: the store that was opened is refused; or none was, and the refusal is what the
+  -- error is to an office
+  abbrev pub IsRefusedBy : Bool → OpenFault → Result C (Error × L) → Type 0
+  IsRefusedBy fresh refusal (Ok left) =
+      (opened : C) × Opens (Ok opened) × IsRefusedOf fresh refusal (state opened) (state left)
+  IsRefusedBy fresh refusal (Err failed) = Opens (Err failed) × (refusal ≡ refusal_of failed.0)

@@ -6,6 +6,6 @@ mod following;
 pub mod keeper;
 pub mod look;
 pub mod open;
-mod reason;
+pub mod opener;
 pub mod trouble;
 mod vacancies;

@@ -1,16 +1,16 @@
 //! Offices that are looked at and not changed.
-ghost use Rattle.std.specs.Prelude.{◌≡◌, false, IfOk, IsTrue};
+ghost use Rattle.std.specs.Prelude.{◌≡◌, false, IfErr, IfOk, IsTrue};
 ghost use Rattle.sqlite.specs.Held.{state};
 ghost use Rattle.sqlite_disk.specs.Memory.{memory_is_usable};
 ghost use Rattle.reg_tables.specs.Connection.{Holds, Works};
-ghost use Rattle.reg_tables.specs.Version.{schema_of};
+ghost use Rattle.reg_tables.specs.Version.{number_of, schema_of};
 ghost use Rattle.reg_statements.specs.Content.{world_in};
-ghost use Rattle.reg_opening.specs.Opening.{IsOurs};
+ghost use Rattle.reg_opening.specs.Opening.{IsOfVersion, IsOurs};
 ghost use Rattle.reg_sql.specs.Opening.{IsOpened};
+ghost use Rattle.reg_sql.specs.Troubles.{IsGivenUp, IsTrouble};
 
 use crate::copying::copies;
 use crate::keeper::SqlKeeper;
-use crate::reason::reason;
 use crate::trouble::Trouble;
 use reg_opening::kind::{Found, find};
 use reg_tables::version::Version;
@@ -36,7 +36,19 @@ pub fn look_at(rt: &HostRuntime, path: &str) -> Result<Look<FileStore<Memory>>, 
         .map_err(|_| Trouble::Unreadable)?
         .hash_one(&0u8);
     let conn = connect(rt.alloc(), files, seed)?;
-    look_into(rt.alloc(), conn)
+    kept_look(rt.alloc(), conn)
+}
+
+/// The office in a store, or what is wrong. It is over any store, since what is over a known one
+/// unfolds all that it holds.
+fn kept_look<S: Alter + Drop>(alloc: Global, conn: Connection<S>) -> Result<Look<S>, Trouble> {
+    match look_into(alloc, conn) {
+        Ok(look) => Ok(look),
+        Err((trouble, conn)) => {
+            drop(conn);
+            Err(trouble)
+        }
+    }
 }
 
 /// A connection to copies of a database and its log.
@@ -68,34 +80,36 @@ fn trouble(error: &Error) -> Trouble {
 }
 
 /// The office in a store, with the version that the store says. It is brought to the newest there.
+/// Where there is none, what is wrong is told, and the connection comes back.
 pub fn look_into<S: Alter + Drop>(
     alloc: Global,
     mut conn: Connection<S>,
-) -> Result<Look<S>, Trouble>
+) -> Result<Look<S>, (Trouble, Connection<S>)>
     ensures opened { IfOk result (λ look. Holds (state S.Store look.keeper.tables)
         → Works (state S.Store conn)
         × IsOpened false (state S.Store conn).now (world_in (state S.Store look.keeper.tables))) }
-    ensures version { IfOk result (λ look. Holds (state S.Store look.keeper.tables)
+    ensures version { IfOk result (λ look. Works (state S.Store look.keeper.tables)
+        → IsOfVersion (number_of look.version) (state S.Store conn).now) }
+    ensures ours { IfOk result (λ look. Holds (state S.Store look.keeper.tables)
         → (state S.Store conn).now.schema ≡ schema_of look.version
         → IsOurs look.version (state S.Store conn).now) }
+    ensures trouble { IfErr result (λ refusal. Works (state S.Store refusal.1)
+        → IsTrouble (state S.Store conn) refusal.0) }
 {
     if !conn.is_autocommit() {
-        return Err(Trouble::NoTables);
+        return Err((Trouble::InTransaction, conn));
     }
-    match find(alloc, &mut conn)? {
+    let found = match find(alloc, &mut conn) {
+        Ok(found) => found,
+        Err(fault) => return Err((Trouble::from(fault), conn)),
+    };
+    match found {
         Found::Ours(version, free) => {
             drop(free);
             adopted(alloc, conn, version)
         }
-        Found::OtherVersion(version) => {
-            drop(conn);
-            Err(Trouble::Version(version))
-        }
-        Found::NotOurs => {
-            let trouble = reason(alloc, &mut conn);
-            drop(conn);
-            Err(trouble)
-        }
+        Found::OtherVersion(version) => Err((Trouble::Version(version), conn)),
+        Found::NotOurs(flaw) => Err((Trouble::NotOurs(flaw), conn)),
     }
 }
 
@@ -104,17 +118,18 @@ fn adopted<S: Alter + Drop>(
     alloc: Global,
     conn: Connection<S>,
     version: Version,
-) -> Result<Look<S>, Trouble>
+) -> Result<Look<S>, (Trouble, Connection<S>)>
     ensures same { IfOk result (λ look. look.version ≡ version) }
     ensures opened { IfOk result (λ look. Holds (state S.Store look.keeper.tables)
         → Works (state S.Store conn)
         × IsOpened false (state S.Store conn).now (world_in (state S.Store look.keeper.tables))) }
+    ensures worked { IfOk result (λ look. Works (state S.Store look.keeper.tables)
+        → Works (state S.Store conn)) }
+    ensures refused { IfErr result (λ refusal.
+        IsGivenUp (state S.Store conn) (state S.Store refusal.1) refusal.0) }
 {
     match SqlKeeper::adopt(alloc, conn, false) {
         Ok(keeper) => Ok(Look { version, keeper }),
-        Err((fault, conn)) => {
-            drop(conn);
-            Err(Trouble::from(fault))
-        }
+        Err((fault, conn)) => Err((Trouble::from(fault), conn)),
     }
 }

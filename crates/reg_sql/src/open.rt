@@ -3,7 +3,6 @@ ghost use Rattle.std.specs.Prelude.{◌≡◌, true, false, IfErr, IfOk, IsTrue,
 ghost use Rattle.std.specs.Bool.{Decides};
 ghost use Rattle.sqlite.specs.Held.{state};
 ghost use Rattle.sqlite.specs.State.{HasCleanDisk};
-ghost use Rattle.sqlite_wal.specs.Files.{image_at};
 ghost use Rattle.reg_core.specs.World.{empty_world};
 ghost use Rattle.reg_keeper.specs.declared.keeper.Fault.{Fault as KeeperFault};
 ghost use Rattle.reg_tables.specs.Connection.{Holds, IsIdle, Tells, Works};
@@ -13,12 +12,13 @@ ghost use Rattle.reg_tables.specs.Schema.{office_schema};
 ghost use Rattle.reg_tables.specs.Version.{newest};
 ghost use Rattle.reg_statements.specs.Content.{world_in};
 ghost use Rattle.reg_sql.specs.Keeping.{IsHonest, KeepsOffice};
-ghost use Rattle.reg_sql.specs.Opening.{Brings, HasNoTables, IsAsItWas, IsOpened, IsOpenedFrom, IsRefused};
-ghost use Rattle.reg_sql.specs.Opening.{IsRefusedAt, IsRefusedOf, IsTakenOver, StandsAlone, TakesOver};
+ghost use Rattle.reg_sql.specs.Opening.{Brings, HasNoTables, IsAsItWas, IsOpened, IsOpenedBy, IsRefused};
+ghost use Rattle.reg_sql.specs.Opening.{IsRefusedBy, IsTakenOver, StandsAlone, TakesOver};
 ghost use Rattle.reg_sql.specs.Opening.{refusal_of};
 ghost use Rattle.reg_sql.specs.declared.open.OpenFault.TheVariants as refusals;
 
 use crate::keeper::SqlKeeper;
+use crate::opener::Opener;
 use reg_keeper::keeper::Fault;
 use reg_migration::migrate::migrate;
 use reg_opening::kind::{Found, find};
@@ -27,7 +27,7 @@ use reg_tables::make::make_office;
 use reg_tables::schema::has_room;
 use reg_tables::version::Version;
 use reg_vacancies::vacancies::Vacancies;
-use sqlite::{Alter, Connection, Error, ErrorCode, FileFrom, FileStore, Leftover, Start};
+use sqlite::{Alter, Connection, Error, ErrorCode};
 use std::alloc::Global;
 
 /// Why no office is opened. The store is as it was.
@@ -107,7 +107,7 @@ fn take_over<S: Alter>(
         Found::Ours(version, vacancies) if is_newest(version) => Ok(vacancies),
         Found::Ours(older, vacancies) => bring(conn, older, vacancies),
         Found::OtherVersion(version) => Err(OpenFault::Version(version)),
-        Found::NotOurs => Err(OpenFault::NotOurs),
+        Found::NotOurs(_) => Err(OpenFault::NotOurs),
     }
 }
 
@@ -182,51 +182,28 @@ fn found<S: Alter>(alloc: Global, conn: &mut Connection<S>) -> Result<Vacancies,
     }
 }
 
-/// What was opened of files in which no office is: the store, as it was found; or none, and what is
-/// left of the files, where they were opened.
-pub type Opened<T> = Result<Connection<FileStore<FileFrom<T>>>, Option<Leftover<FileFrom<T>>>>;
+/// What was opened where no office is: the store, as it was found; or none, with the error and what
+/// is left of what was opened.
+pub type Opened<S, L> = Result<Connection<S>, (Error, L)>;
 
-/// The office in the files at a path, where `start` says what they hold. A `fresh` one is founded
-/// where there is no file, or one in which no name of its tables is taken; else an absent file is
-/// not ours, and may be left there empty. Nor is one ours that cannot be opened, or is none of
-/// SQLite's. What is refused is refused as by `adopt`, where the library opens it; else the library's
-/// error says why: want of memory, a disk that failed or is full, or a file that is too long is a
-/// fault, and any other is `NotOurs`.
-pub fn from_path<T: Start>(
+/// The office in the store that is opened at a path. A `fresh` one is founded where no name of its
+/// tables is taken. Where there is none, what was opened comes back: a store is refused as by `adopt`;
+/// of an error want of memory, a disk that failed or is full, or a file that is too long is a fault,
+/// and any other is `NotOurs`.
+pub fn open_by<O: Opener>(
     rt: &HostRuntime,
+    opener: O,
     path: &str,
     fresh: bool,
-    start: T,
-) -> Result<SqlKeeper<FileStore<FileFrom<T>>>, OpenFault>
+) -> Result<SqlKeeper<O::Base>, (OpenFault, Opened<O::Base, O::Left>)>
     ensures office { IfOk result (λ keeper.
-        IsOpenedFrom fresh (image_at T.Start) keeper.tables) }
-    ensures refused { IsRefusedOf result (λ keeper. keeper.tables) fresh (image_at T.Start) }
-{
-    match open_path(rt, path, fresh, start) {
-        Ok(keeper) => Ok(keeper),
-        Err((fault, left)) => {
-            drop(left);
-            Err(fault)
-        }
-    }
-}
-
-/// The same, and what was opened comes back where there is no office: what is said of a fault is
-/// said of that.
-pub fn open_path<T: Start>(
-    rt: &HostRuntime,
-    path: &str,
-    fresh: bool,
-    start: T,
-) -> Result<SqlKeeper<FileStore<FileFrom<T>>>, (OpenFault, Opened<T>)>
-    ensures office { IfOk result (λ keeper.
-        IsOpenedFrom fresh (image_at T.Start) keeper.tables) }
+        IsOpenedBy (state O.Base.Store) (O.Opens path.now) fresh keeper.tables) }
     ensures refused { IfErr result (λ refusal.
-        IsRefusedAt fresh (image_at T.Start) refusal.0 refusal.1) }
+        IsRefusedBy (state O.Base.Store) (O.Opens path.now) fresh refusal.0 refusal.1) }
 {
-    let conn = match Connection::open_from(rt, path, false, start) {
+    let conn = match opener.open(rt, path) {
         Ok(conn) => conn,
-        Err((error, left)) => return Err((refusal(&error), Err(left))),
+        Err((error, left)) => return Err((refusal(&error), Err((error, left)))),
     };
     match SqlKeeper::adopt(rt.alloc(), conn, fresh) {
         Ok(keeper) => Ok(keeper),

@@ -1,6 +1,7 @@
 //! What is wrong with a file in which no office is found, for people.
 use crate::open::OpenFault;
 use reg_keeper::keeper::Fault;
+use reg_opening::flaw::{Flaw, RowFlaw};
 use std::alloc::AllocError;
 use std::fmt;
 use std::fmt::{Display, Formatter, Write};
@@ -20,16 +21,12 @@ pub enum Trouble {
     Journal,
     /// It is no database, or a damaged one.
     NoDatabase,
-    /// It has not the tables of an office, or not the row that says their version.
-    NoTables,
+    /// A transaction is open on it.
+    InTransaction,
     /// The office is of this version, which is not known.
     Version(i64),
-    /// A row of this table does not read.
-    Unread(&'static str),
-    /// A row of this table does not fit the rows before it.
-    Unfit(&'static str),
-    /// Each row reads and fits, and the store is no office's all the same.
-    Unkept,
+    /// It is no office's, for this reason.
+    NotOurs(Flaw),
     /// There was no memory.
     Memory,
     /// The copy in memory failed.
@@ -60,6 +57,11 @@ impl From<AllocError> for Trouble {
 }
 
 impl From<Fault> for Trouble {
+    ghost use Rattle.std.specs.Prelude.{◌≡◌};
+    ghost use Rattle.reg_sql.specs.Troubles.{fault_trouble};
+
+    ghost from_gives = { λ fault trouble. trouble ≡ fault_trouble fault };
+
     fn from(fault: Fault) -> Trouble {
         match fault {
             Fault::Memory => Trouble::Memory,
@@ -69,10 +71,15 @@ impl From<Fault> for Trouble {
 }
 
 impl From<OpenFault> for Trouble {
+    ghost use Rattle.std.specs.Prelude.{◌≡◌};
+    ghost use Rattle.reg_sql.specs.Troubles.{refused_trouble};
+
+    ghost from_gives = { λ fault trouble. trouble ≡ refused_trouble fault };
+
     fn from(fault: OpenFault) -> Trouble {
         match fault {
             OpenFault::Version(version) => Trouble::Version(version),
-            OpenFault::NotOurs => Trouble::Unkept,
+            OpenFault::NotOurs => Trouble::NotOurs(Flaw::Rows(RowFlaw::Unkept)),
             OpenFault::Fault(fault) => Trouble::from(fault),
         }
     }
@@ -89,21 +96,14 @@ impl Display for Trouble {
                 f.write_str("SQLite left a rollback journal beside it: open it with sqlite3 first")
             }
             Trouble::NoDatabase => f.write_str("it is no SQLite database, or a damaged one"),
-            Trouble::NoTables => f.write_str("it has not the tables of an office"),
+            Trouble::InTransaction => f.write_str("a transaction is open on it"),
             Trouble::Version(version) => {
                 write!(
                     f,
                     "it is an office of version {version}, which this program does not know"
                 )
             }
-            Trouble::Unread(table) => write!(f, "a row of the table {table} does not read"),
-            Trouble::Unfit(table) => {
-                write!(
-                    f,
-                    "a row of the table {table} does not fit the rows before it"
-                )
-            }
-            Trouble::Unkept => f.write_str("its tables make no well kept office"),
+            Trouble::NotOurs(flaw) => write!(f, "{flaw}"),
             Trouble::Memory => f.write_str("there was no memory"),
             Trouble::Store => f.write_str("the copy in memory failed"),
         }

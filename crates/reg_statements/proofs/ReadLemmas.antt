@@ -10,10 +10,6 @@ module _ {X Y : Type 0} (of : X → Option Y) where
   abbrev HaveForm : List X → Type 0
   HaveForm = AllByRecursion (λ x. IsSome (of x))
 
-  before : (xs : List X) (x : X) → HaveForm (xs ++ x ∷ []) → HaveForm xs
-  before [] x all = tt
-  before (w ∷ xs) x all = (all.0, before xs x all.1)
-
   at_end : (xs : List X) (x : X) → HaveForm (xs ++ x ∷ []) → IsSome (of x)
   at_end [] x all = all.0
   at_end (w ∷ xs) x all = at_end xs x all.1
@@ -26,9 +22,6 @@ module _ {X Y : Type 0} (of : X → Option Y) where
       let first : of x ≡ Some y = cc in
       let rest : map of xs ≡ map Some ys = cc in
       (subst IsSome (sym first) refl, reads_form xs ys rest)
-
-  pub still_unread : (xs : List X) (x : X) → ¬ HaveForm xs → ¬ HaveForm (xs ++ x ∷ [])
-  still_unread xs x not all = not (before xs x all)
 
   pub now_unread : (xs : List X) (x : X) → of x ≡ None → ¬ HaveForm (xs ++ x ∷ [])
   now_unread xs x none all = absurd (let h = subst IsSome none (at_end xs x all) in cc)

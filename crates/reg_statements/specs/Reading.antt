@@ -1,12 +1,15 @@
 -- The rows of a query as values.
-use Rattle.std.specs.Prelude.{◌≡◌, ℕ, List, [], ◌∷◌, map, Bool, true, false, Some, Option, IsSome, MatchOption, Vec}
+use Rattle.std.specs.Prelude.{◌≡◌, ◌⊎◌, ℕ, ◌^◌, ◌-◌, List, [], ◌∷◌, length, map, Bool, true, false, Some, Option, IsSome, MatchOption, Vec}
 use Rattle.std.specs.List.{AllByRecursion}
 use Rattle.std.specs.declared.alloc.Global.{Global}
+use Rattle.sqlite.specs.Given.{HasGiven}
+use Rattle.sqlite.specs.Held.{Held, state}
 use Rattle.sqlite.specs.Order.{Row}
-use Rattle.sqlite.specs.State.{State, Shown}
+use Rattle.sqlite.specs.State.{State, HasCleanDisk, Shown}
 use Rattle.sqlite.specs.declared.error.Error.{Error}
 use Rattle.sqlite.specs.declared.error.Error.TheVariants.{SqliteFailure}
-use Rattle.sqlite.specs.declared.error.ErrorCode.TheVariants.{OutOfMemory}
+use Rattle.sqlite.specs.declared.error.ErrorCode.TheVariants.{OperationInterrupted, OutOfMemory}
+use Rattle.sqlite_trees.specs.declared.store.Store.{Ghosts}
 use Rattle.reg_keeper.specs.declared.keeper.Fault.{Fault}
 use Rattle.reg_keeper.specs.declared.keeper.Fault.TheVariants.{Memory, Store}
 use Rattle.reg_tables.specs.Connection.{Works}
@@ -18,10 +21,24 @@ abbrev pub fault_of : Error → Fault
 fault_of (SqliteFailure OutOfMemory) = Memory
 fault_of _ = Store
 
--- the library's error that a fault tells: why the store gave it
-pub record IsFault (old new : State) (fault : Fault) : Type 0 where
+-- a query gave as many rows as a u64 counts
+abbrev pub GivesTooMany : {S : Type 0} → Ghosts S → List ℕ → Row → Held S → Type 0
+GivesTooMany g sql params conn =
+    HasCleanDisk (state g conn) → (rows : List Row) × HasGiven g sql params conn rows
+    × (length rows ≡ 2 ^ 64 - 1)
+
+-- Why a query is given up: the library reported the error, memory was refused to a row, or there are
+-- too many rows.
+abbrev pub IsMet : (Error → Type 0) → Type 0 → Type 0 → Error → Type 0
+IsMet Reported Refused TooMany error =
+    Reported error ⊎ ((error ≡ SqliteFailure OutOfMemory) × Refused)
+    ⊎ ((error ≡ SqliteFailure OperationInterrupted) × TooMany)
+
+-- the error that a fault tells: where it was met, and why the store gave it
+pub record IsFault (Met : Error → Type 0) (old new : State) (fault : Fault) : Type 0 where
   pub error : Error
   pub told : fault ≡ fault_of error
+  pub met : Met error
   pub cause : IsExcused old new error
 
 -- a fault of the store that a query is: the rows that it shows are not what they have to be

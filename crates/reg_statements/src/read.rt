@@ -1,5 +1,5 @@
 //! The rows of a query as values.
-ghost use Rattle.std.specs.Prelude.{◌≡◌, ◌⊎◌, ◌++◌, false, List, [], ◌∷◌, IfErr, IfOk};
+ghost use Rattle.std.specs.Prelude.{◌≡◌, ◌⊎◌, ◌++◌, false, List, [], ◌∷◌, IfErr, IfOk, OnErr, OnOk};
 ghost use Rattle.sqlite.specs.Held.{state};
 ghost use Rattle.sqlite.specs.Order.{Row as SqlRow};
 ghost use Rattle.sqlite.specs.State.{HasCleanDisk, IsUnchanged, IsRolledBack, Shown};
@@ -8,13 +8,14 @@ ghost use Rattle.reg_tables.specs.Connection.{Endures, IsIdle, Stays, Works};
 ghost use Rattle.reg_tables.specs.Faulting.{IsExcused};
 ghost use Rattle.reg_tables.specs.Kinds.{IsQuery};
 ghost use Rattle.reg_tables.specs.Lasting.{Lasts};
-ghost use Rattle.reg_statements.specs.Reading.{AreRead, AreTaken, IsFault};
+ghost use Rattle.reg_statements.specs.Reading.{AreRead, AreTaken, GivesTooMany, IsFault, IsMet};
 
 use crate::write::fault;
 use reg_keeper::keeper::Fault;
 use reg_records::record::Record;
+use reg_tables::reports::Reports;
 use sqlite::types::ValueRef;
-use sqlite::{Alter, Connection, Error, ErrorCode, Row};
+use sqlite::{Connection, Error, ErrorCode, Row};
 use std::alloc::{AllocError, Global};
 
 /// What takes values, one after the other.
@@ -22,17 +23,43 @@ pub trait Sink<T> {
     /// What it is before it takes a value, the value, and what it is then.
     ghost Takes: { Self → T → Self → Type 0 };
 
+    /// Memory was refused where it was to take a value.
+    ghost Untaken: { Type 0 };
+
     /// Takes a value.
     fn take(&mut self, value: T) -> Result<(), AllocError>
-        ensures { IfOk result (λ _. Takes self.old value self.new) };
+        ensures taken { IfOk result (λ _. Takes self.old value self.new) }
+        ensures refused { OnErr result Untaken };
 }
 
-impl<T: Drop> Sink<T> for Vec<T> {
+/// A row that is put behind others in a list.
+pub trait Listed: Record {
+    /// Memory was refused where such a row was to be put into a list.
+    ghost Unlisted: { Type 0 };
+
+    /// Puts a row behind others.
+    fn list(rows: &mut Vec<Self>, row: Self) -> Result<(), AllocError>
+        ensures listed { OnOk result (rows.new.items ≡ rows.old.items ++ row ∷ []) }
+        ensures refused { OnErr result Unlisted };
+}
+
+/// Each row: memory is refused where the list cannot grow.
+impl<T: Record> Listed for T {
+    ghost Unlisted = { Unit {0} };
+
+    fn list(rows: &mut Vec<T>, row: T) -> Result<(), AllocError> {
+        rows.push(row)?;
+        Ok(())
+    }
+}
+
+impl<T: Listed> Sink<T> for Vec<T> {
     ghost Takes = { λ old value new. new.items ≡ old.items ++ value ∷ [] };
 
+    ghost Untaken = { T.Unlisted };
+
     fn take(&mut self, value: T) -> Result<(), AllocError> {
-        self.push(value)?;
-        Ok(())
+        T::list(self, value)
     }
 }
 
@@ -43,9 +70,10 @@ fn take_row<T: Record, K: Sink<T>>(
     read: bool,
     row: &Row,
 ) -> Result<bool, AllocError>
-    ensures { IfOk result (λ more. (start : K) (rows : List SqlRow)
+    ensures taken { IfOk result (λ more. (start : K) (rows : List SqlRow)
         → AreTaken T.of K.Takes start rows sink.old read
         → AreTaken T.of K.Takes start (rows ++ row.now ∷ []) sink.new more) }
+    ensures refused { OnErr result (T.Unread ⊎ K.Untaken) }
 {
     if !read {
         return Ok(false);
@@ -60,7 +88,7 @@ fn take_row<T: Record, K: Sink<T>>(
 }
 
 /// Hands on the rows of a query, one after the other, where each has its form.
-fn take_rows<S: Alter, T: Record, K: Sink<T>>(
+fn take_rows<S: Reports, T: Record, K: Sink<T>>(
     alloc: Global,
     conn: &mut Connection<S>,
     sql: &str,
@@ -79,12 +107,19 @@ fn take_rows<S: Alter, T: Record, K: Sink<T>>(
         × Shown sql.now (bound params.now) (state S.Store conn.old) (state S.Store conn.new) rows
         × AreTaken T.of K.Takes sink.old rows sink.new read) }
     ensures cause { IfErr result (IsExcused (state S.Store conn.old) (state S.Store conn.new)) }
+    ensures met { IfErr result (IsMet S.Reported (T.Unread ⊎ K.Untaken)
+        (GivesTooMany S.Store sql.now (bound params.now) conn.new)) }
 {
     let mut read = true;
-    let mut rows = conn.query(sql, params)?;
-    'rows: for _ in 0..u64::MAX {
-        let Some(row) = rows.next()? else {
-            return Ok(read);
+    let mut rows = match conn.query(sql, params) {
+        Ok(rows) => rows,
+        Err(error) => return Err(S::heard(error)),
+    };
+    'rows: for _at in 0..u64::MAX {
+        let row = match rows.next() {
+            Ok(Some(row)) => row,
+            Ok(None) => return Ok(read),
+            Err(error) => return Err(S::heard(error)),
         };
         read = take_row::<T, K>(alloc, sink, read, row)?;
     }
@@ -94,7 +129,7 @@ fn take_rows<S: Alter, T: Record, K: Sink<T>>(
 /// Hands on the rows of a query, one after the other, where each has its form, and tells whether
 /// each has. Rows that come before one that has not are handed on too. A fault is what the library's
 /// error is: want of memory is `Memory`, and any other `Store`.
-pub fn each<S: Alter, T: Record, K: Sink<T>>(
+pub fn each<S: Reports, T: Record, K: Sink<T>>(
     alloc: Global,
     conn: &mut Connection<S>,
     sql: &str,
@@ -109,7 +144,9 @@ pub fn each<S: Alter, T: Record, K: Sink<T>>(
     ensures rows { Works (state S.Store conn.new) → IfOk result (λ read. (rows : _)
         × Shown sql.now (bound params.now) (state S.Store conn.old) (state S.Store conn.new) rows
         × AreTaken T.of K.Takes sink.old rows sink.new read) }
-    ensures fault { IfErr result (IsFault (state S.Store conn.old) (state S.Store conn.new)) }
+    ensures fault { IfErr result (IsFault (IsMet S.Reported (T.Unread ⊎ K.Untaken)
+        (GivesTooMany S.Store sql.now (bound params.now) conn.new))
+        (state S.Store conn.old) (state S.Store conn.new)) }
 {
     match take_rows::<S, T, K>(alloc, conn, sql, params, sink) {
         Ok(read) => Ok(read),
@@ -119,7 +156,7 @@ pub fn each<S: Alter, T: Record, K: Sink<T>>(
 
 /// The rows of a query, one at a time, where each has its form. A fault is what the library's error
 /// is: want of memory is `Memory`, and any other `Store`.
-pub fn load<S: Alter, T: Record>(
+pub fn load<S: Reports, T: Listed>(
     alloc: Global,
     conn: &mut Connection<S>,
     sql: &str,
@@ -133,7 +170,9 @@ pub fn load<S: Alter, T: Record>(
     ensures rows { Works (state S.Store conn.new) → IfOk result (λ o. (rows : _)
         × Shown sql.now (bound params.now) (state S.Store conn.old) (state S.Store conn.new) rows
         × AreRead T.of rows o) }
-    ensures fault { IfErr result (IsFault (state S.Store conn.old) (state S.Store conn.new)) }
+    ensures fault { IfErr result (IsFault (IsMet S.Reported (T.Unread ⊎ T.Unlisted)
+        (GivesTooMany S.Store sql.now (bound params.now) conn.new))
+        (state S.Store conn.old) (state S.Store conn.new)) }
 {
     let mut all = Vec::new(alloc);
     if each::<S, T, Vec<T>>(alloc, conn, sql, params, &mut all)? {

@@ -7,19 +7,20 @@ ghost use Rattle.reg_tables.specs.Connection.{Endures, IsIdle, Stays, Works};
 ghost use Rattle.reg_tables.specs.Kinds.{IsQuery};
 ghost use Rattle.reg_keeper.specs.declared.keeper.Fault.TheVariants as faults;
 ghost use Rattle.reg_statements.specs.Loading.{IsAscending, ReadAs, ReadsInOrder, ReadsOne};
-ghost use Rattle.reg_statements.specs.Reading.{IsFault, IsMisread};
+ghost use Rattle.reg_statements.specs.Reading.{GivesTooMany, IsFault, IsMet, IsMisread};
 
-use crate::read::load;
+use crate::read::{Listed, load};
 use reg_keeper::keeper::Fault;
-use reg_records::record::{Keyed, Record};
+use reg_records::record::Keyed;
+use reg_tables::reports::Reports;
+use sqlite::Connection;
 use sqlite::types::ValueRef;
-use sqlite::{Alter, Connection};
 use std::alloc::Global;
 use std::cmp::Ordering;
 
 /// The row of a query that has at most one. A row without its form, and a second one, are a fault
 /// of the store.
-pub fn one<S: Alter, T: Record>(
+pub fn one<S: Reports, T: Listed>(
     alloc: Global,
     conn: &mut Connection<S>,
     sql: &str,
@@ -33,8 +34,9 @@ pub fn one<S: Alter, T: Record>(
     ensures row { Works (state S.Store conn.new) → IfOk result (λ o. (rows : _)
         × Shown sql.now (bound params.now) (state S.Store conn.old) (state S.Store conn.new) rows
         × ReadAs T.of rows (option_to_list o)) }
-    ensures fault { IfErr result (λ fault. IsFault (state S.Store conn.old) (state S.Store conn.new)
-        fault ⊎ IsMisread sql.now (bound params.now) (state S.Store conn.old)
+    ensures fault { IfErr result (λ fault. IsFault (IsMet S.Reported (T.Unread ⊎ T.Unlisted)
+        (GivesTooMany S.Store sql.now (bound params.now) conn.new)) (state S.Store conn.old)
+        (state S.Store conn.new) fault ⊎ IsMisread sql.now (bound params.now) (state S.Store conn.old)
         (state S.Store conn.new) (ReadsOne T.of) fault) }
 {
     let Some(mut rows) = load(alloc, conn, sql, params)? else {
@@ -50,7 +52,7 @@ pub fn one<S: Alter, T: Record>(
 
 /// The rows of a query, each before the next in the order of their keys. A row without its form,
 /// and one that does not come after the row before it, are a fault of the store.
-pub fn all<S: Alter, T: Keyed>(
+pub fn all<S: Reports, T: Keyed + Listed>(
     alloc: Global,
     conn: &mut Connection<S>,
     sql: &str,
@@ -65,8 +67,9 @@ pub fn all<S: Alter, T: Keyed>(
     ensures rows { Works (state S.Store conn.new) → IfOk result (λ all. (rows : _)
         × Shown sql.now (bound params.now) (state S.Store conn.old) (state S.Store conn.new) rows
         × ReadAs T.of rows all.items) }
-    ensures fault { IfErr result (λ fault. IsFault (state S.Store conn.old) (state S.Store conn.new)
-        fault ⊎ IsMisread sql.now (bound params.now) (state S.Store conn.old)
+    ensures fault { IfErr result (λ fault. IsFault (IsMet S.Reported (T.Unread ⊎ T.Unlisted)
+        (GivesTooMany S.Store sql.now (bound params.now) conn.new)) (state S.Store conn.old)
+        (state S.Store conn.new) fault ⊎ IsMisread sql.now (bound params.now) (state S.Store conn.old)
         (state S.Store conn.new) (ReadsInOrder T.of T.order) fault) }
 {
     match load(alloc, conn, sql, params)? {

@@ -6,9 +6,10 @@ ghost use Rattle.reg_tables.specs.Connection.{RunsInside};
 ghost use Rattle.reg_statements.specs.Reading.{IsFault, fault_of};
 
 use reg_keeper::keeper::Fault;
+use reg_tables::reports::Reports;
 use reg_tables::write::run;
 use sqlite::types::ValueRef;
-use sqlite::{Alter, Error, ErrorCode, Transaction};
+use sqlite::{Error, ErrorCode, Transaction};
 
 /// What an error of the store is to an office.
 pub fn fault(error: &Error) -> Fault
@@ -20,8 +21,9 @@ pub fn fault(error: &Error) -> Fault
     }
 }
 
-/// Runs a statement inside a transaction, and tells how many rows it wrote or took away.
-pub fn write<S: Alter>(
+/// Runs a statement inside a transaction, and tells how many rows it wrote or took away. A
+/// fault tells an error that the library reported.
+pub fn write<S: Reports>(
     tx: &mut Transaction<'_, S>,
     sql: &str,
     params: &[ValueRef<'_>],
@@ -29,7 +31,7 @@ pub fn write<S: Alter>(
     ensures same_reference { tx.new.conn.ghost_name ≡ tx.old.conn.ghost_name }
     ensures runs { RunsInside sql.now (bound params.now) (state S.Store tx.old.conn.now)
         (state S.Store tx.new.conn.now) result }
-    ensures fault { IfErr result (IsFault (state S.Store tx.old.conn.now)
+    ensures fault { IfErr result (IsFault S.Reported (state S.Store tx.old.conn.now)
         (state S.Store tx.new.conn.now)) }
 {
     match run(tx, sql, params) {

@@ -1,5 +1,5 @@
 -- A request's file, as its panel and the advice on it are held.
-use Rattle.std.proofs.Common.{◌≡◌, refl, ap}
+use Rattle.std.proofs.Common.{◌≡◌, ap}
 use Rattle.std.specs.Prelude.{Option, Some, None, option_map}
 use Rattle.reg_core.specs.File.{experts_of, opinions_of, file}
 use Rattle.reg_core.specs.Request.{request_row}
@@ -18,9 +18,3 @@ file-there w name (Some case) request h =
     ap (λ r. Some
     (record { request = r; experts = experts_of w name; advice = opinions_of w name }))
     same
-
--- and one that is not there
-pub file-absent : (w : World) (name : RequestName) (o : Option Case)
-    → option_map (request_row name) o ≡ None → option_map (file w name) o ≡ None
-file-absent w name None h = refl
-file-absent w name (Some case) h = absurd (cc)

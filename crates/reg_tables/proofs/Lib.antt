@@ -5,6 +5,7 @@ pub mod GivenRows
 pub mod InsertStatements
 pub mod PutStatements
 pub mod InsertBeside
+pub mod SelectBeside
 pub mod MakeLemmas
 pub mod BesideLemmas
 pub mod MigrateLemmas

@@ -18,8 +18,7 @@ use Rattle.sqlite_resolve.specs.declared.compiled.Compiled.{Compiled}
 use Rattle.sqlite_resolve.specs.declared.error.CompileError.{CompileError}
 use Rattle.sqlite_schema.specs.declared.command.Returning.{Returning}
 use Rattle.sqlite.specs.Store.{Ghosts}
-use Rattle.reg_tables.specs.Connection.{Holds, Stays, Works}
-use Rattle.reg_tables.specs.Selecting.{BeginsWith}
+use Rattle.reg_tables.specs.Connection.{Holds, Stays}
 use Rattle.reg_tables.specs.Kinds.{IsQuery}
 use Rattle.reg_tables.proofs.Library.Queries.{IsPlainly, understood_query}
 use Rattle.reg_tables.specs.Lasting.{Lasts}
@@ -39,12 +38,6 @@ stays_held stays h = record {
 
 pub stays_same : {old new : State} → Stays old new → Holds new → new.now ≡ old.now
 stays_same stays h = stays.unchanged h.works
-
--- the first so many tables are an office's, as they were
-pub stays_begun : {old new : State} (n : ℕ) → Stays old new → Works new
-    → BeginsWith n new.now.schema → BeginsWith n old.now.schema
-stays_begun n stays works =
-    subst (λ (d : Database). BeginsWith n d.schema) (stays.unchanged works)
 
 pub survives_lasts : (old new : State) (P : Trees → Type 0) → Survives old new P → Lasts old new
 survives_lasts old new P s =

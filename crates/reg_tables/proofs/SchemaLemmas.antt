@@ -10,7 +10,6 @@ use Rattle.sqlite.specs.Table.{Table}
 use Rattle.sqlite_schema.specs.declared.schema.Column.{Column}
 use Rattle.sqlite_schema.specs.declared.schema.Stamps.{Stamps}
 use Rattle.reg_tables.specs.Schema.{office_schema}
-use Rattle.reg_tables.specs.Version.{newest, schema_of}
 use Rattle.reg_tables.specs.Bare.{IsBareColumn, IsBareTable, no_stamps}
 
 null_is : (v : Value) → is_null v ≡ true → v ≡ Null
@@ -70,7 +69,3 @@ bare_tables (t ∷ tables) e =
 
 pub office_bare : AllByRecursion IsBareTable office_schema.tables
 office_bare = bare_tables office_schema.tables refl
-
--- the newest version has all tables, and no others
-pub newest_is_office : schema_of newest ≡ office_schema
-newest_is_office = refl

@@ -60,7 +60,7 @@ as_kept db t = elim (nat_le (2 ^ 31) t) as (λ b. unwrap_or (cond b None None) (
   | false ↦ refl
 ]
 
-plain_query : (r : Result Compiled CompileError) (program : Program) (names : List (List ℕ))
+pub plain_query : (r : Result Compiled CompileError) (program : Program) (names : List (List ℕ))
     → IfOk r IsPlainly → command_of r ≡ Select program names → IsPlain r
 plain_query (Ok c) program names plain is = plain
 plain_query (Err e) program names plain is = absurd (cc)

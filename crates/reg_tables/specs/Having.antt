@@ -36,9 +36,6 @@ pub record FindsTable (schema : Schema) (t : Table) : Type 0 where
 abbrev pub HasTables : Schema → Type 0
 HasTables schema = AllByRecursion (HasTable schema) office_schema.tables
 
-abbrev pub FindsTables : Schema → Type 0
-FindsTables schema = AllByRecursion (FindsTable schema) office_schema.tables
-
 -- so are those of a version, and nothing has the name of a table that the version lacks
 abbrev pub FindsTablesOf : Version → Schema → Type 0
 FindsTablesOf v schema = AllByRecursion (FindsTable schema) (tables_of v)

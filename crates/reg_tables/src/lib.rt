@@ -2,6 +2,7 @@
 #![tactic(auto)]
 
 pub mod make;
+pub mod reports;
 mod same;
 pub mod schema;
 pub mod texts;

@@ -1,6 +1,6 @@
 //! The tables are made, all or none.
 
-ghost use Rattle.std.specs.Prelude.{◌≡◌, ◌≢◌, [], ◌∷◌, false, true, drop, length, map, IsTrue, OnOk, OnErr};
+ghost use Rattle.std.specs.Prelude.{◌≡◌, ◌≢◌, [], ◌∷◌, false, true, drop, length, map, IfErr, IsTrue, OnOk, OnErr};
 ghost use Rattle.sqlite.specs.Held.{state};
 ghost use Rattle.sqlite.specs.State.{HasCleanDisk};
 ghost use Rattle.sqlite.specs.Table.{Table as SqlTable};
@@ -8,6 +8,7 @@ ghost use Rattle.sqlite_schema.specs.Names.{same_name};
 ghost use Rattle.reg_tables.specs.Schema.{office_schema, office_table, office_texts};
 ghost use Rattle.reg_tables.specs.Connection.{IsIdle, WentOn, Works};
 ghost use Rattle.reg_tables.specs.Editing.{IsOffice};
+ghost use Rattle.reg_tables.specs.Faulting.{IsGivenUp};
 ghost use Rattle.reg_tables.specs.Having.{Defines, Gains, GainsEach, GainsTables, unplaced};
 ghost use Rattle.reg_tables.specs.Inside.{GoesInside, StaysInside};
 ghost use Rattle.reg_tables.specs.Making.{AddsVersion, Founds, IsBlank};
@@ -15,11 +16,12 @@ ghost use Rattle.reg_tables.specs.Making.{MakesEach, MakesOne, no_schema, versio
 ghost use Rattle.reg_tables.specs.Version.{table_count};
 ghost use Rattle.reg_tables.specs.Inserting.{AddedRow};
 
+use crate::reports::Reports;
 use crate::texts;
 use crate::version::{NEWEST, Version};
 use crate::write::run;
 use sqlite::types::ValueRef;
-use sqlite::{Alter, Connection, Error, Transaction};
+use sqlite::{Connection, Error, Transaction};
 
 /// The statements that make the tables, in the order in which the versions brought them.
 const TABLES: [&str; 13] = [
@@ -46,7 +48,7 @@ pub fn later_texts(from: Version) -> &'static [&'static str]
 }
 
 /// Makes a table.
-fn make<S: Alter>(tx: &mut Transaction<'_, S>, text: &str) -> Result<(), Error>
+fn make<S: Reports>(tx: &mut Transaction<'_, S>, text: &str) -> Result<(), Error>
     ensures same_reference { tx.new.conn.ghost_name ≡ tx.old.conn.ghost_name }
     ensures inside { GoesInside (state S.Store tx.old.conn.now)
         (state S.Store tx.new.conn.now) result }
@@ -58,13 +60,14 @@ fn make<S: Alter>(tx: &mut Transaction<'_, S>, text: &str) -> Result<(), Error>
         → same_name table.name table.name ≡ true
         → Gains (table ∷ []) 1 (length table.uniques)
         (state S.Store tx.old.conn.now).now.schema (state S.Store tx.new.conn.now).now.schema) }
+    ensures reported { IfErr result S.Reported }
 {
     run(tx, text, &[])?;
     Ok(())
 }
 
 /// Makes tables, one after the other.
-pub fn make_each<S: Alter>(tx: &mut Transaction<'_, S>, mut texts: &[&str]) -> Result<(), Error>
+pub fn make_each<S: Reports>(tx: &mut Transaction<'_, S>, mut texts: &[&str]) -> Result<(), Error>
     ensures same_reference { tx.new.conn.ghost_name ≡ tx.old.conn.ghost_name }
     ensures inside { StaysInside (state S.Store tx.old.conn.now) (state S.Store tx.new.conn.now) }
     ensures went { map (λ text. text.now) texts.entry.now ≢ []
@@ -76,6 +79,7 @@ pub fn make_each<S: Alter>(tx: &mut Transaction<'_, S>, mut texts: &[&str]) -> R
     ensures gained { HasCleanDisk (state S.Store tx.new.conn.now)
         → OnOk result (GainsEach (map (λ text. text.now) texts.entry.now)
         (state S.Store tx.old.conn.now).now.schema (state S.Store tx.new.conn.now).now.schema) }
+    ensures reported { IfErr result S.Reported }
 {
     'texts: while let [text, more @ ..] = texts {
         make(tx, text)?;
@@ -85,7 +89,7 @@ pub fn make_each<S: Alter>(tx: &mut Transaction<'_, S>, mut texts: &[&str]) -> R
 }
 
 /// Makes all tables.
-fn make_all<S: Alter>(tx: &mut Transaction<'_, S>) -> Result<(), Error>
+fn make_all<S: Reports>(tx: &mut Transaction<'_, S>) -> Result<(), Error>
     ensures same_reference { tx.new.conn.ghost_name ≡ tx.old.conn.ghost_name }
     ensures inside { GoesInside (state S.Store tx.old.conn.now)
         (state S.Store tx.new.conn.now) result }
@@ -98,12 +102,13 @@ fn make_all<S: Alter>(tx: &mut Transaction<'_, S>) -> Result<(), Error>
     ensures makes { HasCleanDisk (state S.Store tx.new.conn.now)
         → OnOk result (MakesEach office_texts (state S.Store tx.old.conn.now).now
         (state S.Store tx.new.conn.now).now) }
+    ensures reported { IfErr result S.Reported }
 {
     make_each(tx, &TABLES)
 }
 
 /// Adds the row that says the version of the schema.
-fn add_version<S: Alter>(tx: &mut Transaction<'_, S>) -> Result<(), Error>
+fn add_version<S: Reports>(tx: &mut Transaction<'_, S>) -> Result<(), Error>
     ensures same_reference { tx.new.conn.ghost_name ≡ tx.old.conn.ghost_name }
     ensures inside { GoesInside (state S.Store tx.old.conn.now)
         (state S.Store tx.new.conn.now) result }
@@ -118,26 +123,28 @@ fn add_version<S: Alter>(tx: &mut Transaction<'_, S>) -> Result<(), Error>
     ensures anywhere { HasCleanDisk (state S.Store tx.new.conn.now)
         → OnOk result (AddsVersion (state S.Store tx.old.conn.now).now
         (state S.Store tx.new.conn.now).now) }
+    ensures reported { IfErr result S.Reported }
 {
     run(tx, texts::INSERT_VERSION, &[ValueRef::Int(NEWEST.number())])?;
     Ok(())
 }
 
 /// Makes all tables, and adds that row.
-fn make_and_mark<S: Alter>(tx: &mut Transaction<'_, S>) -> Result<(), Error>
+fn make_and_mark<S: Reports>(tx: &mut Transaction<'_, S>) -> Result<(), Error>
     ensures same_reference { tx.new.conn.ghost_name ≡ tx.old.conn.ghost_name }
     ensures inside { GoesInside (state S.Store tx.old.conn.now)
         (state S.Store tx.new.conn.now) result }
     ensures founds { HasCleanDisk (state S.Store tx.new.conn.now)
         → OnOk result (Founds (state S.Store tx.old.conn.now).now
         (state S.Store tx.new.conn.now).now) }
+    ensures reported { IfErr result S.Reported }
 {
     make_all(tx)?;
     add_version(tx)
 }
 
 /// Makes all tables, or none.
-pub fn make_tables<S: Alter>(conn: &mut Connection<S>) -> Result<(), Error>
+pub fn make_tables<S: Reports>(conn: &mut Connection<S>) -> Result<(), Error>
     requires { IsIdle (state S.Store conn.old) }
     ensures rest { IsIdle (state S.Store conn.new) }
     ensures worked { Works (state S.Store conn.new) → Works (state S.Store conn.old) }
@@ -155,7 +162,7 @@ pub fn make_tables<S: Alter>(conn: &mut Connection<S>) -> Result<(), Error>
 }
 
 /// Makes all tables, with the row that says their version, or nothing.
-pub fn make_office<S: Alter>(conn: &mut Connection<S>) -> Result<(), Error>
+pub fn make_office<S: Reports>(conn: &mut Connection<S>) -> Result<(), Error>
     requires { IsIdle (state S.Store conn.old) }
     ensures rest { IsIdle (state S.Store conn.new) }
     ensures worked { Works (state S.Store conn.new) → Works (state S.Store conn.old) }
@@ -165,6 +172,8 @@ pub fn make_office<S: Alter>(conn: &mut Connection<S>) -> Result<(), Error>
         → OnOk result (Founds (state S.Store conn.old).now (state S.Store conn.new).now) }
     ensures kept { Works (state S.Store conn.new)
         → OnErr result ((state S.Store conn.new).now ≡ (state S.Store conn.old).now) }
+    ensures given_up { IfErr result (IsGivenUp S.Reported (Founds (state S.Store conn.old).now)
+        (state S.Store conn.new)) }
 {
     let mut tx = conn.transaction();
     make_and_mark(&mut tx)?;

@@ -3,14 +3,13 @@
 ghost use Rattle.std.specs.Prelude.{◌≡◌, ◌==◌, ◌≤◌, false, not, IsTrue, IfOk, [], drop, filter, length, take};
 ghost use Rattle.std.specs.List.{AllByRecursion};
 ghost use Rattle.sqlite_catalog.specs.Change.{is_used};
-ghost use Rattle.reg_tables.specs.Schema.{office_schema};
+ghost use Rattle.reg_tables.specs.Schema.{office_schema, office_table};
 ghost use Rattle.reg_tables.specs.Bare.{IsBareTable};
 ghost use Rattle.reg_tables.specs.Connection.{Tells};
-ghost use Rattle.reg_tables.specs.Having.{AreFree, AreFreeLater, FindsTable, FindsTablesOf};
-ghost use Rattle.reg_tables.specs.Selecting.{BeginsWith};
+ghost use Rattle.reg_tables.specs.Having.{AreFree, AreFreeLater, FindsTable, FindsTablesOf, HasTable};
 
 use crate::make::make_tables;
-use crate::same::{Same, same_definition};
+use crate::same::same_definition;
 use crate::version::Version;
 use sqlite::{Connection, Error};
 use sqlite_schema::schema::{Schema, Table};
@@ -113,26 +112,36 @@ pub fn has_version(alloc: Global, schema: &Schema, version: Version) -> Result<b
     Ok(has_part(schema, conn.schema().tables.as_slice(), version.tables()))
 }
 
-/// Whether the first table of a schema is the first of an office that was made, in the same tree,
-/// and the schema has no view.
-fn begins_as(schema: &Schema, made: &Schema) -> bool
-    ensures { made.now ≡ office_schema → Tells result (BeginsWith 1 schema.now) }
+/// Whether a schema has this table by its name, wherever its tree is.
+fn has_table(schema: &Schema, table: &Table) -> bool
+    ensures is { IsTrue result → HasTable schema.now table.now }
+    ensures all { IsBareTable table.now → HasTable schema.now table.now → IsTrue result }
+{
+    let Some(at) = schema.table_named(table.name.as_slice()) else {
+        return false;
+    };
+    let Some(found) = schema.tables.get(at) else {
+        return false;
+    };
+    same_definition(found, table)
+}
+
+/// Whether a schema has the first table of an office that was made.
+fn has_first(schema: &Schema, made: &Schema) -> bool
+    ensures { made.now ≡ office_schema → Tells result (HasTable schema.now office_table) }
 {
     let Some(office) = made.tables.get(0) else {
         return false;
     };
-    let Some(first) = schema.tables.get(0) else {
-        return false;
-    };
-    first.same(office) && schema.views.is_empty()
+    has_table(schema, office)
 }
 
-/// Whether the table `office`, which says the version, is the first of a schema without views,
-/// whatever other tables follow: then its row can be read.
-pub fn begins_with_office(alloc: Global, schema: &Schema) -> Result<bool, Error>
-    ensures { IfOk result (λ begins. Tells begins (BeginsWith 1 schema.now)) }
+/// Whether a schema has the table `office`, which says the version, wherever it stands: then its row
+/// can be read.
+pub fn has_office(alloc: Global, schema: &Schema) -> Result<bool, Error>
+    ensures { IfOk result (λ has. Tells has (HasTable schema.now office_table)) }
 {
     let mut conn = Connection::open_in_memory(alloc)?;
     make_tables(&mut conn)?;
-    Ok(begins_as(schema, conn.schema()))
+    Ok(has_first(schema, conn.schema()))
 }

@@ -7,11 +7,13 @@ ghost use Rattle.sqlite.specs.Values.{bound};
 ghost use Rattle.reg_tables.specs.Connection.{RunsInside};
 ghost use Rattle.reg_tables.specs.Faulting.{IsExcused};
 
+use crate::reports::Reports;
 use sqlite::types::ValueRef;
-use sqlite::{Alter, Error, Transaction};
+use sqlite::{Error, Transaction};
 
-/// Runs a statement inside a transaction, and tells how many rows it wrote or took away.
-pub fn run<S: Alter>(
+/// Runs a statement inside a transaction, and tells how many rows it wrote or took away. An error is one that
+/// the library reported.
+pub fn run<S: Reports>(
     tx: &mut Transaction<'_, S>,
     sql: &str,
     params: &[ValueRef<'_>],
@@ -23,6 +25,7 @@ pub fn run<S: Alter>(
         (state S.Store tx.new.conn.now) result }
     ensures cause { IfErr result (IsExcused (state S.Store tx.old.conn.now)
         (state S.Store tx.new.conn.now)) }
+    ensures reported { IfErr result S.Reported }
 {
-    tx.execute(sql, params)
+    S::execute(tx, sql, params)
 }

@@ -1,31 +1,17 @@
 -- The vacancies of rows that change.
 use Rattle.std.proofs.Common.{◌≡◌, refl, sym, subst, ◌∙◌, List}
-use Rattle.std.specs.Ordering.{nat_cmp}
 use Rattle.std.specs.FinMap.{contains_key, insert}
-use Rattle.std.specs.FinSet.{FinSet, code}
-use Rattle.std.specs.Coded.{Coded, coded_ℕ}
-use Rattle.std.proofs.Props.{props}
 use Rattle.reg_maps.specs.Maps.{update}
 use Rattle.reg_maps.proofs.KeySets.{contains-changed, contains-replaced}
 use Rattle.reg_maps.proofs.KeyLists.{keys-same}
 use Rattle.reg_blocks.specs.Block.{SizedPrefix}
-use Rattle.reg_places.specs.Places.{Follows}
+use Rattle.reg_vacancies.specs.PoolPlaces.{Follows}
 use Rattle.reg_vacancies.specs.Laws.{EntriesAreReplaced, HoldersAreChanged, KeysDecide}
 use Rattle.reg_vacancies.specs.Places.{AreLeftBy, AreUnchanged, Blocks, places_in}
-use Rattle.reg_vacancies.specs.Vacancies.{AreSame, AreVacancies, Pool, free_in, taken_in}
-use Rattle.reg_vacancies.specs.Values.{Entries}
+use Rattle.reg_vacancies.specs.Vacancies.{AreSame, free_in, taken_in}
 use Rattle.reg_vacancies.specs.declared.places.FreePlaces.{FreePlaces}
 use Rattle.reg_vacancies.specs.declared.vacancies.Vacancies.{Vacancies}
 use Rattle.reg_core.proofs.KeyOrders.{block_keys, place_keys}
-
--- ---- A fact, which a type may have as its invariant
-
-pool_code : Coded (FinSet nat_cmp)
-pool_code = code coded_ℕ
-
-pub AreVacancies-prop : (vacancies : Vacancies) (entries : Entries) (pool : Pool) (blocks : Blocks)
-    → IsProp (AreVacancies vacancies entries pool blocks)
-AreVacancies-prop vacancies entries pool blocks = Prim.hlevel (props, pool_code)
 
 -- ---- The places are as they were
 

@@ -10,8 +10,8 @@ use Rattle.reg_blocks.specs.Block.{SizedPrefix, block_cmp, leading_24}
 use Rattle.reg_blocks.specs.Due.{IsFree}
 use Rattle.reg_core.specs.declared.holding.Holder.{Holder}
 use Rattle.reg_core.proofs.KeyOrders.{block_keys}
-use Rattle.reg_places.specs.Places.{AddsBlock, Follows, IsFreeIn, pool_of}
-use Rattle.reg_places.specs.declared.places.Places.{Places}
+use Rattle.reg_vacancies.specs.PoolPlaces.{AddsBlock, Follows, IsFreeIn, pool_of}
+use Rattle.reg_vacancies.specs.declared.pool_places.Places.{Places}
 use Rattle.reg_vacancies.specs.Places.{AreUnchanged, places_in}
 use Rattle.reg_vacancies.specs.Pool.{prefix_set}
 use Rattle.reg_vacancies.specs.declared.places.FreePlaces.{FreePlaces}

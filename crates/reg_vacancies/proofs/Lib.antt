@@ -1,3 +1,9 @@
+mod SpanLaws
+mod Joining
+mod SpanSteps
+mod SizeSteps
+mod Pooling
+mod Following
 mod TakenLaws
 mod PrefixSets
 mod Leaving

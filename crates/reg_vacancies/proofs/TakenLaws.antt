@@ -9,8 +9,8 @@ use Rattle.std.specs.FinMap.{FinMap, get, insert, contains_key}
 use Rattle.std.proofs.lemmas.Bool.Decides.{nat_tests}
 use Rattle.reg_maps.specs.Maps.{text_cmp}
 use Rattle.reg_maps.proofs.MapLaws.{text_keys, tied, get-at_insert}
-use Rattle.reg_free.specs.Runs.{has}
-use Rattle.reg_free.specs.declared.runs.Runs.{Runs}
+use Rattle.reg_vacancies.specs.Runs.{has}
+use Rattle.reg_vacancies.specs.declared.runs.Runs.{Runs}
 use Rattle.reg_core.specs.LeastFree.{values_in}
 use Rattle.reg_core.specs.World.{place_cmp}
 use Rattle.reg_core.specs.declared.entry.Registration.{Registration}

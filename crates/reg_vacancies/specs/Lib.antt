@@ -1,3 +1,8 @@
+pub mod ValueSpans
+pub mod Runs
+pub mod BlockSpans
+pub mod Sizes
+pub mod PoolPlaces
 pub mod Sets
 pub mod Values
 pub mod Pool

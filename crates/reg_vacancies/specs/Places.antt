@@ -5,8 +5,8 @@ use Rattle.std.specs.FinSet.{FinSet}
 use Rattle.std.specs.Ordering.{nat_cmp}
 use Rattle.reg_blocks.specs.Block.{block_cmp}
 use Rattle.reg_core.specs.declared.holding.Holder.{Holder}
-use Rattle.reg_places.specs.Places.{Follows, pool_of}
-use Rattle.reg_places.specs.declared.places.Places.{Places}
+use Rattle.reg_vacancies.specs.PoolPlaces.{Follows, pool_of}
+use Rattle.reg_vacancies.specs.declared.pool_places.Places.{Places}
 use Rattle.reg_vacancies.specs.Pool.{prefix_set}
 use Rattle.reg_vacancies.specs.declared.places.FreePlaces.{FreePlaces}
 

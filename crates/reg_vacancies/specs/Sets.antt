@@ -4,8 +4,8 @@ use Rattle.std.specs.BTreeMap.{BTreeMap, get}
 use Rattle.std.specs.FinMap.{FinMap, contains_key}
 use Rattle.std.specs.Ordering.{eq_by_cmp}
 use Rattle.reg_maps.specs.Maps.{text_cmp}
-use Rattle.reg_free.specs.Runs.{has}
-use Rattle.reg_free.specs.declared.runs.Runs.{Runs}
+use Rattle.reg_vacancies.specs.Runs.{has}
+use Rattle.reg_vacancies.specs.declared.runs.Runs.{Runs}
 use Rattle.reg_core.specs.World.{place_cmp}
 use Rattle.reg_core.specs.declared.entry.Registration.{Registration}
 
@@ -24,6 +24,7 @@ is_member sets registry value = is_in (get text_cmp sets registry) value
 
 -- ---- tests of a registry and a value
 
+-- a test of a registry and a value
 abbrev pub Test : Type 0
 Test = List ℕ → ℕ → Bool
 

@@ -7,10 +7,10 @@ ghost use Rattle.reg_core.specs.BlockDue.{due_in};
 ghost use Rattle.reg_core.specs.declared.holding.Holder.{Holder};
 
 use crate::pool::pool_with;
+use crate::pool_places::Places;
 use reg_blocks::block::Block;
 use reg_blocks::pool::Pool;
 use reg_blocks::size::Size;
-use reg_places::places::Places;
 use std::alloc::{AllocError, Global};
 
 /// The pool of an office, and the places in it that no block takes, kept beside the blocks. So no

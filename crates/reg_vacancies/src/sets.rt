@@ -2,8 +2,8 @@
 ghost use Rattle.std.specs.Prelude.{◌≡◌, false, OnOk, OnErr};
 ghost use Rattle.reg_vacancies.specs.Sets.{AreAlike, Gains, is_member};
 
+use crate::runs::Runs;
 use reg_core::text::Name;
-use reg_free::runs::Runs;
 use std::alloc::{AllocError, Global};
 use std::collections::BTreeMap;
 

@@ -5,10 +5,10 @@ ghost use Rattle.reg_ranges.specs.FreeValues.{least_value};
 ghost use Rattle.reg_core.specs.LeastFree.{values_in};
 ghost use Rattle.reg_core.specs.declared.entry.Registration.{Registration};
 
+use crate::least::least_free_of;
+use crate::runs::Runs;
 use crate::sets::{Sets, put_value};
 use reg_core::text::Name;
-use reg_free::least::least_free_of;
-use reg_free::runs::Runs;
 use reg_ranges::policy::Policy;
 use reg_ranges::table::RangeTable;
 use std::alloc::{AllocError, Global};

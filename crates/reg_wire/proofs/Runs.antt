@@ -212,10 +212,6 @@ module _ {S : Type 0} (Serves : S → Call → List ℕ → S → Type 0) (first
 
   -- ---- The end of the script
 
-  nil_of : (xs : List ℕ) → length xs ≡ 0 → xs ≡ []
-  nil_of [] h = refl
-  nil_of (x ∷ xs) h = absurd (omega arith)
-
   none_buffered : (n : ℕ) (rest buffered : List ℕ) → buffered ≡ take (n + 1) rest
       → length buffered ≡ 0 → rest ≡ []
   none_buffered n [] buffered h none = refl

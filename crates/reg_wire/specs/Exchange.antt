@@ -104,6 +104,7 @@ world_after_calls w (call ∷ calls) = world_after_calls (world_then w call) cal
 
 -- ---- The events among calls
 
+-- the event that a call spells, or its refusal
 abbrev pub event_for : Call → Reading Command → Reading Event
 event_for call (Ok command) = Ok (record {
   caller = caller_of call.token;

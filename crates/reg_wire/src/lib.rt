@@ -7,7 +7,3 @@ pub mod laws;
 pub mod script;
 pub mod sending;
 pub mod wire_fault;
-
-pub use reg_core::{item, wire_refusal as refusal};
-pub use reg_parse::{command, route};
-pub use reg_print::{answer, detail};

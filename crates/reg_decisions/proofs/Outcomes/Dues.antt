@@ -350,7 +350,6 @@ module _ (digest_of : List ℕ → List ℕ) (w : World) (caller : Option (List 
       absurd (nothing_made a.so.so made)
   due_so (Public public.PoolList) o change a made = absurd (nothing_made a.so made)
   due_so (Public public.BlockListing) o change a made = absurd (nothing_made a.so made)
-  due_so (Applicant applicant.Own) o change a made = absurd (nothing_made a.so.1 made)
   due_so (Applicant (applicant.OwnOne reference)) o change a made =
       absurd (nothing_made a.so.1.so made)
   due_so (Applicant (applicant.Submit reference ask)) o change a made =
@@ -367,7 +366,6 @@ module _ (digest_of : List ℕ → List ℕ) (w : World) (caller : Option (List 
         own_about reference a.so.0.cap a.so.0.is_there _ refl,
         λ digests form. refl,
       ))
-  due_so (Applicant applicant.Holdings) o change a made = absurd (nothing_made a.so.1 made)
   due_so (Applicant (applicant.SetListing block private)) o change a made =
       let is = a.so.1 in
       let marks : Marks w caller moment block =
@@ -380,11 +378,8 @@ module _ (digest_of : List ℕ → List ℕ) (w : World) (caller : Option (List 
         refl,
         λ digests form. form,
       ))
-  due_so (Applicant applicant.Agents) o change a made = absurd (nothing_made a.so.1 made)
-  due_so (Applicant applicant.Principals) o change a made = absurd (nothing_made a.so.1 made)
   due_so (Applicant (applicant.PrincipalRows principal)) o change a made =
       absurd (nothing_made a.so.1.so made)
-  due_so (Expert expert.Queue) o change a made = absurd (nothing_made a.so.1 made)
   due_so (Expert (expert.Advise account reference advice)) o change a made =
       let is = a.so.1 in
       due_by a.is_open is.so made (λ word. (
@@ -398,7 +393,6 @@ module _ (digest_of : List ℕ → List ℕ) (w : World) (caller : Option (List 
         λ digests form.
             second_so (is_name account && is_name reference) (has_advice_form advice) form,
       ))
-  due_so (Clerk clerk.AllRequests) o change a made = absurd (nothing_made a.so.1 made)
   due_so (Clerk (clerk.OneRequest account reference)) o change a made =
       absurd (nothing_made a.so.1.so made)
   due_so (Clerk (clerk.AssignExpert account reference expert)) o change a made =
@@ -466,6 +460,8 @@ module _ (digest_of : List ℕ → List ℕ) (w : World) (caller : Option (List 
         refl,
         λ digests form. refl,
       ))
+  -- the others look up no row and make nothing
+  due_so command o change a made = absurd (nothing_made a.so.1 made)
 
   -- each change that a step makes is due
   pub changes_due : (command : Command) (change : Change)

@@ -56,13 +56,13 @@ of_none P None so = so
 of_none P (Some table) so = so
 
 -- two policies that decide are one
-decides_one : (table : Table) (want : Want) (p q : Policy) → Decides table want p
+pub decides_one : (table : Table) (want : Want) (p q : Policy) → Decides table want p
     → Decides table want q → p ≡ q
 decides_one table (Value v) p q d e = let both : Some (Under p) ≡ Some (Under q) = sym d ∙ e in cc
 decides_one table (Least asked) p q d e = sym d.0 ∙ e.0
 
 -- what comes of looking for the policy that decides
-abbrev PolicyComes : Table → Want → Result Policy Refusal → Type 0
+abbrev pub PolicyComes : Table → Want → Result Policy Refusal → Type 0
 PolicyComes table want r =
     ((r ≡ Err no.Range) × IsAbove table want)
     ⊎ (((r ≡ Err no.Policy) × IsShut table want × (¬ (IsAbove table want)))
@@ -81,7 +81,7 @@ policy_opens table want policy decides below = by (is_closed_policy policy) refl
         inr (inl (refl, shut, below))
     by false one_by_one = inr (inr (policy, refl, decides, one_by_one, below))
 
-policy_comes : (table : Table) (want : Want) → PolicyComes table want (policy_for table want)
+pub policy_comes : (table : Table) (want : Want) → PolicyComes table want (policy_for table want)
 policy_comes table (Value v) = at (nat_lt table.max v) (treatment_of table v) refl refl
   where
     within : nat_lt table.max v ≡ false → ¬ (IsAbove table (Value v))

@@ -24,7 +24,7 @@ use Rattle.reg_core.specs.declared.capability.Kind.TheVariants as kind
 use Rattle.reg_core.specs.declared.command.Command.{Command}
 use Rattle.reg_core.specs.declared.command.Command.TheVariants as command
 use Rattle.reg_core.specs.declared.command.ApplicantCommand.{ApplicantCommand}
-use Rattle.reg_core.specs.declared.command.ApplicantCommand.TheVariants.{Own, OwnOne, Submit, Withdraw, Holdings, SetListing, SetAgent, Agents, Principals, PrincipalRows}
+use Rattle.reg_core.specs.declared.command.ApplicantCommand.TheVariants.{Own, OwnOne, Submit, Withdraw, PrincipalRows}
 use Rattle.reg_core.specs.declared.command.ExpertCommand.{ExpertCommand}
 use Rattle.reg_core.specs.declared.command.ExpertCommand.TheVariants.{Queue, Advise}
 use Rattle.reg_core.specs.declared.command.ClerkCommand.{ClerkCommand}
@@ -149,18 +149,6 @@ module _
       same_whole (rw (own cap.account (cap.account, reference) h) refl)
   own_same cap other (Withdraw reference) h =
       same_whole (rw (own cap.account (cap.account, reference) h) refl)
-  own_same cap other Holdings h =
-      same_itself (own_answer (published v) cap.account (personal cap.account v) Holdings)
-  own_same cap other (SetListing block private) h =
-      same_itself
-      (own_answer (published v) cap.account (personal cap.account v) (SetListing block private))
-  own_same cap other (SetAgent agent reads) h =
-      same_itself
-      (own_answer (published v) cap.account (personal cap.account v) (SetAgent agent reads))
-  own_same cap other Agents h =
-      same_itself (own_answer (published v) cap.account (personal cap.account v) Agents)
-  own_same cap other Principals h =
-      same_itself (own_answer (published v) cap.account (personal cap.account v) Principals)
   own_same cap other (PrincipalRows principal) h =
       same_then (or_refusal no.Principal (get (principals_of cap.account v) (principal, cap.account)))
       _ _ (λ link. record {
@@ -169,6 +157,8 @@ module _
         rows = ap (λ rows. Accepted (tells.Rows rows))
             (same_requests hidden _ _ (rows_agree un.agree cap.account principal));
       })
+  own_same cap other given h =
+      same_itself (own_answer (published v) cap.account (personal cap.account v) given)
 
   expert_same : (cap : Cap) → IsOther cap → (given : ExpertCommand)
       → IsOpen (about (Some cap) (command.Expert given))

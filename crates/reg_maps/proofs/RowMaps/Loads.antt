@@ -1,6 +1,6 @@
 -- What a table holds, told by the rows that were loaded from it.
-use Rattle.std.proofs.Common.{◌≡◌, ℕ, ◌<◌, Bool, true, false, cond, List, [], ◌∷◌, map}
-use Rattle.std.proofs.Common.{filter, length, get_or, refl, sym, ap, subst, ◌∙◌, arith}
+use Rattle.std.proofs.Common.{◌≡◌, Bool, true, false, cond, List, [], ◌∷◌, map}
+use Rattle.std.proofs.Common.{filter, refl, sym, ap, subst, ◌∙◌}
 use Rattle.std.proofs.Common.{Option, Some, None, IsSome, IsPermutation}
 use Rattle.std.proofs.Common.{option_and_then, option_to_list}
 use Rattle.std.specs.List.{AllByRecursion}
@@ -10,9 +10,8 @@ use Rattle.std.specs.Ordering.{eq_by_cmp}
 use Rattle.std.specs.Cmp.{eq_by_cmp_equiv}
 use Rattle.std.specs.FinMap.{FinMap, get, entries, entries_sorted, find, from_entries}
 use Rattle.std.specs.FinMap.{get-entries, get-from_entries}
-use Rattle.std.proofs.lemmas.List.{length-map, get_or-map}
 use Rattle.std.proofs.lemmas.List.Sorted.{IsPermutation-sym}
-use Rattle.std.proofs.lemmas.Map.Keys.{IsDistinct-head, apart_from_distinct}
+use Rattle.std.proofs.lemmas.Map.Keys.{IsDistinct-head}
 use Rattle.reg_maps.specs.Maps.{only_if, keyed, select}
 use Rattle.reg_maps.specs.RowMaps.{held_in, AreApart, AreAscending, IsTable, PassesAt, PassesWhere}
 use Rattle.reg_maps.proofs.MapLaws.{IsKeyOrder, tied, get-select, entries-from_ascending}
@@ -115,14 +114,6 @@ module _ {A K X : Type 0} {R : K → K → Ordering} (o : IsKeyOrder R) {of : A 
       let all = chosen_loaded test p pairs table agree moved read in
       sym (ap entries all.1 ∙ entries-from_ascending o pairs up)
 
-  -- a whole table, in the order of its keys
-  pub listed_all : {old rows : List A} (pairs : List (K × X)) → IsTable R of old
-      → IsPermutation old rows → map of rows ≡ map Some pairs → AreAscending R pairs
-      → pairs ≡ entries (held_in {R = R} of old)
-  listed_all pairs table moved read up =
-      let all = loaded pairs table moved read in
-      sym (ap entries all.1 ∙ entries-from_ascending o pairs up)
-
   -- ---- Whether rows are a table
 
   -- rows that all read, with keys that differ
@@ -150,18 +141,3 @@ module _ {A K X : Type 0} {R : K → K → Ordering} (o : IsKeyOrder R) {of : A 
   pub unread : {old rows : List A} → IsPermutation old rows
       → ¬ AllByRecursion (λ row. IsSome (of row)) rows → ¬ IsTable R of old
   unread moved none table = none (same_rows o moved table).0.reads
-
-  -- nor are those of which two have one key
-  pub alike : {old rows : List A} (pairs : List (K × X)) → IsPermutation old rows
-      → map of rows ≡ map Some pairs → (i j : ℕ) (d : K × X) → i < j → j < length pairs
-      → eq_by_cmp R (get_or pairs i d).0 (get_or pairs j d).0 ≡ true → ¬ IsTable R of old
-  alike pairs moved read i j d before inside tie table =
-      let apart = (loaded pairs table moved read).0 in
-      let long : length (keys_of pairs) ≡ length pairs = length-map pairs (λ e. e.0) in
-      let differ = apart_from_distinct (eq_by_cmp R) (keys_of pairs) i j d.0 apart before
-      (omega arith) in
-      let first = get_or-map (λ e. e.0) pairs i d d.0 (omega arith) in
-      let second = get_or-map (λ e. e.0) pairs j d d.0 inside in
-      let same : true ≡ false =
-      sym tie ∙ (λ t. eq_by_cmp R (sym first t) (sym second t)) ∙ differ in
-      absurd (cc)

@@ -1,5 +1,6 @@
 //! Requests over HTTP that break off, fail or are silent.
 mod asking;
+mod callers;
 mod failures;
 mod listening;
 mod messages;

@@ -5,3 +5,4 @@ mod faults;
 mod files;
 mod office;
 mod replacements;
+mod unsynchronised;

@@ -1,5 +1,5 @@
 //! Reads the page of a registry.
-ghost use Rattle.std.specs.Prelude.{IsTrue, map};
+ghost use Rattle.std.specs.Prelude.{◌≡◌, IfOk, IsTrue, map};
 ghost use Rattle.std.specs.List.Sorted.{IsStrictlyIncreasing};
 
 use crate::reading::blocks::text_of;
@@ -23,7 +23,9 @@ const MOST_ENTRY_BYTES: usize = 1_024;
 
 /// The page of the registry of this name. Its entries are read one by one, since a reader of JSON takes
 /// as much memory as its text has.
-pub(super) fn read(alloc: Global, name: &Name, body: &[u8]) -> Result<Page, Unpublished> {
+pub(super) fn read(alloc: Global, name: &Name, body: &[u8]) -> Result<Page, Unpublished>
+    ensures { IfOk result (λ page. page.name ≡ name.now) }
+{
     let mut scratch = Scratch::new(alloc);
     let rest = behind(front(), body)?;
     let (entries, rest) = read_entries(alloc, &mut scratch, rest)?;

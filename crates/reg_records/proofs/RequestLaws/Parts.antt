@@ -44,10 +44,6 @@ tracks : IsColumn (or_null_in (read_in read_track)) (or_null (λ t. Text (track_
     (is_none_or any)
 tracks = or_nulls (words tracks_read) (λ t. refl)
 
-none_or_any : {T : Type 0} (o : Option T) → is_none_or any o ≡ true
-none_or_any None = refl
-none_or_any (Some x) = refl
-
 -- ---- The value that is wanted
 
 abbrev pub want_values : Want → Row

@@ -1,10 +1,10 @@
 //! Sets of numbers, and the least free value by them, worked by hand.
 use crate::tests::expecting::{expect, expect_at, expect_true};
-use reg_free::least::least_free_of;
-use reg_free::runs::Runs;
 use reg_ranges::policy::Policy;
 use reg_ranges::range_file::read_ranges;
 use reg_ranges::table::RangeTable;
+use reg_vacancies::least::least_free_of;
+use reg_vacancies::runs::Runs;
 use std::process::Abort;
 use std::test::Fail;
 

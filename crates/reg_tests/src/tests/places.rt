@@ -4,7 +4,7 @@ use crate::tests::expecting::{expect, expect_true};
 use reg_blocks::block::Block;
 use reg_blocks::pool::is_pool_prefix;
 use reg_blocks::size::Size;
-use reg_places::places::Places;
+use reg_vacancies::pool_places::Places;
 use std::alloc::{AllocError, Global};
 use std::process::Abort;
 use std::test::Fail;

@@ -7,7 +7,6 @@ use Rattle.std.specs.Char.{is_ascii_digit}
 use Rattle.std.specs.Str.Parse.{digits_value}
 use Rattle.reg_wire.specs.Exchange.{Call}
 use Rattle.reg_wire.specs.declared.script.line.Line.{Line as Fields}
-use Rattle.reg_wire.specs.declared.script.line.TheConstants.{MOST_BYTES}
 
 infixl 10 ◌>>=◌
 abbrev pub ◌>>=◌ : {A B : Type 0} → Option A → (A → Option B) → Option B
@@ -16,7 +15,7 @@ None >>= f = None
 
 -- the most bytes of a line, its line feed aside
 abbrev pub most_bytes : ℕ
-most_bytes = MOST_BYTES
+most_bytes = 65536
 
 abbrev pub is_space : ℕ → Bool
 is_space b = b == 32

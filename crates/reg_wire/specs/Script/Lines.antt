@@ -4,7 +4,6 @@ use Rattle.std.specs.List.{flat_map, AllByRecursion}
 use Rattle.std.specs.Io.KnownBytes.{Appends, Consumes, IsAtEnd}
 use Rattle.reg_wire.specs.Exchange.{Call}
 use Rattle.reg_wire.specs.Script.Line.{line_of}
-use Rattle.reg_wire.specs.declared.script.lines.TheConstants.{MOST_READS}
 use Rattle.reg_wire.specs.declared.wire_fault.WireFault.{WireFault}
 use Rattle.reg_wire.specs.declared.wire_fault.WireFault.TheVariants.{Read, TooManyReads, Write, Memory}
 
@@ -82,7 +81,7 @@ pub record AnswersAll {S : Type 0} (Serves : S → Call → List ℕ → S → T
 
 -- how many reads a run makes at most
 abbrev pub most_reads : ℕ
-most_reads = MOST_READS
+most_reads = 16777216
 
 -- the lines that were answered before a fault: at one of reads all whose line feed was read; and
 -- there are too many reads only after so many bytes

@@ -78,5 +78,5 @@ returns g c =
     (decides_found decision (rules g d) c.in_ok-existing.ensures c.in_ok-decision.ensures)
     c.in_ok-decision.ensures.value
     (the_value (told_made (name g d) (ask g d) (existing g d)) concluded.told
-    c.told_of-told.ensures)
+    c.told_of-told.ensures.told)
     concluded.change

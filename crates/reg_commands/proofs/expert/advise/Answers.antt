@@ -87,5 +87,5 @@ returns g c =
     let concluded = c.in_ok-conclude.ensures in
     performs_decided c.in_ok-decision.decision (decides g d) c.in_ok-decision.ensures
     (ap tells.Queued (the_value (advised_row c.args.advice.now (row g d)) concluded.told
-    c.with_advice-advised.ensures))
+    c.with_advice-advised.ensures.advised))
     concluded.change

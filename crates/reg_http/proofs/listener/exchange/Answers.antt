@@ -1,9 +1,36 @@
+use Rattle.std.proofs.Common.{ℕ, List, Option, ap, ◌∙◌, subst}
+use Rattle.reg_http.specs.Listening.{count_of}
+use Rattle.reg_http.specs.Meeting.{Ends, Meets}
 use Rattle.reg_http.specs.Serving.{AnswersOver}
-use Rattle.reg_http.proofs.Turns.{turn}
+use Rattle.reg_http.proofs.Meetings.{count_is, met}
 use Rattle.reg_http.proofs.listener.exchange.Goals as goal
 
-pub returns : goal.returns
-returns g c =
-    rw c.sent_of.ensures
-    (turn (AnswersOver g.K.Keeper.world g.K.Keeper.Holds g.K.Keeper.Sound g.K.Keeper.FAILS) _ _
-    c.serve_one-served.result _ _ _ _ _ _ c.serve_one-served.ensures.ok c.serve_one-served.ensures.err)
+pub returns-clause-exchanges : goal.returns-clause-exchanges
+returns-clause-exchanges g c =
+    let wrote = g.P.Writer.Write.contents c.send_told-served.new.writer.writer in
+    let EndsOf : Option (List (Option (List ℕ))) → Type 0 =
+    λ had. Ends had (g.P.Peers.written c.end.new.self) wrote in
+    let Over = AnswersOver g.K.Keeper.world g.K.Keeper.Holds g.K.Keeper.Sound g.K.Keeper.FAILS in
+    let MeetsFrom : Option (List ℕ) → Type 0 =
+    λ blank. Meets Over blank
+    (record {
+      moment = c.args.moment;
+      unread = g.P.Reader.Read.remaining c.args.reader;
+      wrote = wrote;
+    })
+    c.args.office.now c.respond-told.new.office c.send_told-served.result in
+    record {
+      outcome = c.send_told-served.result;
+      wrote = wrote;
+      meets =
+          subst MeetsFrom c.turned.ensures.is_new
+          (met Over c.args.moment c.args.office.now c.respond-told.new.office
+          (g.P.Reader.Read.remaining c.args.reader)
+          (g.P.Reader.Read.remaining c.respond-told.new.reader)
+          (g.P.Writer.Write.contents c.turned.result) wrote c.respond-told.result
+          c.send_told-served.result c.respond-told.ensures.ok c.respond-told.ensures.err
+          c.send_told-served.ensures);
+      counted =
+          ap count_of c.sent_of-sent.ensures ∙ count_is c.send_told-served.result c.body.result;
+      ends = subst EndsOf c.turned.ensures.ended c.end.ensures.ends;
+    }

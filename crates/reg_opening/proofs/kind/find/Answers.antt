@@ -1,14 +1,26 @@
-use Rattle.std.proofs.Common.{IsTrue, inl, subst, sym, rules}
-use Rattle.reg_tables.specs.Selecting.{BeginsWith}
+use Rattle.std.proofs.Common.{IsTrue, refl, subst, sym, rules}
+use Rattle.sqlite.specs.Held.{state}
+use Rattle.sqlite.specs.Schema.{Schema}
+use Rattle.reg_tables.specs.Having.{HasTable}
+use Rattle.reg_tables.specs.Schema.{office_table}
+use Rattle.reg_tables.proofs.Enduring.{endures_still}
+use Rattle.reg_opening.specs.declared.flaw.Flaw.TheVariants as flaws
+use Rattle.reg_opening.proofs.OpenLemmas.{none_finds}
 use Rattle.reg_opening.proofs.kind.find.Goals as goal
 
 pub find_version-requires-clause-there : goal.find_version-requires-clause-there
 find_version-requires-clause-there g c =
     let told : IsTrue c.in-Ok-true.field-0 = search rules in
-    inl (subst (BeginsWith 1) c.schema.ensures.value (c.in-Ok-true.ensures.sure told))
+    subst (λ (schema : Schema). HasTable schema office_table) c.schema.ensures.value
+    (c.in-Ok-true.ensures.sure told)
 
-pub find_beside-requires-clause-beside : goal.find_beside-requires-clause-beside
-find_beside-requires-clause-beside g c = λ first.
+pub returns-in-Ok-false : goal.returns-in-Ok-false
+returns-in-Ok-false g c =
+    let old = state g.S.Store c.args.conn.now in
+    let lacks : ¬ HasTable old.now.schema office_table = λ has.
     let told : IsTrue c.in-Ok-false.field-0 =
-    c.in-Ok-false.ensures.exact (subst (BeginsWith 1) (sym c.schema.ensures.value) first) in
-    search rules
+    c.in-Ok-false.ensures.exact
+    (subst (λ (schema : Schema). HasTable schema office_table) (sym c.schema.ensures.value) has) in
+    search rules in
+    none_finds old old flaws.NoOffice c.requires (endures_still old)
+    (record { worked = λ h. h; unchanged = λ h. refl }) (λ works. lacks) (λ works n is. lacks is.has)

@@ -1,7 +1,6 @@
 use Rattle.std.proofs.Common.{IsTrue, refl, rules}
 use Rattle.sqlite.specs.Held.{state}
 use Rattle.reg_tables.proofs.Enduring.{endures_still}
-use Rattle.reg_opening.proofs.OpenLemmas.{lacks_tables}
 use Rattle.reg_opening.proofs.kind.find_office.Goals as goal
 
 pub returns-then-not-branch : goal.returns-then-not-branch
@@ -11,30 +10,31 @@ returns-then-not-branch g c =
       rest = c.requires;
       endures = endures_still old;
       stays = record { worked = λ h. h; unchanged = λ h. refl };
-      found = λ works.
-          lacks_tables c.args.version old (λ has.
-          let told : IsTrue c.in_ok-has_office.field-0 = c.in_ok-has_office.ensures.exact has in
-          search rules);
+      found = λ works has.
+          let told : IsTrue c.in_ok-has_tables.field-0 = c.in_ok-has_tables.ensures.exact has in
+          search rules;
     }
 
-pub returns-in-Some : goal.returns-in-Some
-returns-in-Some g c =
+pub returns-in-Ok : goal.returns-in-Ok
+returns-in-Ok g c =
     let read = c.in_ok-free.ensures in
-    let told : IsTrue c.in_ok-has_office.field-0 = search rules in
-    let has = c.in_ok-has_office.ensures.sure told in
+    let told : IsTrue c.in_ok-has_tables.field-0 = search rules in
+    let has = c.in_ok-has_tables.ensures.sure told in
     record {
       rest = read.idle;
       endures = read.endures;
       stays = read.stays;
-      found = λ works. (refl, has, λ begins. rw c.in-Some.is at (read.rows works begins));
+      found = λ works. (refl, has, λ begins. rw c.in-Ok.is at (read.rows works begins));
     }
 
-pub returns-in-None : goal.returns-in-None
-returns-in-None g c =
+pub returns-in-Err : goal.returns-in-Err
+returns-in-Err g c =
     let read = c.in_ok-free.ensures in
+    let told : IsTrue c.in_ok-has_tables.field-0 = search rules in
+    let has = c.in_ok-has_tables.ensures.sure told in
     record {
       rest = read.idle;
       endures = read.endures;
       stays = read.stays;
-      found = λ works has begins. rw c.in-None.is at (read.rows works begins);
+      found = λ works. (has, λ begins. rw c.in-Err.is at (read.rows works begins));
     }

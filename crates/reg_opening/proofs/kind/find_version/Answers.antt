@@ -1,8 +1,9 @@
-use Rattle.std.proofs.Common.{subst, rules, FitsSigned, w64}
+use Rattle.std.proofs.Common.{ℤ, subst, rules, FitsSigned, w64}
 use Rattle.std.proofs.lemmas.Int.{to_z-of_z}
 use Rattle.sqlite.specs.Held.{state}
-use Rattle.reg_statements.specs.Content.{HasVersion}
-use Rattle.reg_statements.specs.Tables.{tables_in}
+use Rattle.reg_tables.specs.Connection.{Works}
+use Rattle.reg_opening.specs.Opening.{IsOfVersion}
+use Rattle.reg_opening.specs.declared.flaw.Flaw.TheVariants as flaws
 use Rattle.reg_opening.proofs.OpenLemmas.{none_finds, other_finds, read_finds}
 use Rattle.reg_opening.proofs.kind.find_version.Goals as goal
 
@@ -11,8 +12,10 @@ returns-in_default g c =
     let old = state g.S.Store c.args.conn.now in
     let new = state g.S.Store c.version.new.conn in
     let read = c.in_ok-number.ensures in
-    none_finds old new read.idle read.endures read.stays
-    (λ first works. rw c.in_default.is at (read.version first works))
+    let none : Works new → (n : ℤ) → ¬ IsOfVersion n old.now =
+    λ works n is. rw c.in_default.is at (read.version works is.has) n is.says in
+    none_finds old new flaws.NoVersion read.idle read.endures read.stays
+    (λ works. (c.requires.there, none works)) none
 
 pub returns-in-Some-version_of : goal.returns-in-Some-version_of
 returns-in-Some-version_of g c =
@@ -25,8 +28,9 @@ returns-in-Some-version_of g c =
     let is = rw c.in-Some-version_of.is at known in
     read_finds c.in-Some-version_of.version old mid new c.find_office.result c.requires.live read.endures
     read.stays
-    (λ first works. subst (λ n. HasVersion n (tables_in old.now.trees).office) is
-    (rw c.in-Some.is at (read.version first works))) c.find_office.ensures
+    (λ works. subst (λ n. IsOfVersion n old.now) is
+    (record { has = c.requires.there; says = rw c.in-Some.is at (read.version works c.requires.there) }))
+    c.find_office.ensures
 
 pub returns-in-None : goal.returns-in-None
 returns-in-None g c =
@@ -39,4 +43,4 @@ returns-in-None g c =
     simp to_z-of_z
     (other_finds c.in-Some.number old new read.idle read.endures read.stays
     other
-    (λ first works. rw c.in-Some.is at (read.version first works)) c.requires.there)
+    (λ works. record { has = c.requires.there; says = rw c.in-Some.is at (read.version works c.requires.there) }))

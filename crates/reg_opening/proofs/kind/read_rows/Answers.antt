@@ -1,5 +1,4 @@
 use Rattle.std.proofs.Common.{◌≡◌, true, false, subst, sym, rules}
-use Rattle.std.proofs.lemmas.Result.{IfOk-weaker}
 use Rattle.sqlite.specs.Effect.{Database}
 use Rattle.sqlite.specs.Held.{state}
 use Rattle.reg_core.specs.WellKept.{WellKept}
@@ -24,8 +23,8 @@ returns-then-not-branch-clause-rows g c works schema =
     (sym same) both in
     absurd (fed later.0 later.1)
 
-pub returns-clause-rows : goal.returns-clause-rows
-returns-clause-rows g c works schema =
+pub returns-in-Some-clause-rows : goal.returns-in-Some-clause-rows
+returns-in-Some-clause-rows g c works schema =
     let v = c.args.version in
     let old = state g.S.Store c.args.conn.now in
     let mid = state g.S.Store c.check_rowids.new.conn in
@@ -35,8 +34,25 @@ returns-clause-rows g c works schema =
     let fed = rw yes at (c.in_ok-feed_parts.ensures.tells works
     (subst (λ (db : Database). BeginsWith (table_count v) db.schema) (sym same) schema)) in
     let keyed = c.in_ok-check_rowids.ensures.keyed worked (version_first v old.now schema) in
-    IfOk-weaker c.free_of.result _ _ (λ free are.
-    rows_told v old.now free keyed
+    let free = c.in_ok-free.field-0 in
+    rw c.in-Some.is at (rows_told v old.now free keyed
     (subst (λ (db : Database). LeaveFree (tables_at v db) free) same
     (rows_leave (tables_at v mid.now) c.new-feeder.result.audit c.feed_parts.new.feeder.audit free
-    (rw (sym c.new-feeder.ensures) at c.new.ensures) fed are))) c.free_of.ensures
+    (rw (sym c.new-feeder.ensures) at c.new.ensures) fed c.in_ok-free.ensures)))
+
+pub returns-in-None-clause-rows : goal.returns-in-None-clause-rows
+returns-in-None-clause-rows g c works schema =
+    let v = c.args.version in
+    let old = state g.S.Store c.args.conn.now in
+    let mid = state g.S.Store c.check_rowids.new.conn in
+    let yes : c.in_ok-feed_parts.field-0 ≡ true = search rules in
+    let worked = c.feed_parts.ensures.stays.worked works in
+    let same = c.in_ok-check_rowids.ensures.stays.unchanged worked in
+    let fed = rw yes at (c.in_ok-feed_parts.ensures.tells works
+    (subst (λ (db : Database). BeginsWith (table_count v) db.schema) (sym same) schema)) in
+    let keyed = c.in_ok-check_rowids.ensures.keyed worked (version_first v old.now schema) in
+    let free = c.in_ok-free.field-0 in
+    rw c.in-None.is at (rows_told v old.now free keyed
+    (subst (λ (db : Database). LeaveFree (tables_at v db) free) same
+    (rows_leave (tables_at v mid.now) c.new-feeder.result.audit c.feed_parts.new.feeder.audit free
+    (rw (sym c.new-feeder.ensures) at c.new.ensures) fed c.in_ok-free.ensures)))

@@ -1,7 +1,6 @@
-use Rattle.std.proofs.Common.{subst, sym}
-use Rattle.std.specs.Prelude.{OnOk}
+use Rattle.std.proofs.Common.{◌≡◌, subst, sym}
 use Rattle.reg_jobs.specs.declared.jobs.Job.{Job}
-use Rattle.reg_program.specs.Performing.{DoesJob}
+use Rattle.reg_program.specs.Performing.{DoesJob, Tries}
 use Rattle.reg_program.specs.Tasks.{streams}
 use Rattle.reg_program.proofs.performing.attempt.Goals as goal
 
@@ -12,9 +11,12 @@ returns-in-Publish g c =
     (g.R.Read.remaining c.args.console.now.input.now)
     (g.R.Read.remaining c.publish_at.new.console.input.now)
     (g.W.Write.contents c.args.console.now.output.now)
-    (g.W.Write.contents c.publish_at.new.console.output.now) in
-    subst (λ (job : Job). OnOk done
-    (DoesJob (g.O.Offices.Carried c.args.offices.now) io done job))
+    (g.W.Write.contents c.publish_at.new.console.output.now)
+    (g.D.Dates.readings c.args.dates.now) (g.D.Dates.readings c.publish_at.new.dates) in
+    let Same = c.publish_at.new.offices ≡ c.args.offices.now in
+    subst (λ (job : Job). Tries Same
+    (DoesJob (g.O.Offices.Carried c.args.offices.now c.publish_at.new.offices)
+    (g.O.Offices.Checked c.args.offices.now c.publish_at.new.offices) Same io job) done)
     (sym c.in-Publish.is)
     (rw (c.as_str-in-Publish.ensures.value, c.as_str-in-Publish-2.ensures.value)
     at c.publish_at.ensures)

@@ -9,7 +9,7 @@ pub returns : goal.returns
 returns g c =
     let said = subst (AreKnown (token_in (string_bytes c.args.order.now.clerk)))
     (sym c.as_slice-2.ensures.value) (rw c.as_str.ensures.value at c.in_ok-token.ensures) in
-    carries_at (g.O.Offices.Carried c.args.offices.now) c.as_str-3.result.now
-    (string_bytes c.args.order.now.file) (IsDefinedBy c.args.order.now) _ c.carry_out.result
-    c.as_str-3.ensures.value c.carry_out.ensures
+    carries_at (g.O.Offices.Carried c.args.offices.now c.carry_out.new.offices) _
+    c.as_str-3.result.now (string_bytes c.args.order.now.file) (IsDefinedBy c.args.order.now) _ _
+    c.carry_out.result c.as_str-3.ensures.value c.carry_out.ensures
     (refl, said, c.as_slice.result.now, c.in_ok-command.ensures)

@@ -8,5 +8,5 @@ pub returns : goal.returns
 returns g c =
     let said = subst (AreKnown (token_in c.args.clerk.now)) (sym c.as_slice-clerk.ensures.value)
     c.in_ok-token.ensures in
-    carries (g.O.Offices.Carried c.args.offices.now) c.args.file.now (IsFounding c.args.clerk.now) _
-    c.carry_out.result c.carry_out.ensures said
+    carries (g.O.Offices.Carried c.args.offices.now c.carry_out.new.offices) _ c.args.file.now
+    (IsFounding c.args.clerk.now) _ _ c.carry_out.result c.carry_out.ensures said

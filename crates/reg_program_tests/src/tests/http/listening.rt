@@ -1,7 +1,9 @@
 //! A listener on loopback, and its clients.
 use crate::tests::exercise::{Exercise, over_lists};
 use crate::tests::http::served::Served;
+use reg_http::dates::ClockDates;
 use reg_http::listener::Connections;
+use reg_http::tcp::TcpPeers;
 use reg_keeper::keeper::Keeper;
 use reg_testing::facts::ensure;
 use std::io::{Read, Write};
@@ -117,8 +119,15 @@ fn answer_four<K: Keeper + Drop>(
 ) -> Result<(Connections, Heard), Fail> {
     let (listener, address) = listening(rt)?;
     let mut peers = Peers::connected(rt, address)?;
-    let done = served.listen(rt, &listener, 4, Duration::from_millis(200));
-    drop(listener);
+    let mut connections = TcpPeers {
+        listener,
+        address,
+        clock: rt,
+        patience: Duration::from_millis(200),
+    };
+    let mut dates = ClockDates { clock: rt };
+    let done = served.listen(rt.alloc(), &mut dates, &mut connections, 4);
+    drop(connections);
     let heard = peers.heard(rt);
     drop(peers);
     Ok((done, heard?))

@@ -1,7 +1,9 @@
 //! An office that is asked over HTTP.
 use crate::tests::http::messages::request;
+use reg_http::dates::Dates;
 use reg_http::listener::{Connections, serve_listener};
 use reg_http::log::Unlogged;
+use reg_http::peers::Peers;
 use reg_http::serving::serve_one;
 use reg_http::watch::Watch;
 use reg_http::wire_fault::WireFault;
@@ -11,9 +13,7 @@ use reg_parse::route::Routes;
 use reg_testing::facts::ensure;
 use std::alloc::{AllocError, Global};
 use std::io::{Read, Write};
-use std::net::TcpListener;
 use std::test::Fail;
-use std::time::{Clock, Duration};
 
 // The moment of all requests.
 const MOMENT: u64 = 1_700_000_000;
@@ -103,23 +103,21 @@ impl<K: Keeper + Drop> Served<K> {
         )
     }
 
-    /// Serves so many connections of a listener.
-    pub fn listen<R: Clock + AllocGlobal>(
+    /// Serves so many connections, at these dates.
+    pub fn listen<D: Dates, P: Peers>(
         &mut self,
-        rt: &R,
-        listener: &TcpListener,
+        alloc: Global,
+        dates: &mut D,
+        peers: &mut P,
         count: u32,
-        patience: Duration,
     ) -> Connections {
-        let alloc = rt.alloc();
         serve_listener(
             alloc,
-            rt,
+            dates,
             &mut self.office,
             &self.routes,
-            listener,
+            peers,
             count,
-            patience,
             &mut Unlogged,
         )
     }

@@ -10,7 +10,7 @@ use reg_keeper::keeper::Keeper;
 use reg_office::Office;
 use reg_print::answer::Format;
 use reg_print::comparing::is_page;
-use reg_publish::answers::{body_of, read_answer};
+use reg_publish::answers::{body_of, read_up_to};
 use reg_publish::reading::told_of;
 use reg_publish::unpublished::Unpublished;
 use reg_testing::devices::{FailsBefore, GivesOne, NeverEnds};
@@ -26,7 +26,7 @@ fn read_of(alloc: Global, most: usize) -> Result<Vec<u8>, Unpublished> {
         bytes: BYTES,
         reads: 0,
     };
-    read_answer(alloc, most, &mut reader)
+    read_up_to(alloc, most, &mut reader)
 }
 
 #[test]
@@ -42,7 +42,7 @@ fn answers_above_the_limit(rt: HostRuntime) -> Result<(), Fail> {
         ensure(is_large, "an answer that is too large")?;
     }
     let mut endless = NeverEnds { reads: 0 };
-    let read = read_answer(rt.alloc(), 1000, &mut endless);
+    let read = read_up_to(rt.alloc(), 1000, &mut endless);
     ensure(
         matches!(read, Err(Unpublished::Large)),
         "an answer without end",
@@ -55,7 +55,7 @@ fn answers_that_break_off(rt: HostRuntime) -> Result<(), Fail> {
         let mut reader = FailsBefore {
             bytes: &BYTES[..count],
         };
-        let read = read_answer(rt.alloc(), 1000, &mut reader);
+        let read = read_up_to(rt.alloc(), 1000, &mut reader);
         ensure(matches!(read, Err(Unpublished::Read)), "a read that fails")?;
     }
     Ok(())

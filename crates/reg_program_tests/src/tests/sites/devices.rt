@@ -1,5 +1,5 @@
 //! Folders and sources that fail.
-ghost use Rattle.std.specs.Prelude.{◌≡◌, None, IfOk};
+ghost use Rattle.std.specs.Prelude.{◌≡◌, IfOk};
 ghost use Rattle.reg_core.specs.View.{published as shown};
 ghost use Rattle.reg_core.specs.World.{empty_world};
 
@@ -11,6 +11,7 @@ use reg_office::Office;
 use reg_publish::folder::Folder;
 use reg_publish::source::Source;
 use reg_publish::unpublished::Unpublished;
+use reg_site::files::File;
 use reg_site::portions::Portions;
 use reg_testing::facts::ensure;
 use std::alloc::{AllocError, Global};
@@ -70,14 +71,12 @@ impl Kept {
 }
 
 impl Folder for Kept {
-    ghost files = { λ _. None };
-
-    fn publish<P: Portions>(&mut self, path: &str, bytes: &mut P) -> Result<(), Unpublished> {
+    fn publish<P: Portions>(&mut self, file: File, bytes: &mut P) -> Result<(), Unpublished> {
         if self.room == 0 {
             return Err(Unpublished::Write);
         }
         self.room -= 1;
-        let path = String::from_str(self.alloc, path)?;
+        let path = file.path(self.alloc)?;
         let bytes = whole(self.alloc, bytes)?;
         self.files.push(Placed { path, bytes })?;
         Ok(())

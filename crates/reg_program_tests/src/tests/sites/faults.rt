@@ -7,7 +7,7 @@ use crate::tests::sites::office::{FILES, LATER, MOMENT, opened};
 use reg_core::refusal::Refusal;
 use reg_keeper::keeper::Keeper;
 use reg_program::faults::{JobFailure, Undone};
-use reg_program::publishing::publish_in;
+use reg_program::publishing::{Directories, publish_in};
 use reg_publish::publishing::publish;
 use reg_publish::source::Source;
 use reg_publish::unpublished::Unpublished;
@@ -118,7 +118,14 @@ fn published<S: Source>(
     folder: &str,
 ) -> Result<Vec<u8>, Undone> {
     let mut output = Vec::new(rt.alloc());
-    publish_in(rt, source, moment, folder, &mut output)?;
+    publish_in(
+        rt.alloc(),
+        &Directories { rt },
+        source,
+        moment,
+        folder,
+        &mut output,
+    )?;
     Ok(output)
 }
 

@@ -1,7 +1,9 @@
 //! Files that take the places of others in a folder of a file system.
+use reg_core::text::Name;
 use reg_publish::directory::Directory;
 use reg_publish::folder::Folder;
 use reg_publish::unpublished::Unpublished;
+use reg_site::files::File;
 use reg_site::portions::Whole;
 use reg_testing::facts::ensure;
 use reg_testing::folders::folder_for;
@@ -49,7 +51,10 @@ fn bytes_of(rt: &HostRuntime, length: usize, other: usize) -> Result<Vec<u8>, Fa
 // How a file is published in a folder.
 fn publish(rt: &HostRuntime, folder: &str, bytes: &[u8]) -> Result<(), Unpublished> {
     let mut directory = Directory::open(rt, rt.alloc(), folder)?;
-    directory.publish("registries/a.csv", &mut Whole::of(bytes))
+    let Some(name) = Name::read(b"a") else {
+        return Err(Unpublished::Read);
+    };
+    directory.publish(File::RegistryListing(name), &mut Whole::of(bytes))
 }
 
 // The file has these bytes.

@@ -15,7 +15,7 @@ pub returns : goal.returns
 returns g c =
     let published = g.S.Source.published in
     let Holds = g.S.Source.Holds in
-    let files = g.F.Folder.files in
+    let Puts = g.F.Folder.Puts in
     let moment = c.args.moment in
     let s = c.args.source.now in
     let s1 = c.ask.new.self in
@@ -43,15 +43,15 @@ returns g c =
     (λ p. told_to_all p moment PoolList ≡ Accepted c.in_ok-pool.pool)
     (λ p. told_to_all p moment PoolList ≡ Accepted (tells.Pool prefixes))
     c.in_ok-pool.ensures (λ p h. h ∙ ap Accepted c.in_ok-pool_in.ensures) in
-    let pool = places_as (files f2) (files f3)
+    let pool = places_as Puts f2 f3
     (one_file file.Pool (told_text c.in_ok-pool.pool) ++ one_file file.Style STYLE.now)
     (one_file file.Pool (told_text (tells.Pool prefixes)) ++ one_file file.Style STYLE.now)
     (λ i. one_file file.Pool (told_text (c.in_ok-pool_in.ensures i)) ++ one_file file.Style STYLE.now)
     c.in_ok-publish_pool_and_style.ensures in
     let bytes = c.deref-2.ensures.value ∙ c.in_ok-index.ensures
     ∙ ap (λ rs. index_page rs prefixes rows moment) c.deref.ensures.value in
-    let index = places_as (files f3) (files f4) (one_file file.Index c.deref-2.result.now)
+    let index = places_as Puts f3 f4 (one_file file.Index c.deref-2.result.now)
     (one_file file.Index (index_page registries prefixes rows moment))
     (λ i. one_file file.Index (bytes i)) c.in_ok-put.ensures in
-    publishes_site published Holds files moment s s1 s2 s3 s4 f f1 f2 f3 f4 names registries rows
+    publishes_site published Holds Puts moment s s1 s2 s3 s4 f f1 f2 f3 f4 names registries rows
     prefixes named c.in_ok-registries.ensures given c.in_ok-publish_blocks.ensures pooled pool index

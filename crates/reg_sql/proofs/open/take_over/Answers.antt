@@ -48,7 +48,7 @@ pub returns-in-NotOurs : goal.returns-in-NotOurs
 returns-in-NotOurs g c =
     let old = state g.S.Store c.args.conn.now in
     let new = state g.S.Store c.find.new.conn in
-    not_ours_over c.args.fresh old new (search rules) c.in_ok-version.field-0 c.in_ok-version.ensures c.in-NotOurs.is
+    not_ours_over c.args.fresh old new (search rules) c.in_ok-version.field-0 c.in_ok-version.ensures _ c.in-NotOurs.is
     (λ fresh free.
     let told : IsTrue c.in_ok-is_to_found.field-0 =
     c.in_ok-is_to_found.ensures.exact (fresh, free) in

@@ -12,4 +12,9 @@ returns-in-Err-clause-endures g c =
 
 pub returns-in-Err-clause-fault : goal.returns-in-Err-clause-fault
 returns-in-Err-clause-fault g c =
-    record { error = c.in-Err.error; told = c.fault.ensures; cause = c.in-Err.ensures.cause }
+    record {
+      error = c.in-Err.error;
+      told = c.fault.ensures;
+      met = c.in-Err.ensures.met;
+      cause = c.in-Err.ensures.cause;
+    }

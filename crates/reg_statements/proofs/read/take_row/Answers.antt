@@ -2,8 +2,8 @@ use Rattle.std.proofs.Common.{◌≡◌, ◌++◌, ◌∷◌, [], true, rules}
 use Rattle.reg_statements.proofs.ReadLemmas.{now_unread, one_more, takes_one}
 use Rattle.reg_statements.proofs.read.take_row.Goals as goal
 
-pub returns-in_ok-take-in-Some : goal.returns-in_ok-take-in-Some
-returns-in_ok-take-in-Some g c start rows before =
+pub returns-in_ok-take-in-Some-clause-taken : goal.returns-in_ok-take-in-Some-clause-taken
+returns-in_ok-take-in-Some-clause-taken g c start rows before =
     let read : c.args.read ≡ true = search rules in
     let was = rw read at before in (
       was.0 ++ c.in-Some.value ∷ [],
@@ -12,6 +12,6 @@ returns-in_ok-take-in-Some g c start rows before =
           (search rules),
     )
 
-pub returns-in-None : goal.returns-in-None
-returns-in-None g c start rows before =
+pub returns-in-None-clause-taken : goal.returns-in-None-clause-taken
+returns-in-None-clause-taken g c start rows before =
     now_unread g.T.Record.of rows c.args.row.now (search rules)

@@ -1,6 +1,6 @@
-use Rattle.std.proofs.Common.{◌⊎◌, inl, inr, [], ◌∷◌, ◌++◌, refl, ◌∙◌, arith, rules}
-use Rattle.std.proofs.lemmas.Result.{err_from_is_err_and}
+use Rattle.std.proofs.Common.{◌≡◌, ◌⊎◌, None, Some, ℕ, ◌+◌, List, length, length-append, inl, inr, [], ◌∷◌, ◌++◌, refl, ◌∙◌, arith, rules}
 use Rattle.sqlite.specs.Held.{state}
+use Rattle.sqlite.specs.Order.{Row}
 use Rattle.sqlite.specs.State.{State, Fails, HasCleanDisk, IsUnchanged}
 use Rattle.sqlite.specs.declared.error.Error.{Error}
 use Rattle.reg_tables.specs.Faulting.{HasFailed, IsSame}
@@ -16,43 +16,30 @@ failed_or_not : (old new : State) (e : Error) → Fails old new ⊥ e ⊎ IsUnch
 failed_or_not old new e (inl failed) = inl (has_failed old new ⊥ e failed)
 failed_or_not old new e (inr u) = inr (is_same old new u)
 
-pub returns-in_err-rows-clause-rests : goal.returns-in_err-rows-clause-rests
-returns-in_err-rows-clause-rests g c clean =
+one_longer : (rows : List Row) (row : Row) (n : ℕ) → length rows ≡ n
+    → length (rows ++ row ∷ []) ≡ n + 1
+one_longer rows row n is = omega (arith, length-append rows (row ∷ []), is)
+
+pub returns-in-Err-clause-rests : goal.returns-in-Err-clause-rests
+returns-in-Err-clause-rests g c clean =
     let old = state g.S.Store c.args.conn.now in
     let new = state g.S.Store c.query.follows.lender-at-none in
-    let refused = rw c.in_err-rows.was at c.query.follows.holds-at-none in
+    let refused = rw c.in-Err.is at c.query.follows.holds-at-none in
     refused_rests c.args.sql.now (bound c.args.params.now) old new _ (refused.err clean)
 
-pub returns-in_err-rows-clause-cause : goal.returns-in_err-rows-clause-cause
-returns-in_err-rows-clause-cause g c =
-    let out = err_from_is_err_and c.from_residual.result c.from_residual.ensures.1 in
-    rw (out.1, out.2) (λ clean.
+pub returns-in-Err-clause-cause : goal.returns-in-Err-clause-cause
+returns-in-Err-clause-cause g c =
+    rw c.heard.ensures.same (λ clean.
     let old = state g.S.Store c.args.conn.now in
     let new = state g.S.Store c.query.follows.lender-at-none in
-    let refused = rw c.in_err-rows.was at c.query.follows.holds-at-none in
+    let refused = rw c.in-Err.is at c.query.follows.holds-at-none in
     not_queried old new c.args.sql.now (bound c.args.params.now) _ (refused.err clean))
-
-pub returns-in_err-row-clause-cause : goal.returns-in_err-row-clause-cause
-returns-in_err-row-clause-cause g c =
-    let out = err_from_is_err_and c.from_residual-in_err-row.result
-    c.from_residual-in_err-row.ensures.1 in
-    rw (out.1, out.2) (λ clean.
-    let old = state g.S.Store c.args.conn.now in
-    let now = state g.S.Store c.rows.rows.conn.now in
-    let later = state g.S.Store c.next.follows.lender-at-none.conn.now in
-    let moved = c.next.follows.holds-at-none in
-    let late : HasCleanDisk later = search rules in
-    let early : HasCleanDisk now = omega (arith, moved.survives.clean, late) in
-    let ended = failed_or_not now later _ (rw c.in_err-row.was at (moved.kept late)) in
-    let done = failed_later old now later _ (c.rows.invariant.same early)
-    c.rows.invariant.lasts.counts ended in
-    search rules)
 
 pub rows-init : goal.rows-init
 rows-init g c =
     let old = c.args.conn.now in
-    let new = c.in_ok-rows.rows.conn.now in
-    let made = c.in_ok-rows.ensures in
+    let new = c.in-Ok.rows.conn.now in
+    let made = c.in-Ok.ensures in
     let begun = λ (clean : HasCleanDisk (state g.S.Store new)).
     begun_idle g.S.Store c.args.sql.now (bound c.args.params.now) old new c.requires.plain
     (made.begun clean) in
@@ -61,7 +48,7 @@ rows-init g c =
       mode = made.mode c.requires.idle.autocommit;
       lasts = survives_lasts _ _ _ made.survives;
       same = λ clean. (begun clean).1;
-      given = λ clean. ([], (begun clean).0, ([], refl, refl));
+      given = λ clean. ([], (begun clean).0, refl, ([], refl, refl));
     }
 
 pub rows-preserved : goal.rows-preserved
@@ -77,16 +64,17 @@ rows-preserved g c =
       mode = moved.mode was.mode;
       lasts = lasts_then _ _ _ was.lasts (survives_lasts _ _ _ moved.survives);
       same = λ clean. unchanged_then _ _ _ (was.same (early clean))
-          (rw c.in_ok-row.was at (moved.same clean));
+          (rw c.in-Ok-Some.is at (moved.same clean));
       given = λ clean.
           let had = was.given (early clean) in
-          let on = (rw (c.in_ok-row.was, c.in-Some.is) at (moved.ok clean)) c.args.sql.now
+          let some : c.in-Ok-Some.field-0 ≡ Some c.in-Ok-Some.row = c.in-Ok-Some.field-0-is in
+          let on = (rw some at (rw c.in-Ok-Some.is at (moved.ok clean))) c.args.sql.now
           (bound c.args.params.now) had.0 had.1 in
-          (had.0 ++ c.in-Some.row.now ∷ [], on, c.in_ok-read.ensures c.args.sink.now had.0 had.2);
+          (had.0 ++ c.in-Ok-Some.row.now ∷ [], on, one_longer had.0 c.in-Ok-Some.row.now _ had.2, c.in_ok-read.ensures.taken c.args.sink.now had.0 had.3);
     }
 
-pub returns-in_default-clause-rows : goal.returns-in_default-clause-rows
-returns-in_default-clause-rows g c clean =
+pub returns-in-Ok-None-clause-rows : goal.returns-in-Ok-None-clause-rows
+returns-in-Ok-None-clause-rows g c clean =
     let old = c.args.conn.now in
     let now = c.rows.rows.conn.now in
     let later = c.next.follows.lender-at-none.conn.now in
@@ -95,10 +83,11 @@ returns-in_default-clause-rows g c clean =
     let early : HasCleanDisk (state g.S.Store now) =
     omega (arith, moved.survives.clean, late) in
     let was = c.rows.invariant.given early in
-    let shown = (rw (c.in_ok-row.was, c.in_default.is) at (moved.ok late)) c.args.sql.now
+    let none : c.in-Ok-None.field-0 ≡ None = c.in-Ok-None.field-0-is in
+    let shown = (rw none at (rw c.in-Ok-None.is at (moved.ok late))) c.args.sql.now
     (bound c.args.params.now) was.0 was.1 in
     let done = whole_answer g.S.Store c.args.sql.now (bound c.args.params.now)
     (λ rows. AreTaken g.T.Record.of g.K.Sink.Takes c.args.sink.now rows c.rows.sink c.rows.read) old now later later was.0
     c.requires.plain refl (c.rows.invariant.same early)
-    (rw c.in_ok-row.was at (moved.same late)) shown was.2 in
+    (rw c.in-Ok-None.is at (moved.same late)) shown was.3 in
     search rules

@@ -1,4 +1,4 @@
-use Rattle.std.proofs.Common.{◌≡◌, List, false}
+use Rattle.std.proofs.Common.{◌≡◌, List, false, length}
 use Rattle.sqlite.specs.Given.{HasGiven}
 use Rattle.sqlite.specs.Held.{state}
 use Rattle.sqlite.specs.Order.{Row}
@@ -19,5 +19,6 @@ invariant-rows g l =
       same : HasCleanDisk now → IsUnchanged old now;
       given : HasCleanDisk now → (given : List Row)
           × HasGiven g.S.Store l.sql (bound l.params) l.rows.conn.now given
+          × (length given ≡ l._at)
           × AreTaken g.T.Record.of g.K.Sink.Takes l.fn.sink given l.sink l.read;
     }

@@ -8,7 +8,7 @@ use Rattle.reg_tables.proofs.write.run.Goals as goal
 pub returns-clause-runs : goal.returns-clause-runs
 returns-clause-runs g c = record {
   endures = endures_in (state g.S.Store c.args.tx.now.conn.now)
-      (state g.S.Store c.execute.new.self.conn.now) _ c.execute.ensures.survives;
+      (state g.S.Store c.execute.new.tx.conn.now) _ c.execute.ensures.survives;
   kept = search rules;
   went = search rules;
   ran = search rules;
@@ -17,5 +17,5 @@ returns-clause-runs g c = record {
 pub returns-clause-cause : goal.returns-clause-cause
 returns-clause-cause g c =
     not_carried g.S.Store 0 c.args.sql.now (bound c.args.params.now) c.args.tx.now.conn.now
-    c.execute.new.self.conn.now c.execute.result (λ over. (c.execute.ensures.ended over).1)
+    c.execute.new.tx.conn.now c.execute.result (λ over. (c.execute.ensures.ended over).1)
     c.execute.ensures.runs

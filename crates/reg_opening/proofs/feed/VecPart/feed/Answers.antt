@@ -1,4 +1,4 @@
-use Rattle.std.proofs.Common.{◌≡◌, true, false, arith}
+use Rattle.std.proofs.Common.{◌≡◌, true, false, Ok, arith}
 use Rattle.std.proofs.lemmas.Bool.Decides.{nat_tests}
 use Rattle.std.specs.Prelude.{nat_lt}
 use Rattle.sqlite.specs.Held.{state}
@@ -22,11 +22,12 @@ pub returns : goal.returns
 returns g c =
     let old = state g.S.Store c.args.conn.now in
     let new = state g.S.Store c.feed_table.new.conn in
-    let fed = c.feed_table.ensures in
+    let fed = c.in_ok-is_whole.ensures in
     let has : nat_lt g.T.FedRow.table.slot (table_count c.args.reading.version) ≡ true =
     grind (arith, nat_tests) in
-    feeds_part g.T.FedRow.table g.met.T.FedRow.defined g.T.Record.of g.met.T.FedRow.reads
+    rw c.end.ensures.audit
+    (feeds_part g.T.FedRow.table g.met.T.FedRow.defined g.T.Record.of g.met.T.FedRow.reads
     g.met.T.FedRow.behind g.met.T.FedRow.placed g.T.Fed.row_of g.T.FedRow.put g.T.FedRow.Before
     g.T.FedRow.IsTied g.met.T.FedRow.fed c.args.reading.version old new c.args.feeder.now.audit
-    c.feed_table.new.feeder.audit _ c.all.ensures has c.feed_table.result fed.idle fed.endures fed.stays
-    fed.rows
+    c.feed_table.new.feeder.audit _ c.all.ensures has (Ok c.in_ok-is_whole.is_whole) fed.idle
+    fed.endures fed.stays fed.rows)

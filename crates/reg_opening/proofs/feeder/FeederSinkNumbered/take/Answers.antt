@@ -1,7 +1,7 @@
 use Rattle.reg_opening.proofs.feeder.FeederSinkNumbered.take.Goals as goal
 
-pub returns : goal.returns
-returns g c = record {
+pub returns-clause-taken : goal.returns-clause-taken
+returns-clause-taken g c = record {
   kept = c.in_ok-feed.field-0;
   feeds = rw c.row.ensures at c.in_ok-feed.ensures;
   rises = λ rowids risen. rw c.rowid.ensures at (c.then-self.ensures rowids risen);

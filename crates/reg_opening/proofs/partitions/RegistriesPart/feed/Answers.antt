@@ -1,5 +1,4 @@
 use Rattle.std.proofs.Common.{◌≡◌, [], List, map, subst, sym}
-use Rattle.std.proofs.lemmas.Result.{IfOk-weaker}
 use Rattle.std.specs.List.Sorted.{IsPermutation}
 use Rattle.sqlite.specs.Effect.{Database}
 use Rattle.sqlite.specs.Held.{state}
@@ -75,7 +74,8 @@ returns g c =
     let mid = state g.S.Store c.load.new.conn in
     let first = c.in_ok-registries.ensures in
     let second = c.in_ok-rows.ensures in
-    feeds_after v _ second.idle first.endures second.endures first.stays second.stays
+    rw c.end-2.ensures.audit
+    (feeds_after v _ second.idle first.endures second.endures first.stays second.stays
     (λ works schema.
     let before = second.stays.worked works in
     let found = rw c.in-Some.is at (first.rows before) in
@@ -83,8 +83,7 @@ returns g c =
     let moved = registries_shown v old mid found.0 schema found.1 in
     let along = ranges_before v old mid (state g.S.Store c.load-2.new.conn) places.0
     (first.stays.unchanged before) schema places.1 in
-    let fed = rw (c.as_slice.ensures.value, c.as_slice-2.ensures.value) at c.feed_partitions.ensures in
-    IfOk-weaker c.feed_partitions.result _ _ (λ k is.
+    let fed = rw (c.as_slice.ensures.value, c.as_slice-2.ensures.value) at c.in_ok-is_whole.ensures in
     registries_told (tables_at v old.now) c.args.feeder.now.audit c.feed_partitions.new.audit
-    c.in-Some.registries.items c.in-Some-2.rows.items found.0 places.0 k moved found.2 along places.2
-    is) fed)
+    c.in-Some.registries.items c.in-Some-2.rows.items found.0 places.0 c.in_ok-is_whole.is_whole moved
+    found.2 along places.2 fed))

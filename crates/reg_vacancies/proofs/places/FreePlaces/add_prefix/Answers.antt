@@ -1,7 +1,7 @@
 use Rattle.std.specs.FinMap.{keys}
 use Rattle.std.proofs.Math.Logic.{∥∥₁_map}
 use Rattle.std.proofs.lemmas.Result.{on_ok_weaker}
-use Rattle.reg_places.specs.Places.{pool_of}
+use Rattle.reg_vacancies.specs.PoolPlaces.{pool_of}
 use Rattle.reg_vacancies.specs.Places.{places_in}
 use Rattle.reg_vacancies.proofs.PrefixSets.{prefix_set-add}
 use Rattle.reg_vacancies.proofs.Leaving.{unchanged}

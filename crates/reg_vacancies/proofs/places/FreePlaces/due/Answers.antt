@@ -3,7 +3,7 @@ use Rattle.std.specs.FinMap.{keys}
 use Rattle.std.proofs.Math.Logic.{∥∥₁_elim}
 use Rattle.std.proofs.Props.{props}
 use Rattle.reg_blocks.specs.Due.{block_due}
-use Rattle.reg_places.specs.Places.{pool_of}
+use Rattle.reg_vacancies.specs.PoolPlaces.{pool_of}
 use Rattle.reg_vacancies.specs.Places.{places_in}
 use Rattle.reg_vacancies.proofs.PrefixSets.{keys-prefix_set}
 use Rattle.reg_vacancies.proofs.places.FreePlaces.due.Goals as goal

@@ -4,7 +4,7 @@ use Rattle.std.specs.FinMap.{insert, keys}
 use Rattle.std.proofs.Math.Logic.{∥∥₁_map}
 use Rattle.std.proofs.lemmas.Result.{on_err_weaker, on_ok_weaker}
 use Rattle.reg_blocks.specs.Block.{leading_24}
-use Rattle.reg_places.specs.Places.{pool_of}
+use Rattle.reg_vacancies.specs.PoolPlaces.{pool_of}
 use Rattle.reg_vacancies.specs.Places.{places_in}
 use Rattle.reg_vacancies.specs.Pool.{prefix_set}
 use Rattle.reg_vacancies.proofs.PrefixSets.{keys-prefix_set}

@@ -1,5 +1,5 @@
 use Rattle.std.proofs.Common.{◌∙◌}
-use Rattle.reg_places.specs.Places.{pool_of}
+use Rattle.reg_vacancies.specs.PoolPlaces.{pool_of}
 use Rattle.reg_vacancies.specs.Places.{places_in}
 use Rattle.reg_vacancies.proofs.PrefixSets.{found_in_set}
 use Rattle.reg_vacancies.proofs.places.FreePlaces.has_prefix.Goals as goal

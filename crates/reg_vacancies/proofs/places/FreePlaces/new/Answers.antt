@@ -3,7 +3,7 @@ use Rattle.std.proofs.lemmas.Grind.{merely}
 use Rattle.reg_maps.proofs.KeyLists.{keys-empty}
 use Rattle.reg_core.specs.declared.holding.Holder.{Holder}
 use Rattle.reg_core.proofs.KeyOrders.{block_keys}
-use Rattle.reg_places.specs.Places.{Follows}
+use Rattle.reg_vacancies.specs.PoolPlaces.{Follows}
 use Rattle.reg_vacancies.specs.Places.{places_in}
 use Rattle.reg_vacancies.specs.Pool.{prefix_set}
 use Rattle.reg_vacancies.proofs.places.FreePlaces.new.Goals as goal

@@ -2,7 +2,7 @@ use Rattle.std.proofs.Common.{◌≡◌, ℕ, List, sym, subst, ◌∙◌}
 use Rattle.std.specs.FinMap.{keys}
 use Rattle.std.proofs.lemmas.Result.{IfOk-weaker}
 use Rattle.reg_blocks.specs.Pool.{IsPool}
-use Rattle.reg_places.specs.Places.{pool_of}
+use Rattle.reg_vacancies.specs.PoolPlaces.{pool_of}
 use Rattle.reg_vacancies.specs.Places.{places_in, pool_in}
 use Rattle.reg_vacancies.proofs.PrefixSets.{keys-prefix_set}
 use Rattle.reg_vacancies.proofs.places.FreePlaces.pool.Goals as goal

@@ -1,5 +1,5 @@
 use Rattle.std.proofs.Common.{ap, ◌∙◌}
-use Rattle.reg_free.specs.Runs.{has}
+use Rattle.reg_vacancies.specs.Runs.{has}
 use Rattle.reg_core.specs.LeastFree.{values_in}
 use Rattle.reg_vacancies.specs.Sets.{is_in}
 use Rattle.reg_vacancies.specs.Values.{is_taken}

@@ -1,2 +1,0 @@
-mod SpanLaws
-mod Joining

@@ -1,0 +1,65 @@
+//! Who asks an office: connections, one after the other.
+ghost use Rattle.std.specs.Prelude.{◌≡◌, IfOk};
+ghost use Rattle.std.specs.Option.{option_map};
+ghost use Rattle.reg_http.specs.Meeting.{Comes, Ends};
+
+use crate::log::Sent;
+use std::io;
+use std::io::{Read, Write};
+use std::net::SocketAddr;
+use std::time::Duration;
+
+/// What gives connections, one after the other. A connection is read first, and written then.
+pub trait Peers {
+    ghost use Rattle.std.specs.Prelude.{ℕ, List, Option, None};
+
+    /// A connection that is read.
+    type Reader: Read + Drop;
+
+    /// A connection that is written.
+    type Writer: Write + Drop;
+
+    /// The bytes that are to be read of each connection that comes, in turn; none where it cannot be
+    /// had. They are given where they are known.
+    ghost coming: { Self → Option (List (Option (List ℕ))) } = { λ _. None };
+
+    /// What was written over each connection that has ended, in turn, where that is known.
+    ghost written: { Self → Option (List (Option (List ℕ))) } = { λ _. None };
+
+    /// What is known of what was written over a connection over which nothing was.
+    ghost blank: { Option (List ℕ) } = { None };
+
+    /// The next connection, unless it cannot be had.
+    fn next(&mut self) -> Option<Self::Reader>
+        ensures comes { Comes (coming self.old) (coming self.new)
+            (option_map Self.Reader.remaining result) }
+        ensures ended { written self.new ≡ written self.old };
+
+    /// The same connection, to be written. Nothing has been written yet.
+    fn turned(&mut self, reader: Self::Reader) -> Self::Writer
+        ensures is_new { Self.Writer.contents result ≡ blank }
+        ensures coming { coming self.new ≡ coming self.old }
+        ensures ended { written self.new ≡ written self.old };
+
+    /// Ends a connection, over which this answer was written whole, or none.
+    fn end(&mut self, writer: Self::Writer, sent: Option<Sent>)
+        ensures ends { Ends (written self.old) (written self.new) (Self.Writer.contents writer) }
+        ensures coming { coming self.new ≡ coming self.old };
+}
+
+/// What can be listened on.
+pub trait Ports {
+    ghost use Rattle.std.specs.declared.net.socket_addr.SocketAddr.{SocketAddr as OfPlace};
+    ghost use Rattle.std.specs.declared.time.Duration.{Duration as OfPatience};
+
+    /// What gives the connections.
+    type Given: Peers + Drop;
+
+    /// These are the connections at an address, with so much time to be read in, and again to be
+    /// written in.
+    ghost Opened: { Self → OfPlace → OfPatience → Self.Given → Type 0 } = { λ _ _ _ _. Unit {0} };
+
+    /// Listens at an address.
+    fn listen(&self, address: SocketAddr, patience: Duration) -> io::Result<Self::Given>
+        ensures { IfOk result (Opened self.now address patience) };
+}

@@ -1,0 +1,6 @@
+-- Each command goes by its lines.
+pub mod Turns
+pub mod Evidence
+pub mod Asks
+pub mod Commands
+pub mod Callers

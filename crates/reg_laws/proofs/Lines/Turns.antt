@@ -1,0 +1,78 @@
+-- An answer goes by lines, check after check.
+use Rattle.std.proofs.Common.{◌≡◌, ℕ, Bool, true, false, List, refl, sym, subst, ◌∙◌}
+use Rattle.std.specs.Prelude.{Option, Some, None, Result, Ok, Err}
+use Rattle.std.proofs.lemmas.Slice.Eq.{bytes_eq-Decides}
+use Rattle.reg_maps.specs.Maps.{same_text}
+use Rattle.reg_core.specs.Allowance.{◌>>=◌, or_refusal}
+use Rattle.reg_core.specs.Answer.{Answer}
+use Rattle.reg_core.specs.Step.{stepped}
+use Rattle.reg_core.specs.World.{World}
+use Rattle.reg_core.specs.declared.refusal.Refusal.{Refusal}
+use Rattle.reg_laws.specs.AnswerLines.{Lines, of_row, GoesBy}
+
+-- the step of an answer goes by the lines
+abbrev pub By : World → Lines → Answer → Type 0
+By w lines a = GoesBy lines w (stepped w a)
+
+-- a test that is false of what holds only where it is true
+pub fails : {So : Type 0} (b : Bool) → (So → b ≡ true) → b ≡ false → ¬ So
+fails b holds f so = let t = holds so in absurd (cc)
+
+pub other_text : (a b : List ℕ) → same_text a b ≡ false → ¬ (a ≡ b)
+other_text a b = fails (same_text a b) (bytes_eq-Decides a b).1
+
+pub same_texts : (a b : List ℕ) → same_text a b ≡ true → a ≡ b
+same_texts a b = (bytes_eq-Decides a b).0
+
+module _ (w : World) where
+  -- a check refuses as the first lines say, or leaves the answer to those after them
+  pub record IsFair {X : Type 0} (lines : Lines → Lines) (check : Result X Refusal) : Type 1 where
+    pub refused : (refusal : Refusal) → check ≡ Err refusal → (more : Lines)
+        → By w (lines more) (Err refusal)
+    pub passed : (x : X) → check ≡ Ok x → (more : Lines) (a : Answer) → By w more a
+        → By w (lines more) a
+
+  -- the same, known by its lines and its answer
+  pub record Goes (lines : Lines) (a : Answer) : Type 0 where
+    pub by : By w lines a
+
+  -- checks in turn, and what comes of them
+  pub turn : {X Y : Type 0} (lines : Lines → Lines) (check : Result X Refusal)
+      → IsFair lines check → (more : Lines) (g : X → Result Y Refusal) (f : Y → Answer)
+      → ((x : X) → check ≡ Ok x → Goes more (g x >>= f))
+      → Goes (lines more) ((check >>= g) >>= f)
+  turn lines (Err refusal) fair more g f each = record { by = fair.refused refusal refl more }
+  turn lines (Ok x) fair more g f each =
+      record { by = fair.passed x refl more (g x >>= f) (each x refl).by }
+
+  -- a row that is looked up first
+  pub row_turn : {X Y : Type 0} (refusal : Refusal) (o : Option X) (lines : X → Lines)
+      (g : X → Result Y Refusal) (f : Y → Answer)
+      → ((x : X) → o ≡ Some x → Goes (lines x) (g x >>= f))
+      → Goes (of_row refusal o lines) ((or_refusal refusal o >>= g) >>= f)
+  row_turn refusal None lines g f each = record { by = refl }
+  row_turn refusal (Some x) lines g f each = each x refl
+
+  pub row : {X : Type 0} (refusal : Refusal) (o : Option X) (lines : X → Lines) (f : X → Answer)
+      → ((x : X) → o ≡ Some x → By w (lines x) (f x))
+      → By w (of_row refusal o lines) (or_refusal refusal o >>= f)
+  row refusal None lines f each = refl
+  row refusal (Some x) lines f each = each x refl
+
+  -- a check that refuses, and one that does not
+  pub fair_refused : {X : Type 0} (lines : Lines → Lines) (check : Result X Refusal) (r : Refusal)
+      → check ≡ Err r → ((more : Lines) → By w (lines more) (Err r)) → IsFair lines check
+  fair_refused lines check r is by = record {
+    refused = λ refusal h more.
+        let both = sym is ∙ h in
+        let same : r ≡ refusal = cc in subst (λ s. By w (lines more) (Err s)) same (by more);
+    passed = λ x h. let both = sym is ∙ h in absurd (cc);
+  }
+
+  pub fair_passed : {X : Type 0} (lines : Lines → Lines) (check : Result X Refusal) (x : X)
+      → check ≡ Ok x → ((more : Lines) (a : Answer) → By w more a → By w (lines more) a)
+      → IsFair lines check
+  fair_passed lines check x is by = record {
+    refused = λ refusal h. let both = sym is ∙ h in absurd (cc);
+    passed = λ y h. by;
+  }

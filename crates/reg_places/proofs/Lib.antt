@@ -1,4 +1,0 @@
-mod SpanSteps
-mod SizeSteps
-mod Pooling
-mod Following

@@ -1,0 +1,13 @@
+use Rattle.reg_program.proofs.Results.{ok_as}
+use Rattle.reg_program.proofs.publishing.publish_to.Goals as goal
+
+pub returns : goal.returns
+returns g c =
+    ok_as c.publish-count.result
+    (λ publishes. record {
+      first = _;
+      last = _;
+      opened = c.in_ok-given.ensures;
+      publishes = publishes;
+    })
+    c.publish-count.ensures

@@ -1,0 +1,13 @@
+use Rattle.reg_program.proofs.tasks.Task.carry_out.Goals as goal
+
+pub returns-in-Ask-clause-did : goal.returns-in-Ask-clause-did
+returns-in-Ask-clause-did g c =
+    rw c.in-Ask.is (c.moment_now-moment.result, c.moment_now-moment.ensures, c.ask_in.ensures.does)
+
+pub returns-in-Revoke-clause-did : goal.returns-in-Revoke-clause-did
+returns-in-Revoke-clause-did g c =
+    rw c.in-Revoke.is (
+      c.moment_now-moment-in-Revoke.result,
+      c.moment_now-moment-in-Revoke.ensures,
+      c.revoke_in.ensures.does,
+    )

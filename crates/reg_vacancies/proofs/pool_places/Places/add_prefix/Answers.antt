@@ -1,0 +1,43 @@
+use Rattle.reg_maps.proofs.Outcomes.{on_either}
+use Rattle.reg_vacancies.specs.PoolPlaces.{IsFreeIn, pool_of}
+use Rattle.reg_vacancies.specs.Sizes.{FreeOf}
+use Rattle.reg_vacancies.proofs.Following.{prefix_followed, same_followed}
+use Rattle.reg_vacancies.proofs.pool_places.Places.add_prefix.Goals as goal
+use Rattle.reg_vacancies.proofs.Pooling.{decided}
+
+pub returns-clause-pool : goal.returns-clause-pool
+unfolding pool_of
+returns-clause-pool c = c.add_pooled.ensures.pool
+
+pub returns-clause-ok : goal.returns-clause-ok
+unfolding IsFreeIn pool_of
+returns-clause-ok c = c.add_pooled.ensures.ok
+
+pub returns-clause-there : goal.returns-clause-there
+unfolding pool_of
+returns-clause-there c = c.add_pooled.ensures.there
+
+pub returns-clause-err_pool : goal.returns-clause-err_pool
+unfolding pool_of
+returns-clause-err_pool c = c.add_pooled.ensures.err_pool
+
+pub returns-clause-err : goal.returns-clause-err
+unfolding IsFreeIn
+returns-clause-err c = c.add_pooled.ensures.err
+
+pub returns-clause-follows : goal.returns-clause-follows
+unfolding IsFreeIn pool_of
+returns-clause-follows c = λ given follows.
+    let old = c.args.self.now in
+    let new = c.add_pooled.new in
+    let ensures = c.add_pooled.ensures in
+    let now =
+    on_either c.add_pooled.result ensures.pool ensures.ok ensures.err_pool ensures.err
+    (λ adds gains. prefix_followed (FreeOf old.large old.medium old.small)
+    (FreeOf new.large new.medium new.small) old.prefixes.keys given
+    (follows.free, follows.in_pool) new.prefixes.keys c.args.prefix adds
+    (decided old.prefixes c.args.prefix) gains)
+    (λ pool same. same_followed (FreeOf old.large old.medium old.small)
+    (FreeOf new.large new.medium new.small) old.prefixes.keys new.prefixes.keys given pool same
+    (follows.free, follows.in_pool)) in
+    record { free = now.0; in_pool = now.1 }

@@ -1,0 +1,262 @@
+// What applicants do: their requests, new ones, who may read them, and their blocks.
+import { ask } from './office.js';
+import { Told, attempt, badge, button, choice, control, details, form, h, say, sure, table } from './dom.js';
+import {
+  KINDS, POLICIES, STATES, askOf, easiest, evidenceFor, faultsOf, freeUnder, hexOf, inWords, noteOn, openPolicies, optionsFor, outcome, policyOf,
+  rowsOf, waitingTwin,
+} from './forms.js';
+
+// ---- Requests
+
+/** The caller's own requests. */
+export async function requests(app) {
+  const rows = await ask('GET', '/requests'), place = h('div');
+  const withdraw = async row => {
+    if (!await sure(`Withdraw the request ${row.reference}? It cannot be made to wait again.`, 'Withdraw')) return;
+    await attempt(place, async () => {
+      await ask('DELETE', `/requests/${row.reference}`);
+      await app.go('requests', `The request ${row.reference} is withdrawn.`);
+    });
+  };
+  const actions = row => [detailsButton(app, row, `Request ${row.reference}`),
+    row.state === 'pending' ? button('Withdraw', () => withdraw(row), { 'aria-label': `Withdraw ${row.reference}`, class: 'plain' }) : null];
+  const add = h('p', {}, h('a', { class: 'button', href: '#new' }, 'New request'));
+  return h('div', {}, place, add, requestTable(rows, actions, 'My requests', 'You have no requests yet. Make one by "New request".'));
+}
+
+function detailsButton(app, row, title) {
+  return button('Details', () => app.open(title, requestDetails(row)), { 'aria-label': `Details of ${row.reference}` });
+}
+
+function requestTable(rows, actions, caption, empty) {
+  const state = row => badge(row.state, STATES[row.state] ?? row.state);
+  const cells = row => [row.reference, inWords(row.ask), state(row), outcome(row), h('div', { class: 'row' }, actions(row))];
+  const columns = ['Reference', 'Request', 'State', 'Result', 'Actions'];
+  return table({ caption, columns, rows, cells, empty, states: STATES, quiet: true });
+}
+
+/** A request in all its parts. */
+export function requestDetails(row) {
+  const told = { pending: 'Waiting: nothing is decided yet.', approved: `Approved. ${outcome(row)}.`, declined: `Declined. ${outcome(row)}`, withdrawn: 'Withdrawn by the applicant.' };
+  return details([['State', told[row.state] ?? row.state], ['Reference', row.reference], ...rowsOf(row.ask)]);
+}
+
+// ---- A new request
+
+/** A form for a new request. Its reference stays the same until the office has answered, so one ask never has two. */
+export async function fresh(app) {
+  const names = await ask('GET', '/registries'), own = await ask('GET', '/requests');
+  const draft = new Draft(names, own);
+  const node = form({
+    controls: () => draft.controls(), verb: 'Send the request',
+    parts: [draft.kinds, draft.top, draft.wishes, draft.note, draft.naming, draft.evidence, draft.last],
+    check: () => draft.faults(),
+    send: () => draft.send(own, app),
+  });
+  await draft.choose('code');
+  draft.calm = node.calm;
+  return node;
+}
+
+class Draft {
+  constructor(names, own) {
+    Object.assign(this, { names, own, kind: 'code', page: null, pages: new Map(), parts: {}, shape: '' });
+    this.values = { wish: 'least', reference: `r${hexOf(crypto.getRandomValues(new Uint8Array(4)))}` };
+    this.kinds = choice('What do you need?', 'kind', KINDS, 'code', kind => this.choose(kind));
+    for (const name of ['top', 'wishes', 'naming', 'evidence', 'last']) this[name] = h('div');
+    this.note = h('p', { class: 'note', role: 'status' });
+    this.put('last', [control('reference', { value: this.values.reference })]);
+  }
+
+  controls() {
+    return Object.values(this.parts).flat();
+  }
+
+  put(part, controls, ...more) {
+    this.read();
+    this.parts[part] = controls;
+    this[part].replaceChildren(...controls.map(one => one.node), ...more);
+  }
+
+  /** What the form says now. */
+  read() {
+    for (const one of this.controls()) this.values[one.name] = one.get();
+    const [registry, value] = (this.values.allocation ?? '').split('/');
+    return this.isOfMine() ? { ...this.values, registry, value, wish: 'value' } : this.values;
+  }
+
+  isOfMine() {
+    return this.kind === 'renew' || this.kind === 'permanent';
+  }
+
+  faults() {
+    const faults = faultsOf(this.kind, this.read(), this.page);
+    if (this.isOfMine() && !this.values.allocation) faults.allocation = 'Choose one.';
+    return faults;
+  }
+
+  async choose(kind) {
+    this.read();
+    this.calm?.();
+    Object.assign(this, { kind, page: null });
+    for (const part of ['top', 'wishes', 'naming', 'evidence']) this.put(part, []);
+    this.shape = '';
+    if (kind === 'block') this.put('top', ['size', 'organization', 'address'].map(name => control(name, { value: this.values[name] })));
+    else if (this.isOfMine()) await this.offerAllocations();
+    else await this.offerRegisters();
+    if (kind === this.kind) this.refresh();
+  }
+
+  async offerRegisters() {
+    const known = this.names.includes(this.values.registry) ? this.values.registry : this.names.length === 1 ? this.names[0] : undefined;
+    const options = Object.fromEntries(this.names.map(name => [name, name]));
+    if (!this.names.length) this.put('top', [], h('p', { class: 'note' }, 'The authority has not opened any register yet.'));
+    else this.put('top', [control('registry', { options, value: known, onchange: () => this.offerWishes() })]);
+    if (known) await this.offerWishes();
+  }
+
+  async offerAllocations() {
+    const { kind } = this, mine = this.own.filter(({ ask: { kind }, state }) => kind === 'early' && state === 'approved');
+    await attempt(this.top, async () => { for (const { ask: { registry } } of mine) await this.load(registry); });
+    if (kind !== this.kind) return;
+    const entryOf = ({ ask: { registry }, given }) => this.pages.get(registry)?.entries.find(({ value }) => value === Number(given));
+    const options = {};
+    for (const one of mine) {
+      const entry = entryOf(one), { registry } = one.ask;
+      const until = entry?.status === 'Expired' ? 'expired on' : 'until';
+      if (entry?.expires) options[`${registry}/${entry.value}`] = `Value ${entry.value} of ${registry}, "${entry.label}", ${until} ${entry.expires}`;
+    }
+    const known = options[this.values.allocation] && this.values.allocation, change = { onchange: () => this.refresh() };
+    if (Object.keys(options).length) this.put('top', [control('allocation', { options, label: 'Early allocation', value: known, ...change })]);
+    else if (!this.top.hasChildNodes()) this.put('top', [], h('p', { class: 'note' }, 'You have no early allocation.'));
+  }
+
+  async load(registry) {
+    if (!this.pages.has(registry)) this.pages.set(registry, await ask('GET', `/registries/${registry}`));
+    return this.pages.get(registry);
+  }
+
+  async offerWishes() {
+    const { registry } = this.read(), { kind } = this;
+    this.page = null;
+    for (const part of ['wishes', 'naming']) this.put(part, []);
+    const page = registry ? await attempt(this.wishes, () => this.load(registry)) ?? null : null;
+    if (kind !== this.kind || registry !== this.read().registry) return;
+    this.page = page;
+    if (this.page) this.wish(this.values.wish);
+    this.refresh();
+  }
+
+  wish(wish) {
+    const policies = openPolicies(this.page, this.kind);
+    if (!policies.length) {
+      this.put('wishes', [], h('p', { class: 'note' }, 'Nobody can ask for such a value of this register: no policy of it allows that.'));
+      return;
+    }
+    const options = { least: { title: 'The lowest free value' }, value: { title: 'A value that I choose' } };
+    const known = policies.includes(this.values.least) ? this.values.least : easiest(policies);
+    const titles = Object.fromEntries(policies.map(policy => [policy, `${POLICIES[policy].title} (${freeUnder(this.page, policy)} free)`]));
+    const change = { onchange: () => this.refresh() };
+    const least = { options: titles, value: known, hint: 'Each policy asks for other evidence.', ...change };
+    const own = wish === 'least' ? control('least', least) : control('value', { value: this.values.value, hint: `0 to ${this.page.max}.`, ...change });
+    this.put('wishes', [own]);
+    this.put('naming', [control('label', { value: this.values.label })]);
+    this.wishes.prepend(choice('Which value?', 'wish', options, wish, chosen => this.change(chosen)));
+  }
+
+  change(wish) {
+    this.values.wish = wish;
+    this.wish(wish);
+    this.wishes.querySelector(`input[value=${wish}]`).focus();
+    this.refresh();
+  }
+
+  /** Asks for what the policy needs, once it is known. */
+  refresh() {
+    const values = this.read();
+    if (this.isOfMine()) this.page = this.pages.get(values.registry) ?? null;
+    const entry = this.page?.entries.find(({ value }) => value === Number(values.value));
+    this.values.renewed = values.renewed = Boolean(this.isOfMine() && entry?.renewed);
+    const policy = policyOf(this.kind, values, this.page), { needed, optional } = evidenceFor(this.kind, policy, values.renewed);
+    this.note.textContent = noteOn(this.kind, values, this.page);
+    const shape = JSON.stringify([policy, needed]);
+    if (shape === this.shape) return;
+    this.shape = shape;
+    const marks = ['stable', 'interest', 'will_be_rfc'];
+    const of = (name, isOptional) => control(name, {
+      type: marks.includes(name) ? 'checkbox' : undefined, optional: isOptional, value: this.values[name],
+      options: name.startsWith('rfc-') && name !== 'rfc-number' ? { ...(isOptional ? { '': 'None' } : {}), ...optionsFor(name, policy) } : undefined,
+    });
+    const must = needed.map(name => of(name, false)), may = optional.map(name => of(name, true));
+    this.put('evidence', [...must, ...may]);
+    const nodes = controls => controls.map(one => one.node);
+    this.evidence.replaceChildren(...must.length ? [h('fieldset', {}, h('legend', {}, 'What the request needs'), nodes(must))] : [],
+      ...may.length ? [h('details', {}, h('summary', {}, 'Add more (optional)'), nodes(may))] : []);
+  }
+
+  async send(own, app) {
+    const values = this.read(), body = askOf(this.kind, values, this.page);
+    const twin = waitingTwin(body, own.filter(({ reference }) => reference !== values.reference));
+    if (twin) throw new Told(`You have asked for just this already: request ${twin} is waiting. You need not send it again.`);
+    await ask('PUT', `/requests/${values.reference}`, body);
+    await app.go('requests', `Your request ${values.reference} arrived. It waits for a clerk.`);
+  }
+}
+
+// ---- Agents
+
+/** Who may read the caller's requests, and whose the caller may read. */
+export async function agents(app) {
+  const names = await ask('GET', '/agents'), principals = await ask('GET', '/principals'), place = h('div');
+  const set = (agent, reads) => ask('PUT', `/agents/${agent}`, { reads });
+  const stop = agent => attempt(place, async () => {
+    await set(agent, false);
+    await app.go('agents', `${agent} can no longer read your requests.`);
+  });
+  const open = account => attempt(place, async () => {
+    const rows = await ask('GET', `/principals/${account}/requests`);
+    const actions = row => [detailsButton(app, row, `Request ${row.reference} of ${account}`)];
+    app.open(`Requests of ${account}`, requestTable(rows, actions, `Requests of ${account}`, 'There are no requests.'));
+  });
+  const add = form({
+    title: 'Let an account read my requests', verb: 'Let it read', controls: [control('agent')],
+    send: async ({ agent }) => {
+      await set(agent, true);
+      await app.go('agents', `${agent} can now read your requests.`);
+    },
+  });
+  const mine = table({
+    caption: 'Agents who may read my requests', columns: ['Account', 'Actions'], rows: names, empty: 'Nobody else may read your requests.',
+    cells: name => [name, button('Stop', () => stop(name), { 'aria-label': `Stop ${name} from reading` })],
+  });
+  const others = table({
+    quiet: true, caption: 'Accounts that named me as their agent', columns: ['Account', 'Actions'], rows: principals,
+    empty: 'No account has named you as its agent.',
+    cells: name => [name, button('Read', () => open(name), { 'aria-label': `Read the requests of ${name}` })],
+  });
+  return h('div', {}, place, h('p', {}, 'An agent sees your requests as you do. It cannot change anything.'), mine, add,
+    h('h3', {}, 'Accounts whose requests I may read'), others);
+}
+
+// ---- Blocks
+
+/** The blocks that the caller's account holds, each with a switch that hides whose it is. */
+export async function blocks() {
+  const rows = await ask('GET', '/holdings'), place = h('div');
+  const toggle = row => h('input', {
+    type: 'checkbox', role: 'switch', checked: row.private, 'aria-label': `Keep the holder of ${row.block} private`,
+    onchange: event => change(row, event.target),
+  });
+  const change = (row, input) => attempt(place, async () => {
+    const wanted = input.checked;
+    input.checked = row.private;
+    row.private = (await ask('PUT', `/holdings/${row.block}`, { private: wanted })).private;
+    input.checked = row.private;
+    say(`The public ${row.private ? 'no longer sees' : 'now sees'} who holds ${row.block}.`);
+  });
+  const about = 'The public always sees that a block is assigned. If you keep it private, the public sees neither your organization nor its address.';
+  return h('div', {}, place, h('p', {}, about), table({
+    quiet: true, caption: 'My blocks', columns: ['Block', 'Size', 'Organization', 'Address', 'Private'], rows,
+    cells: row => [row.block, row.size, row.organization, row.address, toggle(row)], empty: 'You have no blocks. Ask for one by "New request".',
+  }));
+}

@@ -1,0 +1,275 @@
+// What clerks do: decide requests, define registers, add prefixes, hold allocations, and hand out tokens.
+import { Refusal, ask } from './office.js';
+import { attempt, badge, button, control, details, focusOn, form, h, say, sure, table } from './dom.js';
+import { CAPABILITIES, POLICIES, STATES, dayOf, faultOf, grantOf, hexOf, inWords, outcome, policyOf, rangesOf, rowsOf } from './forms.js';
+import { faultInWords } from './errors.js';
+
+/** What the office answers, or null where it is an older one that does not know the request. */
+export async function askIfKnown(method, path) {
+  try {
+    return await ask(method, path);
+  } catch (error) {
+    if (error instanceof Refusal && ['route', 'method'].includes(error.error)) return null;
+    throw error;
+  }
+}
+
+// ---- Requests
+
+/** The requests that wait. */
+export async function waiting(app) {
+  const known = await askIfKnown('GET', '/desk/pending');
+  const rows = known ?? (await ask('GET', '/desk/requests')).filter(({ state }) => state === 'pending');
+  return requestTable(app, rows, { caption: 'Requests that wait', empty: 'No request waits.', more: known ? 'Experts' : null });
+}
+
+/** All requests. */
+export async function everything(app) {
+  return requestTable(app, await ask('GET', '/desk/requests'), { caption: 'All requests', empty: 'There are no requests.', states: STATES, more: 'Result' });
+}
+
+function requestTable(app, rows, { caption, empty, states, more }) {
+  const open = row => button('Open', () => openCase(app, row), { 'aria-label': `Open ${row.reference} of ${row.account}` });
+  const last = row => (more ? [more === 'Result' ? outcome(row) : advised(row)] : []);
+  const cells = row => [row.account, row.reference, inWords(row.ask), badge(row.state, STATES[row.state] ?? row.state), ...last(row), open(row)];
+  const columns = ['Account', 'Reference', 'Request', 'State', ...more ? [more] : [], 'Actions'];
+  return table({ caption, columns, rows, cells, empty, states, quiet: true });
+}
+
+function advised({ experts, advice }) {
+  return experts.map(expert => `${expert}: ${advice.find(one => one.expert === expert)?.verdict ?? 'no advice yet'}`).join('; ');
+}
+
+// Opens a request with its evidence, its experts and their advice.
+async function openCase(app, { account, reference }, message) {
+  const title = `Request ${reference} of ${account}`, path = `${account}/${reference}`;
+  await app.open(title, async () => {
+    const row = await ask('GET', `/desk/requests/${path}`), place = h('div'), note = h('p', { class: 'note', role: 'status', hidden: true });
+    const again = text => openCase(app, row, text);
+    const result = outcome(row) ? [['Result', outcome(row)]] : [];
+    const told = [['Applicant', account], ['Reference', reference], ['State', STATES[row.state] ?? row.state], ...result, ...rowsOf(row.ask)];
+    const parts = [details(told), experts(row)];
+    if (row.state === 'pending') {
+      explain(row, note);
+      const approve = button('Approve', () => decide(row, place, again));
+      parts.push(note, place, h('p', { class: 'actions' }, approve), h('div', { class: 'columns' }, assignment(path, again), refusal(path, row, again)));
+    }
+    return h('div', {}, parts);
+  }, message);
+}
+
+function experts({ experts, advice }) {
+  const rows = experts.map(expert => ({ expert, ...advice.find(one => one.expert === expert) }));
+  const cells = ({ expert, verdict, text }) => [expert, { for: 'For', against: 'Against' }[verdict] ?? 'No advice yet', text ?? ''];
+  return table({ caption: 'Experts', columns: ['Account', 'Recommendation', 'Advice'], rows, empty: 'No expert is assigned.', cells });
+}
+
+// Says under which policy the request falls, and what is still missing.
+async function explain({ ask: wish, advice }, note) {
+  if (wish.kind === 'block') return;
+  const page = await ask('GET', `/registries/${wish.registry}`).catch(() => null);
+  const policy = policyOf(wish.kind, { ...wish, wish: wish.least ? 'least' : 'value', value: String(wish.value ?? '') }, page);
+  if (!POLICIES[policy]) return;
+  const needsExpert = ['expert-review', 'specification-required'].includes(policy) && wish.kind !== 'renew';
+  const missing = needsExpert && !advice.some(({ verdict }) => verdict === 'for') ? ' No expert has recommended it yet.' : '';
+  note.textContent = `${POLICIES[policy].title} (RFC 8126, section ${POLICIES[policy].section}).${missing}`;
+  note.hidden = false;
+}
+
+async function decide({ account, reference, ask: wish }, place, again) {
+  if (!await sure(`Approve ${reference} of ${account}? ${inWords(wish)}. An approval cannot be undone.`, 'Approve')) return;
+  await attempt(place, async () => {
+    const row = await ask('PUT', `/desk/approve/${account}/${reference}`);
+    await again(`Approved. ${outcome(row)}.`);
+  });
+}
+
+function assignment(path, again) {
+  return form({
+    title: 'Ask an expert', verb: 'Assign', controls: [control('expert')],
+    send: async ({ expert }) => {
+      await ask('PUT', `/desk/experts/${path}/${expert}`);
+      await again(`The request is assigned to ${expert}.`);
+    },
+  });
+}
+
+function refusal(path, { reference }, again) {
+  return form({
+    title: 'Decline', verb: 'Decline', controls: [control('reason')],
+    send: async ({ reason }) => {
+      if (!await sure(`Decline ${reference} for this reason? "${reason}" This cannot be undone.`, 'Decline')) return;
+      await ask('PUT', `/desk/decline/${path}`, { reason });
+      await again('The request is declined.');
+    },
+  });
+}
+
+// ---- Registers
+
+/** The registers, each with its ranges and early allocations, and a form for a new one. */
+export async function registers(app) {
+  const names = await ask('GET', '/registries');
+  const open = name => button('Open', () => openRegister(app, name), { 'aria-label': `Open ${name}` });
+  const list = table({ quiet: true, caption: 'Registers', columns: ['Name', 'Actions'], rows: names, empty: 'There are no registers yet.', cells: name => [name, open(name)] });
+  return h('div', {}, list, definition(app));
+}
+
+const words = treatment => (treatment === 'reserved' ? 'Reserved' : POLICIES[treatment]?.title ?? treatment);
+
+function rangeTable(caption, ranges) {
+  const cells = ({ lo, hi, treatment, note }) => [String(lo ?? ''), String(hi ?? ''), words(treatment ?? ''), note];
+  return table({ caption, columns: ['First', 'Last', 'Policy', 'Note'], rows: ranges, empty: 'No ranges.', cells });
+}
+
+function openRegister(app, name, message) {
+  return app.open(`Register ${name}`, async () => {
+    const page = await ask('GET', `/registries/${name}`), place = h('div');
+    const early = page.entries.filter(({ expires }) => expires);
+    const hold = (value, held) => attempt(place, async () => {
+      await ask('PUT', `/desk/holds/${name}/${value}`, { held });
+      await openRegister(app, name, held ? `Value ${value} is held: it does not expire.` : `Value ${value} is released: it expires as its day says.`);
+    });
+    const action = ({ value, held, status }) => {
+      if (held) return button('Release', () => hold(value, false), { 'aria-label': `Release value ${value}` });
+      return status === 'Temporary' ? button('Hold', () => hold(value, true), { 'aria-label': `Hold value ${value}` }) : '';
+    };
+    const cells = entry => [String(entry.value), entry.label, entry.assignee, entry.held ? 'Held' : entry.status, entry.expires, action(entry)];
+    const columns = ['Value', 'Name', 'Account', 'Status', 'Expires', 'Actions'];
+    return h('div', {}, place, details([['Largest value', String(page.max)], ['Entries', String(page.entries.length)]]), rangeTable('Ranges', page.ranges),
+      h('p', {}, 'An early allocation that is held does not expire until it is released.'),
+      table({ caption: 'Early allocations', columns, rows: early, cells, empty: 'There are no early allocations.' }));
+  }, message);
+}
+
+// A new register from a CSV file, after a look at its ranges.
+function definition(app) {
+  const preview = h('div', { role: 'status' });
+  let file = null;
+  const most = control('max');
+  const choose = async event => {
+    const chosen = event.target.files[0], bytes = chosen && await chosen.arrayBuffer();
+    file = bytes ? { bytes, ...rangesOf(new TextDecoder().decode(bytes)) } : null;
+    if (file && !file.fault) most.input.value = file.ranges.at(-1).hi;
+    preview.replaceChildren();
+    if (file?.fault) preview.append(h('p', { class: 'problem' }, faultInWords(file.fault)));
+    if (file) preview.append(rangeTable('Ranges in this file', file.ranges));
+  };
+  const hint = 'The first line is lo,hi,treatment,note. Each other line is a range: its first and last value, its policy or "reserved", and a note or nothing.';
+  const chooser = control('file', { type: 'file', label: 'Range file (CSV)', hint, onchange: choose });
+  chooser.input.setAttribute('accept', '.csv,text/csv,text/plain');
+  const name = control('name');
+  return form({
+    title: 'Define a register', verb: 'Define this register', controls: [name, chooser, most], parts: [name.node, chooser.node, preview, most.node],
+    check: values => ({ name: faultOf('name', values.name), max: faultOf('max', values.max), file: fileFault(file, Number(values.max)) }),
+    send: async ({ name, max }) => {
+      if (!await sure(`Define ${name} with ${file.ranges.length} ranges, 0 to ${max}? The ranges of a register cannot be changed afterwards.`, 'Define')) return;
+      await ask('PUT', `/desk/registries/${name}/${max}`, file.bytes);
+      await app.go('registers', `The register ${name} is defined.`);
+    },
+  });
+}
+
+function fileFault(file, max) {
+  if (!file) return 'Choose a file.';
+  if (file.bytes.byteLength > 65536) return 'The file is larger than 65,536 bytes.';
+  if (file.fault) return faultInWords(file.fault);
+  return file.ranges.at(-1).hi === max ? null : 'The last range of the file does not end at the largest value.';
+}
+
+// ---- Prefixes
+
+/** The prefixes that blocks are cut from. */
+export async function pool(app) {
+  const rows = await ask('GET', '/pool');
+  const add = form({
+    title: 'Add a prefix', verb: 'Add', controls: [control('prefix')],
+    send: async ({ prefix }) => {
+      if (!await sure(`Add ${prefix.toUpperCase()}? A prefix cannot be taken away again.`, 'Add')) return;
+      await ask('PUT', `/desk/pool/${prefix}`);
+      await app.go('pool', `Blocks can now be cut from ${prefix.toUpperCase()}.`);
+    },
+  });
+  const empty = 'There are no prefixes yet, so no block can be given.';
+  return h('div', {}, table({ caption: 'Prefixes that blocks are cut from', columns: ['Prefix'], rows, cells: prefix => [prefix], empty }), add);
+}
+
+// ---- Tokens
+
+/** A form that grants a token, one that takes one away, and, where the office has it, the list of all. */
+export async function tokens(app) {
+  const rows = await askIfKnown('GET', '/desk/tokens'), shown = h('div');
+  return h('div', {}, grant(shown), shown, revocation(), rows ? tokenTable(app, rows) : null);
+}
+
+function grant(shown) {
+  let made = null;
+  const node = form({
+    title: 'Give somebody a token', verb: 'Make a token',
+    controls: [control('account'), control('kind'), control('until', { type: 'date', value: dayOf(Date.now() / 1000 + 365 * 86400) })],
+    send: async values => {
+      made ??= hexOf(crypto.getRandomValues(new Uint8Array(16)));
+      try {
+        await ask('PUT', '/desk/tokens', grantOf(values, made));
+      } catch (error) {
+        // Only where no answer came may the same token be there already.
+        if (error instanceof Refusal) made = null;
+        throw error;
+      }
+      show(shown, made, values);
+      made = null;
+      node.reset();
+    },
+  });
+  return node;
+}
+
+// Shows a token once.
+function show(place, token, { account, kind, until }) {
+  const title = h('h3', {}, `The token of ${account}`);
+  const hide = () => { place.replaceChildren(); say('The token is hidden.'); };
+  const copy = async event => {
+    const text = event.target.closest('section').querySelector('output').textContent;
+    const done = await navigator.clipboard.writeText(text).then(() => true, () => false);
+    say(done ? 'The token is copied.' : 'The browser does not allow that. Select the token and copy it by hand.');
+  };
+  place.replaceChildren(h('section', { class: 'card' }, title, h('output', { class: 'token' }, token),
+    h('p', {}, `${CAPABILITIES[kind]}, valid through ${until}. Hand it to ${account} so that nobody else sees it. This page shows it only now.`),
+    h('p', { class: 'actions' }, button('Copy', copy), button('Done, hide it', hide, { class: 'plain' }))));
+  focusOn(title);
+}
+
+function revocation() {
+  const field = control('token', { type: 'password', hint: 'If you have the token itself.' });
+  return form({
+    title: 'Take a token away', verb: 'Take it away', controls: [field],
+    send: async ({ token }) => {
+      await ask('PUT', '/desk/revoke', { token });
+      field.input.value = '';
+      say('The token works no longer.');
+    },
+  });
+}
+
+function tokenTable(app, rows) {
+  const place = h('div'), now = Date.now() / 1000;
+  const take = (question, path) => async () => {
+    if (!await sure(question, 'Take away')) return;
+    await attempt(place, async () => {
+      const gone = await ask('DELETE', path);
+      await app.go('tokens', gone.length === 1 ? 'One token works no longer.' : `${gone.length} tokens work no longer.`);
+    });
+  };
+  const actions = ({ account, digest }) => h('div', { class: 'row' },
+    button('Take away', take(`Take away the token ${digest} of ${account}?`, `/desk/tokens/${digest}`), { 'aria-label': `Take away ${digest} of ${account}` }),
+    button('All of this account', take(`Take away all tokens of ${account}?`, `/desk/accounts/${account}`), { 'aria-label': `Take away all tokens of ${account}`, class: 'plain' }));
+  const cells = row => [row.account, CAPABILITIES[row.kind] ?? row.kind, row.until > now ? dayOf(row.until - 1) : `ended ${dayOf(row.until)}`, row.digest, actions(row)];
+  return h('div', {}, place, table({ caption: 'All tokens', columns: ['Account', 'Kind', 'Valid through', 'Begins (SHA-256)', 'Actions'], rows, cells, empty: 'There are no tokens.' }));
+}
+
+/** What the office holds, in numbers. */
+export async function counts() {
+  const told = await ask('GET', '/desk/counts');
+  return details(Object.entries(told).map(([name, number]) => [name[0].toUpperCase() + name.slice(1), String(number)]));
+}
+

@@ -1,0 +1,145 @@
+// The page: signing in and out, and the sections of each kind of caller.
+import * as applicant from './applicant.js';
+import * as clerk from './clerk.js';
+import * as expert from './expert.js';
+import { LOADING, button, control, focusOn, form, h, say, trouble } from './dom.js';
+import { Gone, Refusal, ask, carries, carry, endBy, tellBy } from './office.js';
+
+const SECTIONS = {
+  applicant: {
+    requests: ['My requests', applicant.requests], new: ['New request', applicant.fresh], blocks: ['My blocks', applicant.blocks],
+    agents: ['Agents', applicant.agents],
+  },
+  expert: { queue: ['Requests to review', expert.queue] },
+  clerk: {
+    waiting: ['Waiting', clerk.waiting], requests: ['All requests', clerk.everything], registers: ['Registers', clerk.registers],
+    pool: ['Prefixes', clerk.pool], tokens: ['Tokens', clerk.tokens],
+  },
+};
+const HOUR = 3600000, LOOK = 10000;
+const main = document.getElementById('main'), sections = document.getElementById('sections'), who = document.getElementById('who');
+let kind = null, own = {}, used = 0, shown = 0;
+
+// ---- Sections
+
+// Shows a view. Of two that are on their way the later one stays.
+async function view(title, make, { message = '', back } = {}) {
+  const turn = shown += 1, heading = h('h2', {}, title);
+  say(LOADING);
+  main.inert = true;
+  let node;
+  try {
+    node = typeof make === 'function' ? await make() : make;
+  } catch (error) {
+    if (error instanceof Gone || turn !== shown) return;
+    node = h('div', {}, trouble(error), h('p', { class: 'actions' }, button('Try again', () => view(title, make, { back }))));
+  }
+  if (turn !== shown) return;
+  main.inert = false;
+  main.replaceChildren(...back ? [back()] : [], heading, node);
+  say(message);
+  document.title = `${title} - Registry desk`;
+  focusOn(heading);
+}
+
+const app = {
+  go: (name, message) => {
+    if (location.hash !== `#${name}`) history.pushState(null, '', `#${name}`);
+    return draw(message);
+  },
+  open: (title, make, message) => view(title, make, { message, back: () => h('p', {}, button('Back to the list', () => draw(), { class: 'plain' })) }),
+};
+
+function draw(message) {
+  const name = Object.hasOwn(own, location.hash.slice(1)) ? location.hash.slice(1) : Object.keys(own)[0];
+  const [title, make] = own[name];
+  const link = key => h('a', { href: `#${key}`, 'aria-current': key === name ? 'page' : undefined, onclick: () => again(key) }, own[key][0]);
+  sections.replaceChildren(h('ul', {}, Object.keys(own).map(key => h('li', {}, link(key)))));
+  return view(title, () => make(app), { message });
+}
+
+// A link to the section that is open changes no address, so it would do nothing.
+function again(name) {
+  if (location.hash === `#${name}`) draw();
+}
+
+// ---- Signing in and out
+
+// Which kind of work a token is for. There are three, so one that is for neither of two is for the third.
+async function kindOf() {
+  for (const [name, path] of [['applicant', '/requests'], ['expert', '/queue']]) {
+    try {
+      await ask('GET', path);
+      return name;
+    } catch (error) {
+      if (!(error instanceof Refusal) || error.error !== 'kind') throw error;
+    }
+  }
+  return 'clerk';
+}
+
+function signIn(message = '') {
+  const token = control('token', { type: 'password', autocomplete: 'current-password', label: 'Your token', hint: 'The authority gave it to you. It works like a password.' });
+  const node = form({
+    verb: 'Sign in', controls: [token], autocomplete: 'on',
+    send: async values => {
+      carry(values.token);
+      try {
+        kind = await kindOf();
+        own = { ...SECTIONS[kind] };
+        if (kind === 'clerk' && await clerk.askIfKnown('GET', '/desk/counts')) own.counts = ['Counts', clerk.counts];
+      } catch (error) {
+        carry(null);
+        throw error;
+      }
+      token.input.value = '';
+      enter();
+    },
+  });
+  main.inert = false;
+  main.replaceChildren(h('h2', {}, 'Sign in'), h('div', { class: 'card' }, node), h('p', {}, 'No token yet? Ask the authority for one.'));
+  document.title = 'Sign in - Registry desk';
+  say(message);
+  if (message) focusOn(main.firstChild);
+  else token.input.focus();
+}
+
+function enter() {
+  used = Date.now();
+  const named = { applicant: 'an applicant', expert: 'an expert', clerk: 'a clerk' }[kind];
+  who.replaceChildren(h('span', {}, `Signed in as ${named}`), button('Sign out', () => signOut('You are signed out.'), { class: 'plain' }));
+  sections.hidden = false;
+  draw();
+}
+
+// Forgets the token and all that was shown.
+function signOut(message) {
+  carry(null);
+  kind = null;
+  own = {};
+  shown += 1;
+  document.querySelectorAll('dialog').forEach(dialog => dialog.remove());
+  document.querySelectorAll('input').forEach(input => { input.value = ''; });
+  who.replaceChildren();
+  sections.replaceChildren();
+  sections.hidden = true;
+  history.replaceState(null, '', location.pathname);
+  // The engine keeps the last text that a pattern was tried on.
+  /^/.test('');
+  signIn(message);
+}
+
+// ---- The page
+
+function isIdle() {
+  if (carries() && kind && Date.now() - used > HOUR) signOut('You were signed out after an hour without use.');
+}
+
+tellBy(say);
+endBy(() => { if (kind) signOut('Your token does not work any more: it has expired or was taken away. Ask the authority for another.'); });
+addEventListener('hashchange', () => { if (kind) draw(); });
+addEventListener('popstate', () => { if (!kind && location.hash) history.replaceState(null, '', location.pathname); });
+for (const name of ['pointerdown', 'keydown', 'focusin']) addEventListener(name, () => { isIdle(); used = Date.now(); }, true);
+addEventListener('visibilitychange', isIdle, true);
+setInterval(isIdle, LOOK);
+signIn();

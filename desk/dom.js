@@ -1,0 +1,235 @@
+// What the page is made of: elements, forms, tables, questions. Every text goes in as text.
+import { FIELDS, faultOf } from './forms.js';
+import { fieldOf, inWords } from './errors.js';
+import { Gone, Lost, Refusal } from './office.js';
+
+/** Something that the page itself finds wrong, as a sentence. */
+export class Told extends Error {}
+
+/** What is said while a view is on its way. */
+export const LOADING = 'Loading.';
+
+const SHOWN = 100;
+let count = 0;
+
+/** An element with its attributes, listeners (`onclick`) and children. */
+export function h(name, attributes = {}, ...children) {
+  const node = document.createElement(name);
+  for (const [key, value] of Object.entries(attributes)) {
+    if (key.startsWith('on')) node.addEventListener(key.slice(2), value);
+    else if (typeof value === 'boolean') node.toggleAttribute(key, value);
+    else if (value !== undefined && value !== null) node.setAttribute(key, value);
+  }
+  node.append(...children.flat().filter(child => child !== null && child !== undefined));
+  return node;
+}
+
+/** A button that does one thing. */
+export const button = (text, act, attributes = {}) => h('button', { type: 'button', onclick: act, ...attributes }, text);
+
+/** Says something to people who look and to those who listen. */
+export function say(text) {
+  const status = document.getElementById('status');
+  status.textContent = text;
+  status.classList.toggle('notice', Boolean(text) && text !== LOADING);
+}
+
+/** Moves the focus to a node that is no control. */
+export function focusOn(node) {
+  node.setAttribute('tabindex', '-1');
+  node.focus();
+}
+
+/** The sentence for what went wrong, with a link to the list of errors where it is one of the office's. */
+export function troubleOf(error) {
+  if (error instanceof Lost) return ['The office does not answer. Whether it got your request is not known; sending the same again is safe. Try again in a minute.'];
+  if (error instanceof Told) return [error.message];
+  if (!(error instanceof Refusal)) return ['Something went wrong on this page. Reload it and sign in again.'];
+  const about = { href: `errors.html#${error.error}`, target: '_blank', rel: 'noopener' };
+  const link = /^[a-z]+$/.test(error.error) ? [' ', h('a', about, `About this error (${error.error})`)] : [];
+  return [inWords(error.error, error.item), ...link];
+}
+
+/** A notice of trouble. It is announced when it comes. */
+export const trouble = error => h('div', { class: 'problem', role: 'alert' }, troubleOf(error));
+
+/** Does something that asks the office, and shows in `place` what went wrong. */
+export async function attempt(place, act) {
+  place.replaceChildren();
+  try {
+    return await act();
+  } catch (error) {
+    if (!(error instanceof Gone)) place.replaceChildren(trouble(error));
+    return undefined;
+  }
+}
+
+// ---- Fields
+
+/** A labelled control with its hint and a place for its fault. */
+export function control(name, { options, value, onchange, type, optional = false, ...more } = {}) {
+  const id = `field-${count += 1}`, field = FIELDS[name] ?? {}, label = more.label ?? field.label, hint = more.hint ?? field.hint;
+  const words = [hint && `${id}-hint`, `${id}-fault`].filter(Boolean).join(' ');
+  const common = { id, name, 'aria-describedby': words, onchange };
+  const typed = {
+    ...common, type: type ?? 'text', autocomplete: more.autocomplete ?? 'off', autocapitalize: 'none', spellcheck: 'false',
+    value: ['checkbox', 'file'].includes(type) ? undefined : value, checked: type === 'checkbox' && value === true,
+    inputmode: ['number', 'rfc'].includes(field.form) ? 'numeric' : undefined,
+  };
+  const input = options ?? field.options ? select(common, options ?? field.options, value) : h('input', typed);
+  if (onchange && input.localName === 'input' && input.type === 'text') input.addEventListener('input', onchange);
+  const fault = h('p', { id: `${id}-fault`, class: 'fault', hidden: true });
+  const title = h('label', { for: id }, label, optional ? h('span', { class: 'optional' }, ' (optional)') : null);
+  const about = hint ? h('p', { id: `${id}-hint`, class: 'hint' }, hint) : null;
+  const node = type === 'checkbox' ? h('div', { class: 'field check' }, input, title, about, fault)
+    : h('div', { class: 'field' }, title, about, input, fault);
+  return {
+    name, node, input, label,
+    get: () => (type === 'checkbox' ? input.checked : type === 'file' ? input.files[0] : input.value.trim()),
+    mark: sentence => {
+      fault.textContent = sentence ?? '';
+      fault.hidden = !sentence;
+      input.toggleAttribute('aria-invalid', Boolean(sentence));
+      if (sentence) input.setAttribute('aria-invalid', 'true');
+    },
+  };
+}
+
+function select(attributes, options, value) {
+  const keys = Object.keys(options), known = Object.hasOwn(options, value ?? '') ? value ?? '' : undefined;
+  const first = keys.length === 1 || known !== undefined ? null : h('option', { value: '' }, 'Choose');
+  const node = h('select', attributes, first, keys.map(key => h('option', { value: key }, options[key])));
+  node.value = known ?? (first ? '' : keys[0]);
+  return node;
+}
+
+/** One of several, as buttons of a group; `options` are pairs of a title and what it says. */
+export function choice(legend, name, options, value, onchange) {
+  const group = h('fieldset', { class: 'choice' }, h('legend', {}, legend));
+  for (const [key, { title, says }] of Object.entries(options)) {
+    const id = `field-${count += 1}`;
+    const described = { 'aria-describedby': says && `${id}-hint` };
+    const input = h('input', { type: 'radio', id, name, value: key, checked: key === value, onchange: () => onchange(key), ...described });
+    const hint = says ? h('p', { id: `${id}-hint`, class: 'hint' }, says) : null;
+    group.append(h('div', { class: 'field check' }, input, h('label', { for: id }, title), hint));
+  }
+  return group;
+}
+
+/**
+ * A form. `controls` gives its controls, `check` the faults of its values by field, and `send` does what it is for; what `send` throws is
+ * shown beside the field to which it belongs, or above the form. `calm` hides what is shown above.
+ */
+export function form({ title, controls, parts, verb, check, send, autocomplete = 'off' }) {
+  const problem = h('div', { class: 'problem', role: 'alert', hidden: true });
+  const submit = h('button', { type: 'submit' }, verb);
+  let busy = false;
+  const now = () => (typeof controls === 'function' ? controls() : controls);
+  const values = () => Object.fromEntries(now().map(one => [one.name, one.get()]));
+  const show = (children, named = {}) => {
+    now().forEach(one => one.mark(named[one.name]));
+    problem.replaceChildren(...children);
+    problem.hidden = !children.length;
+    (now().find(one => named[one.name])?.input ?? (children.length ? problem : submit)).focus();
+  };
+  const act = async event => {
+    event.preventDefault();
+    if (busy) return;
+    const faults = check ? check(values()) : faultsIn(now());
+    const bad = now().filter(one => faults[one.name]);
+    if (bad.length) {
+      const names = bad.map(one => one.label.replace(/[.:].*$/, '')).join(', ');
+      show([`${bad.length === 1 ? 'One field needs' : `${bad.length} fields need`} your attention: ${names}.`], faults);
+      return;
+    }
+    if (Object.values(faults).some(Boolean)) {
+      show(['This cannot be sent yet. Read the notes in the form.']);
+      return;
+    }
+    show([]);
+    busy = true;
+    submit.setAttribute('aria-disabled', 'true');
+    try {
+      await send(values());
+    } catch (error) {
+      if (!(error instanceof Gone)) show(troubleOf(error), faultNamed(error, now()));
+    }
+    busy = false;
+    submit.removeAttribute('aria-disabled');
+  };
+  problem.setAttribute('tabindex', '-1');
+  const node = h('form', { novalidate: true, method: 'post', autocomplete, onsubmit: act },
+    title ? h('h3', {}, title) : null, problem, parts ?? now().map(one => one.node), h('p', { class: 'actions' }, submit));
+  node.calm = () => { problem.hidden = true; };
+  return node;
+}
+
+function faultsIn(controls) {
+  const typed = controls.filter(one => FIELDS[one.name] && typeof one.get() === 'string');
+  return Object.fromEntries(typed.map(one => [one.name, faultOf(one.name, one.get())]));
+}
+
+function faultNamed(error, controls) {
+  const name = error instanceof Refusal ? fieldOf(error.error, error.item) : undefined;
+  return controls.some(one => one.name === name) ? { [name]: inWords(error.error, error.item) } : {};
+}
+
+// ---- Tables
+
+/** A table of rows, 100 at a time, with a search and, where `states` has words, a choice among them. A `quiet` caption is only heard. */
+export function table({ caption, columns, rows, cells, empty, states, quiet = false }) {
+  const body = h('tbody'), info = h('p', { class: 'hint', role: 'status' }), place = h('div', { class: 'scroll' });
+  let page = 0, found = rows;
+  const move = step => () => { page += step; draw(); body.closest('table')?.scrollIntoView({ block: 'start' }); };
+  const before = button('Previous page', move(-1)), after = button('Next page', move(1));
+  const search = h('input', { type: 'search', autocomplete: 'off', 'aria-label': `Search: ${caption}`, placeholder: 'Search', oninput: () => pick() });
+  const filter = states ? h('select', { 'aria-label': `State: ${caption}`, onchange: () => pick() },
+    h('option', { value: '' }, 'All states'), Object.keys(states).map(key => h('option', { value: key }, states[key]))) : null;
+  const head = h('thead', {}, h('tr', {}, columns.map(name => h('th', { scope: 'col' }, name))));
+  function pick() {
+    const text = search.value.toLowerCase();
+    const has = row => JSON.stringify(row).toLowerCase().includes(text);
+    found = rows.filter(row => (!filter?.value || row.state === filter.value) && (!text || has(row)));
+    page = 0;
+    draw();
+  }
+  function draw() {
+    const from = page * SHOWN, shown = found.slice(from, from + SHOWN);
+    const cellOf = (cell, place) => (place ? h('td', { 'data-label': columns[place] }, cell) : h('th', { scope: 'row' }, cell));
+    body.replaceChildren(...shown.map(row => h('tr', {}, cells(row).map(cellOf))));
+    info.textContent = told(from, shown.length);
+    before.disabled = page === 0;
+    after.disabled = from + SHOWN >= found.length;
+    place.hidden = !found.length;
+    pages.hidden = found.length <= SHOWN;
+  }
+  function told(from, length) {
+    if (!rows.length) return empty;
+    if (!found.length) return 'Nothing matches.';
+    if (found.length > SHOWN) return `${from + 1} to ${from + length} of ${found.length}`;
+    return found.length === rows.length ? '' : `${found.length} of ${rows.length}`;
+  }
+  const tools = rows.length > 5 ? h('div', { class: 'tools', role: 'search' }, filter, search) : null;
+  const pages = h('p', { class: 'actions' }, before, after);
+  place.append(h('table', {}, h('caption', { class: quiet ? 'heard' : undefined }, caption), head, body));
+  pick();
+  return h('div', {}, tools, info, place, pages);
+}
+
+/** Rows of a name and a text. */
+export const details = rows => h('dl', {}, rows.map(([name, text]) => h('div', {}, h('dt', {}, name), h('dd', {}, text))));
+
+/** A state as a word with a mark of its own. */
+export const badge = (state, text) => h('span', { class: `badge ${state}` }, text);
+
+/** Asks before something that cannot be undone. */
+export function sure(question, verb) {
+  return new Promise(done => {
+    const dialog = h('dialog', { 'aria-labelledby': 'question', onclose: () => { dialog.remove(); done(dialog.returnValue === 'yes'); } },
+      h('p', { id: 'question' }, question),
+      h('p', { class: 'actions' }, button(verb, () => dialog.close('yes')),
+        button('Cancel', () => dialog.close('no'), { class: 'plain', autofocus: true })));
+    document.body.append(dialog);
+    dialog.showModal();
+  });
+}

@@ -1,0 +1,33 @@
+// What experts do: the requests that are assigned to them, and their advice.
+import { ask } from './office.js';
+import { badge, button, control, details, form, h, table } from './dom.js';
+import { STATES, VERDICTS, faultOf, inWords, rowsOf } from './forms.js';
+
+/** The requests that are assigned to the caller. */
+export async function queue(app) {
+  const rows = await ask('GET', '/queue');
+  const verb = row => (row.state !== 'pending' ? 'Details' : row.advice ? 'Change advice' : 'Give advice');
+  const advised = ({ advice }) => (advice ? `${advice.verdict === 'for' ? 'For' : 'Against'}: ${advice.text}` : '');
+  const open = row => app.open(`Request ${row.reference} of ${row.account}`, review(app, row));
+  const cells = row => [row.account, row.reference, inWords(row.ask), badge(row.state, STATES[row.state] ?? row.state), advised(row),
+    button(verb(row), () => open(row), { 'aria-label': `Open ${row.reference} of ${row.account}` })];
+  const columns = ['Account', 'Reference', 'Request', 'State', 'My advice', 'Actions'];
+  return table({ quiet: true, caption: 'Requests assigned to me', columns, rows, cells, states: STATES, empty: 'Nothing is assigned to you.' });
+}
+
+function review(app, row) {
+  const own = row.advice ? [['My recommendation', VERDICTS[row.advice.verdict]], ['My advice', row.advice.text]] : [];
+  const told = [['Applicant', row.account], ['Reference', row.reference], ['State', STATES[row.state] ?? row.state], ...rowsOf(row.ask)];
+  const about = details(row.state === 'pending' ? told : [...told, ...own]);
+  if (row.state !== 'pending') return about;
+  const advise = form({
+    title: 'My advice', verb: 'Send my advice',
+    controls: [control('verdict', { value: row.advice?.verdict }), control('text', { value: row.advice?.text })],
+    check: values => ({ verdict: faultOf('verdict', values.verdict), text: faultOf('text', values.text) }),
+    send: async ({ verdict, text }) => {
+      await ask('PUT', `/queue/${row.account}/${row.reference}`, { text, verdict });
+      await app.go('queue', `Your advice on ${row.reference} of ${row.account} is recorded. You can change it while the request waits.`);
+    },
+  });
+  return h('div', {}, about, advise);
+}

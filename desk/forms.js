@@ -1,0 +1,318 @@
+// What the rules ask for, and how a form becomes a body. Nothing here touches the document or the network, so node can test it alone.
+
+/** The policies of RFC 8126, section 4, in its order. `items` are the evidence that each asks for; a policy without them assigns no values. */
+export const POLICIES = {
+  'private-use': { title: 'Private Use', section: '4.1', says: 'Anyone may use these values for themselves. None of them is assigned.' },
+  'experimental-use': { title: 'Experimental Use', section: '4.2', says: 'These values are for experiments. None of them is assigned.' },
+  'hierarchical-allocation': { title: 'Hierarchical Allocation', section: '4.3', says: 'Others assign these values. You cannot ask for one here.' },
+  'first-come-first-served': { title: 'First Come First Served', section: '4.4', items: ['contact'], says: 'The authority needs to know whom to contact, and nothing else.' },
+  'expert-review': { title: 'Expert Review', section: '4.5', items: ['contact'], says: 'A designated expert must recommend your request before it can be approved.' },
+  'specification-required': { title: 'Specification Required', section: '4.6', items: ['contact', 'specification'], says: 'A public specification must describe the value, and a designated expert must recommend your request.' },
+  'rfc-required': { title: 'RFC Required', section: '4.7', items: ['contact', 'rfc'], says: 'An RFC of any stream must describe the value.' },
+  'ietf-review': { title: 'IETF Review', section: '4.8', items: ['contact', 'rfc'], says: 'An RFC of the IETF stream must describe the value.' },
+  'standards-action': { title: 'Standards Action', section: '4.9', items: ['contact', 'rfc'], says: 'A Standards Track or Best Current Practice RFC of the IETF stream must describe the value.' },
+  'iesg-approval': { title: 'IESG Approval', section: '4.10', items: ['contact', 'minute'], says: 'The IESG must have approved the assignment.' },
+};
+
+/** The policies under which a value can be allocated early (RFC 7120, section 2). */
+const EARLY = ['specification-required', 'rfc-required', 'ietf-review', 'standards-action'];
+const EARLY_ITEMS = ['draft', 'stable', 'interest', 'chair', 'director'];
+const STREAMS = { ietf: 'IETF', irtf: 'IRTF', iab: 'IAB', independent: 'Independent Submission', editorial: 'Editorial' };
+const TRACKS = { standards: 'Standards Track', bcp: 'Best Current Practice', informational: 'Informational', experimental: 'Experimental', historic: 'Historic' };
+
+/** The kinds of requests, and how a form names them. */
+export const KINDS = {
+  code: { title: 'A value', says: 'A permanent value of a register.' },
+  early: { title: 'An early allocation', says: 'A value for one year, while its specification is still an Internet-Draft (RFC 7120).' },
+  renew: { title: 'Another year', says: 'A renewal of an early allocation that you have.' },
+  permanent: { title: 'A permanent value in place of an early one', says: 'An early allocation that you have becomes permanent.' },
+  block: { title: 'A block of MAC addresses', says: 'Addresses for your devices: MA-L, MA-M or MA-S.' },
+};
+
+export const SIZES = { 'MA-L': 'MA-L: 16,777,216 addresses', 'MA-M': 'MA-M: 1,048,576 addresses', 'MA-S': 'MA-S: 4,096 addresses' };
+export const STATES = { pending: 'Waiting', approved: 'Approved', declined: 'Declined', withdrawn: 'Withdrawn' };
+export const VERDICTS = { for: 'For: I recommend approval', against: 'Against: I do not recommend approval' };
+export const CAPABILITIES = { applicant: 'Applicant', expert: 'Expert', clerk: 'Clerk' };
+
+const MARKS = ['stable', 'interest', 'will_be_rfc'];
+
+/** The fields of all forms, by the name of the member or of the part of the path. */
+export const FIELDS = {
+  registry: { label: 'Register', form: 'name' },
+  value: { label: 'Value', form: 'number', hint: 'A whole number.' },
+  least: { label: 'Policy' },
+  label: { label: 'Name of the value', hint: 'What the register will call it, for example the name of your option or message.' },
+  contact: { label: 'Contact', hint: 'Whom to ask about this value: a name and an e-mail address (RFC 8126, section 4).' },
+  specification: { label: 'Specification', hint: 'Where the permanent, public specification is: its title or its web address. It must be detailed enough for independent implementations to work together (RFC 8126, section 4.6).' },
+  'rfc-number': { label: 'Number of the RFC', form: 'rfc', hint: 'For example 9999.' },
+  'rfc-stream': { label: 'Stream of the RFC', options: STREAMS },
+  'rfc-track': { label: 'Status of the RFC', options: TRACKS },
+  minute: { label: 'Minute of the IESG', hint: 'The minute or message by which the IESG approved the assignment (RFC 8126, section 4.10).' },
+  draft: { label: 'Internet-Draft', hint: 'The draft that describes the value well enough to use it, for example draft-example-protocol-03 (RFC 7120, section 2).' },
+  stable: { label: 'The specification is stable: a later version will still work with implementations of this one.' },
+  interest: { label: 'There is enough interest in early implementation, or a risk that others will use the value without an allocation.' },
+  chair: { label: 'Approval of the working group chairs', hint: 'Who approved the early allocation, and when or in which message (RFC 7120, section 3.1).' },
+  director: { label: 'Approval of the area director', hint: 'Who approved the early allocation, and when or in which message (RFC 7120, section 3.1).' },
+  will_be_rfc: { label: 'The specification will be published as an RFC.' },
+  iesg: { label: 'Minute of the IESG', hint: 'This allocation was renewed before. The IESG must approve another renewal: name its minute (RFC 7120, section 3.3).' },
+  size: { label: 'Size', options: SIZES },
+  organization: { label: 'Organization', hint: 'As it should be listed with the block.' },
+  address: { label: 'Address of the organization', hint: 'On one line.' },
+  reference: { label: 'Your reference', form: 'name', hint: 'Your own short name for this request: small letters, digits and hyphens.' },
+  agent: { label: 'Account of the agent', form: 'name', hint: 'Check the spelling: the office does not check whether the account exists.' },
+  account: { label: 'Account', form: 'name', hint: 'Small letters, digits and hyphens, at most 32.' },
+  expert: { label: 'Account of the expert', form: 'name', hint: 'Check the spelling: the office does not check whether the account exists.' },
+  name: { label: 'Name of the register', form: 'name', hint: 'Small letters, digits and hyphens, at most 32.' },
+  max: { label: 'Largest value', form: 'number', hint: 'The last range must end here.' },
+  prefix: { label: 'Prefix', form: 'prefix', hint: 'Six hexadecimal digits, for example 001A2B.' },
+  text: { label: 'Your advice', hint: 'The clerks read it. The applicant does not.' },
+  verdict: { label: 'Your recommendation', options: VERDICTS },
+  reason: { label: 'Reason', hint: 'The applicant reads this.' },
+  token: { label: 'Token', form: 'token' },
+  kind: { label: 'Kind', options: CAPABILITIES },
+  until: { label: 'Valid through', form: 'day', hint: 'The last day, in UTC, on which the token works.' },
+};
+
+// What each form of field looks like, and the sentence for what does not.
+const FORMS = {
+  name: [/^[a-z0-9-]{1,32}$/, 'Use 1 to 32 small letters, digits and hyphens.'],
+  number: [/^(0|[1-9][0-9]{0,9})$/, 'Use a whole number, written with digits only.'],
+  rfc: [/^[1-9][0-9]{0,4}$/, 'Use the number of the RFC, 1 to 99999.'],
+  prefix: [/^[0-9A-Fa-f]{6}$/, 'Use six hexadecimal digits: 0 to 9, A to F.'],
+  token: [/^[A-Za-z0-9._~-]{16,64}$/, 'A token has 16 to 64 letters, digits, hyphens, dots, underscores and tildes. Copy it again, all of it.'],
+  day: [/^2[0-9]{3}-[0-9]{2}-[0-9]{2}$/, 'Choose a day of the years 2000 to 2999.'],
+  text: [/^[ -~]{1,200}$/, 'Use letters without accents, digits and punctuation.'],
+};
+
+/** What is wrong with the text of a field, as a sentence; null if nothing is. An empty field is wrong only where it is needed. */
+export function faultOf(name, text, needed = true) {
+  const field = FIELDS[name], form = field.form ?? 'text';
+  if (text === '') return needed ? (field.options ? 'Choose one.' : 'Fill this in.') : null;
+  if (field.options) return Object.hasOwn(field.options, text) ? null : 'Choose one.';
+  if (form === 'text' && text.length > 200) return `Use at most 200 characters. These are ${text.length}.`;
+  const [pattern, sentence] = FORMS[form];
+  if (pattern.test(text)) return form === 'number' && Number(text) > 4294967295 ? 'The largest value that a register can have is 4294967295.' : null;
+  const odd = form === 'text' ? [...text].find(letter => letter < ' ' || letter > '~') : undefined;
+  return odd === undefined ? sentence : `"${odd}" cannot be kept. ${sentence}`;
+}
+
+/** The range of a register in which a value lies, if one does. */
+export const rangeOf = (page, value) => page.ranges.find(({ lo, hi }) => lo <= value && value <= hi);
+
+/** Whether a kind of request can be made under a policy. */
+export function isOpen(kind, policy) {
+  return kind === 'early' || kind === 'renew' ? EARLY.includes(policy) : Boolean(POLICIES[policy]?.items);
+}
+
+/** How many values under a policy have no entry. */
+export function freeUnder(page, policy) {
+  const ranges = page.ranges.filter(({ treatment }) => treatment === policy);
+  const taken = page.entries.filter(({ value }) => rangeOf(page, value)?.treatment === policy).length;
+  return ranges.reduce((sum, { lo, hi }) => sum + hi - lo + 1, 0) - taken;
+}
+
+/** The policies of a register under which a kind of request can be made, each once. */
+export function openPolicies(page, kind) {
+  return [...new Set(page.ranges.map(({ treatment }) => treatment))].filter(policy => isOpen(kind, policy));
+}
+
+/** Under which policy the least values are offered first: the one that asks for least. */
+export function easiest(policies) {
+  const order = Object.keys(POLICIES);
+  return [...policies].sort((one, other) => order.indexOf(one) - order.indexOf(other))[0];
+}
+
+/** The fields of evidence that a kind of request asks for under a policy, and those that it may add; none as long as the policy is not known. */
+export function evidenceFor(kind, policy, renewed = false) {
+  if (kind === 'block' || !isOpen(kind, policy)) return { needed: [], optional: [] };
+  if (kind === 'early' || kind === 'renew') {
+    const own = policy === 'specification-required' ? ['will_be_rfc'] : [], more = kind === 'renew' && renewed ? ['iesg'] : [];
+    return { needed: [...EARLY_ITEMS, ...own, ...more], optional: [] };
+  }
+  const spread = item => (item === 'rfc' ? ['rfc-number', 'rfc-stream', 'rfc-track'] : [item]);
+  const items = POLICIES[policy].items, others = ['contact', 'specification', 'rfc', 'minute'].filter(item => !items.includes(item));
+  return { needed: items.flatMap(spread), optional: others.flatMap(spread) };
+}
+
+/** The streams, or the statuses, of an RFC that a policy accepts. */
+export function optionsFor(name, policy) {
+  const all = FIELDS[name].options;
+  const kept = name === 'rfc-stream' && ['ietf-review', 'standards-action'].includes(policy) ? ['ietf']
+    : name === 'rfc-track' && policy === 'standards-action' ? ['standards', 'bcp'] : Object.keys(all ?? {});
+  return Object.fromEntries(kept.map(key => [key, all[key]]));
+}
+
+/** The fields of a kind of request besides its evidence. */
+export function fieldsOf(kind, wish) {
+  if (kind === 'block') return ['size', 'organization', 'address'];
+  if (kind === 'renew' || kind === 'permanent') return ['registry', 'value'];
+  return ['registry', wish === 'least' ? 'least' : 'value', 'label'];
+}
+
+/** What is wrong with the values of a request, as a sentence for each field at fault. `page` is that of its register, if there is one. */
+export function faultsOf(kind, values, page) {
+  const { needed, optional } = evidenceFor(kind, policyOf(kind, values, page), values.renewed), faults = {};
+  const own = fieldsOf(kind, values.wish);
+  for (const name of [...own, ...needed, ...optional, 'reference']) {
+    const isNeeded = !optional.includes(name), text = values[name] ?? '';
+    const fault = name === 'least' ? (text ? null : 'Choose one.')
+      : MARKS.includes(name) ? (isNeeded && text !== true ? 'Tick this to go on. If it is not so, this request cannot be made yet.' : null)
+        : faultOf(name, text, isNeeded);
+    if (fault) faults[name] = fault;
+  }
+  const rfc = ['rfc-number', 'rfc-stream', 'rfc-track'];
+  if (rfc.some(name => values[name])) rfc.filter(name => optional.includes(name) && !values[name]).forEach(name => { faults[name] = 'An RFC needs its number, its stream and its status.'; });
+  const value = valueFault(kind, values, page);
+  if (own.includes('value') && !faults.value && value) faults.value = value;
+  return faults;
+}
+
+function valueFault(kind, values, page) {
+  if (!page || faultOf('value', values.value ?? '')) return null;
+  const value = Number(values.value);
+  if (value > page.max) return `The largest value of this register is ${page.max}.`;
+  const { treatment, lo, hi } = rangeOf(page, value);
+  if (!isOpen(kind, treatment)) return whyClosed(kind, treatment, `${lo} to ${hi}`);
+  const isNew = kind === 'code' || kind === 'early', entry = page.entries.find(one => one.value === value);
+  return isNew && entry ? `Value ${value} is taken: ${entry.label}. Choose another, or ask for the lowest free one.` : null;
+}
+
+function whyClosed(kind, treatment, values) {
+  if (treatment === 'reserved') return `Values ${values} are reserved. Choose another.`;
+  if (POLICIES[treatment].items) return `Values ${values} are under ${POLICIES[treatment].title}, where there are no early allocations. Ask for a permanent value.`;
+  return `Values ${values} are under ${POLICIES[treatment].title}. ${POLICIES[treatment].says} Choose another.`;
+}
+
+/** What the policy of the wanted value says, or why the value cannot be had; an empty text as long as it is not known. */
+export function noteOn(kind, values, page) {
+  const policy = policyOf(kind, values, page);
+  if (!page || !policy) return '';
+  const isLeast = values.wish === 'least' && (kind === 'code' || kind === 'early');
+  const fault = isLeast ? null : valueFault(kind, values, page);
+  if (fault) return fault;
+  const { title, section, says } = POLICIES[policy], free = isLeast ? ` ${freeUnder(page, policy)} values are free.` : '';
+  const expert = policy === 'specification-required' ? ' A designated expert must recommend your request.' : '';
+  const years = { early: `An early allocation lasts one year.${expert}`, renew: 'A renewal adds one year.' };
+  return `${title} (RFC 8126, section ${section}): ${years[kind] ?? says}${free}`;
+}
+
+/** Under which policy a request falls, as far as its values say so. */
+export function policyOf(kind, values, page) {
+  if (kind === 'block' || !page) return undefined;
+  if (values.wish === 'least' && (kind === 'code' || kind === 'early')) return values.least;
+  return faultOf('value', values.value ?? '') ? undefined : rangeOf(page, Number(values.value))?.treatment;
+}
+
+/** The ask that a form's values spell: the members that have a value, in the order of their names. */
+export function askOf(kind, values, page) {
+  const { needed, optional } = evidenceFor(kind, policyOf(kind, values, page), values.renewed);
+  const ask = { kind };
+  for (const name of [...fieldsOf(kind, values.wish), ...needed, ...optional]) {
+    const value = values[name];
+    if (value === undefined || value === '' || value === false || name.startsWith('rfc-')) continue;
+    ask[name] = name === 'value' ? Number(value) : value;
+  }
+  const number = [...needed, ...optional].includes('rfc-number') && values['rfc-number'];
+  if (number) ask.rfc = { number: Number(number), stream: values['rfc-stream'], track: values['rfc-track'] };
+  return sorted(ask);
+}
+
+const sorted = members => Object.fromEntries(Object.keys(members).sort().map(name => [name, members[name]]));
+
+/** The reference under which the same ask waits already, if one does. */
+export function waitingTwin(ask, requests) {
+  const text = JSON.stringify(ask);
+  return requests.find(request => request.state === 'pending' && JSON.stringify(request.ask) === text)?.reference;
+}
+
+/** The grant that a form's values spell; `until` is the midnight (UTC) that ends the day. */
+export function grantOf({ account, kind, until }, token) {
+  return { account, kind, token, until: Math.min(Date.parse(`${until}T00:00:00Z`) / 1000 + 86400, 32503680000) };
+}
+
+/** Random bytes as a token, or as the end of a reference. */
+export const hexOf = bytes => [...bytes].map(byte => byte.toString(16).padStart(2, '0')).join('');
+
+/** The day of a number of seconds, in UTC. */
+export const dayOf = seconds => new Date(seconds * 1000).toISOString().slice(0, 10);
+
+/** An ask in a few words. */
+export function inWords(ask) {
+  const least = ask.least && `the lowest free value under ${POLICIES[ask.least]?.title ?? ask.least}`;
+  if (ask.kind === 'block') return `Block ${ask.size} for ${ask.organization}`;
+  const what = { code: '', early: 'Early allocation: ', renew: 'Another year: ', permanent: 'Permanent value in place of the early one: ' }[ask.kind] ?? '';
+  const value = `${least ?? `value ${ask.value}`} of ${ask.registry}${ask.label === undefined ? '' : `, "${ask.label}"`}`;
+  return what + (what ? value : value[0].toUpperCase() + value.slice(1));
+}
+
+/** An ask as rows of a name and a text. */
+export function rowsOf(ask) {
+  const rows = [['Request', KINDS[ask.kind]?.title ?? ask.kind]];
+  for (const name of [...fieldsOf(ask.kind, ask.least && 'least'), 'contact', 'specification', 'rfc', 'minute', ...EARLY_ITEMS, 'will_be_rfc', 'iesg']) {
+    const value = ask[name];
+    if (value === undefined || (name === 'address' && ask.kind !== 'block')) continue;
+    if (name === 'rfc') rows.push(['RFC', `RFC ${value.number}, stream ${STREAMS[value.stream] ?? value.stream}, ${TRACKS[value.track] ?? value.track}`]);
+    else if (name === 'least') rows.push(['Value', `The lowest free value under ${POLICIES[value]?.title ?? value}`]);
+    else rows.push(MARKS.includes(name) ? ['Statement', FIELDS[name].label] : [FIELDS[name].label, String(value)]);
+  }
+  return rows;
+}
+
+/** What became of a request, in words. */
+export function outcome({ ask, state, given, reason }) {
+  if (state === 'declined') return reason === undefined ? '' : `Reason: ${reason}`;
+  if (state !== 'approved') return '';
+  if (given === undefined) return '';
+  if (ask.kind === 'block') return `Block ${given}`;
+  return { renew: `Value ${given}, for another year`, permanent: `Value ${given}, permanent`, early: `Value ${given}, for one year` }[ask.kind] ?? `Value ${given}`;
+}
+
+/** The records of a text in CSV (RFC 4180); blank lines do not count. */
+export function csvOf(text) {
+  const records = [];
+  let record = [], field = '', quoted = false;
+  const end = () => { record.push(field); if (record.length > 1 || record[0] !== '') records.push(record); record = []; field = ''; };
+  const source = text.replace(/^\ufeff/, '').replace(/\r\n?/g, '\n');
+  for (let at = 0; at < source.length; at += 1) {
+    const letter = source[at];
+    if (quoted && letter === '"' && source[at + 1] === '"') { field += '"'; at += 1; }
+    else if (quoted ? letter === '"' : letter === '"' && field === '') quoted = !quoted;
+    else if (letter === ',' && !quoted) { record.push(field); field = ''; }
+    else if (letter === '\n' && !quoted) end();
+    else field += letter;
+  }
+  if (field !== '' || record.length) end();
+  return records;
+}
+
+/** The ranges of a range file, and its first fault in the office's own words (`row 1 number`, `gap 2`), if it has one. */
+export function rangesOf(text) {
+  const [header, ...records] = csvOf(text);
+  if (!header || header.join() !== 'lo,hi,treatment,note') return { ranges: [], fault: 'header' };
+  const ranges = records.map(([lo, hi, treatment, note]) => ({ lo, hi, treatment, note: note ?? '' }));
+  const row = records.findIndex(record => rowFault(record));
+  if (row >= 0) return { ranges, fault: `row ${row} ${rowFault(records[row])}` };
+  const numbers = ranges.map(range => ({ ...range, lo: Number(range.lo), hi: Number(range.hi) }));
+  return { ranges: numbers, fault: orderFault(numbers) };
+}
+
+function rowFault(record) {
+  const [lo, hi, treatment, note] = record;
+  if (record.length !== 4) return 'columns';
+  if (faultOf('value', lo) || faultOf('value', hi)) return 'number';
+  if (treatment !== 'reserved' && !Object.hasOwn(POLICIES, treatment)) return 'treatment';
+  return note !== '' && !FORMS.text[0].test(note) ? 'text' : null;
+}
+
+function orderFault(ranges) {
+  if (!ranges.length) return 'empty';
+  if (ranges.length > 64) return 'too-many';
+  let next = 0;
+  for (const [place, { lo, hi }] of ranges.entries()) {
+    if (hi < lo) return `order ${place}`;
+    if (lo > next) return `gap ${place}`;
+    if (lo < next) return `overlap ${place}`;
+    next = hi + 1;
+  }
+  return null;
+}

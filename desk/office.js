@@ -1,0 +1,91 @@
+// Asks the office. The token is kept here and nowhere else.
+
+let token = null, caller = 0;
+let tell = () => {};
+let end = () => {};
+
+/** The office refused: its status, the name of the error, and the part that it names. */
+export class Refusal extends Error {
+  constructor(status, error, item) {
+    super(error);
+    Object.assign(this, { status, error, item });
+  }
+}
+
+/** No answer came, however often the request was sent. */
+export class Lost extends Error {}
+
+/** The caller signed out meanwhile, so nobody waits for the answer. */
+export class Gone extends Error {}
+
+/** From now on requests carry this token, or none. Those of the caller before are not sent again. */
+export const carry = text => { token = text; caller += 1; };
+export const carries = () => token !== null;
+
+/** Where to say what is happening to a request: it is given a sentence, or an empty text once an answer is there. */
+export const tellBy = listener => { tell = listener; };
+
+/** What to do once the token does not work any more. */
+export const endBy = listener => { end = listener; };
+
+const PAUSES = [500, 1500, 4000, 8000];
+const SLOW = 4000, PATIENCE = 40000;
+const rest = time => new Promise(done => { setTimeout(done, time); });
+
+// One try: the answer, or null where none came.
+async function sent(method, path, body, speak) {
+  const abort = new AbortController();
+  const patience = setTimeout(() => abort.abort(), PATIENCE);
+  const slow = setTimeout(() => speak('The office has not answered yet. Still waiting.'), SLOW);
+  try {
+    const headers = token === null ? {} : { Authorization: `Bearer ${token}` };
+    const answer = await fetch(path, {
+      method, headers, body, signal: abort.signal, cache: 'no-store', credentials: 'omit', redirect: 'error', referrerPolicy: 'no-referrer',
+    });
+    return { status: answer.status, text: await answer.text() };
+  } catch {
+    return null;
+  } finally {
+    clearTimeout(patience);
+    clearTimeout(slow);
+  }
+}
+
+function read(text) {
+  try {
+    return JSON.parse(text);
+  } catch {
+    return undefined;
+  }
+}
+
+/**
+ * What the office answers. A request that gets no answer, or one of a proxy alone, is sent again as it was: a repeat has no second effect.
+ * Throws `Refusal` where the office refuses, `Lost` where there is no answer after five tries, and `Gone` where the caller is gone.
+ */
+export async function ask(method, path, body) {
+  const text = body === undefined || body instanceof ArrayBuffer ? body : JSON.stringify(body);
+  const own = caller;
+  let spoken = '';
+  const speak = words => { if (words || spoken) tell(words); spoken = words; };
+  for (let tries = 0; ; tries += 1) {
+    const answer = await sent(method, path, text, speak);
+    if (own !== caller) throw new Gone();
+    const told = answer && read(answer.text);
+    if (answer && told !== undefined && (answer.status < 300 || told.error)) {
+      speak('');
+      if (answer.status < 300) return told;
+      if (told.error === 'token') end();
+      if (own !== caller) throw new Gone();
+      throw new Refusal(answer.status, told.error, told.item);
+    }
+    const isPassing = !answer || answer.status < 300 || [429, 502, 503, 504].includes(answer.status);
+    if (!isPassing || tries === PAUSES.length) {
+      speak('');
+      throw isPassing ? new Lost() : new Refusal(answer.status, answer.status === 413 ? 'large' : `status ${answer.status}`);
+    }
+    speak(`${answer ? 'The office is not reachable' : 'The connection broke'}. Sending the same request again (${tries + 2} of ${PAUSES.length + 1}).`);
+    await rest(PAUSES[tries]);
+    if (own !== caller) throw new Gone();
+  }
+}

@@ -1,0 +1,188 @@
+// Tests what the page in desk/ does without a document: forms to bodies, errors to sentences, policies to evidence.
+// usage: node --test tools/desk.test.mjs
+import assert from 'node:assert/strict';
+import { mkdtempSync, readFileSync, rmSync, writeFileSync } from 'node:fs';
+import { tmpdir } from 'node:os';
+import { after, test } from 'node:test';
+
+const read = path => readFileSync(new URL(`../${path}`, import.meta.url), 'utf8');
+// Node takes a file of this name for a module, which a page does without being told.
+const folder = mkdtempSync(`${tmpdir()}/desk-`);
+after(() => rmSync(folder, { recursive: true }));
+const load = name => {
+  writeFileSync(`${folder}/${name}.mjs`, read(`desk/${name}`));
+  return import(`file://${folder}/${name}.mjs`);
+};
+const forms = await load('forms.js'), errors = await load('errors.js');
+
+const range = (lo, hi, treatment) => ({ lo, hi, treatment, note: '' });
+const PAGE = {
+  max: 255, name: 'codes', entries: [{ value: 3, label: 'Three' }, { value: 60, label: 'Sixty' }],
+  ranges: [range(0, 9, 'first-come-first-served'), range(10, 19, 'expert-review'), range(20, 29, 'specification-required'), range(30, 39, 'rfc-required'),
+    range(40, 49, 'ietf-review'), range(50, 59, 'standards-action'), range(60, 69, 'iesg-approval'), range(70, 79, 'private-use'),
+    range(80, 89, 'experimental-use'), range(90, 99, 'hierarchical-allocation'), range(100, 199, 'first-come-first-served'), range(200, 255, 'reserved')],
+};
+const RFC = { 'rfc-number': '9999', 'rfc-stream': 'ietf', 'rfc-track': 'standards' };
+const EARLY = { draft: 'draft-x-00', stable: true, interest: true, chair: 'wg', director: 'ad' };
+const wish = (value, more = {}) => ({ registry: 'codes', wish: 'value', value: String(value), label: 'L', contact: 'C', reference: 'r-1', ...more });
+
+test('each policy asks for the evidence of RFC 8126', () => {
+  const needed = Object.fromEntries(Object.keys(forms.POLICIES).map(policy => [policy, forms.evidenceFor('code', policy).needed]));
+  const rfc = ['contact', 'rfc-number', 'rfc-stream', 'rfc-track'];
+  assert.deepEqual(needed, {
+    'private-use': [], 'experimental-use': [], 'hierarchical-allocation': [], 'first-come-first-served': ['contact'], 'expert-review': ['contact'],
+    'specification-required': ['contact', 'specification'], 'rfc-required': rfc, 'ietf-review': rfc, 'standards-action': rfc, 'iesg-approval': ['contact', 'minute'],
+  });
+  for (const policy of Object.keys(forms.POLICIES)) assert.deepEqual(forms.evidenceFor('permanent', policy), forms.evidenceFor('code', policy));
+});
+
+test('the policies are those of the specification, in its order', () => {
+  const table = read('docs/SPECIFICATION.md').match(/^\| `private-use`[^]*?^\| `iesg-approval`.*$/m)[0];
+  const rows = [...table.matchAll(/^\| `([a-z-]+)` \| (4\.\d+) \|/gm)].map(([, policy, section]) => [policy, section]);
+  assert.deepEqual(Object.entries(forms.POLICIES).map(([policy, { section }]) => [policy, section]), rows);
+});
+
+test('an RFC is of the streams and statuses that the policy accepts', () => {
+  assert.deepEqual(Object.keys(forms.optionsFor('rfc-stream', 'rfc-required')), ['ietf', 'irtf', 'iab', 'independent', 'editorial']);
+  assert.deepEqual(Object.keys(forms.optionsFor('rfc-stream', 'ietf-review')), ['ietf']);
+  assert.deepEqual(Object.keys(forms.optionsFor('rfc-track', 'ietf-review')).length, 5);
+  assert.deepEqual(Object.keys(forms.optionsFor('rfc-track', 'standards-action')), ['standards', 'bcp']);
+});
+
+test('early allocations and renewals ask for the evidence of RFC 7120', () => {
+  const five = ['draft', 'stable', 'interest', 'chair', 'director'];
+  assert.deepEqual(forms.evidenceFor('early', 'ietf-review').needed, five);
+  assert.deepEqual(forms.evidenceFor('early', 'specification-required').needed, [...five, 'will_be_rfc']);
+  assert.deepEqual(forms.evidenceFor('renew', 'ietf-review').needed, five);
+  assert.deepEqual(forms.evidenceFor('renew', 'ietf-review', true).needed, [...five, 'iesg']);
+  assert.deepEqual(forms.evidenceFor('early', undefined), { needed: [], optional: [] });
+  assert.deepEqual(forms.evidenceFor('early', 'expert-review'), { needed: [], optional: [] });
+  assert.deepEqual(forms.openPolicies(PAGE, 'early'), ['specification-required', 'rfc-required', 'ietf-review', 'standards-action']);
+  assert.deepEqual(forms.openPolicies(PAGE, 'code').length, 7);
+});
+
+test('forms become asks', () => {
+  assert.deepEqual(forms.askOf('code', wish(5), PAGE), { contact: 'C', kind: 'code', label: 'L', registry: 'codes', value: 5 });
+  assert.deepEqual(forms.askOf('code', { ...wish(5), wish: 'least', least: 'expert-review', specification: 'S' }, PAGE),
+    { contact: 'C', kind: 'code', label: 'L', least: 'expert-review', registry: 'codes', specification: 'S' });
+  assert.deepEqual(forms.askOf('code', wish(55, { ...RFC, minute: '' }), PAGE),
+    { contact: 'C', kind: 'code', label: 'L', registry: 'codes', rfc: { number: 9999, stream: 'ietf', track: 'standards' }, value: 55 });
+  assert.deepEqual(forms.askOf('early', wish(45, EARLY), PAGE),
+    { chair: 'wg', director: 'ad', draft: 'draft-x-00', interest: true, kind: 'early', label: 'L', registry: 'codes', stable: true, value: 45 });
+  assert.deepEqual(forms.askOf('renew', wish(45, { ...EARLY, iesg: 'M-7', renewed: true }), PAGE),
+    { chair: 'wg', director: 'ad', draft: 'draft-x-00', iesg: 'M-7', interest: true, kind: 'renew', registry: 'codes', stable: true, value: 45 });
+  assert.deepEqual(forms.askOf('permanent', wish(45, RFC), PAGE),
+    { contact: 'C', kind: 'permanent', registry: 'codes', rfc: { number: 9999, stream: 'ietf', track: 'standards' }, value: 45 });
+  assert.deepEqual(forms.askOf('block', { size: 'MA-S', organization: 'O', address: 'A', contact: 'C', registry: 'codes' }),
+    { address: 'A', kind: 'block', organization: 'O', size: 'MA-S' });
+});
+
+test('what another kind or policy asked for stays out of the ask', () => {
+  const full = wish(5, { ...RFC, ...EARLY, minute: 'M', iesg: 'I', will_be_rfc: true });
+  assert.deepEqual(Object.keys(forms.askOf('early', { ...full, value: '45' }, PAGE)), ['chair', 'director', 'draft', 'interest', 'kind', 'label', 'registry', 'stable', 'value']);
+  assert.equal(forms.askOf('early', { ...full, value: '25' }, PAGE).will_be_rfc, true);
+});
+
+test('faults are found before anything is sent', () => {
+  const faults = (kind, values) => Object.keys(forms.faultsOf(kind, values, PAGE)).sort();
+  assert.deepEqual(faults('code', wish(5)), []);
+  assert.deepEqual(faults('code', wish(5, { label: '', contact: '', reference: 'R 1' })), ['contact', 'label', 'reference']);
+  assert.deepEqual(faults('code', wish(55)), ['rfc-number', 'rfc-stream', 'rfc-track']);
+  assert.deepEqual(faults('code', wish(5, { 'rfc-number': '1' })), ['rfc-stream', 'rfc-track']);
+  assert.deepEqual(faults('early', wish(25, { ...EARLY, stable: false })), ['stable', 'will_be_rfc']);
+  for (const value of ['', '-1', '5.0', '007', '256', '4294967296', '3', '75', '85', '95', '250', 'x']) assert.deepEqual(faults('code', wish(value)), ['value'], value);
+  assert.deepEqual(faults('early', wish(5, EARLY)), ['value']);
+  assert.deepEqual(faults('block', { size: '', organization: 'O', address: 'a\u00e9', reference: 'r' }), ['address', 'size']);
+});
+
+test('texts are printable ASCII, 1 to 200', () => {
+  const printable = Array.from({ length: 95 }, (_, place) => String.fromCharCode(32 + place)).join('');
+  assert.equal(forms.faultOf('label', printable), null);
+  assert.equal(forms.faultOf('label', 'x'.repeat(200)), null);
+  assert.match(forms.faultOf('label', 'x'.repeat(201)), /201/);
+  assert.match(forms.faultOf('label', 'M\u00fcller'), /^"\u00fc" cannot be kept/);
+  assert.match(forms.faultOf('label', 'a\tb'), /cannot be kept/);
+  assert.equal(forms.faultOf('label', '', false), null);
+  assert.notEqual(forms.faultOf('reference', 'a/b'), null);
+});
+
+test('tokens, references and days', () => {
+  const token = forms.hexOf(new Uint8Array([0, 1, 255, 16, 0, 1, 255, 16, 0, 1, 255, 16, 0, 1, 255, 16]));
+  assert.equal(token, '0001ff100001ff100001ff100001ff10');
+  assert.equal(forms.faultOf('token', token), null);
+  assert.notEqual(forms.faultOf('token', 'short'), null);
+  assert.deepEqual(forms.grantOf({ account: 'alice', kind: 'applicant', until: '2027-01-14' }, token), { account: 'alice', kind: 'applicant', token, until: 1799971200 });
+  assert.equal(forms.grantOf({ until: '2999-12-31' }, token).until, 32503680000);
+  assert.equal(forms.dayOf(1799971199), '2027-01-14');
+  assert.notEqual(forms.faultOf('until', ''), null);
+});
+
+test('the same ask that waits is found, whatever its reference', () => {
+  const ask = forms.askOf('code', wish(5), PAGE), other = forms.askOf('code', wish(6), PAGE);
+  assert.equal(forms.waitingTwin(ask, [{ reference: 'a', state: 'withdrawn', ask }, { reference: 'b', state: 'pending', ask: other }, { reference: 'c', state: 'pending', ask }]), 'c');
+  assert.equal(forms.waitingTwin(ask, []), undefined);
+});
+
+test('what a policy says, how much is free, and which is offered first', () => {
+  assert.equal(forms.freeUnder(PAGE, 'first-come-first-served'), 109);
+  assert.equal(forms.easiest(forms.openPolicies(PAGE, 'code')), 'first-come-first-served');
+  assert.match(forms.noteOn('code', wish(15), PAGE), /^Expert Review \(RFC 8126, section 4\.5\)/);
+  assert.match(forms.noteOn('early', wish(25), PAGE), /lasts one year\. A designated expert/);
+  assert.match(forms.noteOn('renew', wish(45), PAGE), /adds one year\.$/);
+  assert.match(forms.noteOn('code', wish(3), PAGE), /taken: Three/);
+  assert.match(forms.noteOn('code', wish(250), PAGE), /reserved/);
+  assert.equal(forms.noteOn('code', wish(''), PAGE), '');
+  assert.match(forms.noteOn('code', { ...wish(''), wish: 'least', least: 'iesg-approval' }, PAGE), /9 values are free/);
+});
+
+test('asks of the transcripts are told in words, and in rows', () => {
+  const asks = [...read('crates/reg_cli/transcripts/early.txt').matchAll(/^> .* PUT \/requests\/\S+ (\{.*\})$/gm)].map(([, body]) => JSON.parse(body));
+  assert.ok(asks.length > 10);
+  for (const ask of asks) {
+    assert.match(forms.inWords(ask), /^[A-Z]/);
+    assert.doesNotMatch(forms.inWords(ask) + JSON.stringify(forms.rowsOf(ask)), /undefined|\[object/);
+    assert.ok(forms.rowsOf(ask).length > 3);
+  }
+  assert.equal(forms.outcome({ ask: { kind: 'renew' }, state: 'approved', given: '7' }), 'Value 7, for another year');
+  assert.equal(forms.outcome({ ask: { kind: 'code' }, state: 'declined', reason: 'duplicate' }), 'Reason: duplicate');
+});
+
+test('range files are read, and their first faults found, as the office does', () => {
+  const file = rows => `lo,hi,treatment,note\n${rows.join('\n')}\n`;
+  assert.deepEqual(forms.rangesOf('\ufefflo,hi,treatment,note\r\n0,1,reserved,"a ""b"", c"\r\n').ranges, [{ lo: 0, hi: 1, treatment: 'reserved', note: 'a "b", c' }]);
+  const faults = [[['0,1,reserved'], 'row 0 columns'], [['0,1,reserved,', '2,x,reserved,'], 'row 1 number'], [['0,1,closed,'], 'row 0 treatment'], [['0,1,reserved,\u00e9'], 'row 0 text'],
+    [[], 'empty'], [['1,2,reserved,'], 'gap 0'], [['0,1,reserved,', '1,2,reserved,'], 'overlap 1'], [['5,1,reserved,'], 'order 0'],
+    [Array.from({ length: 65 }, (_, n) => `${n},${n},reserved,`), 'too-many'], [['0,1,reserved,'], null]];
+  for (const [rows, fault] of faults) assert.equal(forms.rangesOf(file(rows)).fault, fault);
+  assert.equal(forms.rangesOf('a,b\n').fault, 'header');
+});
+
+test('each error is a sentence, on the page of errors too', () => {
+  const page = read('desk/errors.html');
+  for (const [name, sentence] of Object.entries(errors.ERRORS)) {
+    assert.match(sentence, /^[A-Z].*\.$/);
+    assert.ok(page.includes(`<div id="${name}"><dt><code>${name}</code></dt><dd>${sentence.replaceAll('"', '&quot;')}</dd></div>`), name);
+    assert.ok(errors.inWords(name).length > 20);
+  }
+  assert.match(errors.inWords('brandnew'), /brandnew/);
+  assert.match(errors.inWords('constructor'), /constructor/);
+});
+
+test('each item that an error can name has a sentence', () => {
+  const items = [...read('crates/reg_core/src/item.rt').matchAll(/Item::\w+ => "(\w+)"/g)].map(([, name]) => name);
+  const evidence = [...read('docs/SPECIFICATION.md').matchAll(/^\| `(draft|stable|interest|chair|director|policy)` \|/gm)].map(([, name]) => name);
+  assert.ok(items.length > 30);
+  for (const item of items.filter(name => !['number', 'stream', 'track'].includes(name))) assert.notEqual(errors.inWords('field', item), errors.ERRORS.field, item);
+  for (const item of [...evidence, 'contact', 'specification', 'rfc', 'stream', 'track', 'minute']) assert.notEqual(errors.inWords('evidence', item), errors.ERRORS.evidence, item);
+  for (const fault of ['header', 'empty', 'too-many', 'end', 'row 1 columns', 'row 1 number', 'row 1 treatment', 'row 1 text', 'order 1', 'gap 1', 'overlap 1']) assert.doesNotMatch(errors.faultInWords(fault), /fault is|#/, fault);
+  assert.match(errors.faultInWords('row 1 number'), /Row 2/);
+});
+
+test('errors belong to fields', () => {
+  assert.equal(errors.fieldOf('field', 'label'), 'label');
+  assert.equal(errors.fieldOf('evidence', 'rfc'), 'rfc-number');
+  assert.equal(errors.fieldOf('ref'), 'reference');
+  assert.equal(errors.fieldOf('taken'), 'value');
+  assert.equal(errors.fieldOf('storage'), undefined);
+  assert.equal(errors.fieldOf('field', 'extra'), undefined);
+});
