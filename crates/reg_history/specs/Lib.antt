@@ -1,0 +1,3 @@
+pub mod Replay
+pub mod Subjects
+pub mod Words

@@ -1,0 +1,6 @@
+//! A history of the published registers that nobody can rewrite unnoticed: what is recorded of what is
+//! published, how it is read back, and what was lost since.
+#![tactic(auto)]
+
+pub mod change;
+pub mod field;
