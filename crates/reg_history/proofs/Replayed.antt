@@ -1,12 +1,16 @@
 -- Replaying what was recorded, and then what is recorded of facts, says what the facts say.
-use Rattle.std.proofs.Common.{◌≡◌, ◌⊎◌, inl, inr, Bool, true, false, ◌&&◌, ◌||◌, List, [], ◌∷◌, ◌++◌, refl, sym, ap, ◌∙◌, subst}
-use Rattle.std.specs.Prelude.{ℕ, Option, Some, None, option_map, if◌then◌else◌}
+use Rattle.std.proofs.Common.{◌≡◌, ◌⊎◌, inl, inr, Bool, true, false, ◌&&◌, ◌||◌, List, [], ◌∷◌, ◌++◌, refl, sym, ap, ◌∙◌, subst, append_assoc, append-nil, ◌+◌, ◌<◌, ◌≤◌, suc, length, get_or, drop, drop-cons, add-one, cond, zero, arith}
+use Rattle.std.specs.Prelude.{ℕ, Result, Ok, Err, Option, Some, None, option_map, if◌then◌else◌}
+use Rattle.std.specs.BTreeMap.{BTreeMap, btree_map_len, is_at}
+use Rattle.std.specs.Map.{lookup}
+use Rattle.std.specs.Result.{IfErr, IsErrAnd}
 use Rattle.std.specs.Cmp.{first_so, second_so}
 use Rattle.std.proofs.lemmas.Bool.{cases_Bool}
 use Rattle.std.proofs.lemmas.Slice.Eq.{bytes_eq-Decides}
 use Rattle.reg_maps.specs.Maps.{same_text}
-use Rattle.reg_history.specs.Subjects.{same_subject, is_entry, entry_at}
-use Rattle.reg_history.specs.Replay.{Said, SomeFact, IsAbout, StandsBy, NothingIsLost, after, changes_to, facts_say, nothing, recorded, replay, same_given, same_standing, stands, with_standing, without}
+use Rattle.reg_history.specs.Subjects.{same_subject, subject_cmp, is_entry, entry_at}
+use Rattle.reg_history.specs.Replay.{Said, SaysAfter, SomeFact, IsAbout, IsLost, StandsBy, NothingIsLost, StandsIf, after, changes_to, facts_say, nothing, recorded, replay, same_given, same_standing, stands, with_standing, with_standing_at, without}
+use Rattle.reg_history.specs.Said.{DoesNotStand, TellsLoss, said_by}
 use Rattle.reg_history.specs.declared.change.Change.{Change}
 use Rattle.reg_history.specs.declared.change.Change.TheVariants.{Made, Term}
 use Rattle.reg_history.specs.declared.change.Class.{Class}
@@ -15,12 +19,9 @@ use Rattle.reg_history.specs.declared.change.Details.{Details}
 use Rattle.reg_history.specs.declared.change.Fact.{Fact}
 use Rattle.reg_history.specs.declared.change.Standing.{Standing}
 use Rattle.reg_history.specs.declared.change.Subject.{Subject}
-use Rattle.reg_history.proofs.SameSubjects.{same_subject-exact}
-
--- what was said stands by a fact, if something was
-abbrev pub StandsIf : Option Details → Fact → Type 0
-StandsIf None fact = Unit {0}
-StandsIf (Some before) fact = stands before fact ≡ true
+use Rattle.reg_history.specs.declared.said.Unrecorded.{Unrecorded}
+use Rattle.reg_history.specs.declared.said.Unrecorded.TheVariants.{Memory, Lost}
+use Rattle.reg_history.proofs.SameSubjects.{same_subject-exact, same_subject-refl}
 
 -- all that was said about the subjects of facts stands by the first of them
 abbrev pub AllStand : Said → List Fact → Type 0
@@ -228,4 +229,160 @@ left_over (fact ∷ facts) said s before e =
           | inr later ↦ rest.1 later
         ],
       )
+    ]
+
+-- ---- Facts that are compared in turn
+
+-- What is so of all facts follows from what is so of those that are left: what is recorded of them,
+-- that what was said stands by them, and what of it is left.
+pub record KeepsUp (whole : Said) (facts : List Fact) (said : Said) (rest : List Fact)
+    (changes : List Change) : Type 0 where
+  pub made : changes_to whole facts ≡ changes ++ changes_to said rest
+  pub stood : AllStand said rest → AllStand whole facts
+  pub left : without_all whole facts ≡ without_all said rest
+  pub part : IsPart said whole
+  pub later : (s : Subject) (before : Details) → SomeFact (StandsBy false s before) rest
+      → SomeFact (StandsBy false s before) facts
+
+pub keeps_up-start : (whole : Said) (facts : List Fact) → KeepsUp whole facts whole facts []
+keeps_up-start whole facts = record {
+  made = refl;
+  stood = λ h. h;
+  left = refl;
+  part = λ s. inr refl;
+  later = λ s before h. h;
+}
+
+pub keeps_up-next : (whole : Said) (facts : List Fact) (said said' : Said) (fact : Fact)
+    (rest : List Fact) (changes changes' : List Change)
+    → KeepsUp whole facts said (fact ∷ rest) changes
+    → ((s : Subject) → said' s ≡ without fact.subject said s)
+    → StandsIf (said fact.subject) fact → changes' ≡ changes ++ recorded (said fact.subject) fact
+    → KeepsUp whole facts said' rest changes'
+keeps_up-next whole facts said said' fact rest changes changes' k same stood e =
+    let now : said' ≡ without fact.subject said = λ i s. same s i in
+    let part-now : IsPart (without fact.subject said) whole = λ s.
+    elim (cases_Bool (same_subject fact.subject s)) [
+      | inl here ↦ rw here (inl refl)
+      | inr there ↦ rw there (k.part s)
+    ] in
+    record {
+      made =
+          k.made
+          ∙ sym (append_assoc changes (recorded (said fact.subject) fact)
+          (changes_to (without fact.subject said) rest))
+          ∙ ap (λ c. c ++ changes_to (without fact.subject said) rest) (sym e)
+          ∙ ap (λ (f : Said). changes' ++ changes_to f rest) (sym now);
+      stood = λ h. k.stood (stood, subst (λ (f : Said). AllStand f rest) now h);
+      left = k.left ∙ ap (λ (f : Said). without_all f rest) (sym now);
+      part = subst (λ (f : Said). IsPart f whole) (sym now) part-now;
+      later = λ s before h. k.later s before (inr h);
+    }
+
+-- a fact by which what was said does not stand tells a loss
+pub keeps_up-lost : (whole : Said) (facts : List Fact) (said : Said) (fact : Fact)
+    (rest : List Fact) (changes : List Change) (before : Details)
+    → KeepsUp whole facts said (fact ∷ rest) changes → said fact.subject ≡ Some before
+    → stands before fact ≡ false → IsLost whole facts fact.subject
+keeps_up-lost whole facts said fact rest changes before k was e = record {
+  before = before;
+  was_said =
+      elim (k.part fact.subject) [ inl none ↦ cc (sym none ∙ was) | inr same ↦ sym same ∙ was ];
+  gone =
+      inr (k.later fact.subject before (inl (same_subject-refl fact.subject, e)));
+}
+
+-- and so does what is left at the end
+pub keeps_up-left : (whole : Said) (facts : List Fact) (said : Said) (changes : List Change)
+    (s : Subject) (before : Details) → KeepsUp whole facts said [] changes
+    → said s ≡ Some before → IsLost whole facts s
+keeps_up-left whole facts said changes s before k was =
+    let over = left_over facts whole s before (ap (λ (f : Said). f s) k.left ∙ was) in
+    record { before = before; was_said = over.0; gone = inl over.1 }
+
+-- where nothing is left at the end, nothing is lost
+pub keeps_up-kept : (whole : Said) (facts : List Fact) (said : Said) (changes : List Change)
+    → KeepsUp whole facts said [] changes → ((s : Subject) → said s ≡ None)
+    → NothingIsLost whole facts
+keeps_up-kept whole facts said changes k none =
+    nothing_lost facts whole (k.stood tt) (λ s. ap (λ (f : Said). f s) k.left ∙ none s)
+
+-- and then replaying says what the facts say
+pub keeps_up-says : (whole : Said) (facts : List Fact) (said : Said) (changes : List Change)
+    → KeepsUp whole facts said [] changes → ((s : Subject) → said s ≡ None)
+    → SaysAfter whole facts changes
+keeps_up-says whole facts said changes k none old same s =
+    let now : whole ≡ replay nothing old = λ i t. same t i in
+    let e : changes ≡ changes_to (replay nothing old) facts =
+    sym (append-nil changes) ∙ sym k.made ∙ ap (λ (f : Said). changes_to f facts) now in
+    ap (λ (c : List Change). replay nothing (old ++ c) s) e
+    ∙ replayed old facts (subst (λ (f : Said). AllStand f facts) now (k.stood tt))
+    (subst (λ (f : Said). NothingIsLost f facts) now (keeps_up-kept whole facts said changes k none))
+    s
+
+-- ---- Steps of the code
+
+-- the first of the facts that are left
+pub drop-item : {T : Type 0} (xs : List T) (i : ℕ) (x : T) → i < length xs → x ≡ get_or xs i x
+    → drop i xs ≡ x ∷ drop (i + 1) xs
+drop-item xs i x h is = rw add-one (drop-cons xs i x h ∙ ap (λ y. y ∷ drop (suc i) xs) (sym is))
+
+pub drop-end : {T : Type 0} (xs : List T) (i : ℕ) → length xs ≤ i → drop i xs ≡ []
+drop-end [] zero h = refl
+drop-end [] (suc i) h = refl
+drop-end (x ∷ xs) zero h = absurd (omega (arith, h))
+drop-end (x ∷ xs) (suc i) h = drop-end xs i (omega (arith, h))
+
+-- an error that is handed on tells what it told
+pub handed_on : {T : Type 0} {E : Type 0} (Tells : E → Type 0) (r : Result T E) (e : E)
+    → IsErrAnd r (λ y. y ≡ e) → Tells e → IfErr r Tells
+handed_on Tells (Ok x) e h told = tt
+handed_on {T} {E} Tells (Err y) e h told = subst Tells (sym h) told
+
+-- nothing is said by a map without entries
+pub says_nothing : (map : BTreeMap Subject Details) → (0 < btree_map_len map → false ≡ true)
+    → (s : Subject) → said_by map s ≡ None
+says_nothing map empty s = none map.entries empty where
+  none : (entries : List (Subject × Details)) → (0 < length entries → false ≡ true)
+      → lookup (is_at (subject_cmp s)) entries ≡ None
+  none [] h = refl
+  none (x ∷ xs) h = absurd (cc (h (omega arith)))
+
+-- what tells a loss at a fact tells it of all
+pub tells_loss : (whole : Said) (facts : List Fact) (said : Said) (fact : Fact) (rest : List Fact)
+    (changes : List Change) (o : Option Details) (e : Unrecorded)
+    → KeepsUp whole facts said (fact ∷ rest) changes → o ≡ said fact.subject
+    → DoesNotStand o fact e → TellsLoss whole facts e
+tells_loss whole facts said fact rest changes o Memory k was h = tt
+tells_loss whole facts said fact rest changes None (Lost subject) k was h = absurd h
+tells_loss whole facts said fact rest changes (Some before) (Lost subject) k was h =
+    subst (λ (s : Subject). IsLost whole facts s) (sym h.0)
+    (keeps_up-lost whole facts said fact rest changes before k (sym was) h.1)
+
+-- a subject is taken out, and put back with another standing
+pub standing_set : (said said' said'' : Said) (s : Subject) (details details' : Details)
+    (standing : Standing) → Some details ≡ said s → details' ≡ with_standing standing details
+    → ((q : Subject) → said' q ≡ cond (same_subject s q) None (said q))
+    → ((q : Subject) → said'' q ≡ cond (same_subject s q) (Some details') (said' q))
+    → (q : Subject) → said'' q ≡ with_standing_at s standing said q
+standing_set said said' said'' s details details' standing was set out back q =
+    elim (cases_Bool (same_subject s q)) [
+      | inl here ↦
+          let e : s ≡ q = same_subject-exact s q here in
+          let given : said q ≡ Some details = ap said (sym e) ∙ sym was in
+          back q ∙ rw (here, given) (ap Some set)
+      | inr there ↦ back q ∙ rw there (out q ∙ rw there refl)
+    ]
+
+-- nothing is said of a subject of which nothing was said
+pub standing_none : (said said' : Said) (s : Subject) (standing : Standing) → None ≡ said s
+    → ((q : Subject) → said' q ≡ cond (same_subject s q) None (said q))
+    → (q : Subject) → said' q ≡ with_standing_at s standing said q
+standing_none said said' s standing was out q =
+    elim (cases_Bool (same_subject s q)) [
+      | inl here ↦
+          let e : s ≡ q = same_subject-exact s q here in
+          let given : said q ≡ None = ap said (sym e) ∙ sym was in
+          out q ∙ rw (here, given) refl
+      | inr there ↦ out q ∙ rw there refl
     ]

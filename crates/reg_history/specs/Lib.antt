@@ -1,3 +1,6 @@
+pub mod Moment
+pub mod Published
 pub mod Replay
+pub mod Said
 pub mod Subjects
 pub mod Words

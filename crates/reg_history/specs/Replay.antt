@@ -1,5 +1,5 @@
 -- What a history says, and what has to be recorded so that it says what is published.
-use Rattle.std.specs.Prelude.{◌≡◌, ◌⊎◌, ℕ, Bool, true, false, ◌&&◌, ◌||◌, List, [], ◌∷◌, ◌++◌, Option, Some, None, option_map, if◌then◌else◌}
+use Rattle.std.specs.Prelude.{◌≡◌, ◌⊎◌, ℕ, Bool, true, false, ◌&&◌, ◌||◌, List, [], ◌∷◌, ◌++◌, Option, Some, None, option_map, if◌then◌else◌, length, ◌==◌, not, ⊤}
 use Rattle.std.specs.Ordering.{is_le}
 use Rattle.reg_maps.specs.Maps.{text_cmp, same_text}
 use Rattle.reg_history.specs.Subjects.{same_subject, is_entry, entry_at}
@@ -24,14 +24,19 @@ nothing subject = None
 abbrev pub with_standing : Standing → Details → Details
 with_standing standing details = record details { standing = standing }
 
+-- what is said where a subject has another standing, if anything is said of it
+abbrev pub with_standing_at : Subject → Standing → Said → Said
+with_standing_at subject standing said other =
+    if same_subject subject other then option_map (with_standing standing) (said other)
+    else said other
+
 -- what is said after one more change: of the subject that it is about what it says, and of any other
 -- what was said before
 abbrev pub after : Said → Change → Said
 after said (Made fact) subject =
     if same_subject fact.subject subject then Some fact.details else said subject
 after said (Term registry value standing) subject =
-    if same_subject (entry_at registry value) subject
-    then option_map (with_standing standing) (said subject) else said subject
+    with_standing_at (entry_at registry value) standing said subject
 
 -- what is said after changes, one after the other
 abbrev pub replay : Said → List Change → Said
@@ -57,9 +62,9 @@ same_given a b =
 
 -- An entry expires no earlier than it did, or no more; where it did not, it still does not.
 abbrev pub is_no_earlier : List ℕ → List ℕ → Bool
-is_no_earlier before [] = true
-is_no_earlier [] (byte ∷ bytes) = false
-is_no_earlier (first ∷ rest) (byte ∷ bytes) = is_le (text_cmp (first ∷ rest) (byte ∷ bytes))
+is_no_earlier before now =
+    (if length now == 0 then true
+    else not (length before == 0) && is_le (text_cmp before now))
 
 -- What was published of a subject stands: it is the same, or an entry that has another standing,
 -- and expires no earlier.
@@ -114,3 +119,16 @@ pub record IsLost (said : Said) (facts : List Fact) (subject : Subject) : Type 0
   pub was_said : said subject ≡ Some before
   pub gone : (SomeFact (IsAbout subject) facts → ⊥)
       ⊎ SomeFact (StandsBy false subject before) facts
+
+-- what was said of its subject stands by a fact, if something was
+abbrev pub StandsIf : Option Details → Fact → Type 0
+StandsIf None fact = ⊤
+StandsIf (Some before) fact = stands before fact ≡ true
+
+-- Where these changes are recorded after those by which something is said, then replaying all of them
+-- says of each subject just what the facts say of it.
+abbrev pub SaysAfter : Said → List Fact → List Change → Type 0
+SaysAfter said facts changes =
+    (old : List Change) → ((subject : Subject) → said subject ≡ replay nothing old subject)
+    → (subject : Subject)
+    → replay nothing (old ++ changes) subject ≡ facts_say nothing facts subject

@@ -129,6 +129,19 @@ impl Details {
             assignee: self.assignee.copy()?,
         })
     }
+
+    /// The details with another standing.
+    pub fn with_standing(self, standing: Standing) -> Self
+        ensures { result ≡ record self { standing = standing } }
+    {
+        Details {
+            description: self.description,
+            policy: self.policy,
+            first: self.first,
+            standing,
+            assignee: self.assignee,
+        }
+    }
 }
 
 impl Fact {

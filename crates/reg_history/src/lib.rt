@@ -4,3 +4,6 @@
 
 pub mod change;
 pub mod field;
+pub mod moment;
+pub mod published;
+pub mod said;
