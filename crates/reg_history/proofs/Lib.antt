@@ -1,2 +1,5 @@
+mod Fronts
+mod Histories
+mod Mapped
 mod Replayed
 mod SameSubjects

@@ -1,3 +1,5 @@
+pub mod Chain
+pub mod History
 pub mod Moment
 pub mod Published
 pub mod Replay

@@ -33,6 +33,17 @@ impl Class {
         }
     }
 
+    /// The class whose subjects are first published by a change with this word.
+    pub fn read(word: &str) -> Option<Class> {
+        match word {
+            "range" => Some(Class::Range),
+            "entry" => Some(Class::Entry),
+            "prefix" => Some(Class::Prefix),
+            "block" => Some(Class::Block),
+            _ => None,
+        }
+    }
+
     // Its place among the classes.
     fn place(self) -> u8
         ensures { result ≡ class_place self }

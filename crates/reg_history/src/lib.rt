@@ -2,8 +2,11 @@
 //! published, how it is read back, and what was lost since.
 #![tactic(auto)]
 
+pub mod chain;
 pub mod change;
 pub mod field;
+pub mod history;
 pub mod moment;
 pub mod published;
+mod reading;
 pub mod said;

@@ -1,0 +1,191 @@
+//! Records, each of which is tied to all before it by a digest.
+ghost use Rattle.std.specs.Prelude.{◌≡◌, ◌<◌, ◌++◌, ◌∷◌, [], map, length, codes, IfOk, OnOk};
+ghost use Rattle.hex.specs.Hex.{encode_lower};
+ghost use Rattle.sha2.specs.Sha256.{sha256};
+ghost use Rattle.csv.specs.Writing.{default_writer, row_body};
+ghost use Rattle.reg_history.specs.Chain.{Chained, at, chain_from, change_fields, last_digest, next_digest, next_line, record_fields, record_of};
+ghost use Rattle.reg_history.specs.declared.change.Change.TheVariants.{Made, Term};
+
+use crate::change::{Change, Fact, Standing};
+use crate::field::Field;
+use reg_print::listing::writing::{empty, text_of, write_record};
+use sha2::{Digest, Sha256};
+use std::alloc::{AllocError, Global};
+
+/// How many digits a digest has.
+pub const DIGITS: usize = 64;
+
+/// The digests of records, each in lower-case hexadecimal.
+#[derive(Drop)]
+pub struct Chain {
+    pub digests: Vec<[u8; DIGITS]>,
+}
+
+impl Chain {
+    /// The digests of no record. It takes no memory.
+    pub fn new(alloc: Global) -> Self
+        ensures { result.digests.items ≡ [] }
+    {
+        Chain {
+            digests: Vec::new(alloc),
+        }
+    }
+
+    /// Adds the digest of the next record, and gives the bytes of that record. Only want of memory is an
+    /// error.
+    pub fn add(
+        &mut self,
+        alloc: Global,
+        moment: &Field,
+        change: &Change,
+    ) -> Result<Vec<u8>, AllocError>
+        ensures line { IfOk result (λ v. v.items
+            ≡ next_line self.old.digests.items (record_of moment.now change.now)) }
+        ensures digests { OnOk result (self.new.digests.items
+            ≡ self.old.digests.items
+            ++ next_digest self.old.digests.items (record_of moment.now change.now) ∷ []) }
+    {
+        let number = format!(in alloc; "{}", self.digests.len() + 1)?;
+        let mut text = front(alloc, number.as_str(), moment, change)?;
+        let digest = digest_of(self.last_digest(), text.as_slice());
+        text.extend_from_slice(&digest)?;
+        text.push(b'\n')?;
+        self.digests.push(digest)?;
+        Ok(text)
+    }
+
+    /// The bytes of the records by which these changes are published at a moment. Only want of memory is
+    /// an error.
+    pub fn lines(
+        mut self,
+        alloc: Global,
+        moment: &Field,
+        changes: &[Change],
+    ) -> Result<Vec<u8>, AllocError>
+        ensures { IfOk result (λ v. (c : Chained) → self.digests.items ≡ c.digests
+            → (chain_from c (at moment.now changes.now)).text ≡ c.text ++ v.items) }
+    {
+        let mut lines = Vec::new(alloc);
+        for change in changes {
+            let line = self.add(alloc, moment, change)?;
+            lines.extend_from_slice(line.as_slice())?;
+        }
+        Ok(lines)
+    }
+
+    // The digits of the last digest; none where there is no record.
+    fn last_digest(&self) -> &[u8]
+        ensures { result.now ≡ last_digest self.now.digests.items }
+    {
+        match self.digests.last() {
+            Some(digest) => digest.as_slice(),
+            None => &[],
+        }
+    }
+}
+
+// The digest of a record, by that of the record before and by its own bytes up to the comma.
+fn digest_of(before: &[u8], front: &[u8]) -> [u8; DIGITS]
+    ensures { result ≡ encode_lower (sha256 (before.now ++ front.now)) }
+{
+    let mut hasher = Sha256::new();
+    hasher.update(before);
+    hasher.update(front);
+    let hash: [u8; 32] = hasher.finalize();
+    let mut digits = [0; DIGITS];
+    hex::encode_to_slice(hash.as_slice(), &mut digits).unwrap();
+    digits
+}
+
+// The bytes of a record up to and including the comma before its digest.
+fn front(
+    alloc: Global,
+    number: &str,
+    moment: &Field,
+    change: &Change,
+) -> Result<Vec<u8>, AllocError>
+    ensures { IfOk result (λ v. v.items
+        ≡ row_body default_writer (record_fields number.now (record_of moment.now change.now)) ++ codes ",") }
+{
+    let moment = moment.as_str();
+    match change {
+        Change::Made(fact) => made_front(alloc, number, moment, fact),
+        Change::Term(registry, value, standing) => {
+            term_front(alloc, number, moment, registry.as_str(), value.as_str(), standing)
+        }
+    }
+}
+
+fn made_front<'a>(
+    alloc: Global,
+    number: &'a str,
+    moment: &'a str,
+    fact: &'a Fact,
+) -> Result<Vec<u8>, AllocError>
+    ensures { IfOk result (λ v. v.items
+        ≡ row_body default_writer (number.now ∷ moment.now ∷ change_fields (Made fact.now))
+        ++ codes ",") }
+{
+    let Fact { subject, details } = fact;
+    front_of(
+        alloc,
+        &[
+            number.as_bytes(),
+            moment.as_bytes(),
+            subject.registry.as_str().as_bytes(),
+            subject.class.word().as_bytes(),
+            subject.value.as_str().as_bytes(),
+            details.description.as_str().as_bytes(),
+            details.policy.as_str().as_bytes(),
+            details.first.as_str().as_bytes(),
+            details.standing.expires.as_str().as_bytes(),
+            details.standing.held.as_str().as_bytes(),
+            details.assignee.as_str().as_bytes(),
+        ],
+    )
+}
+
+fn term_front<'a>(
+    alloc: Global,
+    number: &'a str,
+    moment: &'a str,
+    registry: &'a str,
+    value: &'a str,
+    standing: &'a Standing,
+) -> Result<Vec<u8>, AllocError>
+    ensures { IfOk result (λ v. v.items
+        ≡ row_body default_writer
+        (number.now ∷ moment.now ∷ change_fields (Term registry.now value.now standing.now))
+        ++ codes ",") }
+{
+    front_of(
+        alloc,
+        &[
+            number.as_bytes(),
+            moment.as_bytes(),
+            registry.as_bytes(),
+            b"term".as_slice(),
+            value.as_bytes(),
+            b"".as_slice(),
+            b"".as_slice(),
+            b"".as_slice(),
+            standing.expires.as_str().as_bytes(),
+            standing.held.as_str().as_bytes(),
+            b"".as_slice(),
+        ],
+    )
+}
+
+// These fields as CSV, and a comma.
+fn front_of(alloc: Global, fields: &[&[u8]]) -> Result<Vec<u8>, AllocError>
+    requires { 1 < length fields.now }
+    ensures { IfOk result (λ v. v.items
+        ≡ row_body default_writer (map (λ f. f.now) fields.now) ++ codes ",") }
+{
+    let mut writer = empty(alloc);
+    write_record(&mut writer, fields)?;
+    let mut text = text_of(writer)?;
+    text.pop();
+    text.push(b',')?;
+    Ok(text)
+}
