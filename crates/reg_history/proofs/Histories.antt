@@ -1,9 +1,9 @@
 -- How histories grow, record by record.
-use Rattle.std.proofs.Common.{◌≡◌, ℕ, ◌+◌, ◌<◌, List, [], ◌∷◌, ◌++◌, length, map, take, get_or, Bool, true, ◌&&◌, refl, sym, ap, ◌∙◌, subst, append_assoc, inl, inr}
+use Rattle.std.proofs.Common.{◌≡◌, ℕ, ◌+◌, ◌<◌, List, [], ◌∷◌, ◌++◌, length, map, take, get_or, Bool, true, ◌&&◌, refl, sym, ap, ◌∙◌, subst, append_assoc, append-nil, inl, inr, ◌==◌, arith}
 use Rattle.std.specs.Cmp.{tied_itself}
 use Rattle.std.specs.Cmp.Lexicographic.{nat_list_cmp_total}
 use Rattle.std.specs.Ordering.{is_le}
-use Rattle.std.proofs.lemmas.Bool.{and_from, cases_Bool}
+use Rattle.std.proofs.lemmas.Bool.{and_from, cases_Bool, eqb-true}
 use Rattle.reg_maps.specs.Maps.{text_cmp}
 use Rattle.reg_print.proofs.PrintedTokens.{one_more}
 use Rattle.reg_history.specs.Chain.{Chained, Record, at, begun, chain_from, chained, next_digest, next_line, record_of, says, with_record}
@@ -47,8 +47,8 @@ at-more c moment changes i change h is =
 -- the lines of the first changes stand in a text, and the digests are theirs
 pub record Lines (c : Chained) (moment : List ℕ) (changes : List Change) (digests : List (List ℕ))
     (text : List ℕ) : Type 0 where
-  pub digests : digests ≡ (chain_from c (at moment changes)).digests
-  pub text : (chain_from c (at moment changes)).text ≡ c.text ++ text
+  pub tied : digests ≡ (chain_from c (at moment changes)).digests
+  pub stands : (chain_from c (at moment changes)).text ≡ c.text ++ text
 
 pub lines-more : (c : Chained) (moment : List ℕ) (changes : List Change) (i : ℕ) (change : Change)
     (digests digests' : List (List ℕ)) (text text' bytes : List ℕ)
@@ -62,14 +62,14 @@ lines-more c moment changes i change digests digests' text text' bytes h is l li
     let r : Record = record_of moment change in
     let grown = at-more c moment changes i change h is in
     record {
-      digests =
-          digest ∙ ap (λ ds. ds ++ next_digest ds r ∷ []) l.digests
+      tied =
+          digest ∙ ap (λ ds. ds ++ next_digest ds r ∷ []) l.tied
           ∙ ap (λ (k : Chained). k.digests) (sym grown);
-      text =
+      stands =
           ap (λ (k : Chained). k.text) grown
-          ∙ ap (λ ds. Here.text ++ next_line ds r) (sym l.digests)
+          ∙ ap (λ ds. Here.text ++ next_line ds r) (sym l.tied)
           ∙ ap (λ b. Here.text ++ b) (sym line)
-          ∙ ap (λ t. t ++ bytes) l.text
+          ∙ ap (λ t. t ++ bytes) l.stands
           ∙ append_assoc c.text text bytes
           ∙ ap (λ t. c.text ++ t) (sym e);
     }
@@ -130,10 +130,26 @@ pub takes_record : (h : History) (records : List Record) (r : Record) (bytes tex
 takes_record h records r bytes text rest adds e = record {
   more = records ++ r ∷ [];
   grown = adds.grown;
-  text =
+  whole =
       ap (λ t. t ++ rest) adds.text ∙ append_assoc (chained records).text bytes rest
       ∙ ap (λ t. (chained records).text ++ t) (sym e);
 }
+
+pub nothing_left : (xs : List ℕ) → (length xs == 0) ≡ true → xs ≡ []
+nothing_left [] e = refl
+nothing_left (x ∷ xs) e = absurd (omega (arith, eqb-true (length (x ∷ xs)) 0 e))
+
+-- where nothing is left of a text, it is all read
+pub takes_all : (h : History) (records : List Record) (text rest : List ℕ)
+    → TakesRecord h records text rest → rest ≡ []
+    → IsHistoryOf h ((chained records).text ++ text)
+takes_all h records text rest t none =
+    (
+      t.more,
+      sym (append-nil (chained t.more).text) ∙ ap (λ x. (chained t.more).text ++ x) (sym none)
+      ∙ t.whole,
+      t.grown,
+    )
 
 -- ---- A history that goes on
 

@@ -67,4 +67,4 @@ pub record AddsRecord (h : History) (records : List Record) (r : Record) (bytes 
 pub record TakesRecord (h : History) (records : List Record) (text rest : List ℕ) : Type 0 where
   pub more : List Record
   pub grown : IsHistory h more
-  pub text : (chained more).text ++ rest ≡ (chained records).text ++ text
+  pub whole : (chained more).text ++ rest ≡ (chained records).text ++ text

@@ -5,4 +5,5 @@ pub mod Published
 pub mod Replay
 pub mod Said
 pub mod Subjects
+pub mod Texts
 pub mod Words

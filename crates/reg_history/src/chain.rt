@@ -3,11 +3,12 @@ ghost use Rattle.std.specs.Prelude.{◌≡◌, ◌<◌, ◌++◌, ◌∷◌, [],
 ghost use Rattle.hex.specs.Hex.{encode_lower};
 ghost use Rattle.sha2.specs.Sha256.{sha256};
 ghost use Rattle.csv.specs.Writing.{default_writer, row_body};
-ghost use Rattle.reg_history.specs.Chain.{Chained, at, chain_from, change_fields, last_digest, next_digest, next_line, record_fields, record_of};
-ghost use Rattle.reg_history.specs.declared.change.Change.TheVariants.{Made, Term};
+ghost use Rattle.reg_history.specs.Chain.{Chained, at, chain_from, last_digest, next_digest, next_line, record_of};
+ghost use Rattle.reg_history.specs.Texts.{texts_of};
 
-use crate::change::{Change, Fact, Standing};
+use crate::change::Change;
 use crate::field::Field;
+use crate::texts::Texts;
 use reg_print::listing::writing::{empty, text_of, write_record};
 use sha2::{Digest, Sha256};
 use std::alloc::{AllocError, Global};
@@ -46,7 +47,8 @@ impl Chain {
             ++ next_digest self.old.digests.items (record_of moment.now change.now) ∷ []) }
     {
         let number = format!(in alloc; "{}", self.digests.len() + 1)?;
-        let mut text = front(alloc, number.as_str(), moment, change)?;
+        let texts = Texts::of(number.as_str(), moment.as_str(), change);
+        let mut text = front(alloc, texts)?;
         let digest = digest_of(self.last_digest(), text.as_slice());
         text.extend_from_slice(&digest)?;
         text.push(b'\n')?;
@@ -98,80 +100,24 @@ fn digest_of(before: &[u8], front: &[u8]) -> [u8; DIGITS]
 }
 
 // The bytes of a record up to and including the comma before its digest.
-fn front(
-    alloc: Global,
-    number: &str,
-    moment: &Field,
-    change: &Change,
-) -> Result<Vec<u8>, AllocError>
+fn front(alloc: Global, texts: Texts<'_>) -> Result<Vec<u8>, AllocError>
     ensures { IfOk result (λ v. v.items
-        ≡ row_body default_writer (record_fields number.now (record_of moment.now change.now)) ++ codes ",") }
-{
-    let moment = moment.as_str();
-    match change {
-        Change::Made(fact) => made_front(alloc, number, moment, fact),
-        Change::Term(registry, value, standing) => {
-            term_front(alloc, number, moment, registry.as_str(), value.as_str(), standing)
-        }
-    }
-}
-
-fn made_front<'a>(
-    alloc: Global,
-    number: &'a str,
-    moment: &'a str,
-    fact: &'a Fact,
-) -> Result<Vec<u8>, AllocError>
-    ensures { IfOk result (λ v. v.items
-        ≡ row_body default_writer (number.now ∷ moment.now ∷ change_fields (Made fact.now))
-        ++ codes ",") }
-{
-    let Fact { subject, details } = fact;
-    front_of(
-        alloc,
-        &[
-            number.as_bytes(),
-            moment.as_bytes(),
-            subject.registry.as_str().as_bytes(),
-            subject.class.word().as_bytes(),
-            subject.value.as_str().as_bytes(),
-            details.description.as_str().as_bytes(),
-            details.policy.as_str().as_bytes(),
-            details.first.as_str().as_bytes(),
-            details.standing.expires.as_str().as_bytes(),
-            details.standing.held.as_str().as_bytes(),
-            details.assignee.as_str().as_bytes(),
-        ],
-    )
-}
-
-fn term_front<'a>(
-    alloc: Global,
-    number: &'a str,
-    moment: &'a str,
-    registry: &'a str,
-    value: &'a str,
-    standing: &'a Standing,
-) -> Result<Vec<u8>, AllocError>
-    ensures { IfOk result (λ v. v.items
-        ≡ row_body default_writer
-        (number.now ∷ moment.now ∷ change_fields (Term registry.now value.now standing.now))
-        ++ codes ",") }
+        ≡ row_body default_writer (texts_of texts.entry) ++ codes ",") }
 {
     front_of(
         alloc,
         &[
-            number.as_bytes(),
-            moment.as_bytes(),
-            registry.as_bytes(),
-            b"term".as_slice(),
-            value.as_bytes(),
-            b"".as_slice(),
-            b"".as_slice(),
-            b"".as_slice(),
-            standing.expires.as_str().as_bytes(),
-            standing.held.as_str().as_bytes(),
-            b"".as_slice(),
+            texts.number.as_bytes(),
+            texts.moment.as_bytes(),
+            texts.registry.as_bytes(),
+            texts.change.as_bytes(),
+            texts.value.as_bytes(),
+            texts.description.as_bytes(),
+            texts.policy.as_bytes(),
+            texts.first.as_bytes(),
+            texts.expires.as_bytes(),
+            texts.held.as_bytes(),
+            texts.assignee.as_bytes(),
         ],
     )
 }

@@ -2,6 +2,7 @@
 ghost use Rattle.std.specs.Prelude.{◌≡◌, ◌++◌, ◌∷◌, [], ℕ, true, List, IfOk, IfErr};
 ghost use Rattle.std.specs.Ordering.{is_le};
 ghost use Rattle.reg_maps.specs.Maps.{text_cmp};
+ghost use Rattle.reg_print.specs.Comparing.{Leaves};
 ghost use Rattle.reg_history.specs.Chain.{Record as Published, chained, next_line, record_of};
 ghost use Rattle.reg_history.specs.History.{AddsRecord, Continues, IsHistory, IsHistoryOf, TakesRecord, later};
 ghost use Rattle.reg_history.specs.declared.history.Unreadable.TheVariants as un;
@@ -52,10 +53,10 @@ pub fn read(alloc: Global, text: &[u8]) -> Result<History, Unreadable>
     ensures { IfOk result (λ history. IsHistoryOf history text.now) }
 {
     let mut history = History::new(alloc)?;
-    match text.strip_prefix(HEADER) {
-        Some(rest) => history.take(alloc, rest)?,
-        None => return Err(Unreadable::Header),
-    }
+    let Some(rest) = behind(HEADER, text) else {
+        return Err(Unreadable::Header);
+    };
+    history.take(alloc, rest)?;
     Ok(history)
 }
 
@@ -78,7 +79,7 @@ impl History {
     {
         let mut records = Records::of(alloc, text)?;
         let mut rest = text;
-        for _index in 0..u64::MAX {
+        for _ in 0..u64::MAX {
             if rest.is_empty() {
                 return Ok(());
             }
@@ -101,11 +102,14 @@ impl History {
         let Some(next) = records.next()? else {
             return Err(wrong);
         };
-        if next.moment < self.moment {
+        if !is_in_order(&self.moment, &next.moment) {
             return Err(wrong);
         }
         let line = self.add(alloc, next.moment, next.change)?;
-        text.strip_prefix(line.as_slice()).ok_or(wrong)
+        match behind(line.as_slice(), text) {
+            Some(rest) => Ok(rest),
+            None => Err(wrong),
+        }
     }
 
     // That the record that comes next is wrong.
@@ -151,6 +155,20 @@ impl History {
         let moment = later(last, Field::new(alloc, now.as_str())?);
         Ok(chain.lines(alloc, &moment, changes.as_slice())?)
     }
+}
+
+// Whether a moment is not earlier than the last.
+fn is_in_order(last: &Field, next: &Field) -> bool
+    ensures { result ≡ is_le (text_cmp last.now next.now) }
+{
+    last <= next
+}
+
+// What is left of a text behind this front, where it begins with it.
+fn behind<'a>(front: &[u8], text: &'a [u8]) -> Option<&'a [u8]>
+    ensures { Leaves front.now text.now result }
+{
+    text.strip_prefix(front)
 }
 
 // The later of two moments.

@@ -10,3 +10,4 @@ pub mod moment;
 pub mod published;
 mod reading;
 pub mod said;
+mod texts;

@@ -1,6 +1,7 @@
 //! Reads the records of a history, as CSV has them.
 use crate::change::{Change, Class, Details, Fact, Standing, Subject};
 use crate::field::Field;
+use crate::texts::Texts;
 use csv::{ByteRecord, ErrorKind, Reader, ReaderBuilder};
 use std::alloc::{AllocError, Global};
 
@@ -112,23 +113,10 @@ impl<'a> Records<'a> {
     }
 }
 
-// The texts of a record between its number and its digest.
-#[derive(Clone, Copy)]
-struct Texts<'a> {
-    moment: &'a str,
-    registry: &'a str,
-    change: &'a str,
-    value: &'a str,
-    description: &'a str,
-    policy: &'a str,
-    first: &'a str,
-    expires: &'a str,
-    held: &'a str,
-    assignee: &'a str,
-}
-
+// The texts of the row; none where it has too few, or what is no text.
 fn texts_of(row: &ByteRecord) -> Option<Texts<'_>> {
     Some(Texts {
+        number: text_at(row, 0)?,
         moment: text_at(row, 1)?,
         registry: text_at(row, 2)?,
         change: text_at(row, 3)?,

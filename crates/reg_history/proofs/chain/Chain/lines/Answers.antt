@@ -7,8 +7,8 @@ use Rattle.reg_history.proofs.chain.Chain.lines.Goals as goal
 
 pub loop-change-init : goal.loop-change-init
 loop-change-init c = λ k e. record {
-  digests = e;
-  text = sym (append-nil k.text) ∙ ap (λ t. k.text ++ t) (sym c.new-lines.ensures.items);
+  tied = e;
+  stands = sym (append-nil k.text) ∙ ap (λ t. k.text ++ t) (sym c.new-lines.ensures.items);
 }
 
 pub loop-change-preserved : goal.loop-change-preserved
@@ -17,7 +17,9 @@ loop-change-preserved c = λ k e.
     c.change-item.result c.loop-change.self.digests.items c.add.new.self.digests.items
     c.loop-change.lines.items c.extend_from_slice.new.self.items c.in_ok-line.line.items
     c.loop-change-test.true c.change-item.is (c.loop-change.invariant k e)
-    c.in_ok-line.ensures.line c.in_ok-line.ensures.digests ?
+    c.in_ok-line.ensures.line c.in_ok-line.ensures.digests
+    (c.in_ok-extend_from_slice.ensures.items
+    ∙ ap (λ b. c.loop-change.lines.items ++ b) c.as_slice.ensures.value)
 
 pub returns : goal.returns
 returns c = λ k e.
@@ -26,4 +28,4 @@ returns c = λ k e.
     let All : List Change → Type 0 = λ cs.
     (chain_from k (at c.args.moment.now cs)).text ≡ k.text ++ c.loop-change.lines.items in
     subst All (take_all c.loop-change.change-index c.args.changes.now long)
-    (c.loop-change.invariant k e).text
+    (c.loop-change.invariant k e).stands
