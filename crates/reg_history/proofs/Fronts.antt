@@ -1,5 +1,5 @@
 -- A record of CSV without its end.
-use Rattle.std.proofs.Common.{◌≡◌, ℕ, zero, suc, ◌<◌, ◌-◌, List, [], ◌∷◌, ◌++◌, length, map, take, refl, sym, ap, ◌∙◌, append-nil, arith}
+use Rattle.std.proofs.Common.{◌≡◌, ℕ, zero, suc, ◌<◌, ◌-◌, List, [], ◌∷◌, ◌++◌, length, map, take, refl, ap, ◌∙◌, append-nil, arith}
 use Rattle.std.proofs.lemmas.Grind.{common_steps}
 use Rattle.csv.specs.Writing.{default_writer, is_blank, row_body, row_text}
 use Rattle.reg_print.specs.Listing.{csv_text}
@@ -18,6 +18,7 @@ pub but_last : (xs : List ℕ) (x : ℕ) → take (length (xs ++ x ∷ []) - 1) 
 but_last xs x = front xs (length (xs ++ x ∷ []) - 1) (counted xs) where
   counted : (ys : List ℕ) → length (ys ++ x ∷ []) - 1 ≡ length ys
   counted ys = grind (arith, common_steps)
+
   front : (ys : List ℕ) (n : ℕ) → n ≡ length ys → take n (ys ++ x ∷ []) ≡ ys
   front [] zero e = refl
   front [] (suc n) e = cc e

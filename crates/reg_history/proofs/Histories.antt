@@ -1,5 +1,5 @@
 -- How histories grow, record by record.
-use Rattle.std.proofs.Common.{◌≡◌, ℕ, ◌+◌, ◌<◌, List, [], ◌∷◌, ◌++◌, length, map, take, get_or, Bool, true, ◌&&◌, refl, sym, ap, ◌∙◌, subst, append_assoc, append-nil, inl, inr, ◌==◌, arith}
+use Rattle.std.proofs.Common.{◌≡◌, ℕ, ◌+◌, ◌<◌, List, [], ◌∷◌, ◌++◌, length, map, take, get_or, true, refl, sym, ap, ◌∙◌, subst, append_assoc, append-nil, inl, inr, ◌==◌, arith}
 use Rattle.std.specs.Cmp.{tied_itself}
 use Rattle.std.specs.Cmp.Lexicographic.{nat_list_cmp_total}
 use Rattle.std.specs.Ordering.{is_le}
@@ -7,13 +7,12 @@ use Rattle.std.proofs.lemmas.Bool.{and_from, cases_Bool, eqb-true}
 use Rattle.reg_maps.specs.Maps.{text_cmp}
 use Rattle.reg_print.proofs.PrintedTokens.{one_more}
 use Rattle.reg_history.specs.Chain.{Chained, Record, at, begun, chain_from, chained, next_digest, next_line, record_of, says, with_record}
-use Rattle.reg_history.specs.History.{AddsRecord, Continues, IsHistory, IsHistoryOf, TakesRecord, later, news}
+use Rattle.reg_history.specs.History.{AddsRecord, Continues, IsHistory, IsHistoryOf, TakesRecord, later}
 use Rattle.reg_history.specs.Moment.{moment_text}
-use Rattle.reg_history.specs.Replay.{NothingIsLost, Said, SaysAfter, after, changes_to, facts_say, nothing, replay}
+use Rattle.reg_history.specs.Replay.{NothingIsLost, Said, SaysAfter, after, changes_to, nothing, replay}
 use Rattle.reg_history.specs.Said.{Says, said_by}
 use Rattle.reg_history.specs.declared.change.Change.{Change}
 use Rattle.reg_history.specs.declared.change.Fact.{Fact}
-use Rattle.reg_history.specs.declared.change.Subject.{Subject}
 use Rattle.reg_history.specs.declared.history.History.{History}
 use Rattle.reg_history.proofs.Replayed.{replay-append}
 
@@ -143,13 +142,12 @@ nothing_left (x ∷ xs) e = absurd (omega (arith, eqb-true (length (x ∷ xs)) 0
 pub takes_all : (h : History) (records : List Record) (text rest : List ℕ)
     → TakesRecord h records text rest → rest ≡ []
     → IsHistoryOf h ((chained records).text ++ text)
-takes_all h records text rest t none =
-    (
-      t.more,
-      sym (append-nil (chained t.more).text) ∙ ap (λ x. (chained t.more).text ++ x) (sym none)
+takes_all h records text rest t none = (
+  t.more,
+  sym (append-nil (chained t.more).text) ∙ ap (λ x. (chained t.more).text ++ x) (sym none)
       ∙ t.whole,
-      t.grown,
-    )
+  t.grown,
+)
 
 -- ---- A history that goes on
 

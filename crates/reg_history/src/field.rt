@@ -48,7 +48,6 @@ impl Field {
     {
         self.clone()
     }
-
 }
 
 impl Clone for Field {

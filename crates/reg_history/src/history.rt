@@ -118,12 +118,7 @@ impl History {
     }
 
     // Adds a record, and gives its bytes.
-    fn add(
-        &mut self,
-        alloc: Global,
-        moment: Field,
-        change: Change,
-    ) -> Result<Vec<u8>, AllocError>
+    fn add(&mut self, alloc: Global, moment: Field, change: Change) -> Result<Vec<u8>, AllocError>
         ensures { IfOk result (λ v. (records : List Published) → IsHistory self.old records
             → is_le (text_cmp self.old.moment moment) ≡ true
             → AddsRecord self.new records (record_of moment change) v.items) }
@@ -136,12 +131,7 @@ impl History {
 
     /// The bytes that are added to a history at a moment, in seconds since 1970-01-01T00:00:00Z, so that
     /// it says these facts; or what was lost.
-    pub fn go_on(
-        self,
-        alloc: Global,
-        moment: u64,
-        facts: &[Fact],
-    ) -> Result<Vec<u8>, Unrecorded>
+    pub fn go_on(self, alloc: Global, moment: u64, facts: &[Fact]) -> Result<Vec<u8>, Unrecorded>
         ensures continues { IfOk result (λ more. (records : List Published)
             → IsHistory self records → Continues records moment facts.now more.items) }
     {

@@ -41,11 +41,7 @@ impl<T: Drop> From<AllocFailed<T>> for Unrecorded {
 
 /// What has to be recorded of these facts, where this was said; or what was lost. Each fact is compared
 /// with what was said of its subject, and at the end nothing that was said may be left.
-pub fn changes_to(
-    alloc: Global,
-    mut said: Said,
-    facts: &[Fact],
-) -> Result<Vec<Change>, Unrecorded>
+pub fn changes_to(alloc: Global, mut said: Said, facts: &[Fact]) -> Result<Vec<Change>, Unrecorded>
     ensures changes { IfOk result (λ v. v.items ≡ changes_to (said_by said) facts.now) }
     ensures kept { OnOk result (NothingIsLost (said_by said) facts.now) }
     ensures replayed { IfOk result (λ v. SaysAfter (said_by said) facts.now v.items) }
@@ -63,11 +59,7 @@ pub fn changes_to(
 }
 
 // Adds what is recorded of a fact, by what was said of its subject.
-fn record(
-    changes: &mut Vec<Change>,
-    before: Option<Details>,
-    fact: &Fact,
-) -> Result<(), Unrecorded>
+fn record(changes: &mut Vec<Change>, before: Option<Details>, fact: &Fact) -> Result<(), Unrecorded>
     ensures changes { OnOk result
         (changes.new.items ≡ changes.old.items ++ recorded before fact.now) }
     ensures stands { OnOk result (StandsIf before fact.now) }

@@ -1,4 +1,4 @@
-use Rattle.std.proofs.Common.{◌≡◌, ◌<◌, ℕ, List, [], ◌∷◌, ◌++◌, length, map, sym, ap, ◌∙◌, arith}
+use Rattle.std.proofs.Common.{◌≡◌, [], ◌∷◌, ◌++◌, length, map, ap, ◌∙◌, arith}
 use Rattle.csv.specs.Writing.{default_writer, row_body}
 use Rattle.reg_history.proofs.Fronts.{one_record, popped}
 use Rattle.reg_history.proofs.chain.front_of.Goals as goal

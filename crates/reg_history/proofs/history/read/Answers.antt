@@ -1,4 +1,4 @@
-use Rattle.std.proofs.Common.{◌≡◌, ℕ, List, [], sym, subst}
+use Rattle.std.proofs.Common.{ℕ, List, [], sym, subst}
 use Rattle.reg_history.specs.History.{IsHistoryOf}
 use Rattle.reg_history.proofs.history.read.Goals as goal
 

@@ -1,10 +1,10 @@
-use Rattle.std.proofs.Common.{◌≡◌, ◌<◌, ◌≤◌, ℕ, ◌+◌, List, [], ◌∷◌, ◌++◌, length, drop, refl, sym, ap, subst, ◌∙◌, arith}
-use Rattle.std.specs.Prelude.{Option, false, true}
+use Rattle.std.proofs.Common.{◌<◌, ◌≤◌, ◌+◌, List, ◌++◌, length, drop, ap, subst, ◌∙◌, arith}
+use Rattle.std.specs.Prelude.{Option}
 use Rattle.reg_history.specs.Replay.{StandsIf, recorded}
 use Rattle.reg_history.specs.Said.{TellsLoss, said_by}
 use Rattle.reg_history.specs.declared.change.Details.{Details}
 use Rattle.reg_history.specs.declared.change.Fact.{Fact}
-use Rattle.reg_history.proofs.Replayed.{KeepsUp, drop-end, drop-item, handed_on, keeps_up-kept, keeps_up-left, keeps_up-next, keeps_up-says, keeps_up-start, says_nothing, tells_loss}
+use Rattle.reg_history.proofs.Replayed.{KeepsUp, drop-end, drop-item, handed_on, keeps_up-kept, keeps_up-left, keeps_up-next, keeps_up-says, says_nothing, tells_loss}
 use Rattle.reg_history.proofs.said.changes_to.Goals as goal
 
 pub loop-fact-preserved : goal.loop-fact-preserved

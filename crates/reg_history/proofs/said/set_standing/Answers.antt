@@ -1,4 +1,3 @@
-use Rattle.std.proofs.Common.{◌≡◌, Some, None, refl, sym, ◌∙◌}
 use Rattle.reg_history.specs.Said.{said_by}
 use Rattle.reg_history.proofs.Replayed.{standing_set}
 use Rattle.reg_history.proofs.said.set_standing.Goals as goal

@@ -1,8 +1,8 @@
-use Rattle.std.proofs.Common.{◌≡◌, ◌≤◌, List, [], ◌++◌, length, take, sym, ap, ◌∙◌, append-nil, subst, arith}
+use Rattle.std.proofs.Common.{◌≡◌, ◌≤◌, List, ◌++◌, length, sym, ap, ◌∙◌, append-nil, subst, arith}
 use Rattle.std.proofs.lemmas.List.{take_all}
-use Rattle.reg_history.specs.Chain.{Chained, at, chain_from}
+use Rattle.reg_history.specs.Chain.{at, chain_from}
 use Rattle.reg_history.specs.declared.change.Change.{Change}
-use Rattle.reg_history.proofs.Histories.{Lines, lines-more}
+use Rattle.reg_history.proofs.Histories.{lines-more}
 use Rattle.reg_history.proofs.chain.Chain.lines.Goals as goal
 
 pub loop-change-init : goal.loop-change-init

@@ -1,7 +1,6 @@
-use Rattle.std.proofs.Common.{◌≡◌, List, refl, sym, ap, ◌∙◌}
+use Rattle.std.proofs.Common.{sym, ap, ◌∙◌}
 use Rattle.reg_history.specs.Chain.{at, chain_from, chained}
 use Rattle.reg_history.specs.History.{later}
-use Rattle.reg_history.specs.Moment.{moment_text}
 use Rattle.reg_history.proofs.Histories.{continues}
 use Rattle.reg_history.proofs.history.History.go_on.Goals as goal
 
