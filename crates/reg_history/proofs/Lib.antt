@@ -3,3 +3,4 @@ mod Histories
 mod Mapped
 mod Replayed
 mod SameSubjects
+mod Unique

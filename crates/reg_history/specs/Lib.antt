@@ -1,5 +1,6 @@
 pub mod Chain
 pub mod History
+pub mod Laws
 pub mod Moment
 pub mod Published
 pub mod Replay

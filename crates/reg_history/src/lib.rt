@@ -6,6 +6,7 @@ pub mod chain;
 pub mod change;
 pub mod field;
 pub mod history;
+pub mod laws;
 pub mod moment;
 pub mod published;
 mod reading;
