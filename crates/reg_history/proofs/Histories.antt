@@ -1,19 +1,21 @@
 -- How histories grow, record by record.
-use Rattle.std.proofs.Common.{◌≡◌, ℕ, ◌+◌, ◌<◌, List, [], ◌∷◌, ◌++◌, length, map, take, get_or, true, refl, sym, ap, ◌∙◌, subst, append_assoc, append-nil, inl, inr, ◌==◌, arith}
+use Rattle.std.proofs.Common.{◌≡◌, ℕ, ◌+◌, ◌<◌, List, [], ◌∷◌, ◌++◌, length, map, take, get_or, true, refl, sym, ap, ◌∙◌, subst, append_assoc, append-nil, inl, inr, ◌==◌, arith, zero, suc}
+use Rattle.std.specs.Prelude.{Some, None, slice_get}
 use Rattle.std.specs.Cmp.{tied_itself}
 use Rattle.std.specs.Cmp.Lexicographic.{nat_list_cmp_total}
 use Rattle.std.specs.Ordering.{is_le}
 use Rattle.std.proofs.lemmas.Bool.{and_from, cases_Bool, eqb-true}
 use Rattle.reg_maps.specs.Maps.{text_cmp}
 use Rattle.reg_print.proofs.PrintedTokens.{one_more}
-use Rattle.reg_history.specs.Chain.{Chained, Record, at, begun, chain_from, chained, next_digest, next_line, record_of, says, with_record}
-use Rattle.reg_history.specs.History.{AddsRecord, Continues, IsHistory, IsHistoryOf, TakesRecord, later}
+use Rattle.reg_history.specs.Chain.{AddsLines, Chained, Record, at, begun, chain_from, chained, next_digest, next_line, record_of, says, with_record}
+use Rattle.reg_history.specs.History.{AddsRecord, Continues, IsHistory, IsHistoryOf, SaysJust, TakesRecord, later}
 use Rattle.reg_history.specs.Moment.{moment_text}
 use Rattle.reg_history.specs.Replay.{NothingIsLost, Said, SaysAfter, after, changes_to, nothing, replay}
-use Rattle.reg_history.specs.Said.{Says, said_by}
+use Rattle.reg_history.specs.Said.{Says, TellsLoss, said_by}
 use Rattle.reg_history.specs.declared.change.Change.{Change}
 use Rattle.reg_history.specs.declared.change.Fact.{Fact}
 use Rattle.reg_history.specs.declared.history.History.{History}
+use Rattle.reg_history.specs.declared.said.Unrecorded.{Unrecorded}
 use Rattle.reg_history.proofs.Replayed.{replay-append}
 
 -- ---- Chains
@@ -43,19 +45,13 @@ at-more c moment changes i change h is =
     ∙ ap (chain_from c) (sym (map-more (record_of moment) (take i changes) change))
     ∙ chain_from-append c (at moment (take i changes)) (record_of moment change ∷ [])
 
--- the lines of the first changes stand in a text, and the digests are theirs
-pub record Lines (c : Chained) (moment : List ℕ) (changes : List Change) (digests : List (List ℕ))
-    (text : List ℕ) : Type 0 where
-  pub tied : digests ≡ (chain_from c (at moment changes)).digests
-  pub stands : (chain_from c (at moment changes)).text ≡ c.text ++ text
-
 pub lines-more : (c : Chained) (moment : List ℕ) (changes : List Change) (i : ℕ) (change : Change)
     (digests digests' : List (List ℕ)) (text text' bytes : List ℕ)
     → i < length changes → change ≡ get_or changes i change
-    → Lines c moment (take i changes) digests text
+    → AddsLines c moment (take i changes) digests text
     → bytes ≡ next_line digests (record_of moment change)
     → digests' ≡ digests ++ next_digest digests (record_of moment change) ∷ []
-    → text' ≡ text ++ bytes → Lines c moment (take (i + 1) changes) digests' text'
+    → text' ≡ text ++ bytes → AddsLines c moment (take (i + 1) changes) digests' text'
 lines-more c moment changes i change digests digests' text text' bytes h is l line digest e =
     let Here : Chained = chain_from c (at moment (take i changes)) in
     let r : Record = record_of moment change in
@@ -176,13 +172,12 @@ changes-at moment [] = refl
 changes-at moment (x ∷ xs) = ap (λ t. x ∷ t) (changes-at moment xs)
 
 pub continues : (h : History) (records : List Record) (moment : ℕ) (facts : List Fact)
-    (changes : List Change) (more : List ℕ) → IsHistory h records
+    (changes : List Change) (more : List ℕ) (digests : List (List ℕ)) → IsHistory h records
     → changes ≡ changes_to (said_by h.said) facts → NothingIsLost (said_by h.said) facts
     → SaysAfter (said_by h.said) facts changes
-    → (chain_from (chained records)
-    (at (later h.moment (moment_text moment)) changes)).text ≡ (chained records).text ++ more
-    → Continues records moment facts more
-continues h records moment facts changes more is made kept says_after lines =
+    → AddsLines (chained records) (later h.moment (moment_text moment)) changes digests more
+    → Continues records moment facts more digests
+continues h records moment facts changes more digests is made kept says_after lines =
     let was : said_by h.said ≡ says records = λ i s. is.said s i in
     let now = later (chained records).moment (moment_text moment) in
     let new = changes_to (says records) facts in
@@ -198,7 +193,13 @@ continues h records moment facts changes more is made kept says_after lines =
           ∙ ap (λ cs. (chain_from (chained records) (at now cs)).text) (sym are)
           ∙ ap (λ m. (chain_from (chained records) (at (later m (moment_text moment)) changes)).text)
           (sym is.moment)
-          ∙ lines;
+          ∙ lines.stands;
+      tied =
+          lines.tied
+          ∙ ap (λ m. (chain_from (chained records) (at (later m (moment_text moment)) changes)).digests)
+          is.moment
+          ∙ ap (λ cs. (chain_from (chained records) (at now cs)).digests) are
+          ∙ ap (λ (k : Chained). k.digests) (sym grown);
       in_order =
           ap (λ (k : Chained). k.in_order) grown
           ∙ in_order-at (chained records) now new is.in_order
@@ -207,3 +208,31 @@ continues h records moment facts changes more is made kept says_after lines =
       replayed = λ s. ap (λ cs. replay nothing cs s) changed
           ∙ says_after (map (λ (x : Record). x.change) records) is.said s;
     }
+
+-- where nothing would be recorded, and nothing is lost, the records say just what the facts say
+pub says_just : (h : History) (records : List Record) (facts : List Fact) (changes : List Change)
+    → IsHistory h records → SaysAfter (said_by h.said) facts changes → changes ≡ []
+    → SaysJust records facts
+says_just h records facts changes is says_after none s =
+    let old = map (λ (x : Record). x.change) records in
+    ap (λ cs. replay nothing cs s) (sym (append-nil old) ∙ ap (λ cs. old ++ cs) (sym none))
+    ∙ says_after old is.said s
+
+-- what tells a loss tells it of what the records say
+pub tells_of_records : (h : History) (records : List Record) (facts : List Fact) (why : Unrecorded)
+    → IsHistory h records → TellsLoss (said_by h.said) facts why → TellsLoss (says records) facts why
+tells_of_records h records facts why is told =
+    let was : said_by h.said ≡ says records = λ i s. is.said s i in
+    subst (λ (f : Said). TellsLoss f facts why) was told
+
+-- ---- Places
+
+pub digest-at : (ds : List (List ℕ)) (k : ℕ) (x : List ℕ) → k < length ds → x ≡ get_or ds k x
+    → slice_get ds k ≡ Some x
+digest-at [] k x h is = absurd (omega (arith, h))
+digest-at (d ∷ ds) zero x h is = ap Some (sym is)
+digest-at (d ∷ ds) (suc k) x h is = digest-at ds k x (omega (arith, h)) is
+
+pub first-none : {X : Type 0} (xs : List X) → None ≡ slice_get xs 0 → xs ≡ []
+first-none [] e = refl
+first-none (x ∷ xs) e = cc e

@@ -1,5 +1,5 @@
 -- The bytes of a history tell its records.
-use Rattle.std.proofs.Common.{◌≡◌, ℕ, zero, suc, ◌+◌, ◌/◌, ◌%◌, Bool, true, false, ◌||◌, List, [], ◌∷◌, ◌++◌, length, slice_index, refl, sym, ap, ◌∙◌, subst, append_assoc, append-nil, arith}
+use Rattle.std.proofs.Common.{◌≡◌, ℕ, zero, suc, ◌+◌, ◌/◌, ◌%◌, Bool, true, false, ◌||◌, List, [], ◌∷◌, ◌++◌, length, slice_index, refl, sym, ap, ◌∙◌, append_assoc, append-nil, arith}
 use Rattle.std.specs.Prelude.{Option, Some, None, not, slice_get, unwrap_or, ◌-◌}
 use Rattle.std.specs.Cmp.{first_so, second_so}
 use Rattle.std.specs.Fmt.{decimal}
@@ -12,16 +12,13 @@ use Rattle.csv.proofs.RoundTrip.{read-write-many}
 use Rattle.hex.specs.Hex.{encode_lower, encode_with, lower_digits}
 use Rattle.sha2.specs.Sha256.{sha256}
 use Rattle.reg_history.specs.Chain.{Chained, Record, begun, chain_from, chained, change_fields, digest, front, header_line, line, next_digest, next_line, record_fields, with_record}
-use Rattle.reg_history.specs.History.{Continues, news}
+use Rattle.reg_history.specs.History.{news}
 use Rattle.reg_history.specs.Laws.{BytesTellRecords, SameFolderSameBytes}
 use Rattle.reg_history.specs.Words.{class_word}
 use Rattle.reg_history.specs.declared.change.Change.{Change}
 use Rattle.reg_history.specs.declared.change.Change.TheVariants.{Made, Term}
 use Rattle.reg_history.specs.declared.change.Class.{Class}
 use Rattle.reg_history.specs.declared.change.Class.TheVariants as class
-use Rattle.reg_history.specs.declared.change.Details.{Details}
-use Rattle.reg_history.specs.declared.change.Fact.{Fact}
-use Rattle.reg_history.specs.declared.change.Subject.{Subject}
 
 -- ---- A digest needs no quotes
 
@@ -200,11 +197,13 @@ lines-tell : (ds : List (List ℕ)) (xs ys : List Record) → lines_of ds xs ≡
 unfolding lines_of fields-in rest-in
 lines-tell ds [] [] e = refl
 lines-tell ds [] (y ∷ ys) e =
-    let read = read_line _ _ y (lines_of (ds ++ next_digest ds y ∷ []) ys) in
+    let read = read_line (unwrap_or (slice_get ds (length ds - 1)) []) (length ds + 1) y
+    (lines_of (ds ++ next_digest ds y ∷ []) ys) in
     let none = ap (λ (t : List ℕ). next_record default_config st.StartRecord [] [] t) e in
     cc (sym no-read ∙ none ∙ read)
 lines-tell ds (x ∷ xs) [] e =
-    let read = read_line _ _ x (lines_of (ds ++ next_digest ds x ∷ []) xs) in
+    let read = read_line (unwrap_or (slice_get ds (length ds - 1)) []) (length ds + 1) x
+    (lines_of (ds ++ next_digest ds x ∷ []) xs) in
     let none = ap (λ (t : List ℕ). next_record default_config st.StartRecord [] [] t) e in
     cc (sym no-read ∙ sym none ∙ read)
 lines-tell ds (x ∷ xs) (y ∷ ys) e =
@@ -233,7 +232,7 @@ unique xs ys e =
     (sym (chain-lines begun xs) ∙ e ∙ chain-lines begun ys))
 
 pub same_bytes : SameFolderSameBytes
-same_bytes xs ys moment facts more more' e left right =
+same_bytes xs ys moment facts more more' digests digests' e left right =
     let same = unique xs ys e in
     cancel (chained ys).text more more'
     (ap (λ (t : List ℕ). t ++ more) (sym e) ∙ sym left.text

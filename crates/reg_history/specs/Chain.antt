@@ -1,5 +1,5 @@
 -- The records of a history as a text, each of which is tied to all before it.
-use Rattle.std.specs.Prelude.{ℕ, ◌+◌, ◌-◌, Bool, true, ◌&&◌, List, [], ◌∷◌, ◌++◌, length, map, codes, slice_get, unwrap_or}
+use Rattle.std.specs.Prelude.{◌≡◌, ◌≤◌, Some, ℕ, ◌+◌, ◌-◌, Bool, true, ◌&&◌, List, [], ◌∷◌, ◌++◌, length, map, codes, slice_get, unwrap_or}
 use Rattle.std.specs.Fmt.{decimal}
 use Rattle.std.specs.Ordering.{is_le}
 use Rattle.csv.specs.Writing.{default_writer, row_body}
@@ -107,3 +107,14 @@ chained records = chain_from begun records
 -- what its records say
 abbrev pub says : List Record → Said
 says records = replay nothing (map (λ r. r.change) records)
+
+-- After the lines of these changes were added, these are the digests, and these bytes came to the text.
+pub record AddsLines (c : Chained) (moment : List ℕ) (changes : List Change)
+    (digests : List (List ℕ)) (bytes : List ℕ) : Type 0 where
+  pub tied : digests ≡ (chain_from c (at moment changes)).digests
+  pub stands : (chain_from c (at moment changes)).text ≡ c.text ++ bytes
+
+-- the record of this number has this digest
+abbrev pub HasDigest : List (List ℕ) → ℕ → List ℕ → Type 0
+HasDigest digests number digest =
+    (1 ≤ number) × (number ≤ length digests) × (slice_get digests (number - 1) ≡ Some digest)

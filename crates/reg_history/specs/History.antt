@@ -33,12 +33,13 @@ abbrev pub news : List Record → ℕ → List Fact → List Record
 news records moment facts =
     at (later (chained records).moment (moment_text moment)) (changes_to (says records) facts)
 
--- These bytes are added to the text of the records. Nothing is lost, and then it is a history that says
--- just what the facts say.
+-- These bytes are added to the text of the records, whose digests are then these. Nothing is lost, and
+-- then it is a history that says just what the facts say.
 pub record Continues (records : List Record) (moment : ℕ) (facts : List Fact) (more : List ℕ)
-    : Type 0 where
+    (digests : List (List ℕ)) : Type 0 where
   pub text : (chained (records ++ news records moment facts)).text
       ≡ (chained records).text ++ more
+  pub tied : digests ≡ (chained (records ++ news records moment facts)).digests
   pub in_order : (chained (records ++ news records moment facts)).in_order ≡ true
   pub kept : NothingIsLost (says records) facts
   pub replayed : (subject : Subject)
@@ -68,3 +69,8 @@ pub record TakesRecord (h : History) (records : List Record) (text rest : List �
   pub more : List Record
   pub grown : IsHistory h more
   pub whole : (chained more).text ++ rest ≡ (chained records).text ++ text
+
+-- the records say of each subject just what the facts say of it
+abbrev pub SaysJust : List Record → List Fact → Type 0
+SaysJust records facts =
+    (subject : Subject) → says records subject ≡ facts_say nothing facts subject

@@ -13,5 +13,6 @@ BytesTellRecords = (xs ys : List Record) → (chained xs).text ≡ (chained ys).
 abbrev pub SameFolderSameBytes : Type 0
 SameFolderSameBytes =
     (xs ys : List Record) (moment : ℕ) (facts : List Fact) (more more' : List ℕ)
-    → (chained xs).text ≡ (chained ys).text → Continues xs moment facts more
-    → Continues ys moment facts more' → more ≡ more'
+    (digests digests' : List (List ℕ))
+    → (chained xs).text ≡ (chained ys).text → Continues xs moment facts more digests
+    → Continues ys moment facts more' digests' → more ≡ more'

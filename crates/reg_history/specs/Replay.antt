@@ -10,6 +10,11 @@ use Rattle.reg_history.specs.declared.change.Fact.{Fact}
 use Rattle.reg_history.specs.declared.change.Standing.{Standing}
 use Rattle.reg_history.specs.declared.change.Subject.{Subject}
 
+-- what a change is about
+abbrev pub subject_of : Change → Subject
+subject_of (Made fact) = fact.subject
+subject_of (Term registry value standing) = entry_at registry value
+
 -- ---- Replaying
 
 -- what is said of each subject, if anything is

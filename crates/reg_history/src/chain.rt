@@ -1,9 +1,9 @@
 //! Records, each of which is tied to all before it by a digest.
-ghost use Rattle.std.specs.Prelude.{◌≡◌, ◌<◌, ◌++◌, ◌∷◌, [], map, length, codes, IfOk, OnOk};
+ghost use Rattle.std.specs.Prelude.{◌≡◌, ◌<◌, ◌++◌, ◌∷◌, [], map, length, codes, IfOk, IsTrue, OnOk};
 ghost use Rattle.hex.specs.Hex.{encode_lower};
 ghost use Rattle.sha2.specs.Sha256.{sha256};
 ghost use Rattle.csv.specs.Writing.{default_writer, row_body};
-ghost use Rattle.reg_history.specs.Chain.{Chained, at, chain_from, last_digest, next_digest, next_line, record_of};
+ghost use Rattle.reg_history.specs.Chain.{AddsLines, Chained, HasDigest, last_digest, next_digest, next_line, record_of};
 ghost use Rattle.reg_history.specs.Texts.{texts_of};
 
 use crate::change::Change;
@@ -56,16 +56,16 @@ impl Chain {
         Ok(text)
     }
 
-    /// The bytes of the records by which these changes are published at a moment. Only want of memory is
-    /// an error.
-    pub fn lines(
-        mut self,
+    /// Adds the digests of the records by which these changes are published at a moment, and gives the
+    /// bytes of these records. Only want of memory is an error.
+    pub fn add_all(
+        &mut self,
         alloc: Global,
         moment: &Field,
         changes: &[Change],
     ) -> Result<Vec<u8>, AllocError>
-        ensures { IfOk result (λ v. (c : Chained) → self.digests.items ≡ c.digests
-            → (chain_from c (at moment.now changes.now)).text ≡ c.text ++ v.items) }
+        ensures { IfOk result (λ v. (c : Chained) → self.old.digests.items ≡ c.digests
+            → AddsLines c moment.now changes.now self.new.digests.items v.items) }
     {
         let mut lines = Vec::new(alloc);
         for change in changes {
@@ -75,8 +75,25 @@ impl Chain {
         Ok(lines)
     }
 
-    // The digits of the last digest; none where there is no record.
-    fn last_digest(&self) -> &[u8]
+    /// How many records there are.
+    pub fn count(&self) -> u64
+        ensures { result ≡ length self.now.digests.items }
+    {
+        self.digests.len() as u64
+    }
+
+    /// Whether the record of this number has this digest. There is none of number 0.
+    pub fn has(&self, number: u64, digest: &[u8]) -> bool
+        ensures { IsTrue result → HasDigest self.now.digests.items number digest.now }
+    {
+        if number == 0 || self.count() < number {
+            return false;
+        }
+        is_same(&self.digests[(number - 1) as usize], digest)
+    }
+
+    /// The digits of the last digest; none where there is no record.
+    pub fn last_digest(&self) -> &[u8]
         ensures { result.now ≡ last_digest self.now.digests.items }
     {
         match self.digests.last() {
@@ -84,6 +101,13 @@ impl Chain {
             None => &[],
         }
     }
+}
+
+// Whether these are the digits of a digest.
+fn is_same(digest: &[u8; DIGITS], digits: &[u8]) -> bool
+    ensures { IsTrue result → digest.now ≡ digits.now }
+{
+    digest.as_slice() == digits
 }
 
 // The digest of a record, by that of the record before and by its own bytes up to the comma.

@@ -1,6 +1,7 @@
 //! What a history says: facts, each of which is about a subject, and the changes that make them.
 ghost use Rattle.std.specs.Prelude.{◌≡◌, Some, IfOk};
 ghost use Rattle.std.specs.Ordering.{nat_cmp, eq_by_cmp, as_partial_cmp};
+ghost use Rattle.reg_history.specs.Replay.{subject_of};
 ghost use Rattle.reg_history.specs.Words.{class_place, class_word};
 
 use crate::field::Field;
@@ -164,6 +165,22 @@ impl Fact {
             subject: self.subject.copy()?,
             details: self.details.copy()?,
         })
+    }
+}
+
+impl Change {
+    /// What it is about. Only want of memory is an error.
+    pub fn subject(&self) -> Result<Subject, AllocError>
+        ensures { IfOk result (λ subject. subject ≡ subject_of self.now) }
+    {
+        match self {
+            Change::Made(fact) => fact.subject.copy(),
+            Change::Term(registry, value, _) => Ok(Subject {
+                registry: registry.copy()?,
+                class: Class::Entry,
+                value: value.copy()?,
+            }),
+        }
     }
 }
 

@@ -1,14 +1,15 @@
 //! Histories, as they are read and go on.
-ghost use Rattle.std.specs.Prelude.{◌≡◌, ◌++◌, ◌∷◌, [], ℕ, true, List, IfOk, IfErr};
+ghost use Rattle.std.specs.Prelude.{◌≡◌, ◌++◌, ◌∷◌, [], true, List, IfOk, IfErr, OnOk};
 ghost use Rattle.std.specs.Ordering.{is_le};
 ghost use Rattle.reg_maps.specs.Maps.{text_cmp};
 ghost use Rattle.reg_print.specs.Comparing.{Leaves};
-ghost use Rattle.reg_history.specs.Chain.{Record as Published, chained, next_line, record_of};
-ghost use Rattle.reg_history.specs.History.{AddsRecord, Continues, IsHistory, IsHistoryOf, TakesRecord, later};
+ghost use Rattle.reg_history.specs.Chain.{Record as Published, chained, record_of, says};
+ghost use Rattle.reg_history.specs.History.{AddsRecord, Continues, IsHistory, IsHistoryOf, SaysJust, TakesRecord, later};
+ghost use Rattle.reg_history.specs.Said.{TellsLoss};
 ghost use Rattle.reg_history.specs.declared.history.Unreadable.TheVariants as un;
 
 use crate::chain::Chain;
-use crate::change::{Change, Fact};
+use crate::change::{Change, Fact, Subject};
 use crate::field::Field;
 use crate::moment::moment_text;
 use crate::reading::Records;
@@ -26,6 +27,37 @@ pub struct History {
     pub said: Said,
     pub chain: Chain,
     pub moment: Field,
+}
+
+/// What was added to a history: the bytes of the new records, and the digests of all.
+#[derive(Drop)]
+pub struct Added {
+    pub lines: Vec<u8>,
+    pub chain: Chain,
+}
+
+/// Why a history does not say just what is published.
+#[derive(Debug, Drop)]
+pub enum Unlike {
+    /// There was no memory.
+    Memory,
+    /// This subject is published otherwise, or is in one of the two alone.
+    Subject(Subject),
+}
+
+impl From<AllocError> for Unlike {
+    fn from(_error: AllocError) -> Unlike {
+        Unlike::Memory
+    }
+}
+
+impl From<Unrecorded> for Unlike {
+    fn from(why: Unrecorded) -> Unlike {
+        match why {
+            Unrecorded::Memory => Unlike::Memory,
+            Unrecorded::Lost(subject) => Unlike::Subject(subject),
+        }
+    }
 }
 
 /// Why bytes are no history.
@@ -129,21 +161,43 @@ impl History {
         Ok(line)
     }
 
-    /// The bytes that are added to a history at a moment, in seconds since 1970-01-01T00:00:00Z, so that
-    /// it says these facts; or what was lost.
-    pub fn go_on(self, alloc: Global, moment: u64, facts: &[Fact]) -> Result<Vec<u8>, Unrecorded>
-        ensures continues { IfOk result (λ more. (records : List Published)
-            → IsHistory self records → Continues records moment facts.now more.items) }
+    /// What is added to a history at a moment, in seconds since 1970-01-01T00:00:00Z, so that it says these
+    /// facts; or what was lost.
+    pub fn go_on(self, alloc: Global, moment: u64, facts: &[Fact]) -> Result<Added, Unrecorded>
+        ensures continues { IfOk result (λ added. (records : List Published)
+            → IsHistory self records
+            → Continues records moment facts.now added.lines.items added.chain.digests.items) }
+        ensures lost { IfErr result (λ why. (records : List Published)
+            → IsHistory self records → TellsLoss (says records) facts.now why) }
     {
         let History {
             said,
-            chain,
+            mut chain,
             moment: last,
         } = self;
         let changes = changes_to(alloc, said, facts)?;
         let now = moment_text(alloc, moment)?;
         let moment = later(last, Field::new(alloc, now.as_str())?);
-        Ok(chain.lines(alloc, &moment, changes.as_slice())?)
+        let lines = chain.add_all(alloc, &moment, changes.as_slice())?;
+        Ok(Added { lines, chain })
+    }
+
+    /// That it says just these facts, and no others.
+    pub fn says_just(self, alloc: Global, facts: &[Fact]) -> Result<Chain, Unlike>
+        ensures says { OnOk result ((records : List Published) → IsHistory self records
+            → SaysJust records facts.now) }
+        ensures chain { IfOk result (λ chain. chain ≡ self.chain) }
+    {
+        let History {
+            said,
+            chain,
+            moment: _,
+        } = self;
+        let changes = changes_to(alloc, said, facts)?;
+        match changes.first() {
+            None => Ok(chain),
+            Some(change) => Err(Unlike::Subject(change.subject()?)),
+        }
     }
 }
 

@@ -94,10 +94,15 @@ fn records_are_those_of_python(rt: HostRuntime) -> Result<(), Fail> {
     let alloc = rt.alloc();
     let first = facts(alloc, "2027-11-01", "")?;
     let lines = match History::new(alloc)?.go_on(alloc, MOMENT, first.as_slice()) {
-        Ok(lines) => lines,
+        Ok(added) => added.lines,
         Err(_) => return Err("a history begins".into()),
     };
-    expect_text(&rt, str::from_utf8(&lines).unwrap_or(""), FIRST, "first publication");
+    expect_text(
+        &rt,
+        str::from_utf8(&lines).unwrap_or(""),
+        FIRST,
+        "first publication",
+    );
     Ok(())
 }
 
@@ -109,28 +114,33 @@ fn a_history_goes_on(rt: HostRuntime) -> Result<(), Fail> {
         return Err("a history reads".into());
     };
     let second = facts(alloc, "2028-11-01", "held")?;
-    let Ok(lines) = history.go_on(alloc, MOMENT + 1, second.as_slice()) else {
+    let Ok(added) = history.go_on(alloc, MOMENT + 1, second.as_slice()) else {
         return Err("a history goes on".into());
     };
-    expect_text(&rt, str::from_utf8(&lines).unwrap_or(""), SECOND, "another term");
+    expect_text(
+        &rt,
+        str::from_utf8(&added.lines).unwrap_or(""),
+        SECOND,
+        "another term",
+    );
     let text = history_of(alloc, &[FIRST, SECOND])?;
     let Ok(history) = read(alloc, text.as_slice()) else {
         return Err("what was added reads".into());
     };
-    let Ok(lines) = history.go_on(alloc, MOMENT, second.as_slice()) else {
+    let Ok(added) = history.go_on(alloc, MOMENT, second.as_slice()) else {
         return Err("a history stays".into());
     };
-    expect_text(&rt, str::from_utf8(&lines).unwrap_or(""), "", "no change");
+    expect_text(
+        &rt,
+        str::from_utf8(&added.lines).unwrap_or(""),
+        "",
+        "no change",
+    );
     Ok(())
 }
 
 // Whether an office that publishes these facts after that history has lost this value.
-fn loses(
-    alloc: Global,
-    text: &[u8],
-    facts: &[Fact],
-    value: &str,
-) -> Result<bool, AllocError> {
+fn loses(alloc: Global, text: &[u8], facts: &[Fact], value: &str) -> Result<bool, AllocError> {
     let Ok(history) = read(alloc, text) else {
         return Ok(false);
     };
@@ -148,7 +158,11 @@ fn what_was_lost_is_named(rt: HostRuntime) -> Result<(), Fail> {
     expect_true(&rt, loses(alloc, &text, &back, "4")?, "an earlier expiry");
     let mut fewer = facts(alloc, "2028-11-01", "held")?;
     let _ = fewer.pop();
-    expect_true(&rt, loses(alloc, &text, &fewer, "0050C2123")?, "a block that is gone");
+    expect_true(
+        &rt,
+        loses(alloc, &text, &fewer, "0050C2123")?,
+        "a block that is gone",
+    );
     Ok(())
 }
 
@@ -163,6 +177,10 @@ fn a_changed_byte_is_noticed(rt: HostRuntime) -> Result<(), Fail> {
     let wrong = matches!(read(alloc, &text), Err(Unreadable::Wrong(4)));
     expect_true(&rt, wrong, "the first wrong record");
     let cut = &HEADER[..10];
-    expect_true(&rt, matches!(read(alloc, cut), Err(Unreadable::Header)), "no header");
+    expect_true(
+        &rt,
+        matches!(read(alloc, cut), Err(Unreadable::Header)),
+        "no header",
+    );
     Ok(())
 }

@@ -1,9 +1,10 @@
-use Rattle.std.proofs.Common.{◌≡◌, ◌≤◌, List, ◌++◌, length, sym, ap, ◌∙◌, append-nil, subst, arith}
+use Rattle.std.proofs.Common.{◌≤◌, List, ◌++◌, length, sym, ap, ◌∙◌, append-nil, subst, arith}
 use Rattle.std.proofs.lemmas.List.{take_all}
-use Rattle.reg_history.specs.Chain.{at, chain_from}
+use Rattle.reg_history.specs.Chain.{AddsLines}
+use Rattle.reg_history.specs.declared.change.Change.{Change}
 use Rattle.reg_history.specs.declared.change.Change.{Change}
 use Rattle.reg_history.proofs.Histories.{lines-more}
-use Rattle.reg_history.proofs.chain.Chain.lines.Goals as goal
+use Rattle.reg_history.proofs.chain.Chain.add_all.Goals as goal
 
 pub loop-change-init : goal.loop-change-init
 loop-change-init c = λ k e. record {
@@ -26,6 +27,6 @@ returns c = λ k e.
     let long : length c.args.changes.now ≤ c.loop-change.change-index =
     omega (arith, c.loop-change-test.false) in
     let All : List Change → Type 0 = λ cs.
-    (chain_from k (at c.args.moment.now cs)).text ≡ k.text ++ c.loop-change.lines.items in
+    AddsLines k c.args.moment.now cs c.loop-change.self.digests.items c.loop-change.lines.items in
     subst All (take_all c.loop-change.change-index c.args.changes.now long)
-    (c.loop-change.invariant k e).stands
+    (c.loop-change.invariant k e)

@@ -1,9 +1,0 @@
-use Rattle.std.proofs.Common.{◌≡◌, take}
-use Rattle.reg_history.specs.Chain.{Chained}
-use Rattle.reg_history.proofs.Histories.{Lines}
-use Rattle.reg_history.proofs.chain.Chain.lines.Given as goal
-
-abbrev pub invariant-loop-change : goal.invariant-loop-change
-invariant-loop-change l =
-    (c : Chained) → l.fn.self.digests.items ≡ c.digests
-    → Lines c l.moment (take l.change-index l.changes) l.self.digests.items l.lines.items
