@@ -4,4 +4,5 @@ mod digits;
 mod early;
 mod expecting;
 mod free_values;
+mod history;
 mod places;

@@ -1,0 +1,238 @@
+-- How histories grow, record by record.
+use Rattle.std.proofs.Common.{◌≡◌, ℕ, ◌+◌, ◌<◌, List, [], ◌∷◌, ◌++◌, length, map, take, get_or, true, refl, sym, ap, ◌∙◌, subst, append_assoc, append-nil, inl, inr, ◌==◌, arith, zero, suc}
+use Rattle.std.specs.Prelude.{Some, None, slice_get}
+use Rattle.std.specs.Cmp.{tied_itself}
+use Rattle.std.specs.Cmp.Lexicographic.{nat_list_cmp_total}
+use Rattle.std.specs.Ordering.{is_le}
+use Rattle.std.proofs.lemmas.Bool.{and_from, cases_Bool, eqb-true}
+use Rattle.reg_maps.specs.Maps.{text_cmp}
+use Rattle.reg_print.proofs.PrintedTokens.{one_more}
+use Rattle.reg_history.specs.Chain.{AddsLines, Chained, Record, at, begun, chain_from, chained, next_digest, next_line, record_of, says, with_record}
+use Rattle.reg_history.specs.History.{AddsRecord, Continues, IsHistory, IsHistoryOf, SaysJust, TakesRecord, later}
+use Rattle.reg_history.specs.Moment.{moment_text}
+use Rattle.reg_history.specs.Replay.{NothingIsLost, Said, SaysAfter, after, changes_to, nothing, replay}
+use Rattle.reg_history.specs.Said.{Says, TellsLoss, said_by}
+use Rattle.reg_history.specs.declared.change.Change.{Change}
+use Rattle.reg_history.specs.declared.change.Fact.{Fact}
+use Rattle.reg_history.specs.declared.history.History.{History}
+use Rattle.reg_history.specs.declared.said.Unrecorded.{Unrecorded}
+use Rattle.reg_history.proofs.Replayed.{replay-append}
+
+-- ---- Chains
+
+pub chain_from-append : (c : Chained) (xs ys : List Record)
+    → chain_from c (xs ++ ys) ≡ chain_from (chain_from c xs) ys
+chain_from-append c [] ys = refl
+chain_from-append c (x ∷ xs) ys = chain_from-append (with_record c x) xs ys
+
+map-more : {X Y : Type 0} (f : X → Y) (xs : List X) (x : X)
+    → map f xs ++ f x ∷ [] ≡ map f (xs ++ x ∷ [])
+map-more f [] x = refl
+map-more f (y ∷ xs) x = ap (λ ys. f y ∷ ys) (map-more f xs x)
+
+pub map-append : {X Y : Type 0} (f : X → Y) (xs ys : List X)
+    → map f (xs ++ ys) ≡ map f xs ++ map f ys
+map-append f [] ys = refl
+map-append f (x ∷ xs) ys = ap (λ t. f x ∷ t) (map-append f xs ys)
+
+-- one change more of those that are published at a moment
+pub at-more : (c : Chained) (moment : List ℕ) (changes : List Change) (i : ℕ) (change : Change)
+    → i < length changes → change ≡ get_or changes i change
+    → chain_from c (at moment (take (i + 1) changes))
+    ≡ with_record (chain_from c (at moment (take i changes))) (record_of moment change)
+at-more c moment changes i change h is =
+    ap (λ cs. chain_from c (at moment cs)) (one_more changes i change h is)
+    ∙ ap (chain_from c) (sym (map-more (record_of moment) (take i changes) change))
+    ∙ chain_from-append c (at moment (take i changes)) (record_of moment change ∷ [])
+
+pub lines-more : (c : Chained) (moment : List ℕ) (changes : List Change) (i : ℕ) (change : Change)
+    (digests digests' : List (List ℕ)) (text text' bytes : List ℕ)
+    → i < length changes → change ≡ get_or changes i change
+    → AddsLines c moment (take i changes) digests text
+    → bytes ≡ next_line digests (record_of moment change)
+    → digests' ≡ digests ++ next_digest digests (record_of moment change) ∷ []
+    → text' ≡ text ++ bytes → AddsLines c moment (take (i + 1) changes) digests' text'
+lines-more c moment changes i change digests digests' text text' bytes h is l line digest e =
+    let Here : Chained = chain_from c (at moment (take i changes)) in
+    let r : Record = record_of moment change in
+    let grown = at-more c moment changes i change h is in
+    record {
+      tied =
+          digest ∙ ap (λ ds. ds ++ next_digest ds r ∷ []) l.tied
+          ∙ ap (λ (k : Chained). k.digests) (sym grown);
+      stands =
+          ap (λ (k : Chained). k.text) grown
+          ∙ ap (λ ds. Here.text ++ next_line ds r) (sym l.tied)
+          ∙ ap (λ b. Here.text ++ b) (sym line)
+          ∙ ap (λ t. t ++ bytes) l.stands
+          ∙ append_assoc c.text text bytes
+          ∙ ap (λ t. c.text ++ t) (sym e);
+    }
+
+-- ---- Records that are added
+
+pub says-more : (records : List Record) (r : Record)
+    → says (records ++ r ∷ []) ≡ after (says records) r.change
+says-more records r =
+    ap (replay nothing) (map-append (λ (x : Record). x.change) records (r ∷ []))
+    ∙ replay-append nothing (map (λ (x : Record). x.change) records) (r.change ∷ [])
+
+-- a history with one record more
+pub history-more : (h h' : History) (records : List Record) (moment : List ℕ) (change : Change)
+    → IsHistory h records → is_le (text_cmp h.moment moment) ≡ true
+    → Says h'.said (after (said_by h.said) change)
+    → h'.chain.digests.items
+    ≡ h.chain.digests.items ++ next_digest h.chain.digests.items (record_of moment change) ∷ []
+    → h'.moment ≡ moment → IsHistory h' (records ++ record_of moment change ∷ [])
+history-more h h' records moment change is ordered said digests now =
+    let r : Record = record_of moment change in
+    let grown = chain_from-append begun records (r ∷ []) in
+    let was : said_by h.said ≡ says records = λ i s. is.said s i in
+    let order : (with_record (chained records) r).in_order ≡ true =
+    and_from (chained records).in_order (is_le (text_cmp (chained records).moment moment))
+    is.in_order
+    (ap (λ m. is_le (text_cmp m moment)) (sym is.moment) ∙ ordered) in
+    record {
+      said = λ s. said s ∙ ap (λ (f : Said). after f change s) was
+          ∙ ap (λ (f : Said). f s) (sym (says-more records r));
+      digests =
+          digests ∙ ap (λ ds. ds ++ next_digest ds r ∷ []) is.digests
+          ∙ ap (λ (k : Chained). k.digests) (sym grown);
+      moment = now ∙ ap (λ (k : Chained). k.moment) (sym grown);
+      in_order = ap (λ (k : Chained). k.in_order) grown ∙ order;
+    }
+
+pub adds_record : (h h' : History) (records : List Record) (moment : List ℕ) (change : Change)
+    (bytes : List ℕ) → IsHistory h records → is_le (text_cmp h.moment moment) ≡ true
+    → Says h'.said (after (said_by h.said) change)
+    → h'.chain.digests.items
+    ≡ h.chain.digests.items ++ next_digest h.chain.digests.items (record_of moment change) ∷ []
+    → h'.moment ≡ moment → bytes ≡ next_line h.chain.digests.items (record_of moment change)
+    → AddsRecord h' records (record_of moment change) bytes
+adds_record h h' records moment change bytes is ordered said digests now line =
+    let r : Record = record_of moment change in
+    record {
+      grown = history-more h h' records moment change is ordered said digests now;
+      text =
+          ap (λ (k : Chained). k.text) (chain_from-append begun records (r ∷ []))
+          ∙ ap (λ ds. (chained records).text ++ next_line ds r) (sym is.digests)
+          ∙ ap (λ b. (chained records).text ++ b) (sym line);
+    }
+
+-- a text that begins with the bytes of the record is that much shorter
+pub takes_record : (h : History) (records : List Record) (r : Record) (bytes text rest : List ℕ)
+    → AddsRecord h records r bytes → text ≡ bytes ++ rest → TakesRecord h records text rest
+takes_record h records r bytes text rest adds e = record {
+  more = records ++ r ∷ [];
+  grown = adds.grown;
+  whole =
+      ap (λ t. t ++ rest) adds.text ∙ append_assoc (chained records).text bytes rest
+      ∙ ap (λ t. (chained records).text ++ t) (sym e);
+}
+
+pub nothing_left : (xs : List ℕ) → (length xs == 0) ≡ true → xs ≡ []
+nothing_left [] e = refl
+nothing_left (x ∷ xs) e = absurd (omega (arith, eqb-true (length (x ∷ xs)) 0 e))
+
+-- where nothing is left of a text, it is all read
+pub takes_all : (h : History) (records : List Record) (text rest : List ℕ)
+    → TakesRecord h records text rest → rest ≡ []
+    → IsHistoryOf h ((chained records).text ++ text)
+takes_all h records text rest t none = (
+  t.more,
+  sym (append-nil (chained t.more).text) ∙ ap (λ x. (chained t.more).text ++ x) (sym none)
+      ∙ t.whole,
+  t.grown,
+)
+
+-- ---- A history that goes on
+
+text-le-itself : (m : List ℕ) → is_le (text_cmp m m) ≡ true
+text-le-itself m = ap is_le (tied_itself nat_list_cmp_total m)
+
+-- the later of two moments is not earlier than the first
+later-le : (last now : List ℕ) → is_le (text_cmp last (later last now)) ≡ true
+later-le last now = elim (cases_Bool (is_le (text_cmp last now))) [
+  | inl le ↦ rw le le
+  | inr gt ↦ rw gt (text-le-itself last)
+]
+
+-- what is published at one moment is in order after what is not later
+pub in_order-at : (c : Chained) (moment : List ℕ) (changes : List Change) → c.in_order ≡ true
+    → is_le (text_cmp c.moment moment) ≡ true
+    → (chain_from c (at moment changes)).in_order ≡ true
+in_order-at c moment [] h le = h
+in_order-at c moment (x ∷ xs) h le =
+    in_order-at (with_record c (record_of moment x)) moment xs
+    (and_from c.in_order (is_le (text_cmp c.moment moment)) h le) (text-le-itself moment)
+
+changes-at : (moment : List ℕ) (changes : List Change)
+    → map (λ (x : Record). x.change) (at moment changes) ≡ changes
+changes-at moment [] = refl
+changes-at moment (x ∷ xs) = ap (λ t. x ∷ t) (changes-at moment xs)
+
+pub continues : (h : History) (records : List Record) (moment : ℕ) (facts : List Fact)
+    (changes : List Change) (more : List ℕ) (digests : List (List ℕ)) → IsHistory h records
+    → changes ≡ changes_to (said_by h.said) facts → NothingIsLost (said_by h.said) facts
+    → SaysAfter (said_by h.said) facts changes
+    → AddsLines (chained records) (later h.moment (moment_text moment)) changes digests more
+    → Continues records moment facts more digests
+continues h records moment facts changes more digests is made kept says_after lines =
+    let was : said_by h.said ≡ says records = λ i s. is.said s i in
+    let now = later (chained records).moment (moment_text moment) in
+    let new = changes_to (says records) facts in
+    let are : changes ≡ new = made ∙ ap (λ (f : Said). changes_to f facts) was in
+    let grown = chain_from-append begun records (at now new) in
+    let changed : map (λ (x : Record). x.change) (records ++ at now new)
+    ≡ map (λ (x : Record). x.change) records ++ changes =
+    map-append (λ (x : Record). x.change) records (at now new)
+    ∙ ap (λ t. map (λ (x : Record). x.change) records ++ t) (changes-at now new ∙ sym are) in
+    record {
+      text =
+          ap (λ (k : Chained). k.text) grown
+          ∙ ap (λ cs. (chain_from (chained records) (at now cs)).text) (sym are)
+          ∙ ap (λ m. (chain_from (chained records) (at (later m (moment_text moment)) changes)).text)
+          (sym is.moment)
+          ∙ lines.stands;
+      tied =
+          lines.tied
+          ∙ ap (λ m. (chain_from (chained records) (at (later m (moment_text moment)) changes)).digests)
+          is.moment
+          ∙ ap (λ cs. (chain_from (chained records) (at now cs)).digests) are
+          ∙ ap (λ (k : Chained). k.digests) (sym grown);
+      in_order =
+          ap (λ (k : Chained). k.in_order) grown
+          ∙ in_order-at (chained records) now new is.in_order
+          (later-le (chained records).moment (moment_text moment));
+      kept = subst (λ (f : Said). NothingIsLost f facts) was kept;
+      replayed = λ s. ap (λ cs. replay nothing cs s) changed
+          ∙ says_after (map (λ (x : Record). x.change) records) is.said s;
+    }
+
+-- where nothing would be recorded, and nothing is lost, the records say just what the facts say
+pub says_just : (h : History) (records : List Record) (facts : List Fact) (changes : List Change)
+    → IsHistory h records → SaysAfter (said_by h.said) facts changes → changes ≡ []
+    → SaysJust records facts
+says_just h records facts changes is says_after none s =
+    let old = map (λ (x : Record). x.change) records in
+    ap (λ cs. replay nothing cs s) (sym (append-nil old) ∙ ap (λ cs. old ++ cs) (sym none))
+    ∙ says_after old is.said s
+
+-- what tells a loss tells it of what the records say
+pub tells_of_records : (h : History) (records : List Record) (facts : List Fact) (why : Unrecorded)
+    → IsHistory h records → TellsLoss (said_by h.said) facts why → TellsLoss (says records) facts why
+tells_of_records h records facts why is told =
+    let was : said_by h.said ≡ says records = λ i s. is.said s i in
+    subst (λ (f : Said). TellsLoss f facts why) was told
+
+-- ---- Places
+
+pub digest-at : (ds : List (List ℕ)) (k : ℕ) (x : List ℕ) → k < length ds → x ≡ get_or ds k x
+    → slice_get ds k ≡ Some x
+digest-at [] k x h is = absurd (omega (arith, h))
+digest-at (d ∷ ds) zero x h is = ap Some (sym is)
+digest-at (d ∷ ds) (suc k) x h is = digest-at ds k x (omega (arith, h)) is
+
+pub first-none : {X : Type 0} (xs : List X) → None ≡ slice_get xs 0 → xs ≡ []
+first-none [] e = refl
+first-none (x ∷ xs) e = cc e

@@ -1,0 +1,6 @@
+mod Fronts
+mod Histories
+mod Mapped
+mod Replayed
+mod SameSubjects
+mod Unique

@@ -1,0 +1,76 @@
+-- A history that was read, and how it goes on.
+use Rattle.std.specs.Prelude.{◌≡◌, ℕ, ◌+◌, true, ⊤, List, [], ◌∷◌, ◌++◌, length, if◌then◌else◌}
+use Rattle.std.specs.Ordering.{is_le}
+use Rattle.reg_maps.specs.Maps.{text_cmp}
+use Rattle.reg_history.specs.Chain.{Record, at, chained, says}
+use Rattle.reg_history.specs.Moment.{moment_text}
+use Rattle.reg_history.specs.Replay.{NothingIsLost, changes_to, facts_say, nothing}
+use Rattle.reg_history.specs.Said.{Says}
+use Rattle.reg_history.specs.declared.change.Fact.{Fact}
+use Rattle.reg_history.specs.declared.change.Subject.{Subject}
+use Rattle.reg_history.specs.declared.history.History.{History}
+use Rattle.reg_history.specs.declared.history.Unreadable.{Unreadable}
+use Rattle.reg_history.specs.declared.history.Unreadable.TheVariants.{Memory, Header, Wrong}
+
+-- it is the history of these records, of which none is earlier than the one before it
+pub record IsHistory (h : History) (records : List Record) : Type 0 where
+  pub said : Says h.said (says records)
+  pub digests : h.chain.digests.items ≡ (chained records).digests
+  pub moment : h.moment ≡ (chained records).moment
+  pub in_order : (chained records).in_order ≡ true
+
+-- it is the history of records whose text this is
+abbrev pub IsHistoryOf : History → List ℕ → Type 0
+IsHistoryOf h text =
+    (records : List Record) × ((chained records).text ≡ text) × IsHistory h records
+
+-- the moment of what is recorded now: never earlier than that of the last record
+abbrev pub later : List ℕ → List ℕ → List ℕ
+later last now = if is_le (text_cmp last now) then now else last
+
+-- what is recorded of facts at a moment, after these records
+abbrev pub news : List Record → ℕ → List Fact → List Record
+news records moment facts =
+    at (later (chained records).moment (moment_text moment)) (changes_to (says records) facts)
+
+-- These bytes are added to the text of the records, whose digests are then these. Nothing is lost, and
+-- then it is a history that says just what the facts say.
+pub record Continues (records : List Record) (moment : ℕ) (facts : List Fact) (more : List ℕ)
+    (digests : List (List ℕ)) : Type 0 where
+  pub text : (chained (records ++ news records moment facts)).text
+      ≡ (chained records).text ++ more
+  pub tied : digests ≡ (chained (records ++ news records moment facts)).digests
+  pub in_order : (chained (records ++ news records moment facts)).in_order ≡ true
+  pub kept : NothingIsLost (says records) facts
+  pub replayed : (subject : Subject)
+      → says (records ++ news records moment facts) subject ≡ facts_say nothing facts subject
+
+-- the bytes begin as those of a history do, with so many records
+abbrev pub BeginsWith : ℕ → List ℕ → Type 0
+BeginsWith count text =
+    (records : List Record) × (rest : List ℕ) × (length records ≡ count)
+    × ((chained records).text ++ rest ≡ text)
+
+-- the number of a record that is wrong, of which those before are not
+abbrev pub TellsWrong : List ℕ → Unreadable → Type 0
+TellsWrong text Memory = ⊤
+TellsWrong text Header = ⊤
+TellsWrong text (Wrong number) =
+    (count : ℕ) × (number ≡ count + 1) × BeginsWith count text
+
+-- a record came to a history, with these bytes
+pub record AddsRecord (h : History) (records : List Record) (r : Record) (bytes : List ℕ) : Type 0
+  where
+    pub grown : IsHistory h (records ++ r ∷ [])
+    pub text : (chained (records ++ r ∷ [])).text ≡ (chained records).text ++ bytes
+
+-- a record came to a history, with the bytes by which a text is shorter
+pub record TakesRecord (h : History) (records : List Record) (text rest : List ℕ) : Type 0 where
+  pub more : List Record
+  pub grown : IsHistory h more
+  pub whole : (chained more).text ++ rest ≡ (chained records).text ++ text
+
+-- the records say of each subject just what the facts say of it
+abbrev pub SaysJust : List Record → List Fact → Type 0
+SaysJust records facts =
+    (subject : Subject) → says records subject ≡ facts_say nothing facts subject

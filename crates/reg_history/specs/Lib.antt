@@ -1,0 +1,10 @@
+pub mod Chain
+pub mod History
+pub mod Laws
+pub mod Moment
+pub mod Published
+pub mod Replay
+pub mod Said
+pub mod Subjects
+pub mod Texts
+pub mod Words

@@ -1,0 +1,161 @@
+//! Records, each of which is tied to all before it by a digest.
+ghost use Rattle.std.specs.Prelude.{◌≡◌, ◌<◌, ◌++◌, ◌∷◌, [], map, length, codes, IfOk, IsTrue, OnOk};
+ghost use Rattle.hex.specs.Hex.{encode_lower};
+ghost use Rattle.sha2.specs.Sha256.{sha256};
+ghost use Rattle.csv.specs.Writing.{default_writer, row_body};
+ghost use Rattle.reg_history.specs.Chain.{AddsLines, Chained, HasDigest, last_digest, next_digest, next_line, record_of};
+ghost use Rattle.reg_history.specs.Texts.{texts_of};
+
+use crate::change::Change;
+use crate::field::Field;
+use crate::texts::Texts;
+use reg_print::listing::writing::{empty, text_of, write_record};
+use sha2::{Digest, Sha256};
+use std::alloc::{AllocError, Global};
+
+/// How many digits a digest has.
+pub const DIGITS: usize = 64;
+
+/// The digests of records, each in lower-case hexadecimal.
+#[derive(Drop)]
+pub struct Chain {
+    pub digests: Vec<[u8; DIGITS]>,
+}
+
+impl Chain {
+    /// The digests of no record. It takes no memory.
+    pub fn new(alloc: Global) -> Self
+        ensures { result.digests.items ≡ [] }
+    {
+        Chain {
+            digests: Vec::new(alloc),
+        }
+    }
+
+    /// Adds the digest of the next record, and gives the bytes of that record. Only want of memory is an
+    /// error.
+    pub fn add(
+        &mut self,
+        alloc: Global,
+        moment: &Field,
+        change: &Change,
+    ) -> Result<Vec<u8>, AllocError>
+        ensures line { IfOk result (λ v. v.items
+            ≡ next_line self.old.digests.items (record_of moment.now change.now)) }
+        ensures digests { OnOk result (self.new.digests.items
+            ≡ self.old.digests.items
+            ++ next_digest self.old.digests.items (record_of moment.now change.now) ∷ []) }
+    {
+        let number = format!(in alloc; "{}", self.digests.len() + 1)?;
+        let texts = Texts::of(number.as_str(), moment.as_str(), change);
+        let mut text = front(alloc, texts)?;
+        let digest = digest_of(self.last_digest(), text.as_slice());
+        text.extend_from_slice(&digest)?;
+        text.push(b'\n')?;
+        self.digests.push(digest)?;
+        Ok(text)
+    }
+
+    /// Adds the digests of the records by which these changes are published at a moment, and gives the
+    /// bytes of these records. Only want of memory is an error.
+    pub fn add_all(
+        &mut self,
+        alloc: Global,
+        moment: &Field,
+        changes: &[Change],
+    ) -> Result<Vec<u8>, AllocError>
+        ensures { IfOk result (λ v. (c : Chained) → self.old.digests.items ≡ c.digests
+            → AddsLines c moment.now changes.now self.new.digests.items v.items) }
+    {
+        let mut lines = Vec::new(alloc);
+        for change in changes {
+            let line = self.add(alloc, moment, change)?;
+            lines.extend_from_slice(line.as_slice())?;
+        }
+        Ok(lines)
+    }
+
+    /// How many records there are.
+    pub fn count(&self) -> u64
+        ensures { result ≡ length self.now.digests.items }
+    {
+        self.digests.len() as u64
+    }
+
+    /// Whether the record of this number has this digest. There is none of number 0.
+    pub fn has(&self, number: u64, digest: &[u8]) -> bool
+        ensures { IsTrue result → HasDigest self.now.digests.items number digest.now }
+    {
+        if number == 0 || self.count() < number {
+            return false;
+        }
+        is_same(&self.digests[(number - 1) as usize], digest)
+    }
+
+    /// The digits of the last digest; none where there is no record.
+    pub fn last_digest(&self) -> &[u8]
+        ensures { result.now ≡ last_digest self.now.digests.items }
+    {
+        match self.digests.last() {
+            Some(digest) => digest.as_slice(),
+            None => &[],
+        }
+    }
+}
+
+// Whether these are the digits of a digest.
+fn is_same(digest: &[u8; DIGITS], digits: &[u8]) -> bool
+    ensures { IsTrue result → digest.now ≡ digits.now }
+{
+    digest.as_slice() == digits
+}
+
+// The digest of a record, by that of the record before and by its own bytes up to the comma.
+fn digest_of(before: &[u8], front: &[u8]) -> [u8; DIGITS]
+    ensures { result ≡ encode_lower (sha256 (before.now ++ front.now)) }
+{
+    let mut hasher = Sha256::new();
+    hasher.update(before);
+    hasher.update(front);
+    let hash: [u8; 32] = hasher.finalize();
+    let mut digits = [0; DIGITS];
+    hex::encode_to_slice(hash.as_slice(), &mut digits).unwrap();
+    digits
+}
+
+// The bytes of a record up to and including the comma before its digest.
+fn front(alloc: Global, texts: Texts<'_>) -> Result<Vec<u8>, AllocError>
+    ensures { IfOk result (λ v. v.items
+        ≡ row_body default_writer (texts_of texts.entry) ++ codes ",") }
+{
+    front_of(
+        alloc,
+        &[
+            texts.number.as_bytes(),
+            texts.moment.as_bytes(),
+            texts.registry.as_bytes(),
+            texts.change.as_bytes(),
+            texts.value.as_bytes(),
+            texts.description.as_bytes(),
+            texts.policy.as_bytes(),
+            texts.first.as_bytes(),
+            texts.expires.as_bytes(),
+            texts.held.as_bytes(),
+            texts.assignee.as_bytes(),
+        ],
+    )
+}
+
+// These fields as CSV, and a comma.
+fn front_of(alloc: Global, fields: &[&[u8]]) -> Result<Vec<u8>, AllocError>
+    requires { 1 < length fields.now }
+    ensures { IfOk result (λ v. v.items
+        ≡ row_body default_writer (map (λ f. f.now) fields.now) ++ codes ",") }
+{
+    let mut writer = empty(alloc);
+    write_record(&mut writer, fields)?;
+    let mut text = text_of(writer)?;
+    text.pop();
+    text.push(b',')?;
+    Ok(text)
+}

@@ -1,0 +1,223 @@
+//! Histories, as they are read and go on.
+ghost use Rattle.std.specs.Prelude.{◌≡◌, ◌++◌, ◌∷◌, [], true, List, IfOk, IfErr, OnOk};
+ghost use Rattle.std.specs.Ordering.{is_le};
+ghost use Rattle.reg_maps.specs.Maps.{text_cmp};
+ghost use Rattle.reg_print.specs.Comparing.{Leaves};
+ghost use Rattle.reg_history.specs.Chain.{Record as Published, chained, record_of, says};
+ghost use Rattle.reg_history.specs.History.{AddsRecord, Continues, IsHistory, IsHistoryOf, SaysJust, TakesRecord, later};
+ghost use Rattle.reg_history.specs.Said.{TellsLoss};
+ghost use Rattle.reg_history.specs.declared.history.Unreadable.TheVariants as un;
+
+use crate::chain::Chain;
+use crate::change::{Change, Fact, Subject};
+use crate::field::Field;
+use crate::moment::moment_text;
+use crate::reading::Records;
+use crate::said::{Said, Unrecorded, apply, changes_to};
+use std::alloc::{AllocError, Global};
+use std::collections::BTreeMap;
+
+/// The record of the columns.
+pub const HEADER: &[u8] =
+    b"Number,Moment,Register,Change,Value,Description,Policy,First,Expires,Held,Assignee,Digest\n";
+
+/// A history: what its records say, the digest of each, and the moment of the last.
+#[derive(Drop)]
+pub struct History {
+    pub said: Said,
+    pub chain: Chain,
+    pub moment: Field,
+}
+
+/// What was added to a history: the bytes of the new records, and the digests of all.
+#[derive(Drop)]
+pub struct Added {
+    pub lines: Vec<u8>,
+    pub chain: Chain,
+}
+
+/// Why a history does not say just what is published.
+#[derive(Debug, Drop)]
+pub enum Unlike {
+    /// There was no memory.
+    Memory,
+    /// This subject is published otherwise, or is in one of the two alone.
+    Subject(Subject),
+}
+
+impl From<AllocError> for Unlike {
+    fn from(_error: AllocError) -> Unlike {
+        Unlike::Memory
+    }
+}
+
+impl From<Unrecorded> for Unlike {
+    fn from(why: Unrecorded) -> Unlike {
+        match why {
+            Unrecorded::Memory => Unlike::Memory,
+            Unrecorded::Lost(subject) => Unlike::Subject(subject),
+        }
+    }
+}
+
+/// Why bytes are no history.
+#[derive(Clone, Copy, Debug, PartialEq, Eq)]
+pub enum Unreadable {
+    /// There was no memory.
+    Memory,
+    /// They do not begin with the record of the columns.
+    Header,
+    /// The record of this number is not as it has to be after those before it.
+    Wrong(u64),
+}
+
+impl From<AllocError> for Unreadable {
+    ghost from_gives = { λ _ e. e ≡ un.Memory };
+
+    fn from(_error: AllocError) -> Unreadable {
+        Unreadable::Memory
+    }
+}
+
+/// The history with these bytes. Each record has the number and the digest that follow from those before
+/// it, and is no earlier than the last of them.
+pub fn read(alloc: Global, text: &[u8]) -> Result<History, Unreadable>
+    ensures { IfOk result (λ history. IsHistoryOf history text.now) }
+{
+    let mut history = History::new(alloc)?;
+    let Some(rest) = behind(HEADER, text) else {
+        return Err(Unreadable::Header);
+    };
+    history.take(alloc, rest)?;
+    Ok(history)
+}
+
+impl History {
+    /// A history without a record. Only want of memory is an error.
+    pub fn new(alloc: Global) -> Result<Self, AllocError>
+        ensures { IfOk result (λ history. IsHistory history []) }
+    {
+        Ok(History {
+            said: BTreeMap::new(alloc),
+            chain: Chain::new(alloc),
+            moment: Field::new(alloc, "")?,
+        })
+    }
+
+    // Takes all records of a text, which come next.
+    fn take(&mut self, alloc: Global, text: &[u8]) -> Result<(), Unreadable>
+        ensures { IfOk result (λ _. (records : List Published) → IsHistory self.old records
+            → IsHistoryOf self.new ((chained records).text ++ text.now)) }
+    {
+        let mut records = Records::of(alloc, text)?;
+        let mut rest = text;
+        for _ in 0..u64::MAX {
+            if rest.is_empty() {
+                return Ok(());
+            }
+            rest = self.take_next(alloc, &mut records, rest)?;
+        }
+        Err(self.wrong())
+    }
+
+    // Takes the record that comes next in a text, and gives what is left of the text.
+    fn take_next<'a>(
+        &mut self,
+        alloc: Global,
+        records: &mut Records<'_>,
+        text: &'a [u8],
+    ) -> Result<&'a [u8], Unreadable>
+        ensures { IfOk result (λ rest. (before : List Published) → IsHistory self.old before
+            → TakesRecord self.new before text.now rest.now) }
+    {
+        let wrong = self.wrong();
+        let Some(next) = records.next()? else {
+            return Err(wrong);
+        };
+        if !is_in_order(&self.moment, &next.moment) {
+            return Err(wrong);
+        }
+        let line = self.add(alloc, next.moment, next.change)?;
+        match behind(line.as_slice(), text) {
+            Some(rest) => Ok(rest),
+            None => Err(wrong),
+        }
+    }
+
+    // That the record that comes next is wrong.
+    fn wrong(&self) -> Unreadable {
+        Unreadable::Wrong(self.chain.digests.len() as u64 + 1)
+    }
+
+    // Adds a record, and gives its bytes.
+    fn add(&mut self, alloc: Global, moment: Field, change: Change) -> Result<Vec<u8>, AllocError>
+        ensures { IfOk result (λ v. (records : List Published) → IsHistory self.old records
+            → is_le (text_cmp self.old.moment moment) ≡ true
+            → AddsRecord self.new records (record_of moment change) v.items) }
+    {
+        let line = self.chain.add(alloc, &moment, &change)?;
+        apply(&mut self.said, change)?;
+        self.moment = moment;
+        Ok(line)
+    }
+
+    /// What is added to a history at a moment, in seconds since 1970-01-01T00:00:00Z, so that it says these
+    /// facts; or what was lost.
+    pub fn go_on(self, alloc: Global, moment: u64, facts: &[Fact]) -> Result<Added, Unrecorded>
+        ensures continues { IfOk result (λ added. (records : List Published)
+            → IsHistory self records
+            → Continues records moment facts.now added.lines.items added.chain.digests.items) }
+        ensures lost { IfErr result (λ why. (records : List Published)
+            → IsHistory self records → TellsLoss (says records) facts.now why) }
+    {
+        let History {
+            said,
+            mut chain,
+            moment: last,
+        } = self;
+        let changes = changes_to(alloc, said, facts)?;
+        let now = moment_text(alloc, moment)?;
+        let moment = later(last, Field::new(alloc, now.as_str())?);
+        let lines = chain.add_all(alloc, &moment, changes.as_slice())?;
+        Ok(Added { lines, chain })
+    }
+
+    /// That it says just these facts, and no others.
+    pub fn says_just(self, alloc: Global, facts: &[Fact]) -> Result<Chain, Unlike>
+        ensures says { OnOk result ((records : List Published) → IsHistory self records
+            → SaysJust records facts.now) }
+        ensures chain { IfOk result (λ chain. chain ≡ self.chain) }
+    {
+        let History {
+            said,
+            chain,
+            moment: _,
+        } = self;
+        let changes = changes_to(alloc, said, facts)?;
+        match changes.first() {
+            None => Ok(chain),
+            Some(change) => Err(Unlike::Subject(change.subject()?)),
+        }
+    }
+}
+
+// Whether a moment is not earlier than the last.
+fn is_in_order(last: &Field, next: &Field) -> bool
+    ensures { result ≡ is_le (text_cmp last.now next.now) }
+{
+    last <= next
+}
+
+// What is left of a text behind this front, where it begins with it.
+fn behind<'a>(front: &[u8], text: &'a [u8]) -> Option<&'a [u8]>
+    ensures { Leaves front.now text.now result }
+{
+    text.strip_prefix(front)
+}
+
+// The later of two moments.
+fn later(last: Field, now: Field) -> Field
+    ensures { result ≡ later last now }
+{
+    if last <= now { now } else { last }
+}

@@ -1,0 +1,14 @@
+//! A history of the published registers that nobody can rewrite unnoticed: what is recorded of what is
+//! published, how it is read back, and what was lost since.
+#![tactic(auto)]
+
+pub mod chain;
+pub mod change;
+pub mod field;
+pub mod history;
+pub mod laws;
+pub mod moment;
+pub mod published;
+mod reading;
+pub mod said;
+mod texts;

@@ -1,0 +1,135 @@
+//! Reads the records of a history, as CSV has them.
+use crate::change::{Change, Class, Details, Fact, Standing, Subject};
+use crate::field::Field;
+use crate::texts::Texts;
+use csv::{ByteRecord, ErrorKind, Reader, ReaderBuilder};
+use std::alloc::{AllocError, Global};
+
+/// A record that was read.
+#[derive(Drop)]
+pub(crate) struct Record {
+    pub moment: Field,
+    pub change: Change,
+}
+
+/// The records of a text, one after the other.
+#[derive(Drop)]
+pub(crate) struct Records<'a> {
+    alloc: Global,
+    // The empty field, which all that are empty share.
+    none: Field,
+    reader: Reader<&'a [u8]>,
+    row: ByteRecord,
+}
+
+impl<'a> Records<'a> {
+    /// Those of a text without the record of its columns. Only want of memory is an error.
+    pub fn of(alloc: Global, text: &'a [u8]) -> Result<Self, AllocError> {
+        Ok(Records {
+            alloc,
+            none: Field::new(alloc, "")?,
+            reader: ReaderBuilder::new()
+                .has_headers(false)
+                .from_reader(alloc, text),
+            row: ByteRecord::new(alloc),
+        })
+    }
+
+    /// The record that comes next; none where none does, or what comes is no record. Only want of memory
+    /// is an error.
+    pub fn next(&mut self) -> Result<Option<Record>, AllocError> {
+        match self.reader.read_byte_record(&mut self.row) {
+            Ok(true) => self.record(),
+            Ok(false) => Ok(None),
+            Err(error) => match error.into_kind() {
+                ErrorKind::OutOfMemory => Err(AllocError),
+                _ => Ok(None),
+            },
+        }
+    }
+
+    // The record of the row.
+    fn record(&self) -> Result<Option<Record>, AllocError> {
+        let Some(texts) = texts_of(&self.row) else {
+            return Ok(None);
+        };
+        let Some(change) = self.change(&texts)? else {
+            return Ok(None);
+        };
+        Ok(Some(Record {
+            moment: self.field(texts.moment)?,
+            change,
+        }))
+    }
+
+    fn change(&self, texts: &Texts<'_>) -> Result<Option<Change>, AllocError> {
+        if texts.change == "term" {
+            return Ok(Some(self.term(texts)?));
+        }
+        match Class::read(texts.change) {
+            Some(class) => Ok(Some(Change::Made(self.fact(class, texts)?))),
+            None => Ok(None),
+        }
+    }
+
+    fn term(&self, texts: &Texts<'_>) -> Result<Change, AllocError> {
+        Ok(Change::Term(
+            self.field(texts.registry)?,
+            self.field(texts.value)?,
+            self.standing(texts)?,
+        ))
+    }
+
+    fn fact(&self, class: Class, texts: &Texts<'_>) -> Result<Fact, AllocError> {
+        Ok(Fact {
+            subject: Subject {
+                registry: self.field(texts.registry)?,
+                class,
+                value: self.field(texts.value)?,
+            },
+            details: Details {
+                description: self.field(texts.description)?,
+                policy: self.field(texts.policy)?,
+                first: self.field(texts.first)?,
+                standing: self.standing(texts)?,
+                assignee: self.field(texts.assignee)?,
+            },
+        })
+    }
+
+    fn standing(&self, texts: &Texts<'_>) -> Result<Standing, AllocError> {
+        Ok(Standing {
+            expires: self.field(texts.expires)?,
+            held: self.field(texts.held)?,
+        })
+    }
+
+    fn field(&self, text: &str) -> Result<Field, AllocError> {
+        if text.is_empty() {
+            self.none.copy()
+        } else {
+            Field::new(self.alloc, text)
+        }
+    }
+}
+
+// The texts of the row; none where it has too few, or what is no text.
+fn texts_of(row: &ByteRecord) -> Option<Texts<'_>> {
+    Some(Texts {
+        number: text_at(row, 0)?,
+        moment: text_at(row, 1)?,
+        registry: text_at(row, 2)?,
+        change: text_at(row, 3)?,
+        value: text_at(row, 4)?,
+        description: text_at(row, 5)?,
+        policy: text_at(row, 6)?,
+        first: text_at(row, 7)?,
+        expires: text_at(row, 8)?,
+        held: text_at(row, 9)?,
+        assignee: text_at(row, 10)?,
+    })
+}
+
+fn text_at(row: &ByteRecord, place: usize) -> Option<&str> {
+    str::from_utf8(row.get(place)?).ok()
+}

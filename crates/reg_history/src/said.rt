@@ -1,0 +1,163 @@
+//! What a history says of each subject, and what has to be recorded of facts.
+ghost use Rattle.std.specs.Prelude.{◌≡◌, ◌++◌, true, IfOk, IfErr, OnOk, OnErr};
+ghost use Rattle.reg_history.specs.Replay.{NothingIsLost, StandsIf, after, changes_to, facts_say, is_no_earlier, nothing, recorded, replay, same_given, same_standing, stands, with_standing_at, SaysAfter};
+ghost use Rattle.reg_history.specs.Subjects.{is_entry};
+ghost use Rattle.reg_history.specs.Said.{Says, said_by, DoesNotStand, TellsLoss};
+ghost use Rattle.reg_history.specs.declared.change.Change.TheVariants.{Term};
+ghost use Rattle.reg_history.specs.declared.said.Unrecorded.TheVariants as un;
+
+use crate::change::{Change, Class, Details, Fact, Standing, Subject};
+use crate::field::Field;
+use std::alloc::{AllocError, AllocFailed, Global};
+use std::collections::BTreeMap;
+
+/// What was said last of each subject.
+pub type Said = BTreeMap<Subject, Details>;
+
+/// Why nothing is recorded.
+#[derive(Debug, Drop)]
+pub enum Unrecorded {
+    /// There was no memory.
+    Memory,
+    /// What was said of this subject is published no more, or otherwise.
+    Lost(Subject),
+}
+
+impl From<AllocError> for Unrecorded {
+    ghost from_gives = { λ _ e. e ≡ un.Memory };
+
+    fn from(_error: AllocError) -> Unrecorded {
+        Unrecorded::Memory
+    }
+}
+
+impl<T: Drop> From<AllocFailed<T>> for Unrecorded {
+    ghost from_gives = { λ _ e. e ≡ un.Memory };
+
+    fn from(_error: AllocFailed<T>) -> Unrecorded {
+        Unrecorded::Memory
+    }
+}
+
+/// What has to be recorded of these facts, where this was said; or what was lost. Each fact is compared
+/// with what was said of its subject, and at the end nothing that was said may be left.
+pub fn changes_to(alloc: Global, mut said: Said, facts: &[Fact]) -> Result<Vec<Change>, Unrecorded>
+    ensures changes { IfOk result (λ v. v.items ≡ changes_to (said_by said) facts.now) }
+    ensures kept { OnOk result (NothingIsLost (said_by said) facts.now) }
+    ensures replayed { IfOk result (λ v. SaysAfter (said_by said) facts.now v.items) }
+    ensures lost { IfErr result (TellsLoss (said_by said) facts.now) }
+{
+    let mut changes = Vec::new(alloc);
+    for fact in facts {
+        let before = said.remove(&fact.subject);
+        record(&mut changes, before, fact)?;
+    }
+    match said.pop_first() {
+        None => Ok(changes),
+        Some((subject, _)) => Err(Unrecorded::Lost(subject)),
+    }
+}
+
+// Adds what is recorded of a fact, by what was said of its subject.
+fn record(changes: &mut Vec<Change>, before: Option<Details>, fact: &Fact) -> Result<(), Unrecorded>
+    ensures changes { OnOk result
+        (changes.new.items ≡ changes.old.items ++ recorded before fact.now) }
+    ensures stands { OnOk result (StandsIf before fact.now) }
+    ensures lost { IfErr result (DoesNotStand before fact.now) }
+{
+    let Some(before) = before else {
+        changes.push(Change::Made(fact.copy()?))?;
+        return Ok(());
+    };
+    if !stands(&before, fact) {
+        return Err(Unrecorded::Lost(fact.subject.copy()?));
+    }
+    if !same_standing(&before.standing, &fact.details.standing) {
+        changes.push(term_of(fact)?)?;
+    }
+    Ok(())
+}
+
+// The change by which the entry of a fact has its standing.
+fn term_of(fact: &Fact) -> Result<Change, AllocError>
+    ensures { IfOk result (λ change. change
+        ≡ Term fact.now.subject.registry fact.now.subject.value fact.now.details.standing) }
+{
+    Ok(Change::Term(
+        fact.subject.registry.copy()?,
+        fact.subject.value.copy()?,
+        fact.details.standing.copy()?,
+    ))
+}
+
+// Whether what was said stands by a fact.
+fn stands(before: &Details, fact: &Fact) -> bool
+    ensures { result ≡ stands before.now fact.now }
+{
+    same_given(before, &fact.details)
+        && (same_standing(&before.standing, &fact.details.standing)
+            || (is_entry(&fact.subject)
+                && is_no_earlier(&before.standing.expires, &fact.details.standing.expires)))
+}
+
+fn same_given(before: &Details, now: &Details) -> bool
+    ensures { result ≡ same_given before.now now.now }
+{
+    before.description == now.description
+        && before.policy == now.policy
+        && before.first == now.first
+        && before.assignee == now.assignee
+}
+
+fn same_standing(before: &Standing, now: &Standing) -> bool
+    ensures { result ≡ same_standing before.now now.now }
+{
+    before.expires == now.expires && before.held == now.held
+}
+
+fn is_entry(subject: &Subject) -> bool
+    ensures { result ≡ is_entry subject.now }
+{
+    matches!(subject.class, Class::Entry)
+}
+
+fn is_no_earlier(before: &Field, now: &Field) -> bool
+    ensures { result ≡ is_no_earlier before.now now.now }
+{
+    if now.as_str().is_empty() {
+        return true;
+    }
+    !before.as_str().is_empty() && before <= now
+}
+
+/// Says one change more. Only want of memory is an error.
+pub fn apply(said: &mut Said, change: Change) -> Result<(), AllocError>
+    ensures { OnOk result (Says said.new (after (said_by said.old) change)) }
+{
+    match change {
+        Change::Made(fact) => {
+            said.insert(fact.subject, fact.details)?;
+            Ok(())
+        }
+        Change::Term(registry, value, standing) => set_standing(
+            said,
+            Subject {
+                registry,
+                class: Class::Entry,
+                value,
+            },
+            standing,
+        ),
+    }
+}
+
+// Gives what is said of a subject another standing, if anything is.
+fn set_standing(said: &mut Said, subject: Subject, standing: Standing) -> Result<(), AllocError>
+    ensures { OnOk result
+        (Says said.new (with_standing_at subject standing (said_by said.old))) }
+{
+    if let Some(details) = said.remove(&subject) {
+        said.insert(subject, details.with_standing(standing))?;
+    }
+    Ok(())
+}
