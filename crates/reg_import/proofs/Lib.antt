@@ -1,2 +1,3 @@
-pub mod Places
 pub mod LineTexts
+pub mod Places
+pub mod Registers

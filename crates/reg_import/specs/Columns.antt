@@ -1,5 +1,5 @@
 -- The columns of a register: which words stand above them, and what stands below.
-use Rattle.std.specs.Prelude.{ℕ, ◌-◌, ◌==◌, ◌&&◌, Bool, false, List, [], ◌∷◌, length, filter, position, Option, Some, None, is_some, option_and_then, unwrap_or, codes}
+use Rattle.std.specs.Prelude.{ℕ, suc, ◌-◌, ◌==◌, ◌&&◌, Bool, false, List, [], ◌∷◌, length, filter, Option, Some, None, is_some, option_and_then, option_map, unwrap_or, codes, if◌then◌else◌}
 use Rattle.std.specs.Str.{bytes_eq}
 use Rattle.csv.specs.Records.{field_at, fields_of}
 use Rattle.reg_import.specs.declared.column.Column.{Column}
@@ -38,7 +38,9 @@ optional_columns =
 
 -- the place of a column in a header, if it is there
 abbrev pub place_of : List (List ℕ) → Column → Option ℕ
-place_of header column = position (λ word. bytes_eq word (column_word column)) header
+place_of [] column = None
+place_of (word ∷ header) column =
+    if bytes_eq word (column_word column) then Some 0 else option_map suc (place_of header column)
 
 abbrev pub is_named : List (List ℕ) → Column → Bool
 is_named header column = is_some (place_of header column)

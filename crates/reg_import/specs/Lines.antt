@@ -54,7 +54,7 @@ abbrev pub advice_body : List ℕ
 advice_body = codes " {\"text\":\"imported\",\"verdict\":\"for\"}"
 
 -- the path and the body of what a line asks
-abbrev pub errand_text : Errand → List ℕ
+unfoldable pub errand_text : Errand → List ℕ
 errand_text (grant token account kind until) =
     codes "/desk/tokens {\"account\":\"" ++ (account ++ (codes "\",\"kind\":\"" ++ (kind_word kind
     ++ (codes "\",\"token\":\"" ++ (token ++ (codes "\",\"until\":" ++ (decimal until ++ codes "}")))))))
@@ -74,7 +74,7 @@ abbrev pub asking_text : ℕ → List ℕ → List ℕ → List ℕ
 asking_text moment token asked =
     decimal moment ++ (codes " " ++ (token ++ (codes " PUT " ++ (asked ++ codes "\n"))))
 
-abbrev pub line_text : Line → List ℕ
+unfoldable pub line_text : Line → List ℕ
 line_text l = asking_text l.moment l.token (errand_text l.errand)
 
 -- ---- Names
@@ -142,12 +142,25 @@ abbrev pub grant_line : Import → Filing → List ℕ → List ℕ → Kind →
 grant_line by f token account kind =
     line f.moment by.clerk (grant token account kind (f.moment + 1))
 
--- it is assigned to the expert, who is for it
+-- a request is filed; it is assigned to the expert; the expert is for it; and a clerk approves it
+abbrev pub submission_line : Filing → List ℕ → Line
+submission_line f token = line f.moment token (submit f.reference f.ask)
+
+abbrev pub assignment_line : Import → Filing → Line
+assignment_line by f = line f.moment by.clerk (assign f.account f.reference by.expert)
+
+abbrev pub advice_line : Filing → List ℕ → Line
+advice_line f token = line f.moment token (advise f.account f.reference)
+
+abbrev pub approval_line : Import → Filing → Line
+approval_line by f = line f.moment by.clerk (approve f.account f.reference)
+
+-- the expert looks at it
 abbrev pub review_lines : Import → Filing → List Line
 review_lines by f =
-    line f.moment by.clerk (assign f.account f.reference by.expert)
+    assignment_line by f
     ∷ grant_line by f (expert_token by f) by.expert Expert
-    ∷ line f.moment (expert_token by f) (advise f.account f.reference)
+    ∷ advice_line f (expert_token by f)
     ∷ []
 
 abbrev pub review_if : Import → Filing → List Line
@@ -157,8 +170,8 @@ review_if by f = if f.reviewed then review_lines by f else []
 abbrev pub filing_lines : Import → Filing → List Line
 filing_lines by f =
     grant_line by f (applicant_token by f) f.account Applicant
-    ∷ line f.moment (applicant_token by f) (submit f.reference f.ask)
-    ∷ (review_if by f ++ line f.moment by.clerk (approve f.account f.reference) ∷ [])
+    ∷ submission_line f (applicant_token by f)
+    ∷ (review_if by f ++ approval_line by f ∷ [])
 
 -- ---- Entries
 
@@ -210,9 +223,11 @@ renewal_filing by entry standing day = record {
 }
 
 -- a clerk holds the entry, on its first day
+abbrev pub hold_line : Import → ListedEntry → Line
+hold_line by entry = line (midnight entry.first) by.clerk (hold by.registry entry.value)
+
 abbrev pub hold_lines : Import → ListedEntry → Bool → List Line
-hold_lines by entry held =
-    if held then line (midnight entry.first) by.clerk (hold by.registry entry.value) ∷ [] else []
+hold_lines by entry held = if held then hold_line by entry ∷ [] else []
 
 abbrev pub renewal_lines : Import → ListedEntry → EarlyStanding → Option ℕ → List Line
 renewal_lines by entry standing None = []
@@ -230,5 +245,5 @@ abbrev pub entry_lines : Import → ListedEntry → List Line
 entry_lines by entry =
     filing_lines by (entry_filing by entry) ++ later_lines by entry entry.standing
 
-abbrev pub lines_text : List Line → List ℕ
+unfoldable pub lines_text : List Line → List ℕ
 lines_text lines = flat_map line_text lines

@@ -10,6 +10,7 @@ use reg_print::asks::ask_text;
 use std::alloc::{AllocError, Global};
 
 /// That a token be given a capability.
+#[tactic(auto, unfolding(crate::specs::Lines::errand_text))]
 pub(crate) fn grant_text(
     alloc: Global,
     token: &str,
@@ -29,6 +30,7 @@ pub(crate) fn grant_text(
 }
 
 /// A request under a reference.
+#[tactic(auto, unfolding(crate::specs::Lines::errand_text))]
 pub(crate) fn submission_text(
     alloc: Global,
     reference: &str,
@@ -42,6 +44,7 @@ pub(crate) fn submission_text(
 }
 
 /// That a request be assigned to an expert.
+#[tactic(auto, unfolding(crate::specs::Lines::errand_text))]
 pub(crate) fn assignment_text(
     alloc: Global,
     account: &Account,
@@ -57,6 +60,7 @@ pub(crate) fn assignment_text(
 }
 
 /// That a request be given advice.
+#[tactic(auto, unfolding(crate::specs::Lines::errand_text))]
 pub(crate) fn advice_text(
     alloc: Global,
     account: &Account,
@@ -73,6 +77,7 @@ pub(crate) fn advice_text(
 }
 
 /// That a request be approved.
+#[tactic(auto, unfolding(crate::specs::Lines::errand_text))]
 pub(crate) fn approval_text(
     alloc: Global,
     account: &Account,
@@ -86,6 +91,7 @@ pub(crate) fn approval_text(
 }
 
 /// That an entry be held.
+#[tactic(auto, unfolding(crate::specs::Lines::errand_text))]
 pub(crate) fn hold_text(alloc: Global, registry: &Name, value: u32) -> Result<String, AllocError>
     ensures { IfOk result (λ text. string_bytes text ≡ errand_text (hold registry.now value)) }
 {

@@ -1,7 +1,7 @@
 //! The lines of a script that make an entry.
 ghost use Rattle.std.specs.Prelude.{◌≡◌, ◌+◌, ◌<◌, ◌^◌, ◌∷◌, ◌++◌, [], OnOk, IfOk, codes};
 ghost use Rattle.std.specs.String.{string_bytes};
-ghost use Rattle.reg_import.specs.Lines.{asking_text, entry_ask, entry_filing, entry_lines, filing_lines, filing_view, grant_line, hold_lines, later_lines, line_text, lines_text, renewal_filing, renewal_lines, review_lines, token_for};
+ghost use Rattle.reg_import.specs.Lines.{advice_line, approval_line, asking_text, assignment_line, entry_ask, entry_filing, entry_lines, filing_lines, filing_view, grant_line, hold_line, hold_lines, later_lines, line_text, lines_text, renewal_filing, renewal_lines, review_if, review_lines, submission_line, token_for};
 
 use crate::day_reading::midnight;
 use crate::entry::{EarlyStanding, ListedEntry, Standing};
@@ -31,7 +31,6 @@ struct Filing {
 }
 
 /// Appends the lines that make an entry, by the ordinary procedure. Only want of memory is an error.
-#[tactic(auto, using(crate::proofs::LineTexts::lines_text_append))]
 pub fn push_entry(
     out: &mut Vec<u8>,
     import: &Import,
@@ -42,7 +41,8 @@ pub fn push_entry(
 {
     let filing = entry_filing(*out.allocator(), import, entry)?;
     push_filing(out, import, &filing)?;
-    push_later(out, import, entry)
+    push_later(out, import, entry)?;
+    Ok(())
 }
 
 // The lines for an entry that is there.
@@ -58,7 +58,8 @@ fn push_later(
         Standing::ForGood(_) => Ok(()),
         Standing::Early(standing) => {
             push_hold_if(out, import, entry, standing.held)?;
-            push_renewal_if(out, import, entry, standing)
+            push_renewal_if(out, import, entry, standing)?;
+            Ok(())
         }
     }
 }
@@ -72,15 +73,25 @@ fn push_hold_if(
     ensures { OnOk result
         (out.new.items ≡ out.old.items ++ lines_text (hold_lines import.now entry.now held)) }
 {
-    if !held {
-        return Ok(());
+    if held {
+        push_hold(out, import, entry)
+    } else {
+        Ok(())
     }
-    let text = hold_text(*out.allocator(), &import.registry, entry.value)?;
+}
+
+// The line by which a clerk holds an entry, on its first day.
+#[tactic(auto, unfolding(crate::specs::Lines::line_text))]
+fn push_hold(out: &mut Vec<u8>, import: &Import, entry: &ListedEntry) -> Result<(), AllocError>
+    ensures { OnOk result
+        (out.new.items ≡ out.old.items ++ line_text (hold_line import.now entry.now)) }
+{
+    let value = entry.value;
+    let text = hold_text(*out.allocator(), &import.registry, value)?;
     let moment = midnight(entry.first);
     push_line(out, moment, import.clerk.as_str(), text.as_bytes())
 }
 
-#[tactic(auto, using(crate::proofs::LineTexts::lines_text_append))]
 fn push_renewal_if(
     out: &mut Vec<u8>,
     import: &Import,
@@ -168,7 +179,6 @@ fn renewal_filing(
 }
 
 // The lines of a request: a token for its applicant, the request, its review, and its approval.
-#[tactic(auto, using(crate::proofs::LineTexts::lines_text_append))]
 fn push_filing(
     out: &mut Vec<u8>,
     import: &Import,
@@ -178,21 +188,32 @@ fn push_filing(
     ensures { OnOk result (out.new.items
         ≡ out.old.items ++ lines_text (filing_lines import.now (filing_view filing.now))) }
 {
-    let alloc = *out.allocator();
     let account = filing.account;
-    let token = pass_of(alloc, import, filing, Kind::Applicant, account)?;
+    let token = pass_of(*out.allocator(), import, filing, Kind::Applicant, account)?;
     push_grant(out, import, filing, token.as_str(), &account, Kind::Applicant)?;
-    let text = submission_text(alloc, filing.reference.as_str(), &filing.ask)?;
-    push_line(out, filing.moment, token.as_str(), text.as_slice())?;
+    push_submission(out, filing, token.as_str())?;
+    push_review_if(out, import, filing)?;
+    push_approval(out, import, filing)?;
+    Ok(())
+}
+
+fn push_review_if(
+    out: &mut Vec<u8>,
+    import: &Import,
+    filing: &Filing,
+) -> Result<(), AllocError>
+    requires { filing.now.moment + 1 < 2 ^ 64 }
+    ensures { OnOk result (out.new.items
+        ≡ out.old.items ++ lines_text (review_if import.now (filing_view filing.now))) }
+{
     if filing.reviewed {
-        push_review(out, import, filing)?;
+        push_review(out, import, filing)
+    } else {
+        Ok(())
     }
-    let text = approval_text(alloc, &filing.account, filing.reference.as_str())?;
-    push_line(out, filing.moment, import.clerk.as_str(), text.as_bytes())
 }
 
 // The lines by which an expert looks at a request, and is for it.
-#[tactic(auto, using(crate::proofs::LineTexts::lines_text_append))]
 fn push_review(
     out: &mut Vec<u8>,
     import: &Import,
@@ -202,15 +223,12 @@ fn push_review(
     ensures { OnOk result (out.new.items
         ≡ out.old.items ++ lines_text (review_lines import.now (filing_view filing.now))) }
 {
-    let alloc = *out.allocator();
     let expert = import.expert;
-    let reference = filing.reference.as_str();
-    let text = assignment_text(alloc, &filing.account, reference, &expert)?;
-    push_line(out, filing.moment, import.clerk.as_str(), text.as_bytes())?;
-    let token = pass_of(alloc, import, filing, Kind::Expert, expert)?;
+    push_assignment(out, import, filing)?;
+    let token = pass_of(*out.allocator(), import, filing, Kind::Expert, expert)?;
     push_grant(out, import, filing, token.as_str(), &expert, Kind::Expert)?;
-    let text = advice_text(alloc, &filing.account, reference)?;
-    push_line(out, filing.moment, token.as_str(), text.as_bytes())
+    push_advice(out, filing, token.as_str())?;
+    Ok(())
 }
 
 // A token for an account and the value of a request, that is valid for one second.
@@ -235,6 +253,7 @@ fn pass_of(
 }
 
 // The line by which a token gets a capability for one second.
+#[tactic(auto, unfolding(crate::specs::Lines::line_text))]
 fn push_grant(
     out: &mut Vec<u8>,
     import: &Import,
@@ -249,6 +268,59 @@ fn push_grant(
 {
     let until = filing.moment + 1;
     let text = grant_text(*out.allocator(), token, account, kind, until)?;
+    push_line(out, filing.moment, import.clerk.as_str(), text.as_bytes())
+}
+
+// The line by which a request is filed.
+#[tactic(auto, unfolding(crate::specs::Lines::line_text))]
+fn push_submission(out: &mut Vec<u8>, filing: &Filing, token: &str) -> Result<(), AllocError>
+    ensures { OnOk result (out.new.items
+        ≡ out.old.items ++ line_text (submission_line (filing_view filing.now) token.now)) }
+{
+    let reference = filing.reference.as_str();
+    let text = submission_text(*out.allocator(), reference, &filing.ask)?;
+    push_line(out, filing.moment, token, text.as_slice())
+}
+
+// The line by which it is assigned to the expert.
+#[tactic(auto, unfolding(crate::specs::Lines::line_text))]
+fn push_assignment(
+    out: &mut Vec<u8>,
+    import: &Import,
+    filing: &Filing,
+) -> Result<(), AllocError>
+    ensures { OnOk result (out.new.items
+        ≡ out.old.items ++ line_text (assignment_line import.now (filing_view filing.now))) }
+{
+    let reference = filing.reference.as_str();
+    let alloc = *out.allocator();
+    let text = assignment_text(alloc, &filing.account, reference, &import.expert)?;
+    push_line(out, filing.moment, import.clerk.as_str(), text.as_bytes())
+}
+
+// The line by which it is given advice.
+#[tactic(auto, unfolding(crate::specs::Lines::line_text))]
+fn push_advice(out: &mut Vec<u8>, filing: &Filing, token: &str) -> Result<(), AllocError>
+    ensures { OnOk result (out.new.items
+        ≡ out.old.items ++ line_text (advice_line (filing_view filing.now) token.now)) }
+{
+    let reference = filing.reference.as_str();
+    let text = advice_text(*out.allocator(), &filing.account, reference)?;
+    push_line(out, filing.moment, token, text.as_bytes())
+}
+
+// The line by which it is approved.
+#[tactic(auto, unfolding(crate::specs::Lines::line_text))]
+fn push_approval(
+    out: &mut Vec<u8>,
+    import: &Import,
+    filing: &Filing,
+) -> Result<(), AllocError>
+    ensures { OnOk result (out.new.items
+        ≡ out.old.items ++ line_text (approval_line import.now (filing_view filing.now))) }
+{
+    let reference = filing.reference.as_str();
+    let text = approval_text(*out.allocator(), &filing.account, reference)?;
     push_line(out, filing.moment, import.clerk.as_str(), text.as_bytes())
 }
 

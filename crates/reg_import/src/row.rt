@@ -28,6 +28,7 @@ const CLOSING_DAY: u32 = 376_200;
 
 /// The entry that a row says; none where its values have none. Else its first fault: the count of
 /// its fields, then its status, then its other columns, and at last what its policy asks for.
+#[tactic(auto, unfolding(crate::specs::Rows::row_in))]
 pub(crate) fn read_row(
     alloc: Global,
     import: &Import,

@@ -10,6 +10,7 @@ ghost use Rattle.reg_program.specs.Tasks.{streams};
 use crate::asking::{Form, definition, listing, print, requested};
 use crate::console::Console;
 use crate::faults::Undone;
+use crate::importing::import;
 use crate::inputs::{all_of, bytes_of, optional_token, token_of};
 use crate::publishing::{port_of, publish_served};
 use crate::scripts::run_in;
@@ -101,6 +102,7 @@ fn attempt<D: Dates, O: Offices, R: Read, W: Write, E: Write>(
 {
     match job {
         Job::Script { clerk, file } => script(rt, dates, offices, clerk.as_str(), file, console),
+        Job::Import(order) => import(rt, moment_now(dates), order, console.output),
         Job::Init { file, clerk } => init(
             rt,
             dates,
