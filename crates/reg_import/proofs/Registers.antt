@@ -1,5 +1,8 @@
 -- The script of rows, from one row to the next.
-use Rattle.std.proofs.Common.{◌≡◌, ◌∙◌, ℕ, ◌+◌, List, [], ◌∷◌, ◌++◌, Option, Result, Ok, Err, refl, sym, ap, append_assoc}
+use Rattle.std.proofs.Common.{◌≡◌, ◌∙◌, ℕ, suc, ◌+◌, ◌<◌, ◌≤◌, List, [], ◌∷◌, ◌++◌, length, map, drop, get_or, Option, Result, Ok, Err, refl, sym, ap, append_assoc, add-one}
+use Rattle.std.proofs.Math.Seq.{drop-cons}
+use Rattle.std.proofs.Math.ListN.{drop_of_length-le}
+use Rattle.std.proofs.lemmas.List.{drop-map}
 use Rattle.std.proofs.lemmas.List.{append-nil}
 use Rattle.reg_import.specs.Faults.{IsImportFaultOf}
 use Rattle.reg_import.specs.Lines.{Line, lines_text}
@@ -72,3 +75,17 @@ is_fault_met by header all n row left old import.Header whole met =
     fault_met by header all n row left old import.Header whole met
 is_fault_met by header all n row left old (import.Row m f) whole met =
     fault_met by header all n row left old (import.Row m f) whole met
+
+-- the row at a place is the first of those that are left there
+pub row_at : {X Y : Type 0} (f : X → Y) (xs : List X) (i : ℕ) (x : X) → i < length xs
+    → x ≡ get_or xs i x → drop i (map f xs) ≡ f x ∷ drop (i + 1) (map f xs)
+row_at f xs i x h is =
+    let here = drop-cons xs i x h in
+    let rest : drop (suc i) (map f xs) ≡ map f (drop (suc i) xs) = drop-map f (suc i) xs in
+    drop-map f i xs ∙ ap (map f) here ∙ ap (λ y. f y ∷ map f (drop (suc i) xs)) (sym is)
+    ∙ ap (λ ys. f x ∷ ys) (sym rest ∙ ap (λ n. drop n (map f xs)) (sym (add-one i)))
+
+-- none are left at the end
+pub none_left : {X Y : Type 0} (f : X → Y) (xs : List X) (i : ℕ) → length xs ≤ i
+    → drop i (map f xs) ≡ []
+none_left f xs i h = drop-map f i xs ∙ ap (map f) (drop_of_length-le xs h)

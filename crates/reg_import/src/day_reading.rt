@@ -42,7 +42,7 @@ fn day_at(year: u32, month: u32, day: u32) -> Option<Day>
         return None;
     }
     let date = Date::new(year as i16, month as i8, day as i8).ok()?;
-    Day::from_days(date.to_plain().to_unix_epoch_day() as u32)
+    Day::from_days(date.to_plain().to_unix_epoch_day().unsigned_abs())
 }
 
 /// The day one year before a day: the one whose year ends on it, and the earlier where there are
