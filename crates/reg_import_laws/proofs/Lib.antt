@@ -1,4 +1,4 @@
 pub mod RowFacts
 pub mod Steps
 pub mod Filings
-pub mod Made
+pub mod Allowed

@@ -60,6 +60,10 @@ module _ (digest_of : List ℕ → List ℕ) where
     pub is : answer_to digest_of w (Some caller) moment command
         ≡ Ok (record { told = told; change = Some made })
 
+  -- so it is with a line
+  abbrev pub LineDoes : World → Line → Change → Type 0
+  LineDoes w l made = Does w (digest_of l.token) l.moment (command_of l.errand) made
+
   module _ (w : World) where
     pub granted : (clerk : List ℕ) (moment : ℕ) (token : List ℕ) (cap : Cap)
         → acts_as_clerk (get w.caps clerk) moment ≡ true → get w.caps (digest_of token) ≡ None
@@ -150,8 +154,7 @@ module _ (digest_of : List ℕ → List ℕ) where
   runs_nil w = record { accepted = All-nil (λ (reply : Reply). is_refused reply ≡ false); ends = refl }
 
   pub runs_cons : (w after : World) (l : Line) (lines : List Line) (made : Change)
-      → Does w (digest_of l.token) l.moment (command_of l.errand) made
-      → Runs (applied w made) lines after → Runs w (l ∷ lines) after
+      → LineDoes w l made → Runs (applied w made) lines after → Runs w (l ∷ lines) after
   runs_cons w after l lines made does more =
       record {
         accepted = rw does.is

@@ -3,6 +3,7 @@ use Rattle.std.specs.Prelude.{◌≡◌, ◌≢◌, ℕ, true, false, List, Opti
 use Rattle.std.specs.FinMap.{get}
 use Rattle.reg_early.specs.Terms.{permanent_term}
 use Rattle.reg_early.specs.declared.term.Term.{Term}
+use Rattle.reg_ranges.specs.Requirements.{is_expert_policy}
 use Rattle.reg_ranges.specs.Tables.{Table, treatment_of}
 use Rattle.reg_ranges.specs.declared.policy.Policy.{Policy}
 use Rattle.reg_ranges.specs.declared.policy.Treatment.TheVariants.{Under}
@@ -92,8 +93,9 @@ module _ (digest_of : List ℕ → List ℕ) where
   pub record IsNew (w : World) (by : Import) (f : Filing) : Type 0 where
     pub clerk : acts_as_clerk (get w.caps (digest_of by.clerk)) f.moment ≡ true
     pub applicant : get w.caps (digest_of (applicant_token by f)) ≡ None
-    pub expert : get w.caps (digest_of (expert_token by f)) ≡ None
-    pub apart : digest_of (expert_token by f) ≢ digest_of (applicant_token by f)
+    pub expert : f.reviewed ≡ true → get w.caps (digest_of (expert_token by f)) ≡ None
+    pub apart : f.reviewed ≡ true
+        → digest_of (expert_token by f) ≢ digest_of (applicant_token by f)
     pub reference : get w.requests (f.account, f.reference) ≡ None
 
   -- so it is of the renewal of an entry on a day, and its token is none of those before
@@ -102,7 +104,8 @@ module _ (digest_of : List ℕ → List ℕ) where
     pub new : IsNew w by (renewal_filing by entry standing day)
     pub other : digest_of (applicant_token by (renewal_filing by entry standing day))
         ≢ digest_of (applicant_token by (entry_filing by entry))
-    pub another : digest_of (applicant_token by (renewal_filing by entry standing day))
+    pub another : is_expert_policy entry.policy ≡ true
+        → digest_of (applicant_token by (renewal_filing by entry standing day))
         ≢ digest_of (expert_token by (entry_filing by entry))
 
   abbrev pub RenewalsAreNew : World → Import → ListedEntry → Standing → Type 0
