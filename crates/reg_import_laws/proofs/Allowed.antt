@@ -8,7 +8,7 @@ use Rattle.reg_early.specs.EarlyRequirements.{early_unmet}
 use Rattle.reg_early.specs.declared.evidence.EarlyEvidence.{EarlyEvidence}
 use Rattle.reg_early.specs.declared.term.Term.{Term}
 use Rattle.reg_ranges.specs.Requirements.{first_item, is_closed_policy, is_expert_policy, unmet}
-use Rattle.reg_ranges.specs.Tables.{Table, treatment_of}
+use Rattle.reg_ranges.specs.Tables.{IsPartition, Table, treatment_of}
 use Rattle.reg_ranges.specs.declared.evidence.Evidence.{Evidence}
 use Rattle.reg_ranges.specs.declared.policy.Policy.{Policy}
 use Rattle.reg_ranges.specs.declared.policy.Policy.TheVariants as policy
@@ -62,6 +62,7 @@ pub not_above : (w : World) → WellKept w → (name : List ℕ) (table : Table)
     → nat_lt table.max value ≡ false
 not_above w kept name table value p defined treated = by (nat_lt table.max value) refl
   where
+    partition : IsPartition table
     partition = table_partition table
         (second_so (is_name name) (has_table_form table) (kept.registries name table defined))
 

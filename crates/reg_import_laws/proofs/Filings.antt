@@ -1,6 +1,6 @@
 -- A filing of an import: its lines are accepted, and give what its request is allowed.
 use Rattle.std.proofs.Common.{◌≡◌, ◌∙◌, ℕ, ◌+◌, Bool, true, false, cond, List, [], ◌∷◌, ◌++◌, refl, sym, ap, subst}
-use Rattle.std.specs.Prelude.{◌≢◌, ◌&&◌, not, Option, Some, None, Ok, is_some}
+use Rattle.std.specs.Prelude.{◌≢◌, ◌&&◌, not, Option, Some, None, Ok, is_some, option_map}
 use Rattle.std.specs.Cmp.{first_so, second_so}
 use Rattle.std.specs.declared.cmp.Ordering.{Ordering}
 use Rattle.std.specs.FinMap.{FinMap, get, insert}
@@ -42,7 +42,7 @@ module _ {K X : Type 0} {R : K → K → Ordering} (o : IsKeyOrder R) where
       → get (update m k f) q ≡ get m q
   other_updated m k f q apart = get-update o m k f q ∙ by (eq_by_cmp R q k) refl
     where
-      by : (b : Bool) → eq_by_cmp R q k ≡ b → cond b _ (get m q) ≡ get m q
+      by : (b : Bool) → eq_by_cmp R q k ≡ b → cond b (option_map f (get m k)) (get m q) ≡ get m q
       by true is = absurd (apart (tied o q k is))
       by false is = refl
 
@@ -78,8 +78,8 @@ module _ (digest_of : List ℕ → List ℕ) (by : Import) (f : Filing) (allowan
   -- what the lines need of an office
   pub record CanFile (w : World) : Type 0 where
     pub new : IsNew digest_of w by f
-    pub unqueued : get w.queue (name, by.expert) ≡ None
-    pub unadvised : get w.advice (name, by.expert) ≡ None
+    pub unqueued : f.reviewed ≡ true → get w.queue (name, by.expert) ≡ None
+    pub unadvised : f.reviewed ≡ true → get w.advice (name, by.expert) ≡ None
     pub allowed : allowance_on (ground_of (published w) f.ask) f.account f.ask ≡ Ok allowance
     pub award : allowance.award ≡ awarded_entry e
     pub needs : allowance.needs_advice ≡ f.reviewed
@@ -215,7 +215,7 @@ module _ (digest_of : List ℕ → List ℕ) (by : Import) (f : Filing) (allowan
     third_line : f.reviewed ≡ true → LineDoes digest_of (filed_in w) (assignment_line by f)
         (change.Assign f.account f.reference by.expert)
     third_line is = assigned digest_of (filed_in w) clerk f.moment f.account f.reference by.expert f.ask
-        (acts_first f.moment can.new.clerk) filed can.unqueued (can.other is)
+        (acts_first f.moment can.new.clerk) filed (can.unqueued is) (can.other is)
 
     fourth_line : f.reviewed ≡ true → LineDoes digest_of (assigned_in w)
         (grant_line by f (expert_token by f) by.expert Expert)
@@ -223,12 +223,12 @@ module _ (digest_of : List ℕ → List ℕ) (by : Import) (f : Filing) (allowan
     fourth_line is = granted digest_of (assigned_in w) clerk f.moment (expert_token by f)
         (expert_cap by.expert f.moment) (acts_first f.moment can.new.clerk) (second_free is)
 
-    fifth_line : LineDoes digest_of (expert_in w) (advice_line f (expert_token by f))
+    fifth_line : f.reviewed ≡ true → LineDoes digest_of (expert_in w) (advice_line f (expert_token by f))
         (change.Advise f.account f.reference by.expert imported)
-    fifth_line = advised digest_of (expert_in w) second_digest f.moment f.account f.reference by.expert
+    fifth_line is = advised digest_of (expert_in w) second_digest f.moment f.account f.reference by.expert
         f.ask clock
         (get-inserted text_keys (granted_to w).caps second_digest (expert_cap by.expert f.moment))
-        filed (get-inserted seat_keys w.queue (name, by.expert) tt) can.unadvised
+        filed (get-inserted seat_keys w.queue (name, by.expert) tt) (can.unadvised is)
 
     is_advised : was_advised (advised_in w) name ≡ true
     is_advised = advised_is (advised_in w) name (
@@ -247,7 +247,7 @@ module _ (digest_of : List ℕ → List ℕ) (by : Import) (f : Filing) (allowan
           (runs_cons digest_of (granted_to w) (given_in (advised_in w)) _ _ _ second_line
           (runs_cons digest_of (filed_in w) (given_in (advised_in w)) _ _ _ (third_line is)
           (runs_cons digest_of (assigned_in w) (given_in (advised_in w)) _ _ _ (fourth_line is)
-          (runs_cons digest_of (expert_in w) (given_in (advised_in w)) _ _ _ fifth_line
+          (runs_cons digest_of (expert_in w) (given_in (advised_in w)) _ _ _ (fifth_line is)
           (last_line (advised_in w) (acts_second is f.moment can.new.clerk) filed refl
           (rw (is, is_advised) refl)))))));
       entries = refl;

@@ -2,3 +2,4 @@ pub mod RowFacts
 pub mod Steps
 pub mod Filings
 pub mod Allowed
+pub mod Made

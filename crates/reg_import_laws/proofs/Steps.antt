@@ -1,5 +1,5 @@
 -- The commands of an import, each a step that is accepted.
-use Rattle.std.proofs.Common.{◌≡◌, ◌∙◌, ℕ, ◌+◌, Bool, true, false, List, [], ◌∷◌, ◌++◌, map, refl, sym, ap, arith}
+use Rattle.std.proofs.Common.{◌≡◌, ◌∙◌, ℕ, ◌+◌, Bool, true, false, List, [], ◌∷◌, ◌++◌, map, refl, sym, ap, subst, arith}
 use Rattle.std.specs.Prelude.{◌&&◌, not, nat_le, Option, Some, None, Ok, is_some, All, option_and_then}
 use Rattle.std.specs.FinMap.{get}
 use Rattle.std.proofs.lemmas.Bool.Decides.{nat_tests}
@@ -8,7 +8,7 @@ use Rattle.reg_early.specs.Moment.{is_in_clock, utc_day}
 use Rattle.reg_ranges.specs.Tables.{Table}
 use Rattle.reg_maps.specs.Maps.{same_text}
 use Rattle.reg_core.specs.Allowance.{allowance_on, ground_of}
-use Rattle.reg_core.specs.Answer.{Outcome}
+use Rattle.reg_core.specs.Answer.{Answer, change_of, reply_of}
 use Rattle.reg_core.specs.Award.{Allowance}
 use Rattle.reg_core.specs.Entry.{page_entry, with_hold}
 use Rattle.reg_core.specs.File.{was_advised}
@@ -16,10 +16,10 @@ use Rattle.reg_core.specs.Laws.{is_refused}
 use Rattle.reg_core.specs.Queue.{with_advice}
 use Rattle.reg_core.specs.Request.{request_row}
 use Rattle.reg_core.specs.Rules.{change_to_give, hold_rule}
-use Rattle.reg_core.specs.Run.{Event, run, world_after}
+use Rattle.reg_core.specs.Run.{run, step_of, world_after}
 use Rattle.reg_core.specs.Step.{acts_as_clerk, answer_to, desk_by}
 use Rattle.reg_core.specs.View.{as_queued, published, queue_of, requests_of}
-use Rattle.reg_core.specs.World.{World, RequestName, applied, pending}
+use Rattle.reg_core.specs.World.{World, RequestName, applied, applied_if, pending}
 use Rattle.reg_core.specs.Answer.{item}
 use Rattle.reg_core.specs.declared.ask.Ask.{Ask}
 use Rattle.reg_core.specs.declared.capability.Cap.{Cap}
@@ -34,6 +34,7 @@ use Rattle.reg_core.specs.declared.command.ClerkCommand.TheVariants.{AssignExper
 use Rattle.reg_core.specs.declared.decide.Decision.TheVariants.{Make}
 use Rattle.reg_core.specs.declared.entry.Registration.{Registration}
 use Rattle.reg_core.specs.declared.reply.Reply.{Reply}
+use Rattle.reg_core.specs.declared.reply.Reply.TheVariants.{Accepted}
 use Rattle.reg_core.specs.declared.told.Told.{Told}
 use Rattle.reg_core.specs.declared.told.Told.TheVariants as tells
 use Rattle.reg_core.proofs.Queues.{found_queued}
@@ -156,37 +157,48 @@ module _ (digest_of : List ℕ → List ℕ) where
   pub runs_cons : (w after : World) (l : Line) (lines : List Line) (made : Change)
       → LineDoes w l made → Runs (applied w made) lines after → Runs w (l ∷ lines) after
   runs_cons w after l lines made does more =
+      let P : Reply → Type 0 = λ reply. is_refused reply ≡ false in
+      let replies : Answer → List Reply = λ a.
+      reply_of a ∷ run digest_of (applied_if w (change_of a)) (events_of digest_of lines) in
       record {
-        accepted = rw does.is
-            (All-cons (λ (reply : Reply). is_refused reply ≡ false) _ _ refl more.accepted);
-        ends = rw does.is more.ends;
+        accepted = subst (λ (a : Answer). All P (replies a)) (sym does.is)
+            (All-cons P (Accepted does.told) (run digest_of (applied w made) (events_of digest_of lines))
+            refl more.accepted);
+        ends = subst (λ (a : Answer).
+            world_after digest_of (applied_if w (change_of a)) (events_of digest_of lines) ≡ after)
+            (sym does.is) more.ends;
       }
 
-  runs_on : (w after : World) (lines more : List Line) → Runs w lines after
-      → (world_after digest_of w (events_of digest_of (lines ++ more))
-      ≡ world_after digest_of after (events_of digest_of more))
-      × (run digest_of w (events_of digest_of (lines ++ more))
-      ≡ run digest_of w (events_of digest_of lines) ++ run digest_of after (events_of digest_of more))
-  runs_on w after lines more first = (ends w lines ∙ ap (λ v. world_after digest_of v (events_of digest_of more)) first.ends,
-      replies w lines ∙ ap (λ v. run digest_of w (events_of digest_of lines) ++ run digest_of v (events_of digest_of more)) first.ends)
-    where
-      ends : (v : World) (ls : List Line) → world_after digest_of v (events_of digest_of (ls ++ more))
-          ≡ world_after digest_of (world_after digest_of v (events_of digest_of ls)) (events_of digest_of more)
-      ends v [] = refl
-      ends v (l ∷ ls) = ends _ ls
+  -- what more lines do is done from the world that the first ones end in
+  ends_on : (more lines : List Line) (v : World)
+      → world_after digest_of v (events_of digest_of (lines ++ more))
+      ≡ world_after digest_of (world_after digest_of v (events_of digest_of lines))
+      (events_of digest_of more)
+  ends_on more [] v = refl
+  ends_on more (l ∷ lines) v = ends_on more lines (step_of digest_of v (event_of digest_of l)).world
 
-      replies : (v : World) (ls : List Line) → run digest_of v (events_of digest_of (ls ++ more))
-          ≡ run digest_of v (events_of digest_of ls)
-          ++ run digest_of (world_after digest_of v (events_of digest_of ls)) (events_of digest_of more)
-      replies v [] = refl
-      replies v (l ∷ ls) = ap (λ rs. _ ∷ rs) (replies _ ls)
+  replies_on : (more lines : List Line) (v : World)
+      → run digest_of v (events_of digest_of (lines ++ more))
+      ≡ run digest_of v (events_of digest_of lines)
+      ++ run digest_of (world_after digest_of v (events_of digest_of lines)) (events_of digest_of more)
+  replies_on more [] v = refl
+  replies_on more (l ∷ lines) v =
+      ap (λ rs. (step_of digest_of v (event_of digest_of l)).reply ∷ rs)
+      (replies_on more lines (step_of digest_of v (event_of digest_of l)).world)
 
   pub runs_append : (w middle after : World) (lines more : List Line) → Runs w lines middle
       → Runs middle more after → Runs w (lines ++ more) after
   runs_append w middle after lines more first then =
-      let on = runs_on w middle lines more first in
+      let P : Reply → Type 0 = λ reply. is_refused reply ≡ false in
+      let replies : run digest_of w (events_of digest_of (lines ++ more))
+      ≡ run digest_of w (events_of digest_of lines) ++ run digest_of middle (events_of digest_of more) =
+      replies_on more lines w
+      ∙ ap (λ v. run digest_of w (events_of digest_of lines) ++ run digest_of v (events_of digest_of more))
+      first.ends in
       record {
-        accepted = rw on.1 (All-append (λ (reply : Reply). is_refused reply ≡ false) _ _
-            first.accepted then.accepted);
-        ends = on.0 ∙ then.ends;
+        accepted = subst (All P) (sym replies)
+            (All-append P (run digest_of w (events_of digest_of lines))
+            (run digest_of middle (events_of digest_of more)) first.accepted then.accepted);
+        ends = ends_on more lines w
+            ∙ ap (λ v. world_after digest_of v (events_of digest_of more)) first.ends ∙ then.ends;
       }
