@@ -1,5 +1,5 @@
 -- The job that turns a register into a script.
-use Rattle.std.specs.Prelude.{◌≡◌, ⊤, ℕ, List, Option, Some, Result, Ok, Err, MatchResult, codes}
+use Rattle.std.specs.Prelude.{◌≡◌, ⊤, ℕ, List, Option, Some, Result, Ok, Err, codes}
 use Rattle.std.specs.Io.KnownBytes.{Appends}
 use Rattle.std.specs.String.{string_bytes}
 use Rattle.reg_early.specs.Moment.{day_of_moment}
@@ -54,10 +54,13 @@ IsUnscripted found (Fault Memory) = ⊤
 IsUnscripted found (Fault Write) = ⊤
 IsUnscripted found why = ⊥
 
--- what becomes of the job at the moment that the clock said: the script is printed; or why not, and
--- then nothing is, unless it could not be written
+-- the script is printed; or it is not, and then nothing is, unless it could not be written
+abbrev pub PrintsOrSaysWhy : Importation → ℕ → Option (List ℕ) → Option (List ℕ) → Result ⊤ Undone
+    → Type 0
+PrintsOrSaysWhy order moment had has (Ok u) = Imports order moment had has
+PrintsOrSaysWhy order moment had has (Err why) = (why ≡ Fault Write → ⊥) → has ≡ had
+
+-- so it is of the job at the moment that the clock said
 abbrev pub IsImported : Importation → Streams → Result ⊤ Undone → Type 0
 IsImported order io done =
-    (moment : ℕ) × IsMoment io moment
-    × MatchResult done (λ _. Imports order moment io.had io.has)
-    (λ why. (why ≡ Fault Write → ⊥) → io.has ≡ io.had)
+    (moment : ℕ) × IsMoment io moment × PrintsOrSaysWhy order moment io.had io.has done

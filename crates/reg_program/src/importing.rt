@@ -5,7 +5,7 @@ ghost use Rattle.reg_early.specs.Moment.{day_of_moment};
 ghost use Rattle.reg_core.specs.declared.wire_refusal.WireRefusal.TheVariants.{Field};
 ghost use Rattle.reg_import.specs.Scripts.{script_of};
 ghost use Rattle.reg_print.specs.declared.answer.Answer.TheVariants as answer;
-ghost use Rattle.reg_program.specs.Importing.{Imports, IsImporting, IsSaidOf, IsScripted, IsUnscripted};
+ghost use Rattle.reg_program.specs.Importing.{IsImporting, IsSaidOf, IsScripted, IsUnscripted, PrintsOrSaysWhy};
 ghost use Rattle.reg_program.specs.Undone.{IsSaidBy, answer_line as line_of};
 ghost use Rattle.reg_program.specs.declared.faults.JobFailure.TheVariants.{Write};
 ghost use Rattle.reg_program.specs.declared.faults.Undone.TheVariants.{Fault};
@@ -34,10 +34,7 @@ pub fn import<W: Write>(
     order: &Importation,
     output: &mut W,
 ) -> Result<(), Undone>
-    ensures imports { OnOk result
-        (Imports order.now moment (W.contents output.old) (W.contents output.new)) }
-    ensures silent { IfErr result (λ why.
-        (why ≡ Fault Write → ⊥) → W.contents output.new ≡ W.contents output.old) }
+    ensures { PrintsOrSaysWhy order.now moment (W.contents output.old) (W.contents output.new) result }
 {
     let alloc = rt.alloc();
     let token = token_of(rt, alloc, order.clerk.as_str())?;
