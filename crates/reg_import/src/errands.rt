@@ -23,8 +23,7 @@ pub(crate) fn grant_text(
 {
     let account = account.as_str();
     let kind = kind.word();
-    format!(
-        in alloc;
+    format!(in alloc;
         "/desk/tokens {{\"account\":\"{account}\",\"kind\":\"{kind}\",\"token\":\"{token}\",\"until\":{until}}}"
     )
 }
@@ -70,10 +69,7 @@ pub(crate) fn advice_text(
         (λ text. string_bytes text ≡ errand_text (advise account.now reference.now)) }
 {
     let account = account.as_str();
-    format!(
-        in alloc;
-        "/queue/{account}/{reference} {{\"text\":\"imported\",\"verdict\":\"for\"}}"
-    )
+    format!(in alloc; "/queue/{account}/{reference} {{\"text\":\"imported\",\"verdict\":\"for\"}}")
 }
 
 /// That a request be approved.

@@ -59,10 +59,10 @@ fn rfc_in(fields: &Fields<'_>) -> Result<Option<Rfc>, RowFault>
         return Ok(None);
     }
     let number = read_number(digits).ok_or(RowFault::Form(Column::Rfc))?;
-    let stream = Stream::read(stands_in(fields, Column::Stream))
-        .ok_or(RowFault::Form(Column::Stream))?;
-    let track = Track::read(stands_in(fields, Column::Track))
-        .ok_or(RowFault::Form(Column::Track))?;
+    let stream = Stream::read(stands_in(fields, Column::Stream)).ok_or(RowFault::Form(
+        Column::Stream,
+    ))?;
+    let track = Track::read(stands_in(fields, Column::Track)).ok_or(RowFault::Form(Column::Track))?;
     match Rfc::make(number, stream, track) {
         Some(rfc) => Ok(Some(rfc)),
         None => Err(RowFault::Form(Column::Rfc)),

@@ -29,11 +29,7 @@ pub(crate) fn stands_in<'a>(fields: &Fields<'a>, column: Column) -> &'a [u8]
 }
 
 /// The text of a column that has one.
-pub(crate) fn text_in(
-    alloc: Global,
-    fields: &Fields<'_>,
-    column: Column,
-) -> Result<Text, RowFault>
+pub(crate) fn text_in(alloc: Global, fields: &Fields<'_>, column: Column) -> Result<Text, RowFault>
     ensures text { IfOk result (λ text. text_in (stands_in fields.now) column ≡ Ok text) }
     ensures fault { IfErr result (IsFaultOf (text_in (stands_in fields.now) column)) }
 {

@@ -5,7 +5,9 @@ ghost use Rattle.reg_import.specs.Lines.{advice_line, approval_line, asking_text
 
 use crate::day_reading::midnight;
 use crate::entry::{EarlyStanding, ListedEntry, Standing};
-use crate::errands::{advice_text, approval_text, assignment_text, grant_text, hold_text, submission_text};
+use crate::errands::{
+    advice_text, approval_text, assignment_text, grant_text, hold_text, submission_text,
+};
 use crate::import::Import;
 use crate::marks::{Pass, pass_token, reference_of};
 use reg_core::ask::{Ask, CodeAsk, EarlyAsk, RenewalAsk, Want};
@@ -31,11 +33,7 @@ struct Filing {
 }
 
 /// Appends the lines that make an entry, by the ordinary procedure. Only want of memory is an error.
-pub fn push_entry(
-    out: &mut Vec<u8>,
-    import: &Import,
-    entry: &ListedEntry,
-) -> Result<(), AllocError>
+pub fn push_entry(out: &mut Vec<u8>, import: &Import, entry: &ListedEntry) -> Result<(), AllocError>
     ensures { OnOk result
         (out.new.items ≡ out.old.items ++ lines_text (entry_lines import.now entry.now)) }
 {
@@ -46,11 +44,7 @@ pub fn push_entry(
 }
 
 // The lines for an entry that is there.
-fn push_later(
-    out: &mut Vec<u8>,
-    import: &Import,
-    entry: &ListedEntry,
-) -> Result<(), AllocError>
+fn push_later(out: &mut Vec<u8>, import: &Import, entry: &ListedEntry) -> Result<(), AllocError>
     ensures { OnOk result (out.new.items
         ≡ out.old.items ++ lines_text (later_lines import.now entry.now entry.now.standing)) }
 {
@@ -109,11 +103,7 @@ fn push_renewal_if(
 }
 
 // The request for a new entry, on its first day.
-fn entry_filing(
-    alloc: Global,
-    import: &Import,
-    entry: &ListedEntry,
-) -> Result<Filing, AllocError>
+fn entry_filing(alloc: Global, import: &Import, entry: &ListedEntry) -> Result<Filing, AllocError>
     ensures { IfOk result (λ f. filing_view f ≡ entry_filing import.now entry.now) }
 {
     let value = entry.value;
@@ -179,29 +169,28 @@ fn renewal_filing(
 }
 
 // The lines of a request: a token for its applicant, the request, its review, and its approval.
-fn push_filing(
-    out: &mut Vec<u8>,
-    import: &Import,
-    filing: &Filing,
-) -> Result<(), AllocError>
+fn push_filing(out: &mut Vec<u8>, import: &Import, filing: &Filing) -> Result<(), AllocError>
     requires { filing.now.moment + 1 < 2 ^ 64 }
     ensures { OnOk result (out.new.items
         ≡ out.old.items ++ lines_text (filing_lines import.now (filing_view filing.now))) }
 {
     let account = filing.account;
     let token = pass_of(*out.allocator(), import, filing, Kind::Applicant, account)?;
-    push_grant(out, import, filing, token.as_str(), &account, Kind::Applicant)?;
+    push_grant(
+        out,
+        import,
+        filing,
+        token.as_str(),
+        &account,
+        Kind::Applicant,
+    )?;
     push_submission(out, filing, token.as_str())?;
     push_review_if(out, import, filing)?;
     push_approval(out, import, filing)?;
     Ok(())
 }
 
-fn push_review_if(
-    out: &mut Vec<u8>,
-    import: &Import,
-    filing: &Filing,
-) -> Result<(), AllocError>
+fn push_review_if(out: &mut Vec<u8>, import: &Import, filing: &Filing) -> Result<(), AllocError>
     requires { filing.now.moment + 1 < 2 ^ 64 }
     ensures { OnOk result (out.new.items
         ≡ out.old.items ++ lines_text (review_if import.now (filing_view filing.now))) }
@@ -214,11 +203,7 @@ fn push_review_if(
 }
 
 // The lines by which an expert looks at a request, and is for it.
-fn push_review(
-    out: &mut Vec<u8>,
-    import: &Import,
-    filing: &Filing,
-) -> Result<(), AllocError>
+fn push_review(out: &mut Vec<u8>, import: &Import, filing: &Filing) -> Result<(), AllocError>
     requires { filing.now.moment + 1 < 2 ^ 64 }
     ensures { OnOk result (out.new.items
         ≡ out.old.items ++ lines_text (review_lines import.now (filing_view filing.now))) }
@@ -284,11 +269,7 @@ fn push_submission(out: &mut Vec<u8>, filing: &Filing, token: &str) -> Result<()
 
 // The line by which it is assigned to the expert.
 #[tactic(auto, unfolding(crate::specs::Lines::line_text))]
-fn push_assignment(
-    out: &mut Vec<u8>,
-    import: &Import,
-    filing: &Filing,
-) -> Result<(), AllocError>
+fn push_assignment(out: &mut Vec<u8>, import: &Import, filing: &Filing) -> Result<(), AllocError>
     ensures { OnOk result (out.new.items
         ≡ out.old.items ++ line_text (assignment_line import.now (filing_view filing.now))) }
 {
@@ -311,11 +292,7 @@ fn push_advice(out: &mut Vec<u8>, filing: &Filing, token: &str) -> Result<(), Al
 
 // The line by which it is approved.
 #[tactic(auto, unfolding(crate::specs::Lines::line_text))]
-fn push_approval(
-    out: &mut Vec<u8>,
-    import: &Import,
-    filing: &Filing,
-) -> Result<(), AllocError>
+fn push_approval(out: &mut Vec<u8>, import: &Import, filing: &Filing) -> Result<(), AllocError>
     ensures { OnOk result (out.new.items
         ≡ out.old.items ++ line_text (approval_line import.now (filing_view filing.now))) }
 {
@@ -325,12 +302,7 @@ fn push_approval(
 }
 
 // A line: the moment, the token, and what is asked.
-fn push_line(
-    out: &mut Vec<u8>,
-    moment: u64,
-    token: &str,
-    asked: &[u8],
-) -> Result<(), AllocError>
+fn push_line(out: &mut Vec<u8>, moment: u64, token: &str, asked: &[u8]) -> Result<(), AllocError>
     ensures { OnOk result
         (out.new.items ≡ out.old.items ++ asking_text moment token.now asked.now) }
 {

@@ -22,11 +22,7 @@ pub(crate) struct Pass {
 
 /// A token for what it is for: the SHA-256 of the clerk's token and of that, in hexadecimal.
 #[tactic(auto, unfolding(crate::specs::Lines::pass_token))]
-pub(crate) fn pass_token(
-    alloc: Global,
-    import: &Import,
-    pass: &Pass,
-) -> Result<String, AllocError>
+pub(crate) fn pass_token(alloc: Global, import: &Import, pass: &Pass) -> Result<String, AllocError>
     ensures { IfOk result (λ token. string_bytes token ≡ pass_token import.now pass.now) }
 {
     let clerk = import.clerk.as_str();

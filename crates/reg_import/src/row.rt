@@ -7,7 +7,7 @@ ghost use Rattle.reg_import.specs.Rows.{assignee_in, early_in, entry_in, expires
 
 use crate::column::Column;
 use crate::day_reading::{read_day, year_before};
-use crate::entry::{EarlyStanding, ListedEntry, EntryKind, Standing};
+use crate::entry::{EarlyStanding, EntryKind, ListedEntry, Standing};
 use crate::evidence::{early_evidence_in, evidence_in};
 use crate::fault::RowFault;
 use crate::fields::{Fields, held_in, stands_in, text_in};
@@ -132,8 +132,7 @@ fn policy_in(fields: &Fields<'_>) -> Result<Policy, RowFault>
 fn first_in(import: &Import, fields: &Fields<'_>) -> Result<Day, RowFault>
     ensures { result ≡ first_in import.now (stands_in fields.now) }
 {
-    let first = read_day(stands_in(fields, Column::First))
-        .ok_or(RowFault::Form(Column::First))?;
+    let first = read_day(stands_in(fields, Column::First)).ok_or(RowFault::Form(Column::First))?;
     if first > import.today {
         return Err(RowFault::Future);
     }
@@ -144,8 +143,9 @@ fn first_in(import: &Import, fields: &Fields<'_>) -> Result<Day, RowFault>
 fn assignee_in(import: &Import, fields: &Fields<'_>, policy: Policy) -> Result<Account, RowFault>
     ensures { result ≡ assignee_in import.now (stands_in fields.now) policy }
 {
-    let assignee = Account::read(stands_in(fields, Column::Assignee))
-        .ok_or(RowFault::Form(Column::Assignee))?;
+    let assignee = Account::read(stands_in(fields, Column::Assignee)).ok_or(RowFault::Form(
+        Column::Assignee,
+    ))?;
     if needs_expert(policy) && assignee == import.expert {
         return Err(RowFault::Own);
     }

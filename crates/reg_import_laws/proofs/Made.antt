@@ -364,10 +364,10 @@ module _ (digest_of : List ℕ → List ℕ) (w : World) (by : Import) where
 
     put : IsPut row first_world (allocated false)
     put = subst (λ day. IsPut row first_world (record {
-          label = entry.label;
-          assignee = entry.assignee;
-          term = early_term day;
-        })) (day_of_midnight entry.first)
+      label = entry.label;
+      assignee = entry.assignee;
+      term = early_term day;
+    })) (day_of_midnight entry.first)
         (put_first row ready read given first_world allowance is_filed refl)
 
     clock : is_in_clock (midnight entry.first) ≡ true

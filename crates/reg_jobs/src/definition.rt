@@ -244,7 +244,11 @@ fn register_command<'a>(alloc: Global) -> Result<Command<'a>, AllocError>
 {
     command(alloc, "import", IMPORT_ABOUT, IMPORT_EXAMPLE)
         .arg(place(alloc, "CSV", "The register, at most 268,435,456 bytes"))?
-        .arg(place(alloc, "NAME", "The registry's name: letters a to z, digits and -"))
+        .arg(place(
+            alloc,
+            "NAME",
+            "The registry's name: letters a to z, digits and -",
+        ))
 }
 
 fn init<'a>(alloc: Global) -> Result<Command<'a>, AllocError>
