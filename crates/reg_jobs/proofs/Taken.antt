@@ -19,7 +19,7 @@ use Rattle.clap.specs.declared.builder.action.ArgAction.TheVariants.{Set}
 use Rattle.clap.specs.declared.builder.value_parser.Reading.TheVariants.{WithoutMinus}
 use Rattle.clap.specs.declared.builder.value_parser.ValueParser.TheVariants.{Signed}
 use Rattle.reg_jobs.specs.Asking.{HasJob, HasNumber, HasText, MayHaveNumber}
-use Rattle.reg_jobs.specs.CommandLine.{check_app, clerk_rule, connections_rule, define_app, flag_rule, init_app, last_place_rule, listing_app, office_app, option_rule, place_rule, port_rule, publish_app, request_app, revoke_app, script_app, serve_app, tokens_app}
+use Rattle.reg_jobs.specs.CommandLine.{check_app, clerk_rule, connections_rule, define_app, expert_rule, flag_rule, import_app, init_app, last_place_rule, listing_app, office_app, option_rule, place_rule, port_rule, publish_app, request_app, revoke_app, script_app, serve_app, tokens_app}
 use Rattle.reg_jobs.proofs.Walks.{Each, Keeps, KeepsDefault, found_holds, leaf_holds, no_faults, none_keeps}
 use Rattle.reg_jobs.proofs.Uses.{default_row_with, flag_keeps, help_keeps, row_with, set_keeps, value_keeps}
 use Rattle.reg_jobs.proofs.Stops.{StopsElsewhere, walk_stops}
@@ -97,6 +97,9 @@ connections_keeps = (
 
 clerk_keeps : Fills false (filled clerk_rule)
 clerk_keeps = text_keeps (filled clerk_rule) refl refl refl refl refl refl
+
+expert_keeps : Fills false (filled expert_rule)
+expert_keeps = text_keeps (filled expert_rule) refl refl refl refl refl refl
 
 option_keeps : (id : Text) → bytes_eq id (codes "port") ≡ false → bytes_eq id (codes "connections") ≡ false → Fills false (filled (option_rule id))
 option_keeps id port connections = text_keeps (filled (option_rule id)) refl refl refl refl port connections
@@ -213,6 +216,18 @@ script_gives words none =
     let held = leaf_rows (sub_of script_app) (clerk_keeps, (option_keeps (codes "file") refl refl, (help_flag_keeps, tt))) refl words none in
     text_given _ _ held.0 (held.1.0 refl)
 
+import_gives : GivesJob (sub_of import_app)
+import_gives words none =
+    let held = leaf_rows (sub_of import_app) (
+      place_keeps 1 (codes "CSV") refl refl,
+      (place_keeps 2 (codes "NAME") refl refl, (clerk_keeps, (expert_keeps, (help_flag_keeps, tt)))),
+    ) refl words none in (
+      text_given _ _ held.0 (held.1.0 refl),
+      text_given _ _ held.0 (held.1.1.0 refl),
+      text_given _ _ held.0 (held.1.1.1.0 refl),
+      text_given _ _ held.0 (held.1.1.1.1.0 refl),
+    )
+
 init_gives : GivesJob (sub_of init_app)
 init_gives words none =
     let held = leaf_rows (sub_of init_app) (file_keeps, (clerk_keeps, (help_flag_keeps, tt))) refl words none in
@@ -302,24 +317,27 @@ each_gives : Each GivesJobUnlessHelp (built office_app).subs
 each_gives = (
   (λ p answers elsewhere none. script_gives p.1 none),
   (
-    (λ p answers elsewhere none. init_gives p.1 none),
+    (λ p answers elsewhere none. import_gives p.1 none),
     (
-      (λ p answers elsewhere none. serve_gives p.1 none),
+      (λ p answers elsewhere none. init_gives p.1 none),
       (
-        (λ p answers elsewhere none. request_gives p.1 none),
+        (λ p answers elsewhere none. serve_gives p.1 none),
         (
-          (λ p answers elsewhere none. define_gives p.1 none),
+          (λ p answers elsewhere none. request_gives p.1 none),
           (
-            (λ p answers elsewhere none. listing_gives p.1 none),
+            (λ p answers elsewhere none. define_gives p.1 none),
             (
-              (λ p answers elsewhere none. publish_gives p.1 none),
+              (λ p answers elsewhere none. listing_gives p.1 none),
               (
-                (λ p answers elsewhere none. check_gives p.1 none),
+                (λ p answers elsewhere none. publish_gives p.1 none),
                 (
-                  (λ p answers elsewhere none. tokens_gives p.1 none),
+                  (λ p answers elsewhere none. check_gives p.1 none),
                   (
-                    (λ p answers elsewhere none. revoke_gives p.1 none),
-                    (help_not_entered, tt),
+                    (λ p answers elsewhere none. tokens_gives p.1 none),
+                    (
+                      (λ p answers elsewhere none. revoke_gives p.1 none),
+                      (help_not_entered, tt),
+                    ),
                   ),
                 ),
               ),

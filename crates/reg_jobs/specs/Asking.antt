@@ -10,7 +10,7 @@ use Rattle.clap.specs.declared.error.kind.ErrorKind.{ErrorKind}
 use Rattle.clap.specs.declared.error.kind.ErrorKind.TheVariants.{DisplayHelp}
 use Rattle.reg_jobs.specs.CommandLine.{office_app}
 use Rattle.reg_jobs.specs.declared.jobs.Job.{Job}
-use Rattle.reg_jobs.specs.declared.jobs.Job.TheVariants.{Script, Init, Serve, Request, Define}
+use Rattle.reg_jobs.specs.declared.jobs.Job.TheVariants.{Script, Import, Init, Serve, Request, Define}
 use Rattle.reg_jobs.specs.declared.jobs.Job.TheVariants.{Listing, Publish, Check, Tokens, Revoke}
 use Rattle.reg_jobs.specs.declared.jobs.Job.TheVariants.{Help}
 use Rattle.reg_jobs.specs.declared.jobs.Which.{Which}
@@ -54,6 +54,11 @@ abbrev pub IsJobOf : Text → List Row → Job → Type 0
 IsJobOf name rows (Script clerk file) =
     (name ≡ codes "script") × IsTextOf (codes "clerk") rows (string_bytes clerk)
     × (first_of (codes "file") rows ≡ option_map string_bytes file)
+IsJobOf name rows (Import order) =
+    (name ≡ codes "import") × IsTextOf (codes "CSV") rows (string_bytes order.register)
+    × IsTextOf (codes "NAME") rows (string_bytes order.name)
+    × IsTextOf (codes "clerk") rows (string_bytes order.clerk)
+    × IsTextOf (codes "expert") rows (string_bytes order.expert)
 IsJobOf name rows (Init file clerk) =
     (name ≡ codes "init") × IsTextOf (codes "FILE") rows (string_bytes file)
     × IsTextOf (codes "clerk") rows (string_bytes clerk)
@@ -134,6 +139,9 @@ HasKeepingJob name rows =
 abbrev pub HasJob : Text → List Row → Type 0
 HasJob name rows =
     Where (bytes_eq name (codes "script")) (HasText (codes "clerk") rows)
+    (Where (bytes_eq name (codes "import"))
+    (HasText (codes "CSV") rows × HasText (codes "NAME") rows × HasText (codes "clerk") rows
+    × HasText (codes "expert") rows)
     (Where (bytes_eq name (codes "init"))
     (HasText (codes "FILE") rows × HasText (codes "clerk") rows)
     (Where (bytes_eq name (codes "serve"))
@@ -145,7 +153,7 @@ HasJob name rows =
     (HasText (codes "FILE") rows × HasText (codes "NAME") rows × HasText (codes "MAX") rows
     × HasText (codes "CSV") rows × HasText (codes "clerk") rows)
     (Where (bytes_eq name (codes "listing")) (HasText (codes "FILE") rows)
-    (HasKeepingJob name rows))))))
+    (HasKeepingJob name rows)))))))
 
 -- the words of `revoke` do not say which
 abbrev pub IsUnclearRevoke : Text → List Row → Type 0

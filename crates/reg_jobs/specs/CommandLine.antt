@@ -20,9 +20,12 @@ option_rule id = record (new_rule id) { long = Some id; value_names = 1; action 
 abbrev pub flag_rule : Text → Rule
 flag_rule id = record (new_rule id) { long = Some id; action = Some SetTrue }
 
--- the options of the jobs: the clerk's token, the port, how many connections
+-- the options of the jobs: the clerk's token, the expert's account, the port, how many connections
 abbrev pub clerk_rule : Rule
 clerk_rule = record (option_rule (codes "clerk")) { required = true }
+
+abbrev pub expert_rule : Rule
+expert_rule = record (option_rule (codes "expert")) { required = true }
 
 abbrev pub port_rule : Rule
 port_rule = record (option_rule (codes "port")) {
@@ -47,6 +50,15 @@ words_app name first second =
 abbrev pub script_app : App
 script_app =
     with_rule (with_rule (new_app (codes "script")) clerk_rule) (option_rule (codes "file"))
+
+-- the command `import` with its first words
+abbrev pub register_app : App
+register_app =
+    with_rule (with_rule (new_app (codes "import")) (place_rule (codes "CSV")))
+    (place_rule (codes "NAME"))
+
+abbrev pub import_app : App
+import_app = with_rule (with_rule register_app clerk_rule) expert_rule
 
 abbrev pub init_app : App
 init_app = with_rule (file_app (codes "init")) clerk_rule
@@ -99,8 +111,8 @@ program_app =
 -- the program with the jobs that begin an office and have it served
 abbrev pub serving_app : App
 serving_app =
-    with_subcommand (with_subcommand (with_subcommand program_app script_app.top) init_app.top)
-    serve_app.top
+    with_subcommand (with_subcommand (with_subcommand (with_subcommand program_app
+    script_app.top) import_app.top) init_app.top) serve_app.top
 
 -- the program with the jobs that ask an office too
 abbrev pub asking_app : App

@@ -7,7 +7,7 @@ ghost use Rattle.reg_jobs.specs.Asking.{HasJob, HasNumber, HasText, IsAsked, IsC
 ghost use Rattle.reg_jobs.specs.declared.jobs.JobFault.TheVariants.{Line, Memory};
 
 use crate::definition::{MOST_CONNECTIONS, office};
-use crate::jobs::{Definition, Job, JobFault, Request, Which};
+use crate::jobs::{Definition, Importation, Job, JobFault, Request, Which};
 use clap::error::ErrorKind;
 use clap::{ArgMatches, Error};
 use std::alloc::{AllocError, Global};
@@ -57,6 +57,7 @@ fn job_of(alloc: Global, matches: &ArgMatches) -> Result<Job, JobFault>
     };
     match name {
         "script" => script_of(alloc, inner),
+        "import" => import_of(alloc, inner),
         "init" => init_of(alloc, inner),
         "serve" => serve_of(alloc, inner),
         "request" => request_of(alloc, inner),
@@ -79,6 +80,22 @@ fn script_of(alloc: Global, matches: &ArgMatches) -> Result<Job, JobFault>
         clerk: text(alloc, matches, "clerk")?,
         file: optional_text(alloc, matches, "file")?,
     })
+}
+
+fn import_of(alloc: Global, matches: &ArgMatches) -> Result<Job, JobFault>
+    ensures said { IfOk result (IsJobOf (codes "import") (rows_of (found_of matches.now))) }
+    ensures given { HasText (codes "CSV") (rows_of (found_of matches.now))
+        → HasText (codes "NAME") (rows_of (found_of matches.now))
+        → HasText (codes "clerk") (rows_of (found_of matches.now))
+        → HasText (codes "expert") (rows_of (found_of matches.now))
+        → MatchResult result IsInRange (λ fault. fault ≡ Memory) }
+{
+    Ok(Job::Import(Importation {
+        register: text(alloc, matches, "CSV")?,
+        name: text(alloc, matches, "NAME")?,
+        clerk: text(alloc, matches, "clerk")?,
+        expert: text(alloc, matches, "expert")?,
+    }))
 }
 
 fn init_of(alloc: Global, matches: &ArgMatches) -> Result<Job, JobFault>

@@ -2,7 +2,7 @@
 ghost use Rattle.std.specs.Prelude.{◌≡◌, false, IfOk, IsOkAnd};
 ghost use Rattle.clap.specs.Words.{AddsSubcommand, app_of, new_app, rule_of};
 ghost use Rattle.clap.specs.declared.builder.command.Command.TheViews.{out-Command};
-ghost use Rattle.reg_jobs.specs.CommandLine.{asking_app, check_app, clerk_rule, connections_rule, define_app, file_app, flag_rule, init_app, last_place_rule, listing_app, office_app, option_rule, path_app, place_rule, port_rule, publish_app, registry_app, request_app, revoke_app, script_app, serve_app, serving_app, tokens_app, words_app};
+ghost use Rattle.reg_jobs.specs.CommandLine.{asking_app, check_app, clerk_rule, connections_rule, define_app, expert_rule, file_app, flag_rule, import_app, init_app, last_place_rule, listing_app, office_app, option_rule, path_app, place_rule, port_rule, publish_app, register_app, registry_app, request_app, revoke_app, script_app, serve_app, serving_app, tokens_app, words_app};
 
 use clap::{Arg, ArgAction, Command, value_parser};
 use std::alloc::{AllocError, Global};
@@ -39,6 +39,18 @@ With --file the office is that in FILE, begun where it is not there; without it,
 the office is in memory. Each line is done whole or not at all, so lines that
 were broken off may be sent again from the first:
   reg_cli script --clerk @clerk.token --file office.db < lines.txt > answers.txt";
+
+const IMPORT_ABOUT: &str =
+    "Turns the register in the file CSV into lines for script, which make its entries in the registry NAME";
+
+const IMPORT_EXAMPLE: &str =
+    "The register has the columns of a listing, and then any of Contact, Specification,
+Rfc, Stream, Track, Minute, Draft, Stable, Interest, Chair, Director, WillBeRfc
+and Held, with what policies ask for. Each entry is requested, reviewed by the
+expert where its policy wants that, and approved at midnight UTC of its first
+day. Nothing is printed where a row is at fault. Example:
+  reg_cli import codes.csv codes --clerk @clerk.token --expert xan > lines.txt
+  reg_cli script --clerk @clerk.token --file office.db < lines.txt";
 
 const INIT_ABOUT: &str =
     "Begins an office in FILE with a first clerk, and prints: ready. Where it is there already, nothing changes";
@@ -151,6 +163,7 @@ fn serving<'a>(alloc: Global) -> Result<Command<'a>, AllocError>
 {
     let program = command(alloc, "reg_cli", ABOUT, EXAMPLE).subcommand_required(true);
     let program = with_job(Ok(program), script(alloc));
+    let program = with_job(program, import(alloc));
     let program = with_job(program, init(alloc));
     with_job(program, serve(alloc))
 }
@@ -213,6 +226,29 @@ fn script<'a>(alloc: Global) -> Result<Command<'a>, AllocError>
     command(alloc, "script", SCRIPT_ABOUT, SCRIPT_EXAMPLE)
         .arg(clerk(alloc))?
         .arg(option(alloc, "file", "FILE", "The office's file"))
+}
+
+fn import<'a>(alloc: Global) -> Result<Command<'a>, AllocError>
+    ensures shape { IfOk result (λ c. app_of c ≡ import_app) }
+    ensures local { IfOk result (λ c. (out-Command c).has_globals ≡ false) }
+{
+    register_command(alloc)?
+        .arg(clerk(alloc))?
+        .arg(expert(alloc))
+}
+
+// The command `import` with its first words, which say which register, and of which registry.
+fn register_command<'a>(alloc: Global) -> Result<Command<'a>, AllocError>
+    ensures shape { IfOk result (λ c. app_of c ≡ register_app) }
+    ensures local { IfOk result (λ c. (out-Command c).has_globals ≡ false) }
+{
+    command(alloc, "import", IMPORT_ABOUT, IMPORT_EXAMPLE)
+        .arg(place(alloc, "CSV", "The register, at most 268,435,456 bytes"))?
+        .arg(place(
+            alloc,
+            "NAME",
+            "The registry's name: letters a to z, digits and -",
+        ))
 }
 
 fn init<'a>(alloc: Global) -> Result<Command<'a>, AllocError>
@@ -399,6 +435,19 @@ fn clerk<'a>(alloc: Global) -> Arg<'a>
         "clerk",
         "TOKEN",
         "The clerk's token, 16 to 64 letters, digits, -, ., _ or ~; or @PATH",
+    )
+    .required(true)
+}
+
+fn expert<'a>(alloc: Global) -> Arg<'a>
+    ensures rule { rule_of result ≡ expert_rule }
+    ensures local { result.global ≡ false }
+{
+    option(
+        alloc,
+        "expert",
+        "ACCOUNT",
+        "The account of the expert who is for each entry that experts look at",
     )
     .required(true)
 }

@@ -12,6 +12,8 @@ pub enum Job {
         /// The path of the office's file; without one, the office is in memory.
         file: Option<String>,
     },
+    /// Turns a register into the lines of a script that makes its entries.
+    Import(Importation),
     /// Founds an office in a file, or finds the one that is there.
     Init {
         /// The path of the office's file.
@@ -70,6 +72,19 @@ pub enum Job {
         /// What is printed.
         text: String,
     },
+}
+
+/// How a register is turned into a script.
+#[derive(Drop)]
+pub struct Importation {
+    /// The path of the register, as CSV.
+    pub register: String,
+    /// The name of the registry whose entries it says.
+    pub name: String,
+    /// The token of the clerk who approves them.
+    pub clerk: String,
+    /// The account of the expert who advises on them.
+    pub expert: String,
 }
 
 /// One request of an office.

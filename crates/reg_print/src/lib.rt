@@ -2,6 +2,7 @@
 #![tactic(auto)]
 
 pub mod answer;
+pub mod asks;
 mod bodies;
 pub mod comparing;
 pub mod detail;

@@ -37,6 +37,8 @@ printing_fails fails failure.Token h = tt
 printing_fails fails failure.Exists h = tt
 printing_fails fails failure.Port h = tt
 printing_fails fails failure.Large h = tt
+printing_fails fails failure.Header h = tt
+printing_fails fails (failure.Row number) h = tt
 
 pub printing_may : (fails : Bool) (why : Undone) → IsOfPrinting why → MayUndo fails why
 printing_may fails (Fault why) h = printing_fails fails why h
@@ -67,6 +69,8 @@ printing_common failure.Token h = absurd h
 printing_common failure.Exists h = absurd h
 printing_common failure.Port h = absurd h
 printing_common failure.Large h = absurd h
+printing_common failure.Header h = absurd h
+printing_common (failure.Row number) h = absurd h
 
 pub printing_is_common : (why : Undone) → IsOfPrinting why → IsOfStoreOrPrinting why
 printing_is_common (Fault why) h = printing_common why h

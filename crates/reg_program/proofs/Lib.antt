@@ -10,3 +10,4 @@ pub mod Listed
 pub mod Results
 pub mod Revoked
 pub mod Taken
+pub mod Imported

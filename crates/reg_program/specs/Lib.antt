@@ -3,6 +3,7 @@ pub mod Carrying
 pub mod Checking
 pub mod Doing
 pub mod Founding
+pub mod Importing
 pub mod Inputs
 pub mod Looking
 pub mod Performing

@@ -17,6 +17,7 @@ use Rattle.reg_store.specs.declared.lists.ListKeeper.{ListKeeper}
 use Rattle.reg_core.specs.World.{empty_world}
 use Rattle.reg_program.specs.Asking.{definition_at, listing_at}
 use Rattle.reg_program.specs.Founding.{RunsAll, told_beside}
+use Rattle.reg_program.specs.Importing.{IsImported}
 use Rattle.reg_program.specs.Inputs.{AreKnown, IsServed, IsTokenOf, body_in, token_in}
 use Rattle.reg_program.specs.Tasks.{Streams}
 use Rattle.reg_program.specs.declared.asking.Form.TheVariants.{Body, Line}
@@ -125,6 +126,7 @@ module _ (Carried : List ℕ → Task → Streams → Result ⊤ Undone → Type
   abbrev pub DoesJob : Streams → Job → Result ⊤ Undone → Type 0
   DoesJob io (job.Script clerk file) done =
       RunsIn (option_map string_bytes file) (string_bytes clerk) io done
+  DoesJob io (job.Import order) done = Untouched × IsImported order io done
   DoesJob io (job.Init file clerk) done =
       Carries Carried (string_bytes file) (IsFounding (string_bytes clerk)) io done
   DoesJob io (job.Serve file port connections log) done =

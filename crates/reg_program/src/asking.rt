@@ -168,8 +168,8 @@ pub fn refusal_line(alloc: Global, refusal: Refusal) -> Result<Vec<u8>, AllocErr
     Ok(line)
 }
 
-// The status and the body of an answer, with a space between.
-fn answer_line(alloc: Global, answer: &Answer) -> Result<Vec<u8>, AllocError>
+/// The status and the body of an answer, with a space between.
+pub fn answer_line(alloc: Global, answer: &Answer) -> Result<Vec<u8>, AllocError>
     ensures { IfOk result (λ line. line.items ≡ line_of answer.now) }
 {
     let (status, body) = body_of(alloc, answer)?;

@@ -41,6 +41,10 @@ pub enum JobFailure {
     Port,
     /// The range file has more than 65,536 bytes.
     Large,
+    /// The register has no header of a register.
+    Header,
+    /// The row of this number of the register is at fault.
+    Row(usize),
 }
 
 impl From<JobFailure> for Undone {
@@ -160,6 +164,8 @@ impl Display for JobFailure {
             JobFailure::Exists => f.write_str("exists"),
             JobFailure::Port => f.write_str("port"),
             JobFailure::Large => f.write_str("large"),
+            JobFailure::Header => f.write_str("header"),
+            JobFailure::Row(number) => write!(f, "row {number}"),
         }
     }
 }

@@ -1,5 +1,5 @@
 //! Reads files and standard input whole, and the tokens that words of a command line stand for.
-ghost use Rattle.std.specs.Prelude.{◌≡◌, ◌<◌, ◌≤◌, ◌⊎◌, length, position, IfOk, IfSome, option_map};
+ghost use Rattle.std.specs.Prelude.{◌≡◌, ◌<◌, ◌≤◌, ◌^◌, ◌⊎◌, length, position, IfOk, IfSome, option_map};
 ghost use Rattle.std.specs.Io.BufRead.{strip_last};
 ghost use Rattle.std.specs.String.{string_bytes};
 ghost use Rattle.reg_program.specs.Inputs.{AreKnown, AreMore, IsTokenOf, is_line_feed, line_in, token_in};
@@ -13,6 +13,9 @@ use std::{fs, io};
 /// How many bytes a range file, a body and a token's file have at most.
 pub const MOST_BYTES: usize = 65_536;
 
+/// How many bytes a register has at most.
+pub const MOST_REGISTER_BYTES: usize = 268_435_456;
+
 /// The bytes of the file at a path. `Large` where it has more than 65,536, and `Read` where it
 /// cannot be read.
 pub fn bytes_of<H: Files>(rt: &H, alloc: Global, path: &str) -> Result<Vec<u8>, JobFailure>
@@ -24,6 +27,17 @@ pub fn bytes_of<H: Files>(rt: &H, alloc: Global, path: &str) -> Result<Vec<u8>, 
     read
 }
 
+/// The bytes of the register at a path. `Large` where it has more than 268,435,456, and `Read` where
+/// it cannot be read.
+pub fn register_of<H: Files>(rt: &H, alloc: Global, path: &str) -> Result<Vec<u8>, JobFailure>
+    ensures { IfOk result (λ bytes. length bytes.items ≤ 268435456) }
+{
+    let mut file = fs::open(rt, path).map_err(failure)?;
+    let read = up_to(alloc, &mut file, MOST_REGISTER_BYTES);
+    drop(file);
+    read
+}
+
 /// All the bytes of a reader. `Large` where it has more than 65,536, and `Read` where it cannot be
 /// read.
 pub fn all_of<R: Read>(alloc: Global, reader: &mut R) -> Result<Vec<u8>, JobFailure>
@@ -31,10 +45,20 @@ pub fn all_of<R: Read>(alloc: Global, reader: &mut R) -> Result<Vec<u8>, JobFail
     ensures most { IfOk result (λ bytes. length bytes.items ≤ 65536) }
     ensures large { result ≡ Err JobFailure.Large → AreMore 65536 (R.remaining reader.old) }
 {
+    up_to(alloc, reader, MOST_BYTES)
+}
+
+// All the bytes of a reader. `Large` where it has more than so many.
+fn up_to<R: Read>(alloc: Global, reader: &mut R, most: usize) -> Result<Vec<u8>, JobFailure>
+    requires { most < 2 ^ 32 }
+    ensures all { IfOk result (λ bytes. AreKnown (R.remaining reader.old) bytes.items) }
+    ensures most { IfOk result (λ bytes. length bytes.items ≤ most) }
+    ensures large { result ≡ Err JobFailure.Large → AreMore most (R.remaining reader.old) }
+{
     let mut bytes = Vec::new(alloc);
-    let mut limited = reader.take(MOST_BYTES as u64 + 1);
+    let mut limited = reader.take(most as u64 + 1);
     match limited.read_to_end(&mut bytes) {
-        Ok(_) if bytes.len() <= MOST_BYTES => Ok(bytes),
+        Ok(_) if bytes.len() <= most => Ok(bytes),
         Ok(_) => Err(JobFailure::Large),
         Err(error) => Err(failure(error)),
     }

@@ -5,6 +5,7 @@ pub mod asking;
 pub mod checking;
 pub mod console;
 pub mod faults;
+pub mod importing;
 pub mod inputs;
 pub mod listening;
 pub mod log;

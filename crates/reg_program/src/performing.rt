@@ -2,6 +2,7 @@
 ghost use Rattle.std.specs.Prelude.{◌≡◌, ◌⊎◌, IfOk, OnOk, option_map};
 ghost use Rattle.std.specs.String.{string_bytes};
 ghost use Rattle.reg_program.specs.Founding.{RunsAll, told_beside};
+ghost use Rattle.reg_program.specs.Importing.{IsImported};
 ghost use Rattle.reg_program.specs.Inputs.{AreKnown, body_in};
 ghost use Rattle.reg_program.specs.Performing.{Carries, CarriesThen, DoesJob, EndsBy, IsDefinedBy, IsFounding, IsListedBy};
 ghost use Rattle.reg_program.specs.Performing.{IsRequestedBy, IsTakenBy, PublishesFrom, RunsIn, Tries, refused_status};
@@ -10,13 +11,14 @@ ghost use Rattle.reg_program.specs.Tasks.{streams};
 use crate::asking::{Form, definition, listing, print, requested};
 use crate::console::Console;
 use crate::faults::Undone;
+use crate::importing::import;
 use crate::inputs::{all_of, bytes_of, optional_token, token_of};
 use crate::publishing::{port_of, publish_served};
 use crate::scripts::run_in;
 use crate::tasks::{Offices, Task};
 use crate::tokens::account_of;
 use reg_http::dates::{Dates, moment_now};
-use reg_jobs::jobs::{Definition, Job, JobFault, Request, Which};
+use reg_jobs::jobs::{Definition, Importation, Job, JobFault, Request, Which};
 use reg_keeper::keeper::Keeper;
 use reg_office::{Choice, Office};
 use reg_store::lists::ListKeeper;
@@ -101,6 +103,7 @@ fn attempt<D: Dates, O: Offices, R: Read, W: Write, E: Write>(
 {
     match job {
         Job::Script { clerk, file } => script(rt, dates, offices, clerk.as_str(), file, console),
+        Job::Import(order) => import_now(rt, dates, order, console),
         Job::Init { file, clerk } => init(
             rt,
             dates,
@@ -214,6 +217,23 @@ fn run_over<K: Keeper + Drop, R: Read, W: Write, E: Write>(
 {
     let mut office = Office::new(rt.alloc(), keeper);
     run_in(rt, &mut office, clerk, console)
+}
+
+// Turns a register into a script on the day of the clock. No office is opened.
+fn import_now<D: Dates, R: Read, W: Write, E: Write>(
+    rt: &HostRuntime,
+    dates: &mut D,
+    order: &Importation,
+    console: &mut Console<'_, R, W, E>,
+) -> Result<(), Undone>
+    ensures { let io = streams console.old.is_watched
+        (R.remaining console.old.input.now) (R.remaining console.new.input.now)
+        (W.contents console.old.output.now) (W.contents console.new.output.now)
+        (D.readings dates.old) (D.readings dates.new) in
+        IsImported order.now io result }
+{
+    let moment = moment_now(dates);
+    import(rt, moment, order, console.output)
 }
 
 fn init<D: Dates, O: Offices, R: Read, W: Write, E: Write>(

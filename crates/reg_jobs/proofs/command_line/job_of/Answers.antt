@@ -64,6 +64,18 @@ returns-in-script c =
           (λ h. only_memory c.script_of.result (codes "script", rows) (c.script_of.ensures.given h));
     }
 
+pub returns-in-import : goal.returns-in-import
+returns-in-import c =
+    let name = c.in-Some.name.now in
+    let rows = rows_of (found_of c.in-Some.inner.now) in
+    let here = met_at c.args.matches.now name rows c.in-Some.ensures.name c.in-Some.ensures.rows in
+    let o = subcommand_rows_of c.args.matches.now in
+    record {
+      said = said_at o name (codes "import") rows c.import_of.result here c.in-import.is c.import_of.ensures.said;
+      given = given_at o name (codes "import") rows c.import_of.result here c.in-import.is
+          (λ h. only_memory c.import_of.result (codes "import", rows) (c.import_of.ensures.given h.0 h.1 h.2 h.3));
+    }
+
 pub returns-in-init : goal.returns-in-init
 returns-in-init c =
     let name = c.in-Some.name.now in

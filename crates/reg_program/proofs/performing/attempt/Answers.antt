@@ -1,7 +1,8 @@
-use Rattle.std.proofs.Common.{◌≡◌, subst, sym}
+use Rattle.std.proofs.Common.{◌≡◌, refl, subst, sym}
 use Rattle.reg_jobs.specs.declared.jobs.Job.{Job}
 use Rattle.reg_program.specs.Performing.{DoesJob, Tries}
 use Rattle.reg_program.specs.Tasks.{streams}
+use Rattle.reg_program.proofs.Imported.{tries_import}
 use Rattle.reg_program.proofs.performing.attempt.Goals as goal
 
 pub returns-in-Publish : goal.returns-in-Publish
@@ -20,3 +21,19 @@ returns-in-Publish g c =
     (sym c.in-Publish.is)
     (rw (c.as_str-in-Publish.ensures.value, c.as_str-in-Publish-2.ensures.value)
     at c.publish_at.ensures)
+
+pub returns-in-Import : goal.returns-in-Import
+returns-in-Import g c =
+    let done = c.import_now.result in
+    let io = streams c.args.console.now.is_watched
+    (g.R.Read.remaining c.args.console.now.input.now)
+    (g.R.Read.remaining c.import_now.new.console.input.now)
+    (g.W.Write.contents c.args.console.now.output.now)
+    (g.W.Write.contents c.import_now.new.console.output.now)
+    (g.D.Dates.readings c.args.dates.now) (g.D.Dates.readings c.import_now.new.dates) in
+    let Same = c.args.offices.now ≡ c.args.offices.now in
+    subst (λ (job : Job). Tries Same
+    (DoesJob (g.O.Offices.Carried c.args.offices.now c.args.offices.now)
+    (g.O.Offices.Checked c.args.offices.now c.args.offices.now) Same io job) done)
+    (sym c.in-Import.is)
+    (tries_import Same c.in-Import.order io done refl c.import_now.ensures)

@@ -1,0 +1,4 @@
+pub mod Dates
+pub mod LineTexts
+pub mod Places
+pub mod Registers

@@ -1,0 +1,60 @@
+-- Days as registers write them, and those on which renewals are approved.
+use Rattle.std.specs.Prelude.{ℕ, ◌+◌, ◌-◌, ◌*◌, ◌==◌, ◌&&◌, Bool, List, length, slice_index, Option, Some, None, if◌then◌else◌}
+use Rattle.std.specs.Char.{is_ascii_digit}
+use Rattle.reg_ranges.specs.Texts.{is_within}
+use Rattle.reg_early.specs.Calendar.{CivilDate, civil_date, day_number, month_lengths, year_after}
+use Rattle.reg_early.specs.Forms.{is_day}
+
+infixl 10 ◌>>=◌
+abbrev pub ◌>>=◌ : {A B : Type 0} → Option A → (A → Option B) → Option B
+None >>= f = None
+(Some x) >>= f = f x
+
+-- the number that two digits write
+abbrev pub pair : ℕ → ℕ → Option ℕ
+pair tens ones =
+    if is_ascii_digit tens && is_ascii_digit ones then Some (10 * (tens - 48) + (ones - 48)) else None
+
+-- the calendar of the years 2000 to 9999 has the date
+abbrev pub is_date : CivilDate → Bool
+is_date date =
+    is_within 2000 9999 date.year
+    && (is_within 1 12 date.month
+    && is_within 1 (slice_index (month_lengths date.year) (date.month - 1)) date.day)
+
+-- the day of a date, where the calendar has it
+unfoldable pub day_at : ℕ → ℕ → ℕ → Option ℕ
+day_at year month day =
+    if is_date (civil_date year month day) then Some (day_number (civil_date year month day)) else None
+
+-- the day whose year, month and day stand in a text that has a date's dashes
+abbrev pub day_within : List ℕ → Option ℕ
+day_within text = do
+  century ← pair (slice_index text 0) (slice_index text 1)
+  year ← pair (slice_index text 2) (slice_index text 3)
+  month ← pair (slice_index text 5) (slice_index text 6)
+  day ← pair (slice_index text 8) (slice_index text 9)
+  day_at (100 * century + year) month day
+
+-- the day that is written as YYYY-MM-DD
+unfoldable pub read_day : List ℕ → Option ℕ
+read_day text =
+    if length text == 10 && (slice_index text 4 == 45 && slice_index text 7 == 45)
+    then day_within text else None
+
+-- the day so many days before another, where its year ends on that one
+abbrev pub year_before_by : ℕ → ℕ → Option ℕ
+year_before_by day days =
+    if is_day (day - days) && year_after (day - days) == day then Some (day - days) else None
+
+abbrev pub or_else : Option ℕ → Option ℕ → Option ℕ
+or_else (Some x) other = Some x
+or_else None other = other
+
+-- the day one year before: the one whose year ends on the day, and of 28 and 29 February the earlier
+abbrev pub year_before : ℕ → Option ℕ
+year_before day = or_else (year_before_by day 366) (year_before_by day 365)
+
+-- the first moment of a day
+abbrev pub midnight : ℕ → ℕ
+midnight day = day * 86400

@@ -1,0 +1,67 @@
+-- Why a register is not imported, in words.
+use Rattle.std.specs.Prelude.{◌≡◌, ℕ, List, ◌++◌, codes, Result, Ok, Err}
+use Rattle.reg_ranges.specs.Words.{item_word}
+use Rattle.reg_import.specs.Columns.{column_word}
+use Rattle.reg_import.specs.declared.column.Column.{Column}
+use Rattle.reg_import.specs.declared.column.Column.TheVariants as column
+use Rattle.reg_import.specs.declared.fault.ImportFault.{ImportFault}
+use Rattle.reg_import.specs.declared.fault.ImportFault.TheVariants as import
+use Rattle.reg_import.specs.declared.fault.RowFault.{RowFault}
+use Rattle.reg_import.specs.declared.fault.RowFault.TheVariants as fault
+
+-- that a column has not what it may have
+abbrev pub form_text : Column → List ℕ
+form_text column.Value = codes "is no number of 0 to 4294967295"
+form_text column.Status = codes "is no status of a listing"
+form_text column.Policy = codes "is no policy"
+form_text column.First = codes "is no day of 2000 to 9999 as YYYY-MM-DD"
+form_text column.Expires = codes "is no day of 2000 to 9999 as YYYY-MM-DD"
+form_text column.Assignee = codes "is not 1 to 32 of a to z, 0 to 9 and -"
+form_text column.Rfc = codes "is no number of 1 to 99999"
+form_text column.Stream = codes "is no stream of RFCs"
+form_text column.Track = codes "is no track of RFCs"
+form_text column.Stable = codes "is neither true nor false nor empty"
+form_text column.Interest = codes "is neither true nor false nor empty"
+form_text column.WillBeRfc = codes "is neither true nor false nor empty"
+form_text column.Held = codes "is neither held nor empty"
+form_text column.Description = codes "is not 1 to 200 printable ASCII characters"
+form_text column.Contact = codes "is not 1 to 200 printable ASCII characters"
+form_text column.Specification = codes "is not 1 to 200 printable ASCII characters"
+form_text column.Minute = codes "is not 1 to 200 printable ASCII characters"
+form_text column.Draft = codes "is not 1 to 200 printable ASCII characters"
+form_text column.Chair = codes "is not 1 to 200 printable ASCII characters"
+form_text column.Director = codes "is not 1 to 200 printable ASCII characters"
+
+-- what is wrong with a row
+abbrev pub row_fault_text : RowFault → List ℕ
+row_fault_text fault.Columns = codes "it has not as many fields as the header"
+row_fault_text (fault.Form c) = column_word c ++ (codes " " ++ form_text c)
+row_fault_text fault.Future = codes "First is after today"
+row_fault_text fault.Expiry = codes "Expires is no day on which such an entry expires"
+row_fault_text fault.Held = codes "Held is set, and the entry does not expire"
+row_fault_text (fault.Lacks item) = codes "its policy asks for what it lacks: " ++ item_word item
+row_fault_text fault.Own = codes "Assignee is the expert"
+row_fault_text fault.Memory = codes "memory"
+
+-- the fault is the one that reading finds, unless memory ran out
+abbrev pub IsFaultOf : {A : Type 0} → Result A RowFault → RowFault → Type 0
+IsFaultOf read fault.Memory = Unit {0}
+IsFaultOf read fault.Columns = read ≡ Err fault.Columns
+IsFaultOf read (fault.Form c) = read ≡ Err (fault.Form c)
+IsFaultOf read fault.Future = read ≡ Err fault.Future
+IsFaultOf read fault.Expiry = read ≡ Err fault.Expiry
+IsFaultOf read fault.Held = read ≡ Err fault.Held
+IsFaultOf read (fault.Lacks item) = read ≡ Err (fault.Lacks item)
+IsFaultOf read fault.Own = read ≡ Err fault.Own
+
+-- so it is of a whole register
+abbrev pub IsImportFaultOf : {A : Type 0} → Result A ImportFault → ImportFault → Type 0
+IsImportFaultOf read import.Memory = Unit {0}
+IsImportFaultOf read import.Header = read ≡ Err import.Header
+IsImportFaultOf read (import.Row n f) = read ≡ Err (import.Row n f)
+
+-- each step in turn, as far as none is at fault
+infixl 10 ◌>>=◌
+abbrev pub ◌>>=◌ : {A B : Type 0} → Result A RowFault → (A → Result B RowFault) → Result B RowFault
+(Ok x) >>= f = f x
+(Err e) >>= f = Err e

@@ -1,0 +1,77 @@
+//! Days as registers write them, and those on which renewals are approved.
+ghost use Rattle.std.specs.Prelude.{◌≡◌, ◌≤◌, ◌<◌, IfSome};
+ghost use Rattle.reg_import.specs.Days.{day_at, midnight, pair, read_day, year_before, year_before_by};
+
+use jiff::civil::Date;
+use reg_early::day::{Day, year_after};
+
+/// The day that is written as YYYY-MM-DD (RFC 3339, section 5.6), from 2000-01-01 to 9999-12-31.
+#[tactic(auto, unfolding(crate::specs::Days::read_day))]
+pub fn read_day(text: &[u8]) -> Option<Day>
+    ensures { result ≡ read_day text.now }
+{
+    if text.len() != 10 || text[4] != b'-' || text[7] != b'-' {
+        return None;
+    }
+    let century = pair(text[0], text[1])?;
+    let year = pair(text[2], text[3])?;
+    let month = pair(text[5], text[6])?;
+    let day = pair(text[8], text[9])?;
+    day_at(100 * century + year, month, day)
+}
+
+// The number that two digits write.
+fn pair(tens: u8, ones: u8) -> Option<u32>
+    ensures value { result ≡ pair tens ones }
+    ensures small { IfSome result (λ number. number < 100) }
+{
+    if !tens.is_ascii_digit() || !ones.is_ascii_digit() {
+        return None;
+    }
+    Some(10 * u32::from(tens - b'0') + u32::from(ones - b'0'))
+}
+
+// The day of a date of the years 2000 to 9999, where the calendar has it.
+fn day_at(year: u32, month: u32, day: u32) -> Option<Day>
+    requires year { year < 10000 }
+    requires month { month < 100 }
+    requires day { day < 100 }
+    ensures { result ≡ day_at year month day }
+{
+    if year < 2000 {
+        return None;
+    }
+    let date = Date::new(year as i16, month as i8, day as i8).ok()?;
+    Day::from_days(date.to_plain().to_unix_epoch_day().unsigned_abs())
+}
+
+/// The day one year before a day: the one whose year ends on it, and the earlier where there are
+/// two, 28 and 29 February. None where there is none.
+pub fn year_before(day: Day) -> Option<Day>
+    ensures { result ≡ year_before day }
+{
+    match year_before_by(day, 366) {
+        Some(earlier) => Some(earlier),
+        None => year_before_by(day, 365),
+    }
+}
+
+// The day so many days before, where its year ends on the day.
+fn year_before_by(day: Day, days: u32) -> Option<Day>
+    requires { days ≤ 366 }
+    ensures { result ≡ year_before_by day days }
+{
+    let earlier = Day::from_days(day.days() - days)?;
+    if year_after(earlier) == day {
+        Some(earlier)
+    } else {
+        None
+    }
+}
+
+/// The first moment of a day in UTC.
+pub fn midnight(day: Day) -> u64
+    ensures { result ≡ midnight day }
+{
+    u64::from(day.days()) * 86_400
+}

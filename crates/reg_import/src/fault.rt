@@ -1,0 +1,120 @@
+//! Why a register is not imported.
+ghost use Rattle.std.specs.Prelude.{◌≡◌, Some};
+ghost use Rattle.reg_import.specs.Faults.{form_text, row_fault_text};
+ghost use Rattle.reg_import.specs.declared.fault.RowFault.TheVariants as fault;
+
+use crate::column::Column;
+use reg_ranges::evidence::EvidenceItem;
+use std::alloc::{AllocError, AllocFailed};
+use std::error::Error;
+use std::fmt;
+
+/// Why a row is not imported.
+#[derive(Clone, Copy, Debug, PartialEq, Eq)]
+pub enum RowFault {
+    /// It has not as many fields as the header.
+    Columns,
+    /// What stands in this column has not its form.
+    Form(Column),
+    /// Its first day is after today.
+    Future,
+    /// No entry of this kind that begins on its first day expires on its day of expiry.
+    Expiry,
+    /// It is held, and does not expire.
+    Held,
+    /// The policy asks for this, and the row does not have it.
+    Lacks(EvidenceItem),
+    /// An expert has to look at it, and the expert is its assignee.
+    Own,
+    /// There was no memory.
+    Memory,
+}
+
+/// Why a register is not imported.
+#[derive(Clone, Copy, Debug, PartialEq, Eq)]
+pub enum ImportFault {
+    /// The first record is no header of a register, or there is none.
+    Header,
+    /// The row of this number, counted from 1 below the header, is at fault.
+    Row(usize, RowFault),
+    /// There was no memory.
+    Memory,
+}
+
+/// What a column may have, for people: `Value is no number of 0 to 4294967295` without the column.
+fn form_text(column: Column) -> &'static str
+    ensures { result.now ≡ form_text column }
+{
+    match column {
+        Column::Value => "is no number of 0 to 4294967295",
+        Column::Status => "is no status of a listing",
+        Column::Policy => "is no policy",
+        Column::First | Column::Expires => "is no day of 2000 to 9999 as YYYY-MM-DD",
+        Column::Assignee => "is not 1 to 32 of a to z, 0 to 9 and -",
+        Column::Rfc => "is no number of 1 to 99999",
+        Column::Stream => "is no stream of RFCs",
+        Column::Track => "is no track of RFCs",
+        Column::Stable | Column::Interest | Column::WillBeRfc => {
+            "is neither true nor false nor empty"
+        }
+        Column::Held => "is neither held nor empty",
+        Column::Description
+        | Column::Contact
+        | Column::Specification
+        | Column::Minute
+        | Column::Draft
+        | Column::Chair
+        | Column::Director => "is not 1 to 200 printable ASCII characters",
+    }
+}
+
+impl fmt::Display for RowFault {
+    ghost output = { λ f. Some (row_fault_text f) };
+
+    fn fmt<W: fmt::Write>(&self, f: &mut fmt::Formatter<W>) -> fmt::Result {
+        match self {
+            RowFault::Columns => write!(f, "it has not as many fields as the header"),
+            RowFault::Form(column) => write!(f, "{} {}", column.word(), form_text(*column)),
+            RowFault::Future => write!(f, "First is after today"),
+            RowFault::Expiry => write!(f, "Expires is no day on which such an entry expires"),
+            RowFault::Held => write!(f, "Held is set, and the entry does not expire"),
+            RowFault::Lacks(item) => {
+                write!(f, "its policy asks for what it lacks: {}", item.word())
+            }
+            RowFault::Own => write!(f, "Assignee is the expert"),
+            RowFault::Memory => write!(f, "memory"),
+        }
+    }
+}
+
+impl Error for RowFault {}
+
+impl From<AllocError> for RowFault {
+    ghost from_gives = { λ _ f. f ≡ fault.Memory };
+
+    fn from(_error: AllocError) -> RowFault {
+        RowFault::Memory
+    }
+}
+
+impl From<AllocError> for ImportFault {
+    ghost use Rattle.std.specs.Prelude.{◌≡◌};
+    ghost use Rattle.reg_import.specs.declared.fault.ImportFault.TheVariants.{Memory};
+
+    ghost from_gives = { λ _ f. f ≡ Memory };
+
+    fn from(_error: AllocError) -> ImportFault {
+        ImportFault::Memory
+    }
+}
+
+impl<T: Drop> From<AllocFailed<T>> for ImportFault {
+    ghost use Rattle.std.specs.Prelude.{◌≡◌};
+    ghost use Rattle.reg_import.specs.declared.fault.ImportFault.TheVariants.{Memory};
+
+    ghost from_gives = { λ _ f. f ≡ Memory };
+
+    fn from(_failed: AllocFailed<T>) -> ImportFault {
+        ImportFault::Memory
+    }
+}

@@ -1,0 +1,15 @@
+//! Turns a register, as CSV, into the lines of a script that makes its entries.
+#![tactic(auto)]
+
+pub mod column;
+pub mod day_reading;
+pub mod entry;
+mod errands;
+mod evidence;
+pub mod fault;
+mod fields;
+pub mod import;
+pub mod lines;
+mod marks;
+mod records;
+mod row;

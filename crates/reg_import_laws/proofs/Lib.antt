@@ -1,0 +1,5 @@
+pub mod RowFacts
+pub mod Steps
+pub mod Filings
+pub mod Allowed
+pub mod Made

@@ -1,0 +1,138 @@
+//! The job that turns a register into a script.
+ghost use Rattle.std.specs.Prelude.{◌≡◌, Some, IfOk, IfErr, OnOk};
+ghost use Rattle.std.specs.String.{string_bytes};
+ghost use Rattle.reg_early.specs.Moment.{day_of_moment};
+ghost use Rattle.reg_core.specs.declared.wire_refusal.WireRefusal.TheVariants.{Field};
+ghost use Rattle.reg_import.specs.Scripts.{script_of};
+ghost use Rattle.reg_print.specs.declared.answer.Answer.TheVariants as answer;
+ghost use Rattle.reg_program.specs.Importing.{IsImporting, IsSaidOf, IsScripted, IsUnscripted, PrintsOrSaysWhy};
+ghost use Rattle.reg_program.specs.Undone.{IsSaidBy, answer_line as line_of};
+ghost use Rattle.reg_program.specs.declared.faults.JobFailure.TheVariants.{Write};
+ghost use Rattle.reg_program.specs.declared.faults.Undone.TheVariants.{Fault};
+
+use crate::asking::{answer_line, print};
+use crate::faults::{JobFailure, Undone};
+use crate::inputs::{register_of, token_of};
+use crate::tokens::refused_as;
+use reg_core::item::Item;
+use reg_core::refusal::Refusal;
+use reg_core::text::{Account, Name, Token};
+use reg_core::wire_refusal::WireRefusal;
+use reg_early::day::{Day, day_of};
+use reg_import::fault::ImportFault;
+use reg_import::import::{Import, script_of};
+use reg_jobs::jobs::Importation;
+use reg_print::answer::Answer;
+use std::alloc::{AllocError, Global};
+use std::io::Write;
+
+/// Prints the script that makes the entries of a register, at a moment. Nothing is printed where a
+/// row of it is at fault.
+pub fn import<W: Write>(
+    rt: &HostRuntime,
+    moment: u64,
+    order: &Importation,
+    output: &mut W,
+) -> Result<(), Undone>
+    ensures { PrintsOrSaysWhy order.now moment (W.contents output.old) (W.contents output.new) result }
+{
+    let alloc = rt.alloc();
+    let token = token_of(rt, alloc, order.clerk.as_str())?;
+    let register = register_of(rt, alloc, order.register.as_str())?;
+    let import = importing(alloc, moment, order, token.as_slice())?;
+    print_script(alloc, &import, register.as_slice(), output)
+}
+
+// What is imported, by whom, on the day of a moment. `Refused` where the name or the expert's
+// account is none, or the moment is none of the office's clock; `Token` where the token is none.
+fn importing(
+    alloc: Global,
+    moment: u64,
+    order: &Importation,
+    token: &[u8],
+) -> Result<Import, Undone>
+    ensures { IfOk result (IsImporting order.now token.now moment) }
+{
+    let registry = named(alloc, order.name.as_str())?;
+    let expert = expert_of(alloc, order.expert.as_str())?;
+    let clerk = Token::read(token).ok_or(JobFailure::Token)?;
+    let today = day_in_clock(alloc, moment)?;
+    Ok(Import {
+        registry,
+        clerk,
+        expert,
+        today,
+    })
+}
+
+fn named(alloc: Global, name: &str) -> Result<Name, Undone>
+    ensures { IfOk result (λ registry. registry ≡ name.now) }
+{
+    match Name::read(name.as_bytes()) {
+        Some(name) => Ok(name),
+        None => Err(ill_formed(alloc, Item::Name)?),
+    }
+}
+
+fn expert_of(alloc: Global, name: &str) -> Result<Account, Undone>
+    ensures { IfOk result (λ expert. expert ≡ name.now) }
+{
+    match Account::read(name.as_bytes()) {
+        Some(expert) => Ok(expert),
+        None => Err(ill_formed(alloc, Item::Expert)?),
+    }
+}
+
+// Why a job is not done of which a word has not its form: the status and the body of the answer.
+fn ill_formed(alloc: Global, item: Item) -> Result<Undone, AllocError>
+    ensures { IfOk result (IsSaidBy (line_of (answer.Wire (Field item)))) }
+{
+    let answer = Answer::Wire(WireRefusal::Field(item));
+    Ok(Undone::Refused(answer_line(alloc, &answer)?))
+}
+
+// The day of a moment. `Refused` where the moment is none of the office's clock.
+fn day_in_clock(alloc: Global, moment: u64) -> Result<Day, Undone>
+    ensures { IfOk result (λ day. day_of_moment moment ≡ Some day) }
+{
+    match day_of(moment) {
+        Some(today) => Ok(today),
+        None => Err(refused_as(alloc, Refusal::Clock)?),
+    }
+}
+
+// Prints the script of a register, or says why there is none.
+fn print_script<W: Write>(
+    alloc: Global,
+    import: &Import,
+    register: &[u8],
+    output: &mut W,
+) -> Result<(), Undone>
+    ensures ok { OnOk result (IsScripted (script_of import.now register.now)
+        (W.contents output.old) (W.contents output.new)) }
+    ensures err { IfErr result (IsUnscripted (script_of import.now register.now)) }
+    ensures silent { IfErr result (λ why.
+        (why ≡ Fault Write → ⊥) → W.contents output.new ≡ W.contents output.old) }
+{
+    match script_of(alloc, import, register) {
+        Ok(script) => print(output, script.as_slice()),
+        Err(fault) => Err(explained(alloc, fault)?),
+    }
+}
+
+// Why a register has no script, with what is known of it for people.
+fn explained(alloc: Global, fault: ImportFault) -> Result<Undone, AllocError>
+    ensures { IfOk result (IsSaidOf fault) }
+{
+    match fault {
+        ImportFault::Header => Ok(Undone::Explained(
+            JobFailure::Header,
+            format!(in alloc; "the first row is not the header of a register")?,
+        )),
+        ImportFault::Row(number, fault) => Ok(Undone::Explained(
+            JobFailure::Row(number),
+            format!(in alloc; "{fault}")?,
+        )),
+        ImportFault::Memory => Ok(Undone::Fault(JobFailure::Memory)),
+    }
+}
