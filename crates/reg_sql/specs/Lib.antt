@@ -1,4 +1,5 @@
 pub mod Keeping
 pub mod Listed
+pub mod Failing
 pub mod Opening
 pub mod Troubles
