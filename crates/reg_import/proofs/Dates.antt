@@ -31,7 +31,7 @@ tested date h =
       within 1 _ date.day second.1,
     )
 
-passes : (date : CivilDate) → IsDate date → is_date date ≡ true
+pub passes : (date : CivilDate) → IsDate date → is_date date ≡ true
 passes date h =
     and_from _ _ (within_from 2000 9999 date.year h.0.0 h.0.1)
     (and_from _ _ (within_from 1 12 date.month h.1.0 h.1.1)
