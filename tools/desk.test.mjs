@@ -36,8 +36,8 @@ test('each policy asks for the evidence of RFC 8126', () => {
   for (const policy of Object.keys(forms.POLICIES)) assert.deepEqual(forms.evidenceFor('permanent', policy), forms.evidenceFor('code', policy));
 });
 
-test('the policies are those of the specification, in its order', () => {
-  const table = read('docs/SPECIFICATION.md').match(/^\| `private-use`[^]*?^\| `iesg-approval`.*$/m)[0];
+test('the policies are those of the rules, in its order', () => {
+  const table = read('docs/reference/RULES.md').match(/^\| `private-use`[^]*?^\| `iesg-approval`.*$/m)[0];
   const rows = [...table.matchAll(/^\| `([a-z-]+)` \| (4\.\d+) \|/gm)].map(([, policy, section]) => [policy, section]);
   assert.deepEqual(Object.entries(forms.POLICIES).map(([policy, { section }]) => [policy, section]), rows);
 });
@@ -170,7 +170,7 @@ test('each error is a sentence, on the page of errors too', () => {
 
 test('each item that an error can name has a sentence', () => {
   const items = [...read('crates/reg_core/src/item.rt').matchAll(/Item::\w+ => "(\w+)"/g)].map(([, name]) => name);
-  const evidence = [...read('docs/SPECIFICATION.md').matchAll(/^\| `(draft|stable|interest|chair|director|policy)` \|/gm)].map(([, name]) => name);
+  const evidence = [...read('docs/reference/RULES.md').matchAll(/^\| `(draft|stable|interest|chair|director|policy)` \|/gm)].map(([, name]) => name);
   assert.ok(items.length > 30);
   for (const item of items.filter(name => !['number', 'stream', 'track'].includes(name))) assert.notEqual(errors.inWords('field', item), errors.ERRORS.field, item);
   for (const item of [...evidence, 'contact', 'specification', 'rfc', 'stream', 'track', 'minute']) assert.notEqual(errors.inWords('evidence', item), errors.ERRORS.evidence, item);

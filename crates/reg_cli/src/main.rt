@@ -1,7 +1,7 @@
 //! The office of an assignment authority as a program.
 #![tactic(auto)]
 
-use reg_files::offices;
+use reg_files::Files;
 use reg_http::dates::ClockDates;
 use reg_jobs::command_line::job;
 use reg_jobs::jobs::{Job, JobFault};
@@ -30,17 +30,14 @@ fn main(rt: HostRuntime) -> ExitCode {
     ExitCode::from(status)
 }
 
-// Does a job by the clock, the files, the ports and the folders of the system.
+// Does a job by the clock and the files of the system.
 fn carried_out<R: Read, W: Write, E: Write>(
     rt: &HostRuntime,
     job: Job,
     console: &mut Console<'_, R, W, E>,
 ) -> u8 {
     let mut dates = ClockDates { clock: rt };
-    let mut offices = offices(rt);
-    let status = perform(rt, &mut dates, &mut offices, job, console);
-    drop(offices);
-    status
+    perform(rt, &mut dates, &mut Files, job, console)
 }
 
 // The job that the program's arguments ask for.

@@ -4,76 +4,146 @@
 mod access;
 
 use crate::access::{make_private, warn_of_readers};
+use reg_http::dates::Dates;
 use reg_http::tcp::TcpPorts;
+use reg_program::console::Console;
 use reg_program::faults::{JobFailure, Undone};
 use reg_program::publishing::Directories;
 use reg_program::stores::{Look, OfficesIn, Stores};
+use reg_program::tasks::{Offices, Task};
 use reg_sql::keeper::SqlKeeper;
-use reg_sql::look::look_at;
-use reg_sql::open::{OpenFault, Opened, open_by};
+use reg_sql::look::{Look as LookAt, look_at};
+use reg_sql::open::{OpenFault, Opened as Left, open_by};
 use reg_sql::opener::SystemFiles;
 use reg_sql::trouble::Trouble;
 use sqlite::{Alter, FileFrom, FileStore, Start, Unknown};
-use sqlite_disk::Memory;
 use std::alloc::{AllocError, Global};
-use std::io::Write;
+use std::io::{Read, Write};
 
-/// The files of which nothing is known before they are opened. One that is made is its owner's
-/// alone.
+/// The offices in files, of which nothing is known before they are opened. They are served on the ports
+/// of the system, and published in its folders. A file that is made is its owner's alone.
 #[derive(Drop)]
 pub struct Files;
 
-/// The offices in files, which are served on the ports of the system, and published in its folders.
-pub fn offices(rt: &HostRuntime) -> OfficesIn<Files, TcpPorts<'_, HostRuntime>, Directories<'_>> {
+impl Offices for Files {
+    ghost Carried = { λ _ _ _ _ _ _. Unit {0} };
+
+    ghost Checked = { λ _ _ _ _ _. Unit {0} };
+
+    fn carry_out<D: Dates, R: Read, W: Write, E: Write>(
+        &mut self,
+        rt: &HostRuntime,
+        dates: &mut D,
+        path: &str,
+        task: &Task<'_>,
+        console: &mut Console<'_, R, W, E>,
+    ) -> Result<(), Undone> {
+        // Where it cannot be made, opening it says why.
+        let _ = make_private(rt, path);
+        match opened(rt, Unknown, path, task.begins()) {
+            Ok(keeper) => carry_out_in(rt, keeper, dates, path, task, console),
+            Err(undone) => Err(undone),
+        }
+    }
+
+    fn check<D: Dates, R: Read, W: Write, E: Write>(
+        &mut self,
+        rt: &HostRuntime,
+        dates: &mut D,
+        path: &str,
+        console: &mut Console<'_, R, W, E>,
+    ) -> Result<(), Undone> {
+        match look_at(rt, path) {
+            Ok(look) => check_look(rt, look, dates, path, console),
+            Err(trouble) => Err(explained(rt.alloc(), trouble)?),
+        }
+    }
+}
+
+// Carries a task out with the office that was opened at a path. It is over any store, since what is
+// over a known one unfolds all that it holds.
+fn carry_out_in<S: Alter + Drop, D: Dates, R: Read, W: Write, E: Write>(
+    rt: &HostRuntime,
+    keeper: SqlKeeper<S>,
+    dates: &mut D,
+    path: &str,
+    task: &Task<'_>,
+    console: &mut Console<'_, R, W, E>,
+) -> Result<(), Undone> {
+    let mut offices = offices_in(
+        rt,
+        OneOffice {
+            keeper: Some(keeper),
+            version: 0,
+        },
+    );
+    offices.carry_out(rt, dates, path, task, console)
+}
+
+// Says how well the office is kept that was looked at.
+fn check_look<S: Alter + Drop, D: Dates, R: Read, W: Write, E: Write>(
+    rt: &HostRuntime,
+    look: LookAt<S>,
+    dates: &mut D,
+    path: &str,
+    console: &mut Console<'_, R, W, E>,
+) -> Result<(), Undone> {
+    let LookAt { version, keeper } = look;
+    let mut offices = offices_in(
+        rt,
+        OneOffice {
+            keeper: Some(keeper),
+            version: version.number(),
+        },
+    );
+    offices.check(rt, dates, path, console)
+}
+
+// The offices in what was opened, on the ports and in the folders of the system.
+fn offices_in<S: Alter + Drop>(
+    rt: &HostRuntime,
+    stores: OneOffice<S>,
+) -> OfficesIn<OneOffice<S>, TcpPorts<'_, HostRuntime>, Directories<'_>> {
     OfficesIn {
-        stores: Files,
+        stores,
         ports: TcpPorts { rt },
         folders: Directories { rt },
     }
 }
 
-impl Stores for Files {
-    type Kept = SqlKeeper<FileStore<FileFrom<Unknown>>>;
+// The one office that was opened, and the version that its file says.
+#[derive(Drop)]
+struct OneOffice<S: Alter> {
+    keeper: Option<SqlKeeper<S>>,
+    version: i64,
+}
 
-    type Copied = SqlKeeper<FileStore<Memory>>;
+impl<S: Alter + Drop> Stores for OneOffice<S> {
+    type Kept = SqlKeeper<S>;
 
-    fn open(
-        &mut self,
-        rt: &HostRuntime,
-        path: &str,
-        begins: bool,
-    ) -> Result<SqlKeeper<FileStore<FileFrom<Unknown>>>, Undone> {
-        // Where it cannot be made, opening it says why.
-        let _ = make_private(rt, path);
-        opened(rt, Unknown, path, begins)
+    type Copied = SqlKeeper<S>;
+
+    fn open(&mut self, rt: &HostRuntime, path: &str, begins: bool) -> Result<SqlKeeper<S>, Undone> {
+        self.keeper.take().ok_or(Undone::Fault(JobFailure::NotOurs))
     }
 
     fn warn_of_readers<E: Write>(&self, rt: &HostRuntime, path: &str, errors: &mut E) {
         warn_of_readers(rt, path, errors);
     }
 
-    fn close(&mut self, keeper: SqlKeeper<FileStore<FileFrom<Unknown>>>) {
-        let_go(keeper);
+    fn close(&mut self, keeper: SqlKeeper<S>) {
+        drop(keeper);
     }
 
-    fn look(
-        &mut self,
-        rt: &HostRuntime,
-        path: &str,
-    ) -> Result<Look<SqlKeeper<FileStore<Memory>>>, Undone> {
-        match look_at(rt, path) {
-            Ok(look) => Ok(Look {
-                version: look.version.number(),
-                keeper: look.keeper,
+    fn look(&mut self, rt: &HostRuntime, path: &str) -> Result<Look<SqlKeeper<S>>, Undone> {
+        match self.keeper.take() {
+            Some(keeper) => Ok(Look {
+                version: self.version,
+                keeper,
             }),
-            Err(trouble) => Err(explained(rt.alloc(), trouble)?),
+            None => Err(Undone::Fault(JobFailure::NotOurs)),
         }
     }
-}
-
-// It is over any store, since what is over a known one unfolds all that it holds.
-fn let_go<S: Alter + Drop>(keeper: SqlKeeper<S>) {
-    drop(keeper);
 }
 
 // The office in the files at a path, whatever is known of them.
@@ -90,7 +160,7 @@ fn opened<T: Start>(
 }
 
 // What a job is told that finds no office. What was opened is dropped, over any store too.
-fn refused<S: Alter + Drop, L: Drop>(fault: OpenFault, left: Opened<S, L>) -> Undone {
+fn refused<S: Alter + Drop, L: Drop>(fault: OpenFault, left: Left<S, L>) -> Undone {
     drop(left);
     Undone::Fault(failure(fault))
 }
