@@ -1,11 +1,11 @@
 -- The text of a day is read as that day.
-use Rattle.std.proofs.Common.{◌≡◌, ◌∙◌, ℕ, ◌+◌, ◌-◌, ◌*◌, ◌/◌, ◌%◌, ◌<◌, ◌≤◌, Bool, true, false, cond, Some, pos, refl, ap, arith, lit≤}
+use Rattle.std.proofs.Common.{◌≡◌, ◌∙◌, ℕ, ◌+◌, ◌*◌, ◌/◌, ◌%◌, ◌<◌, ◌≤◌, Bool, true, false, cond, Some, pos, refl, ap, arith, lit≤}
 use Rattle.std.specs.Prelude.{◌==◌}
 use Rattle.std.specs.Char.{is_ascii_digit}
 use Rattle.std.proofs.lemmas.Bool.Decides.{nat_tests}
 use Rattle.jiff.specs.Words.{days_in_month, is_leap_year}
 use Rattle.reg_early.proofs.CalendarIsJiffs.{length_of_month}
-use Rattle.reg_early.specs.Calendar.{CivilDate, IsDate, IsDay, civil_date, date_of, day_number}
+use Rattle.reg_early.specs.Calendar.{CivilDate, IsDate, IsDay, date_of, day_number}
 use Rattle.reg_early.specs.DayText.{date_text, text_of_day}
 use Rattle.reg_early.proofs.DaysAreDates.{IsDate-date_of, day_number-date_of}
 use Rattle.reg_import.specs.Days.{day_at, pair, read_day}
