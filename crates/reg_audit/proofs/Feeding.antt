@@ -3,7 +3,7 @@ use Rattle.std.proofs.Common.{◌≡◌, Bool, true, false, sym, ◌∙◌, refl
 use Rattle.std.specs.Prelude.{IsTrue, ◌↔◌, Result, Ok, Err, IsErr}
 use Rattle.reg_core.specs.WellKept.{WellKept}
 use Rattle.reg_core.specs.World.{World}
-use Rattle.reg_audit.specs.Audits.{Audits, Feeds, Keeps}
+use Rattle.reg_audit.specs.Audits.{Audits, Feeds, Keeps, knows_free}
 use Rattle.reg_audit.specs.Rows.{with_row, has_row_form, IsNew, IsInTurn, Fits}
 use Rattle.reg_audit.specs.declared.audit.Audit.{Audit}
 use Rattle.reg_audit.specs.declared.row.Row.{Row}
@@ -56,6 +56,7 @@ module _ (audit : Audit) (next : Row) where
       };
       says = refl;
       stays = λ h. absurd (cc);
+      free = refl;
       err = λ w audits. tt;
     }
 
@@ -63,8 +64,9 @@ module _ (audit : Audit) (next : Row) where
     pub feeds_fit : {E : Type 0} (new : Audit) → r ≡ true → IsTrue audit.well_kept
         → ((w : World) → Keeps audit w → IsInTurn w next → IsNew w next → Fits w next
         → Keeps new (with_row w next))
-        → new.well_kept ≡ audit.well_kept → Feeds {E = E} audit new (Ok true) next
-    feeds_fit new accepts so_far keeps same = record {
+        → new.well_kept ≡ audit.well_kept → knows_free new ≡ knows_free audit
+        → Feeds {E = E} audit new (Ok true) next
+    feeds_fit new accepts so_far keeps same free = record {
       tells = λ w audits turn. (
         (λ h. (tells w audits turn).0 accepts),
         (λ both. refl),
@@ -77,6 +79,7 @@ module _ (audit : Audit) (next : Row) where
           };
       says = sym (same ∙ so_far);
       stays = λ h. so_far;
+      free = free;
       err = λ w audits. tt;
     }
 
@@ -90,6 +93,7 @@ module _ (audit : Audit) (next : Row) where
     ok = λ w audits turn is_new. tt;
     says = tt;
     stays = λ h. sym same ∙ h;
+    free = tt;
     err = λ w audits. record {
       says = ((λ h. audits.says.0 (sym same ∙ h)), (λ kept. same ∙ audits.says.1 kept));
       keeps = λ h. keeps w (audits.keeps (sym same ∙ h));

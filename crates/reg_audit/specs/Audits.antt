@@ -33,8 +33,7 @@ advised_at w seat = option_map (λ there. is_some (get w.advice seat)) (get w.qu
 
 -- the keys of the world's capabilities, its registries, its pool and its links, the assignees of its
 -- entries and which of them can be held, the accounts that hold its blocks, which of its requests
--- await a minute and which of its seats were advised, and what is free in it, where there was
--- memory for that
+-- await a minute and which of its seats were advised, and what is free in it, where that is known
 pub record Keeps (audit : Audit) (w : World) : Type 0 where
   pub caps : (digest : List ℕ)
       → set.contains text_cmp audit.caps digest ≡ contains_key w.caps digest
@@ -58,6 +57,10 @@ pub record Keeps (audit : Audit) (w : World) : Type 0 where
 abbrev pub is_well_kept : Audit → Bool
 is_well_kept audit = audit.well_kept
 
+-- whether the audit knows what is free
+abbrev pub knows_free : Audit → Bool
+knows_free audit = is_some audit.free
+
 -- the audit was fed the rows of the world: it says whether this is well kept, and where it is, it
 -- keeps what later rows are judged by
 pub record Audits (audit : Audit) (w : World) : Type 0 where
@@ -66,7 +69,8 @@ pub record Audits (audit : Audit) (w : World) : Type 0 where
 
 -- fed a row in its turn, the audit tells whether the row is new and the world with it well kept; if
 -- the row is new, it was fed the rows of the world with it. What it tells it says from then on, and
--- where it said that the rows are not well kept it says so again. At an error it was not fed the row
+-- where it said that the rows are not well kept it says so again. It knows what is free, if it did
+-- before. At an error it was not fed the row
 pub record Feeds {E : Type 0} (old new : Audit) (result : Result Bool E) (next : Row) : Type 0 where
   pub tells : (w : World) → Audits old w → IsInTurn w next
       → IfOk result (λ kept. IsTrue kept ↔ (IsNew w next × WellKept (with_row w next)))
@@ -74,4 +78,5 @@ pub record Feeds {E : Type 0} (old new : Audit) (result : Result Bool E) (next :
       → OnOk result (Audits new (with_row w next))
   pub says : IfOk result (λ kept. kept ≡ is_well_kept new)
   pub stays : IsTrue (is_well_kept new) → IsTrue (is_well_kept old)
+  pub free : OnOk result (knows_free new ≡ knows_free old)
   pub err : (w : World) → Audits old w → OnErr result (Audits new w)

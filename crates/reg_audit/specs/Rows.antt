@@ -147,3 +147,8 @@ Fits w (row.Seat account reference expert) =
 Fits w (row.Advice account reference expert advice) =
     IsTrue (contains_key w.queue (seat_of account reference expert))
 Fits w (row.Link principal agent) = IsTrue (not (same_text agent principal))
+
+-- where the row is a prefix, it may be in a pool
+abbrev pub MayBePooled : Row → Type 0
+MayBePooled (row.Prefix prefix) = IsTrue (is_pool_prefix prefix)
+MayBePooled _ = Unit {0}

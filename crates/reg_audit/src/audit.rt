@@ -1,17 +1,18 @@
 //! The audit of an office's rows.
-ghost use Rattle.std.specs.Prelude.{◌≡◌, ◌↔◌, false, IsTrue, OnOk, OnErr, unwrap_or};
+ghost use Rattle.std.specs.Prelude.{◌≡◌, ◌↔◌, false, is_some, IsTrue, OnOk, OnErr, unwrap_or};
 ghost use Rattle.std.specs.BTreeMap.{get};
 ghost use Rattle.std.specs.FinMap.{contains_key};
 ghost use Rattle.reg_blocks.specs.Block.{leading_24};
+ghost use Rattle.reg_blocks.specs.Pool.{is_pool_prefix};
 ghost use Rattle.reg_core.specs.WellKept.{WellKept};
 ghost use Rattle.reg_core.specs.World.{World, empty_world, name_cmp, seat_cmp};
 ghost use Rattle.reg_vacancies.specs.Vacancies.{MayBeOf};
-ghost use Rattle.reg_audit.specs.Rows.{with_row, seat_of, IsNew, IsInTurn, Fits};
+ghost use Rattle.reg_audit.specs.Rows.{with_row, seat_of, IsNew, IsInTurn, Fits, MayBePooled};
 ghost use Rattle.reg_audit.specs.declared.row.Row.TheVariants as row;
 
 use crate::blocks::{Holders, is_apart, leading_bits};
 use crate::free::{with_block, with_prefix, with_value};
-use crate::maps::{add_key, set_row};
+use crate::grows::Grows;
 use crate::marks::{can_be_held, lacks_minute, may_be_held};
 use crate::requests::{Standing, Standings, is_holdable, stands};
 use crate::row::Row;
@@ -44,18 +45,19 @@ pub struct Audit {
     // Whether the expert gave an advice.
     seats: BTreeMap<((Account, Ref), Account), bool>,
     links: BTreeSet<(Account, Account)>,
-    // What the entries, the prefixes and the blocks leave free; none where there was no memory.
+    // What the entries, the prefixes and the blocks leave free; not known after a want of memory.
     free: Option<Vacancies>,
     // Whether all rows were new and fitted.
     well_kept: bool,
 }
 
 impl Audit {
-    ghost use Rattle.reg_audit.specs.Audits.{Audits, Feeds, Keeps, is_well_kept};
+    ghost use Rattle.reg_audit.specs.Audits.{Audits, Feeds, Keeps, is_well_kept, knows_free};
 
     /// An audit that was fed no row. It takes no memory.
     pub fn new(alloc: Global) -> Self
-        ensures { Audits result empty_world }
+        ensures world { Audits result empty_world }
+        ensures free { IsTrue (knows_free result) }
     {
         Audit {
             caps: BTreeSet::new(alloc),
@@ -73,15 +75,16 @@ impl Audit {
 
     /// Feeds a row, and says whether all rows so far make a well kept office, of which no two have
     /// one key. Only want of memory is an error.
-    pub fn feed(&mut self, row: Row) -> Result<bool, AllocError>
-        ensures { Feeds self.old self.new result row }
+    pub fn feed<S: Grows>(&mut self, row: Row) -> Result<bool, AllocError>
+        ensures feeds { Feeds self.old self.new result row }
+        ensures refused { OnErr result S.Ungrown }
     {
         if !self.accepts(&row) {
             self.well_kept = false;
             drop(row);
             return Ok(false);
         }
-        self.keep(row)?;
+        self.keep::<S>(row)?;
         Ok(true)
     }
 
@@ -93,9 +96,10 @@ impl Audit {
         self.well_kept
     }
 
-    /// What the rows that were fed leave free, if there was memory to keep it.
+    /// What the rows that were fed leave free, if that is known.
     pub fn into_free(self) -> Option<Vacancies>
-        ensures { (w : World) → Audits self w → WellKept w → MayBeOf w result }
+        ensures left { (w : World) → Audits self w → WellKept w → MayBeOf w result }
+        ensures known { is_some result ≡ knows_free self }
     {
         let Audit { free, .. } = self;
         free
@@ -103,6 +107,7 @@ impl Audit {
 
     // Whether the rows before make a well kept office, and do so with this one, which is new.
     fn accepts(&self, row: &Row) -> bool
+        ensures pool { IsTrue result → MayBePooled row.now }
         ensures so_far { IsTrue result → IsTrue self.now.well_kept }
         ensures world { (w : World) → Audits self.now w → IsInTurn w row.now
             → IsTrue result ↔ (IsNew w row.now × WellKept (with_row w row.now)) }
@@ -113,7 +118,8 @@ impl Audit {
 
     // Whether a row is new and fits those that are kept.
     fn admits(&self, row: &Row) -> bool
-        ensures { (w : World) → Keeps self.now w → WellKept w
+        ensures pool { IsTrue result → MayBePooled row.now }
+        ensures world { (w : World) → Keeps self.now w → WellKept w
             → IsTrue result ↔ (IsNew w row.now × Fits w row.now) }
     {
         self.is_new(row) && self.fits(row)
@@ -146,7 +152,8 @@ impl Audit {
 
     // Whether a row fits those that are kept.
     fn fits(&self, row: &Row) -> bool
-        ensures { (w : World) → Keeps self.now w → WellKept w → IsTrue result ↔ Fits w row.now }
+        ensures pool { IsTrue result → MayBePooled row.now }
+        ensures world { (w : World) → Keeps self.now w → WellKept w → IsTrue result ↔ Fits w row.now }
     {
         match row {
             Row::Cap(_, _) | Row::Registry(_, _) => true,
@@ -190,55 +197,62 @@ impl Audit {
     }
 
     // Keeps of a row that is in turn, and fits, what later rows are judged by.
-    fn keep(&mut self, row: Row) -> Result<(), AllocError>
+    fn keep<S: Grows>(&mut self, row: Row) -> Result<(), AllocError>
         ensures ok { OnOk result ((w : World) → Keeps self.old w → IsInTurn w row → IsNew w row
             → Fits w row → Keeps self.new (with_row w row)) }
         ensures err { OnErr result ((w : World) → Keeps self.old w → Keeps self.new w) }
         ensures same { self.new.well_kept ≡ self.old.well_kept }
+        ensures free { MayBePooled row → OnOk result (knows_free self.new ≡ knows_free self.old) }
+        ensures refused { OnErr result S.Ungrown }
     {
         match row {
-            Row::Cap(digest, _) => add_key(&mut self.caps, digest),
-            Row::Registry(name, table) => set_row(&mut self.registries, name, table),
-            Row::Entry(entry) => self.keep_entry(&entry),
-            Row::Hold(registry, value) => self.keep_hold(registry, value),
-            Row::Prefix(prefix) => self.keep_prefix(prefix),
-            Row::Block(holding) => self.keep_block(&holding),
-            Row::Request(request) => self.keep_request(&request),
+            Row::Cap(digest, _) => S::add_key(&mut self.caps, digest),
+            Row::Registry(name, table) => S::set_row(&mut self.registries, name, table),
+            Row::Entry(entry) => self.keep_entry::<S>(&entry),
+            Row::Hold(registry, value) => self.keep_hold::<S>(registry, value),
+            Row::Prefix(prefix) => self.keep_prefix::<S>(prefix),
+            Row::Block(holding) => self.keep_block::<S>(&holding),
+            Row::Request(request) => self.keep_request::<S>(&request),
             Row::Minute(account, reference, _) => {
-                set_row(&mut self.requests, (account, reference), false)
+                S::set_row(&mut self.requests, (account, reference), false)
             }
             Row::Seat(account, reference, expert) => {
-                set_row(&mut self.seats, ((account, reference), expert), false)
+                S::set_row(&mut self.seats, ((account, reference), expert), false)
             }
             Row::Advice(account, reference, expert, _) => {
-                set_row(&mut self.seats, ((account, reference), expert), true)
+                S::set_row(&mut self.seats, ((account, reference), expert), true)
             }
-            Row::Link(principal, agent) => add_key(&mut self.links, (principal, agent)),
+            Row::Link(principal, agent) => S::add_key(&mut self.links, (principal, agent)),
         }
     }
 
     // Keeps the assignee of an entry, and whether it can be held. Its value is free no more.
-    fn keep_entry(&mut self, entry: &Entry) -> Result<(), AllocError>
+    fn keep_entry<S: Grows>(&mut self, entry: &Entry) -> Result<(), AllocError>
         ensures ok { OnOk result ((w : World) → Keeps self.old w
             → Keeps self.new (with_row w (row.Entry entry.now))) }
         ensures err { OnErr result ((w : World) → Keeps self.old w → Keeps self.new w) }
         ensures same { self.new.well_kept ≡ self.old.well_kept }
+        ensures free { OnOk result (knows_free self.new ≡ knows_free self.old) }
+        ensures refused { OnErr result S.Ungrown }
     {
         let standing = Standing {
             assignee: entry.assignee,
             can_be_held: can_be_held(&entry.term),
         };
-        set_row(&mut self.standings, (entry.registry, entry.value), standing)?;
-        self.free = with_value(self.free.take(), entry);
+        let free = with_value::<S>(self.free.take(), entry)?;
+        S::set_row(&mut self.standings, (entry.registry, entry.value), standing)?;
+        self.free = free;
         Ok(())
     }
 
     // Keeps that an entry is held. Its value is free no more than before.
-    fn keep_hold(&mut self, registry: Name, value: u32) -> Result<(), AllocError>
+    fn keep_hold<S: Grows>(&mut self, registry: Name, value: u32) -> Result<(), AllocError>
         ensures ok { OnOk result ((w : World) → Keeps self.old w
             → Keeps self.new (with_row w (row.Hold registry value))) }
         ensures err { OnErr result ((w : World) → Keeps self.old w → Keeps self.new w) }
         ensures same { self.new.well_kept ≡ self.old.well_kept }
+        ensures free { OnOk result (knows_free self.new ≡ knows_free self.old) }
+        ensures refused { OnErr result S.Ungrown }
     {
         let place = (registry, value);
         let Some(standing) = self.standings.get(&place).copied() else {
@@ -248,17 +262,19 @@ impl Audit {
             can_be_held: false,
             ..standing
         };
-        set_row(&mut self.standings, place, held)
+        S::set_row(&mut self.standings, place, held)
     }
 
     // Keeps the name of a request, and whether it awaits a minute.
-    fn keep_request(&mut self, request: &Request) -> Result<(), AllocError>
+    fn keep_request<S: Grows>(&mut self, request: &Request) -> Result<(), AllocError>
         ensures ok { OnOk result ((w : World) → Keeps self.old w
             → Keeps self.new (with_row w (row.Request request.now))) }
         ensures err { OnErr result ((w : World) → Keeps self.old w → Keeps self.new w) }
         ensures same { self.new.well_kept ≡ self.old.well_kept }
+        ensures free { OnOk result (knows_free self.new ≡ knows_free self.old) }
+        ensures refused { OnErr result S.Ungrown }
     {
-        set_row(
+        S::set_row(
             &mut self.requests,
             (request.account, request.reference),
             lacks_minute(&request.ask),
@@ -266,27 +282,34 @@ impl Audit {
     }
 
     // Keeps a prefix that may be in a pool, and the places in it.
-    fn keep_prefix(&mut self, prefix: u32) -> Result<(), AllocError>
+    fn keep_prefix<S: Grows>(&mut self, prefix: u32) -> Result<(), AllocError>
         ensures ok { OnOk result ((w : World) → Keeps self.old w
             → Keeps self.new (with_row w (row.Prefix prefix))) }
         ensures err { OnErr result ((w : World) → Keeps self.old w → Keeps self.new w) }
         ensures same { self.new.well_kept ≡ self.old.well_kept }
+        ensures free { IsTrue (is_pool_prefix prefix)
+            → OnOk result (knows_free self.new ≡ knows_free self.old) }
+        ensures refused { OnErr result S.Ungrown }
     {
-        add_key(&mut self.prefixes, prefix)?;
-        self.free = with_prefix(self.free.take(), prefix);
+        let free = with_prefix::<S>(self.free.take(), prefix)?;
+        S::add_key(&mut self.prefixes, prefix)?;
+        self.free = free;
         Ok(())
     }
 
     // Keeps the account of a block of the pool, whose place is free no more.
-    fn keep_block(&mut self, holding: &Holding) -> Result<(), AllocError>
+    fn keep_block<S: Grows>(&mut self, holding: &Holding) -> Result<(), AllocError>
         ensures ok { OnOk result ((w : World) → Keeps self.old w
             → IsTrue (contains_key w.pool (leading_24 holding.now.block))
             → Keeps self.new (with_row w (row.Block holding.now))) }
         ensures err { OnErr result ((w : World) → Keeps self.old w → Keeps self.new w) }
         ensures same { self.new.well_kept ≡ self.old.well_kept }
+        ensures free { OnOk result (knows_free self.new ≡ knows_free self.old) }
+        ensures refused { OnErr result S.Ungrown }
     {
-        set_row(&mut self.holders, holding.block, holding.holder)?;
-        self.free = with_block(self.free.take(), holding);
+        let free = with_block::<S>(self.free.take(), holding)?;
+        S::set_row(&mut self.holders, holding.block, holding.holder)?;
+        self.free = free;
         Ok(())
     }
 }

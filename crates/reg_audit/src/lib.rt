@@ -4,8 +4,8 @@
 pub mod audit;
 mod blocks;
 mod free;
+pub mod grows;
 pub mod laws;
-mod maps;
 mod marks;
 mod requests;
 pub mod row;

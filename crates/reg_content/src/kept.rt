@@ -1,22 +1,25 @@
 //! The rows of any table of an office: found and listed by a test, added, put at their keys,
 //! changed and taken away.
-ghost use Rattle.std.specs.Prelude.{◌≡◌, Bool, true, IfOk};
+ghost use Rattle.std.specs.Prelude.{◌≡◌, ◌⊎◌, Bool, true, IfErr, IfOk};
 ghost use Rattle.sqlite.specs.Held.{state};
 ghost use Rattle.sqlite.specs.Values.{bound};
 ghost use Rattle.reg_tables.specs.Kinds.{IsQuery, WritesRows};
 ghost use Rattle.reg_statements.specs.Defined.{Adds, AllCan, Changes, Chooses, IsDefined, IsFound};
 ghost use Rattle.reg_statements.specs.Defined.{IsFree, KeepsTies, Puts, Takes, rows_where};
 ghost use Rattle.reg_statements.specs.Defined.{with_changed, with_row, without_row};
-ghost use Rattle.reg_statements.specs.Loading.{IsAscending};
+ghost use Rattle.reg_statements.specs.Loading.{IsAscending, ReadsInOrder, ReadsOne};
 ghost use Rattle.reg_statements.specs.Parts.{TableDef};
+ghost use Rattle.reg_statements.specs.Reading.{GivesTooMany, IsFault, IsMet, IsMisread};
 ghost use Rattle.reg_content.specs.Calls.{IsKeeping, LooksIn, StepsIn};
 
 use reg_keeper::keeper::Fault;
 use reg_records::record::Keyed;
+use reg_statements::loads::Loads;
 use reg_statements::select::{all, one};
 use reg_statements::write::write;
+use reg_tables::reports::Reports;
 use sqlite::types::ValueRef;
-use sqlite::{Alter, Connection, Transaction};
+use sqlite::{Connection, Transaction};
 use std::alloc::Global;
 
 /// A row of a table of an office.
@@ -38,7 +41,7 @@ pub trait Kept: Keyed {
 }
 
 /// The one row whose key and value pass a test, if there is one.
-pub fn find<S: Alter, T: Kept>(
+pub fn find<S: Reports + Loads, T: Kept>(
     alloc: Global,
     conn: &mut Connection<S>,
     sql: &str,
@@ -46,14 +49,18 @@ pub fn find<S: Alter, T: Kept>(
 ) -> Result<Option<T>, Fault>
     requires keeping { IsKeeping (state S.Store conn.old) }
     requires plain { IsQuery sql.now }
-    ensures { LooksIn (state S.Store conn.old) (state S.Store conn.new) result
+    ensures row { LooksIn (state S.Store conn.old) (state S.Store conn.new) result
         (λ p found. IsFound T.table sql.now (bound params.now) found p) }
+    ensures fault { IfErr result (λ fault. IsFault (IsMet S.Reported S.Unloaded
+        (GivesTooMany S.Store sql.now (bound params.now) conn.new)) (state S.Store conn.old)
+        (state S.Store conn.new) fault ⊎ IsMisread sql.now (bound params.now) (state S.Store conn.old)
+        (state S.Store conn.new) (ReadsOne T.of) fault) }
 {
     one::<S, T>(alloc, conn, sql, params)
 }
 
 /// The rows whose keys and values pass a test, in the order of their keys.
-pub fn list<S: Alter, T: Kept>(
+pub fn list<S: Reports + Loads, T: Kept>(
     alloc: Global,
     conn: &mut Connection<S>,
     sql: &str,
@@ -65,12 +72,16 @@ pub fn list<S: Alter, T: Kept>(
     ensures rows { LooksIn (state S.Store conn.old) (state S.Store conn.new) result
         (λ p rows. (test : T.Key → T.Value → Bool) → Chooses T.table sql.now (bound params.now) test
         → rows.items ≡ rows_where T.table test p) }
+    ensures fault { IfErr result (λ fault. IsFault (IsMet S.Reported S.Unloaded
+        (GivesTooMany S.Store sql.now (bound params.now) conn.new)) (state S.Store conn.old)
+        (state S.Store conn.new) fault ⊎ IsMisread sql.now (bound params.now) (state S.Store conn.old)
+        (state S.Store conn.new) (ReadsInOrder T.of T.order) fault) }
 {
     all::<S, T>(alloc, conn, sql, params)
 }
 
 /// Adds a row at a key that has none. The values are those that are written for it.
-pub fn add<S: Alter, T: Kept>(
+pub fn add<S: Reports, T: Kept>(
     tx: &mut Transaction<'_, S>,
     sql: &str,
     values: &[ValueRef<'_>],
@@ -80,6 +91,8 @@ pub fn add<S: Alter, T: Kept>(
     ensures steps { (row : T) → T.table.form row ≡ true → bound values.now ≡ T.table.values row
         → StepsIn (state S.Store tx.old.conn.now) (state S.Store tx.new.conn.now) result
         (λ p. IsFree T.table row p × KeepsTies (with_row T.table row) p) (with_row T.table row) }
+    ensures fault { IfErr result (IsFault S.Reported (state S.Store tx.old.conn.now)
+        (state S.Store tx.new.conn.now)) }
 {
     write(tx, sql, values)?;
     Ok(())
@@ -87,7 +100,7 @@ pub fn add<S: Alter, T: Kept>(
 
 /// Puts a row in the place of the one with its key, or adds it where there is none. The values are
 /// those that are written for it.
-pub fn put<S: Alter, T: Kept>(
+pub fn put<S: Reports, T: Kept>(
     tx: &mut Transaction<'_, S>,
     sql: &str,
     values: &[ValueRef<'_>],
@@ -97,13 +110,15 @@ pub fn put<S: Alter, T: Kept>(
     ensures steps { (row : T) → T.table.form row ≡ true → bound values.now ≡ T.table.values row
         → StepsIn (state S.Store tx.old.conn.now) (state S.Store tx.new.conn.now) result
         (KeepsTies (with_row T.table row)) (with_row T.table row) }
+    ensures fault { IfErr result (IsFault S.Reported (state S.Store tx.old.conn.now)
+        (state S.Store tx.new.conn.now)) }
 {
     write(tx, sql, values)?;
     Ok(())
 }
 
 /// Changes the rows whose keys and values pass a test: of each some columns, and by these its value.
-pub fn change<S: Alter, T: Kept>(
+pub fn change<S: Reports, T: Kept>(
     tx: &mut Transaction<'_, S>,
     sql: &str,
     params: &[ValueRef<'_>],
@@ -116,13 +131,15 @@ pub fn change<S: Alter, T: Kept>(
         → StepsIn (state S.Store tx.old.conn.now) (state S.Store tx.new.conn.now) result
         (λ p. AllCan T.table test can p × KeepsTies (with_changed T.table test changed) p)
         (with_changed T.table test changed) }
+    ensures fault { IfErr result (IsFault S.Reported (state S.Store tx.old.conn.now)
+        (state S.Store tx.new.conn.now)) }
 {
     write(tx, sql, params)?;
     Ok(())
 }
 
 /// Takes the row of a key away, if there is one.
-pub fn take<S: Alter, T: Kept>(
+pub fn take<S: Reports, T: Kept>(
     tx: &mut Transaction<'_, S>,
     sql: &str,
     key: &[ValueRef<'_>],
@@ -132,6 +149,8 @@ pub fn take<S: Alter, T: Kept>(
     ensures steps { (k : T.Key) → bound key.now ≡ T.table.key.cells k
         → StepsIn (state S.Store tx.old.conn.now) (state S.Store tx.new.conn.now) result
         (KeepsTies (without_row T.table k)) (without_row T.table k) }
+    ensures fault { IfErr result (IsFault S.Reported (state S.Store tx.old.conn.now)
+        (state S.Store tx.new.conn.now)) }
 {
     write(tx, sql, key)?;
     Ok(())

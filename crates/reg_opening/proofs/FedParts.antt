@@ -1,10 +1,11 @@
 -- Parts of an office that are fed to an audit one after the other.
 use Rattle.std.proofs.Common.{Bool, true, false, subst, sym}
-use Rattle.std.specs.Prelude.{Result, Ok, IfOk}
+use Rattle.std.specs.Prelude.{Result, Ok, IfOk, IsTrue}
 use Rattle.std.proofs.lemmas.Result.{IfOk-weaker}
 use Rattle.sqlite.specs.Effect.{Database}
 use Rattle.sqlite.specs.State.{State}
 use Rattle.reg_core.specs.World.{World}
+use Rattle.reg_audit.specs.Audits.{knows_free}
 use Rattle.reg_audit.specs.declared.audit.Audit.{Audit}
 use Rattle.reg_tables.proofs.Enduring.{endures_then}
 use Rattle.reg_tables.proofs.RestLemmas.{stays_then}
@@ -20,16 +21,17 @@ use Rattle.reg_statements.specs.Tables.{Tables}
 pub feeds_after : {E : Type 0} (v : Version) {Before : Tables → World → Type 0}
     {IsHeld : Tables → Type 0} {filled : Tables → World → World} {old mid new : State} {a c : Audit}
     (result : Result Bool E) → IsIdle new → Endures old mid → Endures mid new → Stays old mid
-    → Stays mid new
+    → Stays mid new → IfOk result (λ _. IsTrue (knows_free a) → IsTrue (knows_free c))
     → (Works new → BeginsWith (table_count v) old.now.schema
     → IfOk result (TellsTable (Before (tables_at v old.now)) (IsHeld (tables_at v old.now))
     (filled (tables_at v old.now)) (content_at v old.now) a c))
     → FeedsPart {E = E} v Before IsHeld filled old new a c result
-feeds_after v {old = old} {mid = mid} {new = new} result idle lasts endures rests stays tells =
+feeds_after v {old = old} {mid = mid} {new = new} result idle lasts endures rests stays free tells =
     record {
       idle = idle;
       endures = endures_then old mid new lasts endures;
       stays = stays_then old mid new rests stays;
+      free = free;
       tells = tells;
     }
 
@@ -54,6 +56,7 @@ pub feeds_then : {E : Type 0} (v : Version) {F G : Tables → World → Type 0} 
     result
 feeds_then v {G = G} {I = I} {g = g} {old = old} {a = a} {b = b} {c = c} result first second =
     feeds_after v result second.idle first.endures second.endures first.stays second.stays
+    (IfOk-weaker result _ _ (λ k more known. more (first.free known)) second.free)
     (λ works has.
     let before = second.stays.worked works in
     let same = first.stays.unchanged before in
@@ -73,6 +76,7 @@ feeds_stop v Before I filled first = record {
   idle = first.idle;
   endures = first.endures;
   stays = first.stays;
+  free = first.free;
   tells = λ works has held kept. first.tells works has held.0 kept;
 }
 
@@ -85,6 +89,7 @@ feeds_where v {F} {G} {H} {f} {old = old} {a = a} {b = b} result gives part = re
   idle = part.idle;
   endures = part.endures;
   stays = part.stays;
+  free = part.free;
   tells = λ works has. IfOk-weaker result _ _ weaker (part.tells works has);
 }
   where

@@ -6,7 +6,7 @@ use Rattle.std.proofs.lemmas.List.Sorted.{IsPermutation-refl, IsPermutation-reve
 use Rattle.std.specs.List.{AllByRecursion, IsDistinct}
 use Rattle.std.specs.declared.cmp.Ordering.{Ordering}
 use Rattle.std.specs.FinMap.{FinMap, from_entries, get-empty, get-from_entries}
-use Rattle.std.specs.Prelude.{Result, Ok, Err, IfOk, nat_lt, if◌then◌else◌}
+use Rattle.std.specs.Prelude.{Result, Ok, Err, IfOk, IsTrue, nat_lt, if◌then◌else◌}
 use Rattle.sqlite.specs.Order.{Row as SqlRow, column}
 use Rattle.sqlite.specs.State.{State, Shown}
 use Rattle.sqlite.specs.Term.{Term}
@@ -28,7 +28,7 @@ use Rattle.reg_tables.proofs.SelectLemmas.{selected, shows_columns}
 use Rattle.reg_statements.specs.Content.{content_at}
 use Rattle.reg_statements.specs.Tables.{Tables, tables_in}
 use Rattle.reg_core.specs.World.{World}
-use Rattle.reg_audit.specs.Audits.{Audits}
+use Rattle.reg_audit.specs.Audits.{Audits, knows_free}
 use Rattle.reg_audit.specs.Rows.{with_row, IsInTurn, IsNew}
 use Rattle.reg_audit.specs.declared.audit.Audit.{Audit}
 use Rattle.reg_audit.specs.declared.row.Row.{Row}
@@ -314,14 +314,15 @@ module _ {T K X : Type 0} (d : TableDef T K X) (l : IsDefined d) (of : SqlRow �
         each_told (Err e) was is = tt
 
         pub feeds_part : {E : Type 0} (result : Result Bool E) → IsIdle new → Endures old new
-            → Stays old new
+            → Stays old new → IfOk result (λ _. IsTrue (knows_free before) → IsTrue (knows_free after))
             → (Works new → IfOk result (λ k. (shown : List SqlRow) × Shown sql [] old new shown
             × IsFed numbered row_of shown before after k))
             → FeedsIt v old new before after result
-        feeds_part result now endures stays rows = record {
+        feeds_part result now endures stays free rows = record {
           idle = now;
           endures = endures;
           stays = stays;
+          free = free;
           tells = λ works is. each_told result (rows works) is;
         }
 
@@ -333,6 +334,7 @@ module _ {T K X : Type 0} (d : TableDef T K X) (l : IsDefined d) (of : SqlRow �
     idle = idle;
     endures = endures_still old;
     stays = record { worked = λ h. h; unchanged = λ h. refl };
+    free = λ known. known;
     tells = λ works is.
         let t = tables_at v old.now in
         let none = fed_none l.key.keys d.pair row put (Before t) (IsTied t) (part t) d.at audit in

@@ -16,6 +16,7 @@ feeds_none audit = record {
   audits = λ w audits turn new. audits;
   fresh = λ w audits turn kept. tt;
   stays = λ kept. kept;
+  free = λ known. known;
 }
 
 -- one row more
@@ -30,6 +31,7 @@ feeds_more old mid new next rows kept before fed = record {
       let tells = fed.tells (with_rows w rows) (before.audits w audits turn.0 are) turn.1 in
       (are, (tells.0 (fed.says ∙ holds)).0);
   stays = λ holds. before.stays (fed.stays holds);
+  free = λ known. fed.free ∙ before.free known;
 }
 
 -- ---- A feeder that takes rows as they are read

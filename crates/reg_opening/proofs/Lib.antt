@@ -7,4 +7,6 @@ pub mod FedRegistries
 pub mod FedParts
 pub mod RowidStatements
 pub mod RowidLemmas
+pub mod Causes
+pub mod Unfed
 pub mod OpenLemmas

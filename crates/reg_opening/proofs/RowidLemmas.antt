@@ -29,7 +29,7 @@ use Rattle.reg_tables.proofs.Library.Rowids.{keyed_if_shown}
 use Rattle.reg_tables.proofs.SelectLemmas.{selected}
 use Rattle.reg_statements.specs.Loading.{IsAscending, ReadAs}
 use Rattle.reg_opening.specs.Feeding.{rowids_of}
-use Rattle.reg_opening.specs.Numbered.{last_of, numbered_in}
+use Rattle.reg_opening.specs.Numbered.{IsRising, last_of, numbered_in}
 use Rattle.reg_opening.specs.Rowids.{SelectsRowids, rowid_in}
 use Rattle.reg_opening.specs.declared.numbered.Numbered.{Numbered}
 use Rattle.reg_statements.proofs.Neighbours.{strict}
@@ -141,6 +141,56 @@ next_rises rowids ids last next are up is less = (
   rises_by ids last next (sym is) less up,
   sym (last_behind ids next),
 )
+
+-- the last of numbers that rise is above the others
+last_rises : (ids : List ℤ) (next : ℤ) → IsAscending int_cmp (ids ++ next ∷ [])
+    → (last : ℤ) → last_of ids ≡ Some last → int_cmp last next ≡ Less
+last_rises [] next up last is = absurd (cc)
+last_rises (n ∷ []) next up last is =
+    let same : n ≡ last = cc in ap (λ m. int_cmp m next) (sym same) ∙ up.0
+last_rises (n ∷ m ∷ more) next up last is = last_rises (m ∷ more) next up.1 last is
+
+-- rowids that rise with one more: those before, and the one
+split : (rowids : List (Option ℤ)) (next : Option ℤ) (ids : List ℤ)
+    → rowids ++ next ∷ [] ≡ map Some ids
+    → (before : List ℤ) × (last : ℤ) × (rowids ≡ map Some before) × (next ≡ Some last)
+    × (ids ≡ before ++ last ∷ [])
+split [] next [] are = absurd (cc)
+split [] next (n ∷ []) are = ([], n, refl, cc, refl)
+split [] next (n ∷ m ∷ ids) are = absurd (cc)
+split (r ∷ rowids) next [] are = absurd (cc)
+split (r ∷ rowids) next (n ∷ ids) are =
+    let first : r ≡ Some n = cc in
+    let rest : rowids ++ next ∷ [] ≡ map Some ids = cc in
+    let parts = split rowids next ids rest in (
+      n ∷ parts.0,
+      parts.1,
+      (λ i. first i ∷ parts.2 i),
+      parts.3,
+      ap (λ more. n ∷ more) parts.4,
+    )
+
+pub parted : (rowids : List (Option ℤ)) (next : Option ℤ) → IsRising (rowids ++ next ∷ [])
+    → (before : List ℤ) × (last : ℤ) × (rowids ≡ map Some before) × (next ≡ Some last)
+    × ((n : ℤ) → last_of before ≡ Some n → int_cmp n last ≡ Less)
+parted rowids next rising =
+    let parts = split rowids next rising.0 rising.1 in
+    let up = subst (IsAscending int_cmp) parts.4 rising.2 in
+    (parts.0, parts.1, parts.2, parts.3, last_rises parts.0 parts.1 up)
+
+-- and those before rise
+before_last : (ids : List ℤ) (next : ℤ) → IsAscending int_cmp (ids ++ next ∷ [])
+    → IsAscending int_cmp ids
+before_last [] next up = tt
+before_last (n ∷ []) next up = tt
+before_last (n ∷ m ∷ more) next up = (up.0, before_last (m ∷ more) next up.1)
+
+pub rises_to : (rowids : List (Option ℤ)) (next : Option ℤ) → IsRising (rowids ++ next ∷ [])
+    → IsRising rowids
+rises_to rowids next rising =
+    let parts = split rowids next rising.0 rising.1 in
+    let up = subst (IsAscending int_cmp) parts.4 rising.2 in
+    (parts.0, parts.2, before_last parts.0 parts.1 up)
 
 module _ {T : Type 0} where
   -- and stand where they were read

@@ -6,10 +6,13 @@ use Rattle.std.proofs.lemmas.List.{append-nil}
 use Rattle.std.specs.Cmp.{eq_by_cmp_equiv}
 use Rattle.std.specs.List.{AllByRecursion}
 use Rattle.std.specs.List.Sorted.{IsStrictlySortedBy}
-use Rattle.std.specs.Ordering.{is_eq}
+use Rattle.std.specs.Ordering.{is_eq, nat_cmp, ordering_then}
 use Rattle.std.specs.Prelude.{MatchOption, Vec}
 use Rattle.std.specs.declared.alloc.Global.{Global}
-use Rattle.std.specs.declared.cmp.Ordering.TheVariants.{Less}
+use Rattle.std.specs.declared.cmp.Ordering.{Ordering}
+use Rattle.std.specs.declared.cmp.Ordering.TheVariants.{Less, Equal, Greater}
+use Rattle.reg_core.specs.World.{place_cmp}
+use Rattle.reg_statements.specs.Loading.{IsAscending}
 use Rattle.reg_maps.specs.Maps.{same_text, text_cmp}
 use Rattle.reg_maps.proofs.MapLaws.{text_keys, tied}
 use Rattle.reg_maps.proofs.KeyTests.{text_test}
@@ -135,23 +138,6 @@ owned_before g gs (r ∷ rows) all =
       | false ↦ λ e all. owned_more g gs (r ∷ rows) all
     ] refl all
 
-owned_after : (gs : List Registry) (name : List ℕ) (rows : List RegistryRange)
-    → are_owned gs rows ≡ true → are_owned gs (trailing name rows) ≡ true
-owned_after gs name [] all = refl
-owned_after gs name (r ∷ rows) all =
-    let both = and_parts (is_named gs r.registry) (are_owned gs rows) all in
-    elim (same_text r.registry name) as
-    (λ b. are_owned gs (cond b (trailing name rows) (r ∷ rows)) ≡ true) [
-      | true ↦ owned_after gs name rows both.1
-      | false ↦ all
-    ]
-
-owned_left : (gs takers : List Registry) (rows : List RegistryRange)
-    → are_owned gs rows ≡ true → are_owned gs (left_over takers rows) ≡ true
-owned_left gs [] rows all = all
-owned_left gs (g ∷ takers) rows all =
-    owned_left gs takers (trailing g.name rows) (owned_after gs g.name rows all)
-
 -- ---- All of them
 
 -- where no row is left, each registry took its ranges, and each row has a registry
@@ -172,25 +158,105 @@ all_taken (g ∷ gs) rows up none =
       owned_before g gs rows more.1,
     )
 
--- a row that is left and has no registry
-not_owned : (gs : List Registry) (rows more : List RegistryRange) (r : RegistryRange)
-    → left_over gs rows ≡ r ∷ more → is_named gs r.registry ≡ false → are_owned gs rows ≡ false
-not_owned gs rows more r left none =
-    elim (are_owned gs rows) as (λ b. are_owned gs rows ≡ b → b ≡ false) [
-      | true ↦ λ e.
-          let still = subst (λ rows. are_owned gs rows ≡ true) left (owned_left gs gs rows e) in
-          let both = and_parts (is_named gs r.registry) (are_owned gs more) still in
-          absurd (cc)
-      | false ↦ λ e. refl
+-- ---- Rows in their order, of registries in theirs
+
+abbrev Rise : List RegistryRange → Type 0
+Rise = IsAscending (λ a b. place_cmp (a.registry, a.range.lo) (b.registry, b.range.lo))
+
+rise_after : (r : RegistryRange) (rows : List RegistryRange) → Rise (r ∷ rows) → Rise rows
+rise_after r [] up = tt
+rise_after r (q ∷ rows) up = up.1
+
+rise_behind : (name : List ℕ) (rows : List RegistryRange) → Rise rows → Rise (trailing name rows)
+rise_behind name [] up = tt
+rise_behind name (r ∷ rows) up =
+    elim (same_text r.registry name) as (λ b. Rise (cond b (trailing name rows) (r ∷ rows))) [
+      | true ↦ rise_behind name rows (rise_after r rows up)
+      | false ↦ up
+    ]
+
+-- a name before that of a row is before that of the next
+name_below : (name : List ℕ) (r q : RegistryRange) → text_cmp name r.registry ≡ Less
+    → place_cmp (r.registry, r.range.lo) (q.registry, q.range.lo) ≡ Less
+    → text_cmp name q.registry ≡ Less
+name_below name r q less up = by (text_cmp r.registry q.registry) refl up
+  where
+    by : (o : Ordering) → text_cmp r.registry q.registry ≡ o
+        → ordering_then o (nat_cmp r.range.lo q.range.lo) ≡ Less → text_cmp name q.registry ≡ Less
+    by Less is up = text_keys.total.trans name r.registry q.registry less is
+    by Equal is up =
+        subst (λ other. text_cmp name other ≡ Less) (text_keys.exact r.registry q.registry is) less
+    by Greater is up = absurd (cc)
+
+-- a name before those of all is before one of theirs
+named_below : (name other : List ℕ) (gs : List Registry)
+    → AllByRecursion (λ y. text_cmp name y ≡ Less) (names gs) → is_named gs other ≡ true
+    → text_cmp name other ≡ Less
+named_below name other [] less named = absurd (cc)
+named_below name other (g ∷ gs) less named =
+    elim (same_text g.name other) as (λ b. same_text g.name other ≡ b
+    → (b || is_named gs other) ≡ true → text_cmp name other ≡ Less) [
+      | true ↦ λ e h. subst (λ y. text_cmp name y ≡ Less) (equal g.name other e) less.0
+      | false ↦ λ e h. named_below name other gs less.1 h
+    ] refl named
+
+second_holds : (a b : Bool) → a ≡ false → (a || b) ≡ true → b ≡ true
+second_holds true b is h = absurd (cc)
+second_holds false b is h = h
+
+-- rows of which the first has a name after a registry's are of the registries after it
+named_later : (g : Registry) (gs : List Registry) (name : List ℕ) → text_cmp g.name name ≡ Less
+    → is_named (g ∷ gs) name ≡ true → is_named gs name ≡ true
+named_later g gs name less named =
+    second_holds (same_text g.name name) (is_named gs name) (text_test g.name name ∙ ap is_eq less)
+    named
+
+owned_later : (g : Registry) (gs : List Registry) (r : RegistryRange) (rows : List RegistryRange)
+    → Rise (r ∷ rows) → text_cmp g.name r.registry ≡ Less → are_owned (g ∷ gs) (r ∷ rows) ≡ true
+    → are_owned gs (r ∷ rows) ≡ true
+owned_later g gs r [] up less all =
+    let both = and_parts (is_named (g ∷ gs) r.registry) true all in
+    λ i. named_later g gs r.registry less both.0 i && true
+owned_later g gs r (q ∷ rows) up less all =
+    let both = and_parts (is_named (g ∷ gs) r.registry) (are_owned (g ∷ gs) (q ∷ rows)) all in
+    λ i. named_later g gs r.registry less both.0 i
+    && owned_later g gs q rows up.1 (name_below g.name r q less up.0) both.1 i
+
+-- so are those that a registry leaves
+owned_behind : (g : Registry) (gs : List Registry) (rows : List RegistryRange)
+    → AllByRecursion (λ y. text_cmp g.name y ≡ Less) (names gs) → Rise rows
+    → are_owned (g ∷ gs) rows ≡ true → are_owned gs (trailing g.name rows) ≡ true
+owned_behind g gs [] less up all = refl
+owned_behind g gs (r ∷ rows) less up all =
+    let both = and_parts (is_named (g ∷ gs) r.registry) (are_owned (g ∷ gs) rows) all in
+    elim (same_text r.registry g.name) as (λ b. same_text r.registry g.name ≡ b
+    → are_owned gs (cond b (trailing g.name rows) (r ∷ rows)) ≡ true) [
+      | true ↦ λ e. owned_behind g gs rows less (rise_after r rows up) both.1
+      | false ↦ λ e.
+          let named = second_holds (same_text g.name r.registry) (is_named gs r.registry)
+          (turned g.name r.registry ∙ e) both.0 in
+          owned_later g gs r rows up (named_below g.name r.registry gs less named) all
     ] refl
 
--- the first of the rows that are left
-pub first_not_owned : (gs : List Registry) (rows left : List RegistryRange) (r : RegistryRange)
-    → left ≡ left_over gs rows → 1 ≤ length left → r ≡ get_or left 0 r
-    → is_named gs r.registry ≡ false → are_owned gs rows ≡ false
-first_not_owned gs rows [] r is long first none = absurd (omega (arith, long))
-first_not_owned gs rows (x ∷ more) r is long first none =
-    not_owned gs rows more x (sym is) (ap (λ (it : RegistryRange). is_named gs it.registry) (sym first) ∙ none)
+none_left : (gs : List Registry) (rows : List RegistryRange)
+    → IsStrictlySortedBy text_cmp (names gs) → Rise rows → are_owned gs rows ≡ true
+    → left_over gs rows ≡ []
+unfolding IsStrictlySortedBy
+none_left [] [] sorted up all = refl
+none_left [] (r ∷ rows) sorted up all = absurd (cc)
+none_left (g ∷ gs) rows sorted up all =
+    none_left gs (trailing g.name rows) sorted.1 (rise_behind g.name rows up)
+    (owned_behind g gs rows sorted.0 up all)
+
+-- where a row is left, one has no registry
+pub left_not_owned : (gs : List Registry) (rows left : List RegistryRange)
+    → left ≡ left_over gs rows → IsStrictlySortedBy text_cmp (names gs) → Rise rows
+    → ¬ (length left ≡ 0) → are_owned gs rows ≡ false
+left_not_owned gs rows left is sorted up some =
+    elim (are_owned gs rows) as (λ b. are_owned gs rows ≡ b → b ≡ false) [
+      | true ↦ λ e. absurd (some (ap length (is ∙ none_left gs rows sorted up e)))
+      | false ↦ λ e. refl
+    ] refl
 
 -- no row is left
 all_gone : (gs : List Registry) (rows left : List RegistryRange) → left ≡ left_over gs rows

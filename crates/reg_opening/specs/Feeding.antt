@@ -10,7 +10,7 @@ use Rattle.sqlite.specs.State.{State}
 use Rattle.reg_maps.specs.RowMaps.{IsTable, held_in}
 use Rattle.reg_core.specs.WellKept.{WellKept}
 use Rattle.reg_core.specs.World.{World}
-use Rattle.reg_audit.specs.Audits.{Audits, Feeds, is_well_kept}
+use Rattle.reg_audit.specs.Audits.{Audits, Feeds, is_well_kept, knows_free}
 use Rattle.reg_audit.specs.Rows.{with_row, IsInTurn, IsNew}
 use Rattle.reg_audit.specs.declared.audit.Audit.{Audit}
 use Rattle.reg_audit.specs.declared.row.Row.{Row}
@@ -46,13 +46,14 @@ AreNew w [] = Unit {0}
 AreNew w (next ∷ after) = AreNew w after × IsNew (with_rows w after) next
 
 -- fed rows that are new, the audit was fed the rows of the world with them; and where it says that
--- all is well kept, they were new
+-- all is well kept, they were new. It knows what is free, if it did before
 pub record FeedsRows (old new : Audit) (rows : List Row) : Type 0 where
   pub audits : (w : World) → Audits old w → AreInTurn w rows → AreNew w rows
       → Audits new (with_rows w rows)
   pub fresh : (w : World) → Audits old w → AreInTurn w rows → IsTrue (is_well_kept new)
       → AreNew w rows
   pub stays : IsTrue (is_well_kept new) → IsTrue (is_well_kept old)
+  pub free : IsTrue (knows_free old) → IsTrue (knows_free new)
 
 -- the rowids of rows
 abbrev pub rowids_of : {T : Type 0} → List (Numbered T) → List (Option ℤ)
@@ -91,13 +92,14 @@ TellsTable Before IsHeld with whole old new true = FeedsTable Before IsHeld with
 TellsTable Before IsHeld with whole old new false = IsHeld → ¬ WellKept whole
 
 -- A call that feeds the rows of a part of an office of a version to an audit. The store stays as it
--- was.
+-- was. Where it comes to an end the audit knows what is free, if it did before.
 pub record FeedsPart {E : Type 0} (v : Version) (Before : Tables → World → Type 0)
     (IsHeld : Tables → Type 0) (with : Tables → World → World) (old new : State)
     (before after : Audit) (result : Result Bool E) : Type 0 where
   pub idle : IsIdle new
   pub endures : Endures old new
   pub stays : Stays old new
+  pub free : IfOk result (λ _. IsTrue (knows_free before) → IsTrue (knows_free after))
   pub tells : Works new → BeginsWith (table_count v) old.now.schema
       → let t = tables_at v old.now in
       IfOk result (TellsTable (Before t) (IsHeld t) (with t) (content_at v old.now) before after)

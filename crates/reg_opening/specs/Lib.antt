@@ -3,5 +3,7 @@ pub mod Feeding
 pub mod FedRows
 pub mod Partitions
 pub mod Parts
+pub mod Causes
 pub mod Rowids
+pub mod Unordered
 pub mod Opening

@@ -35,7 +35,9 @@ last_of (n ∷ m ∷ more) = last_of (m ∷ more)
 abbrev pub IsRising : List (Option ℤ) → Type 0
 IsRising rowids = (ids : List ℤ) × (rowids ≡ map Some ids) × IsAscending int_cmp ids
 
--- it holds of rows only where their rowids rise, and then it has the last of them
+-- it holds of rows just where their rowids rise, and then it has the last of them
 abbrev pub HasRisen : Rise → List (Option ℤ) → Type 0
-HasRisen rise rowids = IsTrue rise.holds → (ids : List ℤ) × (rowids ≡ map Some ids)
-    × IsAscending int_cmp ids × (rise.last ≡ last_of ids)
+HasRisen rise rowids =
+    (IsTrue rise.holds → (ids : List ℤ) × (rowids ≡ map Some ids) × IsAscending int_cmp ids
+    × (rise.last ≡ last_of ids))
+    × (IsRising rowids → IsTrue rise.holds)

@@ -5,6 +5,9 @@ use Rattle.sqlite.specs.Effect.{Database}
 use Rattle.sqlite.specs.Order.{Row}
 use Rattle.sqlite.specs.State.{State}
 use Rattle.sqlite.specs.Table.{Table}
+use Rattle.sqlite.specs.declared.error.Error.{Error}
+use Rattle.sqlite_trees.specs.declared.store.Store.{Ghosts}
+use Rattle.reg_keeper.specs.declared.keeper.Fault.{Fault}
 use Rattle.reg_core.specs.WellKept.{WellKept}
 use Rattle.reg_core.specs.World.{World}
 use Rattle.reg_audit.specs.Audits.{Audits, is_well_kept}
@@ -20,7 +23,9 @@ use Rattle.reg_tables.specs.Version.{IsOther, number_of, rows_of, schema_of, tab
 use Rattle.reg_tables.specs.declared.version.Version.{Version}
 use Rattle.reg_statements.specs.Content.{AreKept, HasVersion, IsStoredAs, content, content_at}
 use Rattle.reg_statements.specs.Tables.{Tables, tables_in}
+use Rattle.reg_opening.specs.Causes.{HasCause}
 use Rattle.reg_opening.specs.Feeding.{tables_at}
+use Rattle.reg_opening.specs.Unordered.{IsUnordered}
 use Rattle.reg_opening.specs.Parts.{AreParts}
 use Rattle.reg_opening.specs.Rowids.{AreOrderedKeyed}
 use Rattle.reg_opening.specs.declared.kind.Found.{Found}
@@ -178,3 +183,7 @@ pub record Decides {E : Type 0} (old new : State) (result : Result StoreKind E) 
   pub endures : Endures old new
   pub stays : Stays old new
   pub kind : Works new → IfOk result (IsFoundAs old.now)
+
+-- why a call that finds what a store is tells a fault
+abbrev pub IsStopped : {S : Type 0} → (Error → Type 0) → Type 0 → Ghosts S → State → State → Fault → Type 0
+IsStopped Reported Refused g old new fault = HasCause Reported Refused IsUnordered g old new fault

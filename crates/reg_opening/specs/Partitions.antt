@@ -11,6 +11,8 @@ use Rattle.reg_audit.specs.declared.audit.Audit.{Audit}
 use Rattle.reg_audit.specs.declared.row.Row.{Row}
 use Rattle.reg_audit.specs.declared.row.Row.TheVariants as row
 use Rattle.reg_core.specs.World.{Place, place_cmp}
+use Rattle.reg_keeper.specs.declared.keeper.Fault.{Fault}
+use Rattle.reg_keeper.specs.declared.keeper.Fault.TheVariants.{Memory, Store}
 use Rattle.reg_records.specs.declared.ranges.RegistryRange.{RegistryRange}
 use Rattle.reg_records.specs.declared.registries.Registry.{Registry}
 use Rattle.reg_statements.specs.Content.{max_at, maxes_in, range_at, ranges_in}
@@ -99,6 +101,13 @@ IsEither registries rows old new true =
 IsEither registries rows old new false =
     (are_owned registries rows ≡ false)
     ⊎ ¬ AllByRecursion (λ registry. is_partition (partition_of rows registry).table ≡ true) registries
+
+-- why registries and ranges are not fed: memory was refused, or either are not in their order
+abbrev pub AreUnfed : Type 0 → List Registry → List RegistryRange → Fault → Type 0
+AreUnfed Refused registries rows fault =
+    ((fault ≡ Memory) × Refused)
+    ⊎ ((fault ≡ Store) × (¬ IsAscending (λ a b. text_cmp a.name b.name) registries
+    ⊎ ¬ IsAscending (λ a b. place_cmp (a.registry, a.range.lo) (b.registry, b.range.lo)) rows))
 
 -- and the ranges of the registries come in order
 abbrev pub IsFedPartitions : List Registry → List RegistryRange → Audit → Audit → Bool → Type 0

@@ -1,5 +1,5 @@
 -- The rowids of a table's rows.
-use Rattle.std.specs.Prelude.{ℤ, ℕ, List, [], ◌∷◌, Option}
+use Rattle.std.specs.Prelude.{◌≡◌, ◌⊎◌, ℤ, ℕ, List, [], ◌∷◌, Option}
 use Rattle.std.specs.List.{AllByRecursion}
 use Rattle.sqlite.specs.Order.{Row, column}
 use Rattle.sqlite.specs.Term.{Term, col}
@@ -26,6 +26,17 @@ AreRowids [] (t ∷ tables) = ⊥
 AreRowids (text ∷ texts) [] = ⊥
 AreRowids (text ∷ texts) (t ∷ tables) =
     SelectsRowids text t.tree (ordered_by (0 ∷ [])) × AreRowids texts tables
+
+-- the text is one of these
+abbrev pub IsAmong : List (List ℕ) → List ℕ → Type 0
+IsAmong [] sql = ⊥
+IsAmong (text ∷ texts) sql = (sql ≡ text) ⊎ IsAmong texts sql
+
+-- the text is the query of the rowids of one of these tables, in their order
+abbrev pub AsksRowids : List Table → List ℕ → Type 0
+AsksRowids [] sql = ⊥
+AsksRowids (t ∷ tables) sql =
+    SelectsRowids sql t.tree (ordered_by (0 ∷ [])) ⊎ AsksRowids tables sql
 
 -- the tables that the texts are about have their rows by rowids
 abbrev pub KeysEach : List (List ℕ) → Trees → Type 0

@@ -1,5 +1,5 @@
 //! The rows of a table, fed to an audit.
-ghost use Rattle.std.specs.Prelude.{◌≡◌, [], IfOk, map};
+ghost use Rattle.std.specs.Prelude.{◌≡◌, ◌⊎◌, ℕ, List, [], IfErr, IfOk, IsTrue, OnErr, map};
 ghost use Rattle.std.specs.FinMap.{FinMap};
 ghost use Rattle.sqlite.specs.Held.{state};
 ghost use Rattle.sqlite.specs.Order.{Row as SqlRow, column};
@@ -7,6 +7,7 @@ ghost use Rattle.sqlite.specs.State.{Shown};
 ghost use Rattle.sqlite.specs.Tree.{rowid};
 ghost use Rattle.reg_maps.specs.RowMaps.{held_in};
 ghost use Rattle.reg_core.specs.World.{World};
+ghost use Rattle.reg_audit.specs.Audits.{knows_free};
 ghost use Rattle.reg_audit.specs.declared.row.Row.{Row as AuditRow};
 ghost use Rattle.reg_tables.specs.Connection.{Endures, IsIdle, Stays, Works};
 ghost use Rattle.reg_tables.specs.Kinds.{IsQuery};
@@ -14,20 +15,24 @@ ghost use Rattle.reg_tables.specs.Selecting.{shows, stored};
 ghost use Rattle.reg_statements.specs.Defined.{IsDefined};
 ghost use Rattle.reg_statements.specs.Parts.{TableDef};
 ghost use Rattle.reg_statements.specs.Tables.{Tables};
+ghost use Rattle.reg_opening.specs.Causes.{AreUnrisen, HasCause};
 ghost use Rattle.reg_opening.specs.FedRows.{IsPlaced};
 ghost use Rattle.reg_opening.specs.Feeding.{FeedsPart, FeedsRows, IsFed, MakesPart, IsTiedTable};
 ghost use Rattle.reg_opening.specs.Numbered.{ShowsNumbered, numbered_columns, numbered_in};
+ghost use Rattle.reg_opening.specs.Unordered.{IsUnnumbered};
 
 use crate::feeder::Feeder;
 use crate::flaw::RowFlaw;
 use crate::numbered::Numbered;
+use crate::opens::Opens;
 use reg_audit::audit::Audit;
+use reg_audit::grows::Grows;
 use reg_audit::row::Row;
 use reg_keeper::keeper::Fault;
 use reg_records::record::Record;
 use reg_statements::read::each;
 use reg_tables::version::Version;
-use sqlite::{Alter, Connection};
+use sqlite::Connection;
 use std::alloc::{AllocError, Global};
 
 /// What an audit can be fed as a row.
@@ -103,30 +108,37 @@ pub trait Part {
     /// The world with the part.
     ghost filled: { Tables → World → World };
 
+    /// That a query of the part, by its text, shows rows in another order than that in which it has to.
+    ghost Misordered: { List ℕ → List SqlRow → Type 0 };
+
     /// Feeds the rows to an audit, where each has its form, and tells whether each has.
-    fn feed<S: Alter>(
+    fn feed<S: Opens>(
         reading: Reading,
         conn: &mut Connection<S>,
         feeder: &mut Feeder,
     ) -> Result<bool, Fault>
         requires { IsIdle (state S.Store conn.old) }
-        ensures { FeedsPart reading.version Before IsHeld filled (state S.Store conn.old)
-            (state S.Store conn.new) feeder.old.audit feeder.new.audit result };
+        ensures feeds { FeedsPart reading.version Before IsHeld filled (state S.Store conn.old)
+            (state S.Store conn.new) feeder.old.audit feeder.new.audit result }
+        ensures fault { IfErr result (HasCause S.Reported (S.Unloaded ⊎ S.Ungrown) Misordered S.Store
+            (state S.Store conn.old) (state S.Store conn.new)) };
 }
 
 /// Feeds values to an audit, from the last to the first.
-pub fn feed_all<T: Fed>(audit: &mut Audit, mut values: Vec<T>) -> Result<(), AllocError>
-    ensures { IfOk result (λ _. FeedsRows audit.old audit.new (map T.row_of values.items)) }
+pub fn feed_all<S: Grows, T: Fed>(audit: &mut Audit, mut values: Vec<T>) -> Result<(), AllocError>
+    ensures feeds { IfOk result
+        (λ _. FeedsRows audit.old audit.new (map T.row_of values.items)) }
+    ensures refused { OnErr result S.Ungrown }
 {
     'values: while let Some(value) = values.pop() {
-        audit.feed(value.row())?;
+        audit.feed::<S>(value.row())?;
     }
     Ok(())
 }
 
 /// Feeds the rows of a query to an audit as they are read, and tells whether each has its form. Rows
 /// whose rowids do not rise are a fault of the store.
-fn feed_table<S: Alter, T: FedRow>(
+fn feed_table<S: Opens, T: FedRow>(
     alloc: Global,
     conn: &mut Connection<S>,
     feeder: &mut Feeder,
@@ -141,6 +153,11 @@ fn feed_table<S: Alter, T: FedRow>(
         × Shown sql.now [] (state S.Store conn.old) (state S.Store conn.new) rows
         × IsFed (numbered_in T.of T.table.width) (λ numbered. T.row_of numbered.value) rows
         feeder.old.audit feeder.new.audit read) }
+    ensures free { IfOk result (λ _. IsTrue (knows_free feeder.old.audit)
+        → IsTrue (knows_free feeder.new.audit)) }
+    ensures fault { IfErr result (HasCause S.Reported (S.Unloaded ⊎ S.Ungrown)
+        (λ text rows. (text ≡ sql.now) × AreUnrisen T.table.width rows) S.Store
+        (state S.Store conn.old) (state S.Store conn.new)) }
 {
     feeder.begin();
     if !each::<S, Numbered<T>, Feeder>(alloc, conn, sql, &[], feeder)? {
@@ -162,7 +179,9 @@ impl<T: FedRow> Part for Vec<T> {
 
     ghost filled = { λ t w. T.put w (held_in T.table.at (T.table.rows t)) };
 
-    fn feed<S: Alter>(
+    ghost Misordered = { IsUnnumbered T.table };
+
+    fn feed<S: Opens>(
         reading: Reading,
         conn: &mut Connection<S>,
         feeder: &mut Feeder,

@@ -7,6 +7,7 @@ use crate::feed::{Fed, FedRow};
 use crate::flaw::RowFlaw;
 use crate::numbered::{Numbered, Rise};
 use reg_audit::audit::Audit;
+use reg_audit::grows::Grows;
 use reg_statements::read::Sink;
 use std::alloc::AllocError;
 
@@ -68,14 +69,19 @@ impl Feeder {
     }
 }
 
-impl<T: FedRow> Sink<Numbered<T>> for Feeder {
+impl<T: FedRow, S: Grows> Sink<Numbered<T>, S> for Feeder {
+    ghost use Rattle.std.specs.Prelude.{IsTrue};
+    ghost use Rattle.reg_audit.specs.Audits.{knows_free};
+
     ghost Takes = { TakesRow T.row_of };
 
-    ghost Untaken = { Unit {0} };
+    ghost Whole = { λ feeder. IsTrue (knows_free feeder.audit) };
+
+    ghost Untaken = { S.Ungrown };
 
     fn take(&mut self, numbered: Numbered<T>) -> Result<(), AllocError> {
         self.rise = self.rise.then(numbered.rowid());
-        self.audit.feed(numbered.row())?;
+        self.audit.feed::<S>(numbered.row())?;
         Ok(())
     }
 }

@@ -1,18 +1,21 @@
 //! The check of a store that an office opens.
-ghost use Rattle.std.specs.Prelude.{◌≡◌, IfOk};
+ghost use Rattle.std.specs.Prelude.{◌≡◌, ◌⊎◌, false, IfErr, IfOk};
 ghost use Rattle.sqlite.specs.Held.{state};
 ghost use Rattle.sqlite.specs.State.{IsLive};
+ghost use Rattle.reg_audit.specs.Audits.{knows_free};
 ghost use Rattle.reg_tables.specs.Connection.{Endures, IsIdle, Stays, Tells, Works};
 ghost use Rattle.reg_tables.specs.Having.{AreFreeLater, FindsTablesOf, HasTable};
 ghost use Rattle.reg_tables.specs.Schema.{office_table};
 ghost use Rattle.reg_tables.specs.Selecting.{BeginsWith};
 ghost use Rattle.reg_tables.specs.Version.{table_count};
+ghost use Rattle.reg_opening.specs.Causes.{TellsError};
 ghost use Rattle.reg_opening.specs.Opening.{AreRowsOf, Decides, FindsKind, IsFreeBy, IsNumberOf, IsVersionOf};
-ghost use Rattle.reg_opening.specs.Opening.{Reads, free_in, only, kind_of};
+ghost use Rattle.reg_opening.specs.Opening.{IsStopped, Reads, free_in, only, kind_of};
 
 use crate::feed::Reading;
 use crate::feeder::Feeder;
 use crate::flaw::{Flaw, RowFlaw};
+use crate::opens::Opens;
 use crate::parts::feed_parts;
 use crate::rowids::check_rowids;
 use reg_audit::audit::Audit;
@@ -20,11 +23,10 @@ use reg_keeper::keeper::Fault;
 use reg_records::office::Version as VersionRow;
 use reg_statements::read::load;
 use reg_statements::write::fault;
-use reg_tables::schema::{has_office, has_version};
 use reg_tables::texts::SELECT_VERSION;
 use reg_tables::version::Version;
 use reg_vacancies::vacancies::Vacancies;
-use sqlite::{Alter, Connection};
+use sqlite::Connection;
 use std::alloc::Global;
 
 /// What a store is to an office that opens it.
@@ -65,9 +67,11 @@ impl Found {
 /// Tells what a store is. The tables of an office are looked for by their names, and those beside
 /// them are not looked at, but that none has the name of a table that the version lacks. Rows that
 /// the store does not give in their order are a fault of it.
-pub fn check<S: Alter>(alloc: Global, conn: &mut Connection<S>) -> Result<StoreKind, Fault>
+pub fn check<S: Opens>(alloc: Global, conn: &mut Connection<S>) -> Result<StoreKind, Fault>
     requires { IsIdle (state S.Store conn.old) }
-    ensures { Decides (state S.Store conn.old) (state S.Store conn.new) result }
+    ensures decides { Decides (state S.Store conn.old) (state S.Store conn.new) result }
+    ensures fault { IfErr result (IsStopped S.Reported (S.Unloaded ⊎ S.Ungrown) S.Store
+        (state S.Store conn.old) (state S.Store conn.new)) }
 {
     Ok(find(alloc, conn)?.kind())
 }
@@ -75,11 +79,13 @@ pub fn check<S: Alter>(alloc: Global, conn: &mut Connection<S>) -> Result<StoreK
 /// Tells what a store is, and finds what is free in an office's. The columns of each row are read
 /// once; of the version, and of registries and their ranges, the rowids are read by themselves. The
 /// version is read before any other table is looked at, wherever its table stands.
-pub fn find<S: Alter>(alloc: Global, conn: &mut Connection<S>) -> Result<Found, Fault>
+pub fn find<S: Opens>(alloc: Global, conn: &mut Connection<S>) -> Result<Found, Fault>
     requires { IsIdle (state S.Store conn.old) }
-    ensures { FindsKind (state S.Store conn.old) (state S.Store conn.new) result }
+    ensures finds { FindsKind (state S.Store conn.old) (state S.Store conn.new) result }
+    ensures fault { IfErr result (IsStopped S.Reported (S.Unloaded ⊎ S.Ungrown) S.Store
+        (state S.Store conn.old) (state S.Store conn.new)) }
 {
-    match has_office(alloc, conn.schema()) {
+    match S::has_office(alloc, conn.schema()) {
         Ok(true) => find_version(alloc, conn),
         Ok(false) => Ok(Found::NotOurs(Flaw::NoOffice)),
         Err(error) => Err(fault(&error)),
@@ -87,11 +93,13 @@ pub fn find<S: Alter>(alloc: Global, conn: &mut Connection<S>) -> Result<Found, 
 }
 
 /// Tells what a store is that has the table of the version.
-fn find_version<S: Alter>(alloc: Global, conn: &mut Connection<S>) -> Result<Found, Fault>
+fn find_version<S: Opens>(alloc: Global, conn: &mut Connection<S>) -> Result<Found, Fault>
     requires idle { IsIdle (state S.Store conn.old) }
     requires live { IsLive (state S.Store conn.old) }
     requires there { HasTable (state S.Store conn.old).now.schema office_table }
-    ensures { FindsKind (state S.Store conn.old) (state S.Store conn.new) result }
+    ensures finds { FindsKind (state S.Store conn.old) (state S.Store conn.new) result }
+    ensures fault { IfErr result (IsStopped S.Reported (S.Unloaded ⊎ S.Ungrown) S.Store
+        (state S.Store conn.old) (state S.Store conn.new)) }
 {
     let Some(number) = version(alloc, conn)? else {
         return Ok(Found::NotOurs(Flaw::NoVersion));
@@ -115,13 +123,15 @@ fn version_of(number: i64) -> Option<Version>
 }
 
 /// Tells what a store of a version is.
-fn find_office<S: Alter>(
+fn find_office<S: Opens>(
     alloc: Global,
     conn: &mut Connection<S>,
     version: Version,
 ) -> Result<Found, Fault>
     requires { IsIdle (state S.Store conn.old) }
-    ensures { Reads version (state S.Store conn.old) (state S.Store conn.new) result }
+    ensures reads { Reads version (state S.Store conn.old) (state S.Store conn.new) result }
+    ensures fault { IfErr result (IsStopped S.Reported (S.Unloaded ⊎ S.Ungrown) S.Store
+        (state S.Store conn.old) (state S.Store conn.new)) }
 {
     if !has_tables(alloc, conn, version)? {
         return Ok(Found::NotOurs(Flaw::OtherTables));
@@ -134,23 +144,24 @@ fn find_office<S: Alter>(
 
 /// Whether a store has the tables of a version, wherever they stand, and no other of the name of a
 /// table that the version lacks.
-fn has_tables<S: Alter>(
+fn has_tables<S: Opens>(
     alloc: Global,
     conn: &Connection<S>,
     version: Version,
 ) -> Result<bool, Fault>
-    ensures { IfOk result (λ has. Tells has
+    ensures has { IfOk result (λ has. Tells has
         (FindsTablesOf version (state S.Store conn.now).now.schema
         × AreFreeLater version (state S.Store conn.now).now.schema)) }
+    ensures fault { IfErr result (TellsError S.Reported) }
 {
-    match has_version(alloc, conn.schema(), version) {
+    match S::has_version(alloc, conn.schema(), version) {
         Ok(has) => Ok(has),
         Err(error) => Err(fault(&error)),
     }
 }
 
 /// The number of the version of the tables, if there is one.
-fn version<S: Alter>(alloc: Global, conn: &mut Connection<S>) -> Result<Option<i64>, Fault>
+fn version<S: Opens>(alloc: Global, conn: &mut Connection<S>) -> Result<Option<i64>, Fault>
     requires { IsIdle (state S.Store conn.old) }
     ensures idle { IsIdle (state S.Store conn.new) }
     ensures endures { Endures (state S.Store conn.old) (state S.Store conn.new) }
@@ -158,6 +169,8 @@ fn version<S: Alter>(alloc: Global, conn: &mut Connection<S>) -> Result<Option<i
     ensures version { Works (state S.Store conn.new)
         → (has : HasTable (state S.Store conn.old).now.schema office_table)
         → IfOk result (IsVersionOf ((state S.Store conn.old).now.trees has.table.tree)) }
+    ensures fault { IfErr result (IsStopped S.Reported (S.Unloaded ⊎ S.Ungrown) S.Store
+        (state S.Store conn.old) (state S.Store conn.new)) }
 {
     match load::<S, VersionRow>(alloc, conn, SELECT_VERSION, &[])? {
         Some(rows) => Ok(only(rows.as_slice())),
@@ -177,7 +190,7 @@ fn only(versions: &[VersionRow]) -> Option<i64>
 
 /// What the rows of the tables of a version leave free, if they make an office that is well kept; else
 /// their first flaw.
-fn read_rows<S: Alter>(
+fn read_rows<S: Opens>(
     alloc: Global,
     conn: &mut Connection<S>,
     version: Version,
@@ -189,6 +202,8 @@ fn read_rows<S: Alter>(
     ensures rows { Works (state S.Store conn.new)
         → BeginsWith (table_count version) (state S.Store conn.old).now.schema
         → IfOk result (λ read. AreRowsOf version (state S.Store conn.old).now (free_in read)) }
+    ensures fault { IfErr result (IsStopped S.Reported (S.Unloaded ⊎ S.Ungrown) S.Store
+        (state S.Store conn.old) (state S.Store conn.new)) }
 {
     check_rowids(alloc, conn)?;
     let mut feeder = Feeder::new(Audit::new(alloc));
@@ -205,7 +220,8 @@ fn read_rows<S: Alter>(
 
 /// What the rows that an audit was fed leave free, if they make an office that is well kept.
 fn free_of(audit: Audit) -> Result<Option<Vacancies>, Fault>
-    ensures { IfOk result (IsFreeBy audit) }
+    ensures free { IfOk result (IsFreeBy audit) }
+    ensures fault { IfErr result (λ _. knows_free audit ≡ false) }
 {
     if !audit.is_well_kept() {
         return Ok(None);

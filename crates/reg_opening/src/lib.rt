@@ -7,6 +7,7 @@ mod feeder;
 pub mod flaw;
 pub mod kind;
 mod numbered;
+pub mod opens;
 mod partitions;
 mod parts;
 mod rowids;

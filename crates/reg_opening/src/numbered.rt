@@ -19,6 +19,8 @@ pub struct Numbered<T> {
 impl<T: FedRow> Record for Numbered<T> {
     ghost of = { numbered_in T.of T.table.width };
 
+    ghost Unread = { T.Unread };
+
     fn read(alloc: Global, row: &Row) -> Result<Option<Self>, AllocError> {
         match T::read(alloc, row)? {
             Some(value) => Ok(Some(Numbered {

@@ -1,14 +1,18 @@
 //! Registries with their ranges, fed to an audit from their tables.
-ghost use Rattle.std.specs.Prelude.{◌≡◌, IfOk, false};
+ghost use Rattle.std.specs.Prelude.{◌≡◌, IfErr, IfOk, IsTrue, OnErr};
 ghost use Rattle.std.specs.FinMap.{empty};
+ghost use Rattle.reg_audit.specs.Audits.{knows_free};
 ghost use Rattle.reg_statements.specs.Content.{maxes_in, ranges_in, registries_in};
-ghost use Rattle.reg_opening.specs.Partitions.{ArePartitions, AreRegistries, IsFedPartitions, leading};
-ghost use Rattle.reg_opening.specs.Partitions.{is_named, left_over, partition_row, shared_out, trailing};
+ghost use Rattle.reg_opening.specs.Partitions.{ArePartitions, AreRegistries, AreUnfed, IsFedPartitions, leading};
+ghost use Rattle.reg_opening.specs.Partitions.{left_over, partition_row, shared_out, trailing};
+ghost use Rattle.reg_opening.specs.Unordered.{AreRegistriesUnordered};
 
 use crate::feed::{Fed, Part, Reading, feed_all};
 use crate::feeder::Feeder;
 use crate::flaw::RowFlaw;
+use crate::opens::Opens;
 use reg_audit::audit::Audit;
+use reg_audit::grows::Grows;
 use reg_audit::row::Row;
 use reg_core::text::Name;
 use reg_keeper::keeper::Fault;
@@ -19,7 +23,7 @@ use reg_records::registries::Registry;
 use reg_statements::read::load;
 use reg_statements::select::are_ascending;
 use reg_tables::texts::{SELECT_RANGES, SELECT_REGISTRIES};
-use sqlite::{Alter, Connection};
+use sqlite::Connection;
 use std::alloc::{AllocError, Global};
 use std::marker::Model;
 
@@ -59,42 +63,45 @@ impl Model for Share {
 }
 
 /// The ranges that the first rows give to a registry, and the rows after them.
-fn leading<'a>(
+fn leading<'a, S: Grows>(
     alloc: Global,
     mut rows: &'a [RegistryRange],
     name: &Name,
 ) -> Result<(Vec<Range>, &'a [RegistryRange]), AllocError>
-    ensures { IfOk result (λ both. (both.0.items ≡ leading name.now rows.entry.now)
+    ensures both { IfOk result (λ both. (both.0.items ≡ leading name.now rows.entry.now)
         × (both.1.now ≡ trailing name.now rows.entry.now)) }
+    ensures refused { OnErr result S.Ungrown }
 {
     let mut ranges = Vec::new(alloc);
     'rows: while let [row, more @ ..] = rows {
         if row.registry != *name {
             break;
         }
-        ranges.push(row.range.copy()?)?;
+        S::push(&mut ranges, S::copy_range(&row.range)?)?;
         rows = more;
     }
     Ok((ranges, rows))
 }
 
 /// Each registry with the ranges that it takes, one after the other, and the rows that nobody took.
-fn shared_out<'a>(
+fn shared_out<'a, S: Grows>(
     alloc: Global,
     mut registries: &[Registry],
     mut rows: &'a [RegistryRange],
 ) -> Result<(Vec<Share>, &'a [RegistryRange]), AllocError>
-    ensures { IfOk result (λ both.
+    ensures both { IfOk result (λ both.
         (both.0.items ≡ shared_out registries.entry.now rows.entry.now)
         × (both.1.now ≡ left_over registries.entry.now rows.entry.now)) }
+    ensures refused { OnErr result S.Ungrown }
 {
     let mut shares = Vec::new(alloc);
     'registries: while let [registry, more @ ..] = registries {
-        let (ranges, others) = leading(alloc, rows, &registry.name)?;
-        shares.push(Share {
+        let (ranges, others) = leading::<S>(alloc, rows, &registry.name)?;
+        let share = Share {
             registry: *registry,
             ranges,
-        })?;
+        };
+        S::push(&mut shares, share)?;
         rows = others;
         registries = more;
     }
@@ -102,27 +109,25 @@ fn shared_out<'a>(
 }
 
 /// Each registry with its ranges, or none where those of one are no partition of its values.
-fn partitions(alloc: Global, shares: Vec<Share>) -> Result<Option<Vec<Partition>>, AllocError>
-    ensures { IfOk result (λ found. ArePartitions shares.items found) }
+fn partitions<S: Grows>(
+    alloc: Global,
+    shares: Vec<Share>,
+) -> Result<Option<Vec<Partition>>, AllocError>
+    ensures found { IfOk result (λ found. ArePartitions shares.items found) }
+    ensures refused { OnErr result S.Ungrown }
 {
     let mut all = Vec::new(alloc);
     for share in shares {
         let Ok(table) = RangeTable::make(share.registry.max, share.ranges) else {
             return Ok(None);
         };
-        all.push(Partition {
+        let partition = Partition {
             name: share.registry.name,
             table,
-        })?;
+        };
+        S::push(&mut all, partition)?;
     }
     Ok(Some(all))
-}
-
-/// Whether there is a registry of the name.
-fn is_named(registries: &[Registry], name: &Name) -> bool
-    ensures { result ≡ is_named registries.now name.now }
-{
-    registries.iter().any(|registry| registry.name == *name)
 }
 
 /// The registries with their ranges. Rows that the store does not give in their order are a fault of
@@ -136,7 +141,9 @@ impl Part for Registries {
 
     ghost filled = { λ t w. record w { registries = registries_in (maxes_in t) (ranges_in t) } };
 
-    fn feed<S: Alter>(
+    ghost Misordered = { AreRegistriesUnordered };
+
+    fn feed<S: Opens>(
         reading: Reading,
         conn: &mut Connection<S>,
         feeder: &mut Feeder,
@@ -150,7 +157,7 @@ impl Part for Registries {
             feeder.end(RANGE_PLACE, false, RowFlaw::Unread(RANGE_PLACE));
             return Ok(false);
         };
-        let is_whole = feed_partitions(
+        let is_whole = feed_partitions::<S>(
             alloc,
             &mut feeder.audit,
             registries.as_slice(),
@@ -161,38 +168,29 @@ impl Part for Registries {
     }
 }
 
-/// Of a range that no registry took: where it has one, the rows did not come in their order.
-fn stray(registries: &[Registry], row: &RegistryRange) -> Result<bool, Fault>
-    ensures { IfOk result
-        (λ fed. (fed ≡ false) × (is_named registries.now row.now.registry ≡ false)) }
-{
-    if is_named(registries, &row.registry) {
-        Err(Fault::Store)
-    } else {
-        Ok(false)
-    }
-}
-
 /// Feeds registries with their ranges.
-fn feed_partitions(
+fn feed_partitions<S: Grows>(
     alloc: Global,
     audit: &mut Audit,
     registries: &[Registry],
     rows: &[RegistryRange],
 ) -> Result<bool, Fault>
-    ensures { IfOk result
+    ensures fed { IfOk result
         (λ fed. IsFedPartitions registries.now rows.now audit.old audit.new fed) }
+    ensures free { IfOk result
+        (λ _. IsTrue (knows_free audit.old) → IsTrue (knows_free audit.new)) }
+    ensures fault { IfErr result (AreUnfed S.Ungrown registries.now rows.now) }
 {
     if !are_ascending(registries) || !are_ascending(rows) {
         return Err(Fault::Store);
     }
-    let (shares, left) = shared_out(alloc, registries, rows)?;
-    if let [row, ..] = left {
-        return stray(registries, row);
+    let (shares, left) = shared_out::<S>(alloc, registries, rows)?;
+    if !left.is_empty() {
+        return Ok(false);
     }
-    match partitions(alloc, shares)? {
+    match partitions::<S>(alloc, shares)? {
         Some(all) => {
-            feed_all(audit, all)?;
+            feed_all::<S, Partition>(audit, all)?;
             Ok(true)
         }
         None => Ok(false),

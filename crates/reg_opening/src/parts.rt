@@ -1,11 +1,15 @@
 //! All rows of an office, fed to an audit in their turn.
+ghost use Rattle.std.specs.Prelude.{◌⊎◌, IfErr};
 ghost use Rattle.sqlite.specs.Held.{state};
 ghost use Rattle.reg_tables.specs.Connection.{IsIdle};
+ghost use Rattle.reg_opening.specs.Causes.{HasCause};
 ghost use Rattle.reg_opening.specs.Feeding.{FeedsPart};
 ghost use Rattle.reg_opening.specs.Parts.{AreParts, IsBlankWorld, with_parts};
+ghost use Rattle.reg_opening.specs.Unordered.{ArePartsUnordered};
 
 use crate::feed::{Part, Reading};
 use crate::feeder::Feeder;
+use crate::opens::Opens;
 use crate::partitions::Registries;
 use reg_core::entry::Entry;
 use reg_core::holding::Holding;
@@ -18,7 +22,7 @@ use reg_records::holds::Hold;
 use reg_records::minutes::Minute;
 use reg_records::pool::Prefix;
 use reg_records::queue::Seat;
-use sqlite::{Alter, Connection};
+use sqlite::Connection;
 
 /// One part, and then another.
 impl<A: Part, B: Part> Part for (A, B) {
@@ -28,7 +32,9 @@ impl<A: Part, B: Part> Part for (A, B) {
 
     ghost filled = { λ t w. B.filled t (A.filled t w) };
 
-    fn feed<S: Alter>(
+    ghost Misordered = { λ sql rows. A.Misordered sql rows ⊎ B.Misordered sql rows };
+
+    fn feed<S: Opens>(
         reading: Reading,
         conn: &mut Connection<S>,
         feeder: &mut Feeder,
@@ -50,14 +56,16 @@ type Given = (Vec<Prefix>, (Vec<Holding>, (Vec<Request>, Vec<Minute>)));
 type Reviewed = (Vec<Seat>, (Vec<ExpertAdvice>, Vec<Link>));
 
 /// Feeds all rows of an office of a version.
-pub fn feed_parts<S: Alter>(
+pub fn feed_parts<S: Opens>(
     reading: Reading,
     conn: &mut Connection<S>,
     feeder: &mut Feeder,
 ) -> Result<bool, Fault>
     requires { IsIdle (state S.Store conn.old) }
-    ensures { FeedsPart reading.version (λ t. IsBlankWorld) AreParts with_parts
+    ensures feeds { FeedsPart reading.version (λ t. IsBlankWorld) AreParts with_parts
         (state S.Store conn.old) (state S.Store conn.new) feeder.old.audit feeder.new.audit result }
+    ensures fault { IfErr result (HasCause S.Reported (S.Unloaded ⊎ S.Ungrown) ArePartsUnordered S.Store
+        (state S.Store conn.old) (state S.Store conn.new)) }
 {
     <(Assigned, (Given, Reviewed))>::feed(reading, conn, feeder)
 }

@@ -1,5 +1,5 @@
 //! The rowids of the rows of the tables.
-ghost use Rattle.std.specs.Prelude.{◌≡◌, ℕ, List, [], IfOk, map};
+ghost use Rattle.std.specs.Prelude.{◌≡◌, ◌⊎◌, ℕ, List, [], IfErr, IfOk, map};
 ghost use Rattle.std.specs.List.{AllByRecursion};
 ghost use Rattle.std.specs.Ordering.{int_cmp};
 ghost use Rattle.sqlite.specs.Held.{state};
@@ -9,13 +9,17 @@ ghost use Rattle.reg_tables.specs.Connection.{Endures, IsIdle, Stays, Works};
 ghost use Rattle.reg_tables.specs.Editing.{AreKeyed};
 ghost use Rattle.reg_tables.specs.Kinds.{IsQuery};
 ghost use Rattle.reg_tables.specs.Selecting.{BeginsWith};
-ghost use Rattle.reg_opening.specs.Rowids.{AreOrderedKeyed, KeysEach, SelectsRowids, rowid_in};
+ghost use Rattle.reg_statements.specs.Loading.{ReadsInOrder};
+ghost use Rattle.reg_opening.specs.Causes.{HasCause};
+ghost use Rattle.reg_opening.specs.Rowids.{AreOrderedKeyed, IsAmong, KeysEach, SelectsRowids, rowid_in};
+ghost use Rattle.reg_opening.specs.Unordered.{AreRowidsUnordered};
 
+use crate::opens::Opens;
 use reg_keeper::keeper::Fault;
 use reg_records::column::int;
 use reg_records::record::{Keyed, Record};
 use reg_statements::select::all;
-use sqlite::{Alter, Connection, Row};
+use sqlite::{Connection, Row};
 use std::alloc::{AllocError, Global};
 use std::cmp::Ordering;
 use std::marker::Model;
@@ -62,7 +66,7 @@ impl Rowid {
 
 /// Checks that the rowids of a table that a query gives in their order rise; if not, it is a fault
 /// of the store.
-fn check_table<S: Alter>(alloc: Global, conn: &mut Connection<S>, sql: &str) -> Result<(), Fault>
+fn check_table<S: Opens>(alloc: Global, conn: &mut Connection<S>, sql: &str) -> Result<(), Fault>
     requires idle { IsIdle (state S.Store conn.old) }
     requires plain { IsQuery sql.now }
     ensures idle { IsIdle (state S.Store conn.new) }
@@ -72,6 +76,9 @@ fn check_table<S: Alter>(alloc: Global, conn: &mut Connection<S>, sql: &str) -> 
         → BeginsWith 4 (state S.Store conn.old).now.schema → IfOk result (λ _. (t : ℕ)
         (order : List (Term × Key)) → SelectsRowids sql.now t order
         → AreKeyed ((state S.Store conn.old).now.trees t)) }
+    ensures fault { IfErr result (HasCause S.Reported (S.Unloaded ⊎ S.Ungrown)
+        (λ text rows. (text ≡ sql.now) × ¬ ReadsInOrder rowid_in int_cmp rows) S.Store
+        (state S.Store conn.old) (state S.Store conn.new)) }
 {
     all::<S, Rowid>(alloc, conn, sql, &[])?;
     Ok(())
@@ -85,7 +92,7 @@ const QUERIES: [&str; 3] = [
 ];
 
 /// Checks those of tables, one after the other.
-fn check_each<S: Alter>(
+fn check_each<S: Opens>(
     alloc: Global,
     conn: &mut Connection<S>,
     mut texts: &[&str],
@@ -99,6 +106,10 @@ fn check_each<S: Alter>(
         → BeginsWith 4 (state S.Store conn.old).now.schema
         → IfOk result (λ _. KeysEach (map (λ text. text.now) texts.entry.now)
         (state S.Store conn.old).now.trees) }
+    ensures fault { IfErr result (HasCause S.Reported (S.Unloaded ⊎ S.Ungrown)
+        (λ text rows. IsAmong (map (λ text. text.now) texts.entry.now) text
+        × ¬ ReadsInOrder rowid_in int_cmp rows) S.Store
+        (state S.Store conn.old) (state S.Store conn.new)) }
 {
     'texts: while let [text, more @ ..] = texts {
         check_table(alloc, conn, text)?;
@@ -109,7 +120,7 @@ fn check_each<S: Alter>(
 
 /// Checks that the rowids rise of the version, the registries and their ranges; if not, it is a fault
 /// of the store. Those of the other tables are read with their rows.
-pub fn check_rowids<S: Alter>(alloc: Global, conn: &mut Connection<S>) -> Result<(), Fault>
+pub fn check_rowids<S: Opens>(alloc: Global, conn: &mut Connection<S>) -> Result<(), Fault>
     requires { IsIdle (state S.Store conn.old) }
     ensures idle { IsIdle (state S.Store conn.new) }
     ensures endures { Endures (state S.Store conn.old) (state S.Store conn.new) }
@@ -117,6 +128,8 @@ pub fn check_rowids<S: Alter>(alloc: Global, conn: &mut Connection<S>) -> Result
     ensures keyed { Works (state S.Store conn.new)
         → BeginsWith 4 (state S.Store conn.old).now.schema
         → IfOk result (λ _. AreOrderedKeyed (state S.Store conn.old).now.trees) }
+    ensures fault { IfErr result (HasCause S.Reported (S.Unloaded ⊎ S.Ungrown) AreRowidsUnordered
+        S.Store (state S.Store conn.old) (state S.Store conn.new)) }
 {
     check_each(alloc, conn, &QUERIES)
 }

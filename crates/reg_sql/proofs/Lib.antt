@@ -1,4 +1,5 @@
 mod Changing
+mod Failed
 mod Founded
 mod Giving
 mod ListedRows

@@ -1,5 +1,5 @@
 //! Stores that an office is opened from.
-ghost use Rattle.std.specs.Prelude.{◌≡◌, true, false, IfErr, IfOk, IsTrue, Some};
+ghost use Rattle.std.specs.Prelude.{◌≡◌, ◌⊎◌, true, false, IfErr, IfOk, IsTrue, Some};
 ghost use Rattle.std.specs.Bool.{Decides};
 ghost use Rattle.sqlite.specs.Held.{state};
 ghost use Rattle.sqlite.specs.State.{HasCleanDisk};
@@ -11,6 +11,8 @@ ghost use Rattle.reg_tables.specs.Making.{HasCounter, IsBegunBeside};
 ghost use Rattle.reg_tables.specs.Schema.{office_schema};
 ghost use Rattle.reg_tables.specs.Version.{newest};
 ghost use Rattle.reg_statements.specs.Content.{world_in};
+ghost use Rattle.reg_opening.specs.Causes.{TellsError};
+ghost use Rattle.reg_sql.specs.Failing.{IsFailed, IsFailedBy};
 ghost use Rattle.reg_sql.specs.Keeping.{IsHonest, KeepsOffice};
 ghost use Rattle.reg_sql.specs.Opening.{Brings, HasNoTables, IsAsItWas, IsOpened, IsOpenedBy, IsRefused};
 ghost use Rattle.reg_sql.specs.Opening.{IsRefusedBy, IsTakenOver, StandsAlone, TakesOver};
@@ -22,12 +24,12 @@ use crate::opener::Opener;
 use reg_keeper::keeper::Fault;
 use reg_migration::migrate::migrate;
 use reg_opening::kind::{Found, find};
+use reg_opening::opens::Opens;
 use reg_statements::write::fault;
 use reg_tables::make::make_office;
-use reg_tables::schema::has_room;
 use reg_tables::version::Version;
 use reg_vacancies::vacancies::Vacancies;
-use sqlite::{Alter, Connection, Error, ErrorCode};
+use sqlite::{Connection, Error, ErrorCode};
 use std::alloc::Global;
 
 /// Why no office is opened. The store is as it was.
@@ -52,7 +54,7 @@ impl From<Fault> for OpenFault {
     }
 }
 
-impl<S: Alter> SqlKeeper<S> {
+impl<S: Opens> SqlKeeper<S> {
     /// Takes over the store of a connection. A `fresh` office is founded where no name of its tables
     /// is taken; else the store must have the tables of an office whose content is well kept, and
     /// the columns of each row are read once. An office of an older version is brought to the newest in one
@@ -80,6 +82,8 @@ impl<S: Alter> SqlKeeper<S> {
             → IsRefused fresh (state S.Store conn).now refusal.0) }
         ensures unchanged { IfErr result (λ refusal.
             IsAsItWas (state S.Store conn) (state S.Store refusal.1)) }
+        ensures cause { IfErr result (λ refusal. IsFailed S.Reported (S.Unloaded ⊎ S.Ungrown) S.Store
+            (state S.Store conn) (state S.Store refusal.1) refusal.0) }
     {
         match take_over(alloc, &mut conn, fresh) {
             Ok(vacancies) => Ok(SqlKeeper::new(alloc, conn, vacancies)),
@@ -90,12 +94,14 @@ impl<S: Alter> SqlKeeper<S> {
 
 /// Founds an office where one is wanted, or finds the one that is there, and what is free in it, and
 /// brings it to the newest version.
-fn take_over<S: Alter>(
+fn take_over<S: Opens>(
     alloc: Global,
     conn: &mut Connection<S>,
     fresh: bool,
 ) -> Result<Vacancies, OpenFault>
-    ensures { TakesOver fresh (state S.Store conn.old) (state S.Store conn.new) result }
+    ensures takes { TakesOver fresh (state S.Store conn.old) (state S.Store conn.new) result }
+    ensures cause { IfErr result (IsFailed S.Reported (S.Unloaded ⊎ S.Ungrown) S.Store
+        (state S.Store conn.old) (state S.Store conn.new)) }
 {
     if !conn.is_autocommit() {
         return Err(OpenFault::NotOurs);
@@ -123,13 +129,15 @@ fn is_newest(version: Version) -> bool
 
 /// Brings an office of an older version to the newest. What is free in it stays so, and nothing is
 /// read once its tables are changed.
-fn bring<S: Alter>(
+fn bring<S: Opens>(
     conn: &mut Connection<S>,
     older: Version,
     vacancies: Vacancies,
 ) -> Result<Vacancies, OpenFault>
     requires { IsIdle (state S.Store conn.old) }
-    ensures { Brings older vacancies (state S.Store conn.old) (state S.Store conn.new) result }
+    ensures brings { Brings older vacancies (state S.Store conn.old) (state S.Store conn.new) result }
+    ensures cause { IfErr result (IsFailed S.Reported (S.Unloaded ⊎ S.Ungrown) S.Store
+        (state S.Store conn.old) (state S.Store conn.new)) }
 {
     match migrate(conn, older) {
         Ok(()) => Ok(vacancies),
@@ -138,21 +146,22 @@ fn bring<S: Alter>(
 }
 
 /// Whether a new office is wanted, and no name of its tables is taken.
-fn is_to_found<S: Alter>(alloc: Global, conn: &Connection<S>, fresh: bool) -> Result<bool, Fault>
-    ensures { IfOk result (λ b. Tells b
+fn is_to_found<S: Opens>(alloc: Global, conn: &Connection<S>, fresh: bool) -> Result<bool, Fault>
+    ensures told { IfOk result (λ b. Tells b
         ((fresh ≡ true) × AreFree (state S.Store conn.now).now.schema)) }
+    ensures fault { IfErr result (TellsError S.Reported) }
 {
     if !fresh {
         return Ok(false);
     }
-    match has_room(alloc, conn.schema()) {
+    match S::has_room(alloc, conn.schema()) {
         Ok(has) => Ok(has),
         Err(error) => Err(fault(&error)),
     }
 }
 
 /// Founds an office beside what stands in a store.
-fn found<S: Alter>(alloc: Global, conn: &mut Connection<S>) -> Result<Vacancies, OpenFault>
+fn found<S: Opens>(alloc: Global, conn: &mut Connection<S>) -> Result<Vacancies, OpenFault>
     requires { IsIdle (state S.Store conn.old) }
     ensures rest { IsIdle (state S.Store conn.new) }
     ensures worked { Works (state S.Store conn.new) → Works (state S.Store conn.old) }
@@ -175,6 +184,8 @@ fn found<S: Alter>(alloc: Global, conn: &mut Connection<S>) -> Result<Vacancies,
     ensures fault { IfErr result (λ refusal. (given : KeeperFault) × (refusal ≡ refusals.Fault given)) }
     ensures unchanged { Works (state S.Store conn.new)
         → IfErr result (λ refusal. (state S.Store conn.new).now ≡ (state S.Store conn.old).now) }
+    ensures cause { IfErr result (IsFailed S.Reported (S.Unloaded ⊎ S.Ungrown) S.Store
+        (state S.Store conn.old) (state S.Store conn.new)) }
 {
     match make_office(conn) {
         Ok(()) => Ok(Vacancies::new(alloc)),
@@ -200,6 +211,8 @@ pub fn open_by<O: Opener>(
         IsOpenedBy (state O.Base.Store) (O.Opens path.now) fresh keeper.tables) }
     ensures refused { IfErr result (λ refusal.
         IsRefusedBy (state O.Base.Store) (O.Opens path.now) fresh refusal.0 refusal.1) }
+    ensures cause { IfErr result (λ refusal. IsFailedBy O.Base.Reported
+        (O.Base.Unloaded ⊎ O.Base.Ungrown) O.Base.Store (O.Opens path.now) refusal.0 refusal.1) }
 {
     let conn = match opener.open(rt, path) {
         Ok(conn) => conn,

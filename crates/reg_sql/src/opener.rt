@@ -2,7 +2,8 @@
 ghost use Rattle.sqlite_wal.specs.Files.{image_at};
 ghost use Rattle.reg_sql.specs.Opening.{OpensFiles};
 
-use sqlite::{Alter, Connection, Error, FileFrom, FileStore, Leftover, Start};
+use reg_opening::opens::Opens;
+use sqlite::{Connection, Error, FileFrom, FileStore, Leftover, Start};
 
 /// What opens the store at a path, and tells what it may answer. What an office is refused for is
 /// exact of what it tells.
@@ -12,7 +13,7 @@ pub trait Opener: Drop {
     ghost use Rattle.sqlite.specs.declared.error.Error.{Error as OfOpening};
 
     /// The store that is opened.
-    type Base: Alter + Drop;
+    type Base: Opens + Drop;
 
     /// What is left of what was opened where there is no store.
     type Left: Drop;

@@ -1,10 +1,14 @@
 -- Rows that are read one after the other.
-use Rattle.std.proofs.Common.{◌≡◌, List, [], ◌∷◌, ◌++◌, map, Option, Some, None, IsSome, Vec, refl, sym, ap, subst, ◌∙◌}
+use Rattle.std.proofs.Common.{◌≡◌, ◌⊎◌, inl, inr, List, [], ◌∷◌, ◌++◌, map, Option, Some, None, IsSome, Vec, refl, sym, ap, subst, ◌∙◌}
 use Rattle.std.proofs.lemmas.List.{map-append}
 use Rattle.std.specs.List.{AllByRecursion}
 use Rattle.std.specs.declared.alloc.Global.{Global}
 use Rattle.std.proofs.lemmas.List.{append-nil, append_assoc}
-use Rattle.reg_statements.specs.Reading.{TakesAll}
+use Rattle.std.specs.Prelude.{Result, Ok, Err, IfErr, IsErrAnd}
+use Rattle.sqlite.specs.State.{State}
+use Rattle.sqlite.specs.declared.error.Error.{Error}
+use Rattle.reg_keeper.specs.declared.keeper.Fault.{Fault}
+use Rattle.reg_statements.specs.Reading.{IsFault, IsMet, TakesAll}
 
 module _ {X Y : Type 0} (of : X → Option Y) where
   abbrev HaveForm : List X → Type 0
@@ -59,3 +63,32 @@ list_takes start now [] same = ap (λ (all : Vec _ Global). all.items) same ∙ 
 list_takes start now (value ∷ more) taken =
     list_takes taken.0 now more taken.2 ∙ ap (λ items. items ++ more) taken.1
     ∙ append_assoc start.items (value ∷ []) more
+
+-- ---- Faults
+
+-- what is so of the error that a `?` hands on is so of what it makes
+pub passed_on : {A E : Type 0} (P : E → Type 0) (r : Result A E) (was : E)
+    → IsErrAnd r (λ e. e ≡ was) → P was → IfErr r P
+passed_on P (Ok a) was is holds = tt
+passed_on P (Err e) was is holds = subst P (sym is) holds
+
+-- memory was refused for one reason or for the same
+pub refused_once : {Reported : Error → Type 0} {Refused TooMany : Type 0} (old new : State)
+    (fault : Fault) → IsFault (IsMet Reported (Refused ⊎ Refused) TooMany) old new fault
+    → IsFault (IsMet Reported Refused TooMany) old new fault
+refused_once {Reported} {Refused} {TooMany} old new fault is = record {
+  error = is.error;
+  told = is.told;
+  met = by is.error is.met;
+  cause = is.cause;
+}
+  where
+    by : (error : Error) → IsMet Reported (Refused ⊎ Refused) TooMany error
+        → IsMet Reported Refused TooMany error
+    by error (inl reported) = inl reported
+    by error (inr (inl memory)) = inr (inl (memory.0, once memory.1))
+      where
+        once : Refused ⊎ Refused → Refused
+        once (inl refused) = refused
+        once (inr refused) = refused
+    by error (inr (inr many)) = inr (inr many)

@@ -10,6 +10,7 @@ ghost use Rattle.reg_tables.specs.Kinds.{IsQuery};
 ghost use Rattle.reg_tables.specs.Lasting.{Lasts};
 ghost use Rattle.reg_statements.specs.Reading.{AreRead, AreTaken, GivesTooMany, IsFault, IsMet};
 
+use crate::loads::Loads;
 use crate::write::fault;
 use reg_keeper::keeper::Fault;
 use reg_records::record::Record;
@@ -18,10 +19,13 @@ use sqlite::types::ValueRef;
 use sqlite::{Connection, Error, ErrorCode, Row};
 use std::alloc::{AllocError, Global};
 
-/// What takes values, one after the other.
-pub trait Sink<T> {
+/// What takes values, one after the other. What `S` is tells where memory was refused.
+pub trait Sink<T, S> {
     /// What it is before it takes a value, the value, and what it is then.
     ghost Takes: { Self → T → Self → Type 0 };
+
+    /// What stays so of it, whatever values it takes.
+    ghost Whole: { Self → Type 0 };
 
     /// Memory was refused where it was to take a value.
     ghost Untaken: { Type 0 };
@@ -29,42 +33,24 @@ pub trait Sink<T> {
     /// Takes a value.
     fn take(&mut self, value: T) -> Result<(), AllocError>
         ensures taken { IfOk result (λ _. Takes self.old value self.new) }
+        ensures whole { IfOk result (λ _. Whole self.old → Whole self.new) }
         ensures refused { OnErr result Untaken };
 }
 
-/// A row that is put behind others in a list.
-pub trait Listed: Record {
-    /// Memory was refused where such a row was to be put into a list.
-    ghost Unlisted: { Type 0 };
-
-    /// Puts a row behind others.
-    fn list(rows: &mut Vec<Self>, row: Self) -> Result<(), AllocError>
-        ensures listed { OnOk result (rows.new.items ≡ rows.old.items ++ row ∷ []) }
-        ensures refused { OnErr result Unlisted };
-}
-
-/// Each row: memory is refused where the list cannot grow.
-impl<T: Record> Listed for T {
-    ghost Unlisted = { Unit {0} };
-
-    fn list(rows: &mut Vec<T>, row: T) -> Result<(), AllocError> {
-        rows.push(row)?;
-        Ok(())
-    }
-}
-
-impl<T: Listed> Sink<T> for Vec<T> {
+impl<T: Record, S: Loads> Sink<T, S> for Vec<T> {
     ghost Takes = { λ old value new. new.items ≡ old.items ++ value ∷ [] };
 
-    ghost Untaken = { T.Unlisted };
+    ghost Whole = { λ _. Unit {0} };
+
+    ghost Untaken = { S.Unloaded };
 
     fn take(&mut self, value: T) -> Result<(), AllocError> {
-        T::list(self, value)
+        S::list_row(self, value)
     }
 }
 
 /// Hands on one row more, where it has its form and all before it had theirs.
-fn take_row<T: Record, K: Sink<T>>(
+fn take_row<S: Loads, T: Record, K: Sink<T, S>>(
     alloc: Global,
     sink: &mut K,
     read: bool,
@@ -73,12 +59,13 @@ fn take_row<T: Record, K: Sink<T>>(
     ensures taken { IfOk result (λ more. (start : K) (rows : List SqlRow)
         → AreTaken T.of K.Takes start rows sink.old read
         → AreTaken T.of K.Takes start (rows ++ row.now ∷ []) sink.new more) }
-    ensures refused { OnErr result (T.Unread ⊎ K.Untaken) }
+    ensures whole { IfOk result (λ _. K.Whole sink.old → K.Whole sink.new) }
+    ensures refused { OnErr result (S.Unloaded ⊎ K.Untaken) }
 {
     if !read {
         return Ok(false);
     }
-    match T::read(alloc, row)? {
+    match S::read_row::<T>(alloc, row)? {
         Some(value) => {
             sink.take(value)?;
             Ok(true)
@@ -88,7 +75,7 @@ fn take_row<T: Record, K: Sink<T>>(
 }
 
 /// Hands on the rows of a query, one after the other, where each has its form.
-fn take_rows<S: Reports, T: Record, K: Sink<T>>(
+fn take_rows<S: Reports + Loads, T: Record, K: Sink<T, S>>(
     alloc: Global,
     conn: &mut Connection<S>,
     sql: &str,
@@ -106,8 +93,9 @@ fn take_rows<S: Reports, T: Record, K: Sink<T>>(
         IsUnchanged (state S.Store conn.old) (state S.Store conn.new) × (rows : _)
         × Shown sql.now (bound params.now) (state S.Store conn.old) (state S.Store conn.new) rows
         × AreTaken T.of K.Takes sink.old rows sink.new read) }
+    ensures whole { IfOk result (λ _. K.Whole sink.old → K.Whole sink.new) }
     ensures cause { IfErr result (IsExcused (state S.Store conn.old) (state S.Store conn.new)) }
-    ensures met { IfErr result (IsMet S.Reported (T.Unread ⊎ K.Untaken)
+    ensures met { IfErr result (IsMet S.Reported (S.Unloaded ⊎ K.Untaken)
         (GivesTooMany S.Store sql.now (bound params.now) conn.new)) }
 {
     let mut read = true;
@@ -121,7 +109,7 @@ fn take_rows<S: Reports, T: Record, K: Sink<T>>(
             Ok(None) => return Ok(read),
             Err(error) => return Err(S::heard(error)),
         };
-        read = take_row::<T, K>(alloc, sink, read, row)?;
+        read = take_row::<S, T, K>(alloc, sink, read, row)?;
     }
     Err(Error::SqliteFailure(ErrorCode::OperationInterrupted))
 }
@@ -129,7 +117,7 @@ fn take_rows<S: Reports, T: Record, K: Sink<T>>(
 /// Hands on the rows of a query, one after the other, where each has its form, and tells whether
 /// each has. Rows that come before one that has not are handed on too. A fault is what the library's
 /// error is: want of memory is `Memory`, and any other `Store`.
-pub fn each<S: Reports, T: Record, K: Sink<T>>(
+pub fn each<S: Reports + Loads, T: Record, K: Sink<T, S>>(
     alloc: Global,
     conn: &mut Connection<S>,
     sql: &str,
@@ -144,7 +132,8 @@ pub fn each<S: Reports, T: Record, K: Sink<T>>(
     ensures rows { Works (state S.Store conn.new) → IfOk result (λ read. (rows : _)
         × Shown sql.now (bound params.now) (state S.Store conn.old) (state S.Store conn.new) rows
         × AreTaken T.of K.Takes sink.old rows sink.new read) }
-    ensures fault { IfErr result (IsFault (IsMet S.Reported (T.Unread ⊎ K.Untaken)
+    ensures whole { IfOk result (λ _. K.Whole sink.old → K.Whole sink.new) }
+    ensures fault { IfErr result (IsFault (IsMet S.Reported (S.Unloaded ⊎ K.Untaken)
         (GivesTooMany S.Store sql.now (bound params.now) conn.new))
         (state S.Store conn.old) (state S.Store conn.new)) }
 {
@@ -156,7 +145,7 @@ pub fn each<S: Reports, T: Record, K: Sink<T>>(
 
 /// The rows of a query, one at a time, where each has its form. A fault is what the library's error
 /// is: want of memory is `Memory`, and any other `Store`.
-pub fn load<S: Reports, T: Listed>(
+pub fn load<S: Reports + Loads, T: Record>(
     alloc: Global,
     conn: &mut Connection<S>,
     sql: &str,
@@ -170,7 +159,7 @@ pub fn load<S: Reports, T: Listed>(
     ensures rows { Works (state S.Store conn.new) → IfOk result (λ o. (rows : _)
         × Shown sql.now (bound params.now) (state S.Store conn.old) (state S.Store conn.new) rows
         × AreRead T.of rows o) }
-    ensures fault { IfErr result (IsFault (IsMet S.Reported (T.Unread ⊎ T.Unlisted)
+    ensures fault { IfErr result (IsFault (IsMet S.Reported S.Unloaded
         (GivesTooMany S.Store sql.now (bound params.now) conn.new))
         (state S.Store conn.old) (state S.Store conn.new)) }
 {

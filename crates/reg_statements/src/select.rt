@@ -9,9 +9,10 @@ ghost use Rattle.reg_keeper.specs.declared.keeper.Fault.TheVariants as faults;
 ghost use Rattle.reg_statements.specs.Loading.{IsAscending, ReadAs, ReadsInOrder, ReadsOne};
 ghost use Rattle.reg_statements.specs.Reading.{GivesTooMany, IsFault, IsMet, IsMisread};
 
-use crate::read::{Listed, load};
+use crate::loads::Loads;
+use crate::read::load;
 use reg_keeper::keeper::Fault;
-use reg_records::record::Keyed;
+use reg_records::record::{Keyed, Record};
 use reg_tables::reports::Reports;
 use sqlite::Connection;
 use sqlite::types::ValueRef;
@@ -20,7 +21,7 @@ use std::cmp::Ordering;
 
 /// The row of a query that has at most one. A row without its form, and a second one, are a fault
 /// of the store.
-pub fn one<S: Reports, T: Listed>(
+pub fn one<S: Reports + Loads, T: Record>(
     alloc: Global,
     conn: &mut Connection<S>,
     sql: &str,
@@ -34,7 +35,7 @@ pub fn one<S: Reports, T: Listed>(
     ensures row { Works (state S.Store conn.new) → IfOk result (λ o. (rows : _)
         × Shown sql.now (bound params.now) (state S.Store conn.old) (state S.Store conn.new) rows
         × ReadAs T.of rows (option_to_list o)) }
-    ensures fault { IfErr result (λ fault. IsFault (IsMet S.Reported (T.Unread ⊎ T.Unlisted)
+    ensures fault { IfErr result (λ fault. IsFault (IsMet S.Reported S.Unloaded
         (GivesTooMany S.Store sql.now (bound params.now) conn.new)) (state S.Store conn.old)
         (state S.Store conn.new) fault ⊎ IsMisread sql.now (bound params.now) (state S.Store conn.old)
         (state S.Store conn.new) (ReadsOne T.of) fault) }
@@ -52,7 +53,7 @@ pub fn one<S: Reports, T: Listed>(
 
 /// The rows of a query, each before the next in the order of their keys. A row without its form,
 /// and one that does not come after the row before it, are a fault of the store.
-pub fn all<S: Reports, T: Keyed + Listed>(
+pub fn all<S: Reports + Loads, T: Keyed>(
     alloc: Global,
     conn: &mut Connection<S>,
     sql: &str,
@@ -67,7 +68,7 @@ pub fn all<S: Reports, T: Keyed + Listed>(
     ensures rows { Works (state S.Store conn.new) → IfOk result (λ all. (rows : _)
         × Shown sql.now (bound params.now) (state S.Store conn.old) (state S.Store conn.new) rows
         × ReadAs T.of rows all.items) }
-    ensures fault { IfErr result (λ fault. IsFault (IsMet S.Reported (T.Unread ⊎ T.Unlisted)
+    ensures fault { IfErr result (λ fault. IsFault (IsMet S.Reported S.Unloaded
         (GivesTooMany S.Store sql.now (bound params.now) conn.new)) (state S.Store conn.old)
         (state S.Store conn.new) fault ⊎ IsMisread sql.now (bound params.now) (state S.Store conn.old)
         (state S.Store conn.new) (ReadsInOrder T.of T.order) fault) }

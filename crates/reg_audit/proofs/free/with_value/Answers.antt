@@ -3,7 +3,7 @@ use Rattle.reg_core.specs.Entry.{registration_in}
 use Rattle.reg_vacancies.specs.Vacancies.{MayBeOf}
 use Rattle.reg_audit.proofs.free.with_value.Goals as goal
 
-pub returns-in-Ok : goal.returns-in-Ok
-returns-in-Ok c = λ w are.
-    c.in-Ok.ensures.ok w.entries w.pool w.blocks (subst (MayBeOf w) c.in_ok-free.was are)
+pub returns-clause-left : goal.returns-clause-left
+returns-clause-left g c = λ w are.
+    c.in_ok-take_value.ensures.ok w.entries w.pool w.blocks (subst (MayBeOf w) c.in-Some.is are)
     (registration_in c.args.entry.now)

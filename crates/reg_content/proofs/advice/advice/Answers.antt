@@ -12,7 +12,7 @@ find-requires-clause-plain g c = advice_by_key.plain
 pub returns : goal.returns
 returns g c =
     let wanted : Seat = ((c.args.account.now, c.args.reference.now), c.args.expert.now) in
-    looks_made c.in_ok-found.ensures (λ p is.
+    looks_made c.in_ok-found.ensures.row (λ p is.
     let mapped : c.map.result ≡ option_map (λ a. a.advice) c.in_ok-found.found = search rules in
     mapped
     ∙ ap (option_map (λ a. a.advice)) (is.at_key wanted (rw (

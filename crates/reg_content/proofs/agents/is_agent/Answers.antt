@@ -12,7 +12,7 @@ find-requires-clause-plain g c = agent_by_key.plain
 pub returns : goal.returns
 returns g c =
     let link : Link = (c.args.principal.now, c.args.agent.now) in
-    looks_made c.in_ok-link.ensures (λ p is.
+    looks_made c.in_ok-link.ensures.row (λ p is.
     c.is_some.ensures
     ∙ ap is_some (is.at_key link (rw (c.name_value.ensures, c.name_value-2.ensures)
     (finds_link link)))

@@ -12,7 +12,7 @@ find-requires-clause-plain g c = block_by_key.plain
 pub returns : goal.returns
 returns g c =
     let block = c.args.block.now in
-    looks_made c.in_ok-found.ensures (λ p is.
+    looks_made c.in_ok-found.ensures.row (λ p is.
     c.if_of.ensures
     ∙ found_holding p.blocks c.args.account.now block c.in_ok-found.found
     (is.row _ (rw (c.whole_value.ensures, c.first.ensures.value)

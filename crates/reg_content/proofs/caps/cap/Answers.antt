@@ -10,7 +10,7 @@ find-requires-clause-plain g c = cap_by_key.plain
 
 pub returns : goal.returns
 returns g c =
-    looks_made c.in_ok-grant.ensures (λ p is.
+    looks_made c.in_ok-grant.ensures.row (λ p is.
     let mapped : c.map.result ≡ option_map (λ g. g.cap) c.in_ok-grant.grant = search rules in
     mapped
     ∙ ap (option_map (λ g. g.cap))

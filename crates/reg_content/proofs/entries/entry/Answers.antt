@@ -22,7 +22,7 @@ returns-in_ok-marked-in-Some g c =
     let both : LooksIn {E = Fault} _ _ (Ok (Some c.in_ok-marked-in-Some.field-0))
     (λ p told. (told ≡ Some (entry_marked p entry.registry entry))
     × (Some entry ≡ option_map (entry_row place.0 place.1) (get p.entries place))) =
-    looks_then c.in_ok-found.ensures c.in_ok-marked-in-Some.ensures (λ p is marked. (
+    looks_then c.in_ok-found.ensures.row c.in_ok-marked-in-Some.ensures (λ p is marked. (
       ap Some marked,
       sym c.in-Some.is
           ∙ is.at_key place (rw (c.name_value.ensures, c.number_value.ensures) (finds_entry place)),
@@ -35,7 +35,7 @@ returns-in-None g c =
     let none : LooksIn {T = Option Entry} {E = Fault} _ _ (Ok None)
     (λ p told. (told ≡ None)
     × (None ≡ option_map (entry_row place.0 place.1) (get p.entries place))) =
-    looks_told c.in_ok-found.ensures (λ p is. (
+    looks_told c.in_ok-found.ensures.row (λ p is. (
       refl,
       sym c.in-None.is
           ∙ is.at_key place (rw (c.name_value.ensures, c.number_value.ensures) (finds_entry place)),

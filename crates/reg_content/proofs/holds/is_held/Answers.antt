@@ -12,7 +12,7 @@ find-requires-clause-plain g c = hold_by_key.plain
 pub returns : goal.returns
 returns g c =
     let place : Place = (c.args.registry.now, c.args.value) in
-    looks_told c.in_ok-found.ensures (λ p is.
+    looks_told c.in_ok-found.ensures.row (λ p is.
     c.is_some.ensures
     ∙ ap is_some (is.at_key place (rw (c.name_value.ensures, c.number_value.ensures)
     (finds_hold place)))

@@ -8,8 +8,8 @@ use Rattle.reg_statements.proofs.Defined.{row_found}
 use Rattle.reg_content.proofs.Looking.{looks}
 use Rattle.reg_content.proofs.kept.find.Goals as goal
 
-pub returns : goal.returns
-returns g c =
+pub returns-clause-row : goal.returns-clause-row
+returns-clause-row g c =
     let old = state g.S.Store c.args.conn.now in
     let new = state g.S.Store c.one.new.conn in
     looks c.requires.keeping c.one.ensures.idle c.one.ensures.endures c.one.ensures.stays (λ h.

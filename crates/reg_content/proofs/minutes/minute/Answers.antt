@@ -12,7 +12,7 @@ find-requires-clause-plain g c = minute_by_key.plain
 pub returns : goal.returns
 returns g c =
     let name : RequestName = (c.args.account.now, c.args.reference.now) in
-    looks_told c.in_ok-found.ensures (λ p is.
+    looks_told c.in_ok-found.ensures.row (λ p is.
     let mapped : c.map.result ≡ option_map (λ m. m.minute) c.in_ok-found.found = search rules in
     mapped
     ∙ ap (option_map (λ m. m.minute))

@@ -10,7 +10,7 @@ find-requires-clause-plain g c = prefix_by_key.plain
 
 pub returns : goal.returns
 returns g c =
-    looks_made c.in_ok-found.ensures (λ p is.
+    looks_made c.in_ok-found.ensures.row (λ p is.
     c.is_some.ensures
     ∙ ap is_some (is.at_key c.args.prefix (rw c.number_value.ensures (finds_prefix c.args.prefix)))
     ∙ made_some _ _)

@@ -12,7 +12,7 @@ find-requires-clause-plain g c = queue_by_key.plain
 pub returns : goal.returns
 returns g c =
     let wanted : Seat = ((c.args.account.now, c.args.reference.now), c.args.expert.now) in
-    looks_made c.in_ok-seat.ensures (λ p is.
+    looks_made c.in_ok-seat.ensures.row (λ p is.
     c.is_some.ensures
     ∙ ap is_some (is.at_key wanted (rw (
       c.name_value.ensures,

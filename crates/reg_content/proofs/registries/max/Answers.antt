@@ -12,7 +12,7 @@ find-requires-clause-plain g c = registry_by_key.plain
 pub returns : goal.returns
 returns g c =
     let name = c.args.name.now in
-    looks_made c.in_ok-registry.ensures (λ p is.
+    looks_made c.in_ok-registry.ensures.row (λ p is.
     let mapped : c.map.result ≡ option_map (λ r. r.max) c.in_ok-registry.registry =
     search rules in
     mapped ∙ ap (option_map (λ r. r.max)) (is.at_key name (rw c.name_value.ensures (finds_registry name)))

@@ -22,7 +22,7 @@ returns-in_ok-minuted-in-Some g c =
     let both : LooksIn {E = Fault} _ _ (Ok (Some c.in_ok-minuted-in-Some.field-0))
     (λ p told. (told ≡ Some (request_minuted p request))
     × (Some request ≡ option_map (request_row name) (get p.requests name))) =
-    looks_then c.in_ok-found.ensures c.in_ok-minuted-in-Some.ensures (λ p is minuted. (
+    looks_then c.in_ok-found.ensures.row c.in_ok-minuted-in-Some.ensures (λ p is minuted. (
       ap Some minuted,
       sym c.in-Some.is
           ∙ is.at_key name (rw (c.name_value.ensures, c.name_value-2.ensures) (finds_request name)),
@@ -36,7 +36,7 @@ returns-in-None g c =
     let none : LooksIn {T = Option Request} {E = Fault} _ _ (Ok None)
     (λ p told. (told ≡ None)
     × (None ≡ option_map (request_row name) (get p.requests name))) =
-    looks_told c.in_ok-found.ensures (λ p is. (
+    looks_told c.in_ok-found.ensures.row (λ p is. (
       refl,
       sym c.in-None.is
           ∙ is.at_key name (rw (c.name_value.ensures, c.name_value-2.ensures) (finds_request name)),

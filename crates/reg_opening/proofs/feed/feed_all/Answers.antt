@@ -15,14 +15,14 @@ values-preserved g c =
     let was = c.values.invariant in
     let fed = subst (FeedsRows c.args.audit.now c.feed.new.self)
     (ap (λ row. row ∷ map g.T.Fed.row_of was.0) c.row.ensures)
-    (feeds_more _ _ _ c.row.result _ _ was.2 c.in_ok-feed.ensures) in (
+    (feeds_more _ _ _ c.row.result _ _ was.2 c.in_ok-feed.ensures.feeds) in (
       c.in-Some.value ∷ was.0,
       was.1 ∙ ap (λ items. items ++ was.0) c.in-Some.ensures.items ∙ append_assoc c.pop.new.self.items (c.in-Some.value ∷ []) was.0,
       fed,
     )
 
-pub returns : goal.returns
-returns g c =
+pub returns-clause-feeds : goal.returns-clause-feeds
+returns-clause-feeds g c =
     let was = c.values.invariant in
     let none : c.values.values.items ≡ [] = search rules in
     let all = was.1 ∙ ap (λ items. items ++ was.0) none in

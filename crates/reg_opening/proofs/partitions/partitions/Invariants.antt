@@ -3,4 +3,4 @@ use Rattle.reg_opening.specs.Partitions.{partition_from}
 use Rattle.reg_opening.proofs.partitions.partitions.Given as goal
 
 abbrev pub invariant-loop-share : goal.invariant-loop-share
-invariant-loop-share l = l.all.items ≡ map partition_from l.yielded
+invariant-loop-share g l = l.all.items ≡ map partition_from l.yielded

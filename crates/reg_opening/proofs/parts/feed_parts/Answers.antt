@@ -2,8 +2,8 @@ use Rattle.std.proofs.Common.{refl}
 use Rattle.reg_opening.proofs.FedParts.{feeds_where}
 use Rattle.reg_opening.proofs.parts.feed_parts.Goals as goal
 
-pub returns : goal.returns
-returns g c =
+pub returns-clause-feeds : goal.returns-clause-feeds
+returns-clause-feeds g c =
     feeds_where c.args.reading.version c.feed.result (λ t w none.
     let assigned = none.assigned in
     let given = none.given in
@@ -28,4 +28,4 @@ returns g c =
         ),
         ((reviewed.queue, reviewed.advice), (reviewed.advice, reviewed.agents)),
       ),
-    )) c.feed.ensures
+    )) c.feed.ensures.feeds

@@ -90,20 +90,20 @@ pub returns-in-Ours-clause-opened : goal.returns-in-Ours-clause-opened
 returns-in-Ours-clause-opened g c =
     IfOk-weaker c.adopted.result _ _ (λ look opened.
     opened_over (state g.S.Store c.args.conn) (state g.S.Store c.find.new.conn) c.in-Ok.found
-    c.in-Ok.ensures c.in-Ours.version c.in-Ours.free c.in-Ours.is
+    c.in-Ok.ensures.finds c.in-Ours.version c.in-Ours.free c.in-Ours.is
     (state g.S.Store look.keeper.tables) opened) c.adopted.ensures.opened
 
 pub returns-in-Ours-clause-version : goal.returns-in-Ours-clause-version
 returns-in-Ours-clause-version g c =
     version_over (state g.S.Store c.args.conn) (state g.S.Store c.find.new.conn) c.in-Ok.found
-    c.in-Ok.ensures c.in-Ours.version c.in-Ours.free c.in-Ours.is c.adopted.result
+    c.in-Ok.ensures.finds c.in-Ours.version c.in-Ours.free c.in-Ours.is c.adopted.result
     (λ look. state g.S.Store look.keeper.tables) (λ look. look.version) c.adopted.ensures.same
     c.adopted.ensures.worked
 
 pub returns-in-Ours-clause-ours : goal.returns-in-Ours-clause-ours
 returns-in-Ours-clause-ours g c =
     ours_over (state g.S.Store c.args.conn) (state g.S.Store c.find.new.conn) c.in-Ok.found
-    c.in-Ok.ensures c.in-Ours.version c.in-Ours.free c.in-Ours.is c.adopted.result
+    c.in-Ok.ensures.finds c.in-Ours.version c.in-Ours.free c.in-Ours.is c.adopted.result
     (λ look. state g.S.Store look.keeper.tables) (λ look. look.version) c.adopted.ensures.same
     c.adopted.ensures.worked
 
@@ -111,17 +111,17 @@ pub returns-in-Ours-clause-trouble : goal.returns-in-Ours-clause-trouble
 returns-in-Ours-clause-trouble g c =
     IfErr-weaker c.adopted.result _ _ (λ refusal given.
     refused_over (state g.S.Store c.args.conn) (state g.S.Store c.find.new.conn) c.in-Ok.found
-    c.in-Ok.ensures c.in-Ours.version c.in-Ours.free c.in-Ours.is (state g.S.Store refusal.1)
+    c.in-Ok.ensures.finds c.in-Ours.version c.in-Ours.free c.in-Ours.is (state g.S.Store refusal.1)
     refusal.0 given) c.adopted.ensures.refused
 
 pub returns-in-OtherVersion-clause-trouble : goal.returns-in-OtherVersion-clause-trouble
 returns-in-OtherVersion-clause-trouble g c works =
     let fits : FitsSigned w64 c.in-OtherVersion.version = search rules in
     simp to_z-of_z
-    (told (state g.S.Store c.args.conn) (state g.S.Store c.find.new.conn) c.in-Ok.found c.in-Ok.ensures
+    (told (state g.S.Store c.args.conn) (state g.S.Store c.find.new.conn) c.in-Ok.found c.in-Ok.ensures.finds
     (finding.OtherVersion c.in-OtherVersion.version) c.in-OtherVersion.is works)
 
 pub returns-in-NotOurs-clause-trouble : goal.returns-in-NotOurs-clause-trouble
 returns-in-NotOurs-clause-trouble g c works =
     flawed (state g.S.Store c.args.conn) (state g.S.Store c.find.new.conn) c.in-Ok.found
-    c.in-Ok.ensures (finding.NotOurs c.in-NotOurs.flaw) c.in-NotOurs.is works
+    c.in-Ok.ensures.finds (finding.NotOurs c.in-NotOurs.flaw) c.in-NotOurs.is works

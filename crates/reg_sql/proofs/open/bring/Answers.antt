@@ -1,10 +1,11 @@
-use Rattle.std.proofs.Common.{refl}
+use Rattle.std.proofs.Common.{◌⊎◌, inr, refl}
 use Rattle.sqlite.specs.Held.{state}
 use Rattle.reg_statements.proofs.Migrated.{stored_version}
+use Rattle.reg_sql.proofs.Failed.{given_up}
 use Rattle.reg_sql.proofs.open.bring.Goals as goal
 
-pub returns-in-Ok : goal.returns-in-Ok
-returns-in-Ok g c =
+pub returns-in-Ok-clause-brings : goal.returns-in-Ok-clause-brings
+returns-in-Ok-clause-brings g c =
     let old = state g.S.Store c.args.conn.now in
     let v = c.args.older in
     record {
@@ -18,3 +19,9 @@ returns-in-Ok g c =
       fault = tt;
       unchanged = λ w. tt;
     }
+
+pub returns-in-Err-clause-cause : goal.returns-in-Err-clause-cause
+returns-in-Err-clause-cause g c =
+    given_up g.S.Store g.S.Reports.Reported
+    (g.S.Loads.Unloaded ⊎ g.S.Grows.Ungrown) _ _ _ c.in-Err.error _ c.fault.ensures (λ seen gains. inr (c.args.older, gains))
+    c.in-Err.ensures.given_up

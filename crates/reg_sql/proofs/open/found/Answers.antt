@@ -1,4 +1,6 @@
+use Rattle.std.proofs.Common.{◌⊎◌, inl}
 use Rattle.sqlite.specs.Held.{state}
+use Rattle.reg_sql.proofs.Failed.{given_up}
 use Rattle.reg_sql.proofs.Founded.{blank, founded_alone, founded_empty, keeps_founded}
 use Rattle.reg_sql.proofs.open.found.Goals as goal
 
@@ -27,3 +29,9 @@ returns-in-Ok-clause-empty g c h =
 
 pub returns-in-Ok-clause-beside : goal.returns-in-Ok-clause-beside
 returns-in-Ok-clause-beside g c works = (c.in-Ok.ensures.founds works).beside
+
+pub returns-in-Err-clause-cause : goal.returns-in-Err-clause-cause
+returns-in-Err-clause-cause g c =
+    given_up g.S.Store g.S.Reports.Reported
+    (g.S.Loads.Unloaded ⊎ g.S.Grows.Ungrown) _ _ _ c.in-Err.error _ c.fault.ensures (λ seen founds. inl founds)
+    c.in-Err.ensures.given_up

@@ -18,3 +18,6 @@ returns-in-Err-adopt-clause-refused g c =
       c.in-Ok.ensures,
       record { unchanged = refused.unchanged; refused = refused.refused },
     )
+
+pub returns-in-Err-adopt-clause-cause : goal.returns-in-Err-adopt-clause-cause
+returns-in-Err-adopt-clause-cause g c = (c.in-Ok.conn, c.in-Ok.ensures, c.in-Err-adopt.ensures.cause)

@@ -48,6 +48,7 @@ rows-init g c =
       mode = made.mode c.requires.idle.autocommit;
       lasts = survives_lasts _ _ _ made.survives;
       same = λ clean. (begun clean).1;
+      whole = λ whole. whole;
       given = λ clean. ([], (begun clean).0, refl, ([], refl, refl));
     }
 
@@ -65,6 +66,7 @@ rows-preserved g c =
       lasts = lasts_then _ _ _ was.lasts (survives_lasts _ _ _ moved.survives);
       same = λ clean. unchanged_then _ _ _ (was.same (early clean))
           (rw c.in-Ok-Some.is at (moved.same clean));
+      whole = λ whole. c.in_ok-read.ensures.whole (was.whole whole);
       given = λ clean.
           let had = was.given (early clean) in
           let some : c.in-Ok-Some.field-0 ≡ Some c.in-Ok-Some.row = c.in-Ok-Some.field-0-is in

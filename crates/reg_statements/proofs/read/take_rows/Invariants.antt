@@ -17,6 +17,7 @@ invariant-rows g l =
       mode : now.in_transaction ≡ false;
       lasts : Lasts old now;
       same : HasCleanDisk now → IsUnchanged old now;
+      whole : g.K.Sink.Whole l.fn.sink → g.K.Sink.Whole l.sink;
       given : HasCleanDisk now → (given : List Row)
           × HasGiven g.S.Store l.sql (bound l.params) l.rows.conn.now given
           × (length given ≡ l._at)

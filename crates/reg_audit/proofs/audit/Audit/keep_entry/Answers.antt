@@ -4,7 +4,7 @@ use Rattle.reg_audit.proofs.KeptRows.{keeps_entry}
 use Rattle.reg_audit.proofs.audit.Audit.keep_entry.Goals as goal
 
 pub returns-clause-ok : goal.returns-clause-ok
-returns-clause-ok c = λ w keeps.
+returns-clause-ok g c = λ w keeps.
     keeps_entry c.args.self.now w keeps c.set_row.new.map c.args.entry.now
-    (rw c.can_be_held.ensures at c.in_ok-set_row.ensures.ok) c.with_value.result
-    (c.with_value.ensures w (subst (MayBeOf w) (sym c.take.ensures.value) keeps.free))
+    (rw c.can_be_held.ensures at c.in_ok-set_row.ensures.ok) c.in_ok-free.free
+    (c.in_ok-free.ensures.left w (subst (MayBeOf w) (sym c.take.ensures.value) keeps.free))

@@ -4,12 +4,12 @@ use Rattle.reg_audit.proofs.KeptRows.{keeps_hold, keeps_unheld}
 use Rattle.reg_audit.proofs.audit.Audit.keep_hold.Goals as goal
 
 pub returns-in_default-clause-ok : goal.returns-in_default-clause-ok
-returns-in_default-clause-ok c = λ w keeps.
+returns-in_default-clause-ok g c = λ w keeps.
     keeps_unheld c.args.self.now w keeps c.args.registry c.args.value
     (sym (c.copied.ensures ∙ c.get.ensures.value) ∙ c.in_default.is)
 
 pub returns-clause-ok : goal.returns-clause-ok
-returns-clause-ok c =
+returns-clause-ok g c =
     on_ok_weaker c.set_row.result
     (λ put w keeps.
     keeps_hold c.args.self.now w keeps c.set_row.new.map c.args.registry c.args.value

@@ -4,8 +4,8 @@ use Rattle.reg_audit.specs.declared.audit.Audit.{Audit}
 use Rattle.reg_audit.proofs.KeptRows.{keeps_none}
 use Rattle.reg_audit.proofs.audit.Audit.new.Goals as goal
 
-pub returns : goal.returns
-returns c =
+pub returns-clause-world : goal.returns-clause-world
+returns-clause-world c =
     let audit : Audit = record {
       caps = c.new.result;
       registries = c.new-2.result;

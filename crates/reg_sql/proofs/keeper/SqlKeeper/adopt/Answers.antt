@@ -10,4 +10,4 @@ returns-in-Ok-clause-opened g c =
     let old = state g.S.Store c.args.conn in
     subst (λ conn. Holds (state g.S.Store conn)
     → Works old × IsOpened c.args.fresh old.now (world_in (state g.S.Store conn)))
-    (sym c.new.ensures) (λ h. (c.in-Ok.ensures.worked h.works, c.in-Ok.ensures.opened h))
+    (sym c.new.ensures) (λ h. (c.in-Ok.ensures.takes.worked h.works, c.in-Ok.ensures.takes.opened h))
