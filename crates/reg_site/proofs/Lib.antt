@@ -1,2 +1,4 @@
+pub mod Merging
 pub mod Portioned
+pub mod ShortPictures
 pub mod SiteLaws

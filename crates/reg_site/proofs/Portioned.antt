@@ -77,20 +77,21 @@ below_some = omega arith
 -- ---- The page of a registry
 
 -- what stands above its rows has a byte
-pub above_some : (name : List ℕ) (counts : Summary) (ranges : List Range)
-    → 0 < length (registry.above_rows name counts ranges [])
-above_some name counts ranges = omega arith
+pub above_some : (name : List ℕ) (counts : Summary) (entries : List PageEntry) (ranges : List Range)
+    → 0 < length (registry.above_rows name counts entries ranges [])
+above_some name counts entries ranges = omega arith
 
 -- a row has a byte
 pub row_some : (listed : ListedRow) → 0 < length (markup_then (registry.entry_row listed) [])
 row_some listed = omega arith
 
 -- the page is what stands above its rows, and then these and what stands below
-pub page_parts : (name : List ℕ) (counts : Summary) (ranges : List Range) (rows : List ListedRow)
-    → registry.page_by name counts ranges rows
-    ≡ registry.above_rows name counts ranges (registry.rows_left rows)
+pub page_parts : (name : List ℕ) (counts : Summary) (entries : List PageEntry) (ranges : List Range)
+    (rows : List ListedRow)
+    → registry.page_by name counts entries ranges rows
+    ≡ registry.above_rows name counts entries ranges (registry.rows_left rows)
 unfolding registry.page_by
-page_parts name counts ranges rows = refl
+page_parts name counts entries ranges rows = refl
 
 -- ---- The listing of a registry
 
@@ -112,8 +113,8 @@ record_of_row rows place row h is =
 -- ---- The page of the blocks
 
 -- what stands above its rows has a byte
-pub blocks_above_some : 0 < length (blocks.above_rows [])
-blocks_above_some = omega arith
+pub blocks_above_some : (rows : List Listed) → 0 < length (blocks.above_rows rows [])
+blocks_above_some rows = omega arith
 
 -- a row has a byte
 pub block_some : (row : Listed) → 0 < length (markup_then (blocks.block_row row) [])
@@ -121,7 +122,7 @@ block_some row = omega arith
 
 -- the page is what stands above its rows, and then these and what stands below
 pub blocks_parts : (rows : List Listed)
-    → blocks.blocks_page rows ≡ blocks.above_rows (blocks.rows_left rows)
+    → blocks.blocks_page rows ≡ blocks.above_rows rows (blocks.rows_left rows)
 unfolding blocks.blocks_page
 blocks_parts rows = refl
 

@@ -1,5 +1,5 @@
 -- The laws of the published site.
-use Rattle.std.specs.Prelude.{◌≡◌, ◌≢◌, ◌⊎◌, ℕ, true, List, [], ◌∷◌, ◌++◌, Some, codes}
+use Rattle.std.specs.Prelude.{◌≡◌, ◌≢◌, ◌⊎◌, ℕ, true, List, [], ◌++◌, codes}
 use Rattle.std.specs.List.{AllByRecursion}
 use Rattle.reg_blocks.specs.Block.{SizedPrefix}
 use Rattle.reg_blocks.specs.Digits.{block_text}
@@ -13,10 +13,9 @@ use Rattle.reg_core.specs.World.{World}
 use Rattle.reg_core.specs.declared.command.Command.TheVariants.{Public}
 use Rattle.reg_core.specs.declared.command.PublicCommand.{PublicCommand}
 use Rattle.reg_core.specs.declared.holding.Holder.{Holder}
-use Rattle.reg_site.specs.Blocks.{block_row}
+use Rattle.reg_site.specs.Blocks.{block_row, row_by}
 use Rattle.reg_site.specs.Files.{path_of, site_files}
 use Rattle.reg_site.specs.Site.{bytes_of, site, told_to_all}
-use Rattle.reg_html.specs.Table.{row}
 use Rattle.reg_site.specs.declared.files.File.{File}
 use Rattle.reg_site.specs.declared.files.File.TheVariants.{Index}
 
@@ -67,5 +66,5 @@ abbrev pub PrivateHoldersAreHidden : Type 0
 PrivateHoldersAreHidden =
     (block : SizedPrefix) (h : Holder) → h.private ≡ true
     → block_row (listed_row block (masked h))
-    ≡ row (Some (codes "b" ++ block_text block)) (word_of block.size)
-    (block_text block ∷ codes "Private" ∷ [] ∷ [])
+    ≡ row_by (codes "b" ++ block_text block) (word_of block.size) (block_text block)
+    (codes "Private") []

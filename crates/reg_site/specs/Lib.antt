@@ -1,6 +1,8 @@
 pub mod Portions
 pub mod Summary
 pub mod Bar
+pub mod Policy
+pub mod Status
 pub mod Registry
 pub mod Blocks
 pub mod Listing

@@ -1,10 +1,12 @@
 -- The page of a registry.
-use Rattle.std.specs.Prelude.{ℕ, List, [], ◌∷◌, ◌++◌, drop, map, unwrap_or, codes, Option, None, option_map}
-use Rattle.reg_ranges.specs.Words.{treatment_word}
+use Rattle.std.specs.Prelude.{ℕ, List, [], ◌∷◌, ◌++◌, drop, map, unwrap_or, codes, Option, Some, option_map}
 use Rattle.reg_ranges.specs.declared.range.Range.{Range}
+use Rattle.reg_core.specs.declared.entry.PageEntry.{PageEntry}
 use Rattle.reg_core.specs.declared.page.Page.{Page}
-use Rattle.reg_print.specs.Listing.{ListedRow, assignee_text, expiry_text, first_text, page_rows, policy_text, row_view, run_text, status_word, whole}
+use Rattle.reg_print.specs.Listing.{ListedRow, assignee_text, expiry_text, first_text, page_rows, row_view, run_text, whole}
 use Rattle.reg_site.specs.Bar.{bar}
+use Rattle.reg_site.specs.Policy.{named_policy, treatment_name}
+use Rattle.reg_site.specs.Status.{shown_status}
 use Rattle.reg_html.specs.Document.{document, link, page, page_start, plain}
 use Rattle.reg_html.specs.Markup.{Markup, text, all_of, markup_then}
 use Rattle.reg_site.specs.Summary.{summary}
@@ -16,10 +18,11 @@ use Rattle.reg_site.specs.declared.registry.RegistryPage.{RegistryPage}
 
 -- ---- The ranges
 
--- a range as a row: its values, its policy and its note
+-- a range as a row: its values, its policy and its note; it is found by r and its values
 abbrev pub range_row : Range → Markup
 range_row range =
-    row None (run_text (whole range)) (treatment_word range.treatment ∷ unwrap_or range.note [] ∷ [])
+    row (Some (codes "r" ++ run_text (whole range))) (run_text (whole range))
+    (treatment_name range.treatment ∷ unwrap_or range.note [] ∷ [])
 
 -- the heads of the columns
 abbrev pub range_columns : List (List ℕ)
@@ -36,16 +39,16 @@ ranges_table ranges =
 abbrev pub name_of : ListedRow → Option (List ℕ)
 name_of listed = option_map (λ entry. codes "v" ++ run_text listed.values) listed.entry
 
--- the fields of a row of the listing
+-- the fields of a row of the listing; a policy by its name, and of an entry that is held that it is
 abbrev pub entry_row : ListedRow → Markup
 entry_row listed =
     row (name_of listed) (run_text listed.values)
-    (listed.description ∷ status_word listed.status ∷ policy_text listed.policy
+    (listed.description ∷ shown_status listed ∷ named_policy listed.policy
     ∷ first_text listed.entry ∷ expiry_text listed.entry ∷ assignee_text listed.entry ∷ [])
 
 abbrev pub entry_columns : List (List ℕ)
 entry_columns =
-    codes "Value" ∷ codes "Description" ∷ codes "Status" ∷ codes "Policy" ∷ codes "First"
+    codes "Value" ∷ codes "Description" ∷ codes "Status" ∷ codes "Policy" ∷ codes "Since"
     ∷ codes "Expires" ∷ codes "Assignee" ∷ []
 
 abbrev pub entries_table : List ListedRow → Markup
@@ -64,28 +67,29 @@ forms listing tree =
 abbrev pub links : List ℕ → Markup
 links name = forms (name ++ codes ".csv") (name ++ codes ".json")
 
--- the page of a registry by its name, its counts, its ranges and the rows of its listing
-abbrev pub registry_markup : List ℕ → Summary → List Range → List ListedRow → Markup
-registry_markup name counts ranges rows =
+-- the page of a registry by its name, its counts, its entries, its ranges and the rows of its listing
+abbrev pub registry_markup : List ℕ → Summary → List PageEntry → List Range → List ListedRow → Markup
+registry_markup name counts entries ranges rows =
     page (codes "../style.css") name
     (all_of
-    (links name ∷ bar counts ∷ ranges_table ranges ∷ entries_table rows ∷ []))
+    (links name ∷ bar counts entries ∷ ranges_table ranges ∷ entries_table rows ∷ []))
 
-unfoldable pub page_by : List ℕ → Summary → List Range → List ListedRow → List ℕ
-page_by name counts ranges rows = document (registry_markup name counts ranges rows)
+unfoldable pub page_by : List ℕ → Summary → List PageEntry → List Range → List ListedRow → List ℕ
+page_by name counts entries ranges rows =
+    document (registry_markup name counts entries ranges rows)
 
 -- the bytes of a registry's page
 abbrev pub registry_page : Page → List ℕ
-registry_page p = page_by p.name (summary p) p.table.ranges (page_rows p)
+registry_page p = page_by p.name (summary p) p.entries p.table.ranges (page_rows p)
 
 -- ---- The same in portions
 
 -- what stands on a page above the rows of its listing, and then the rest
-abbrev pub above_rows : List ℕ → Summary → List Range → List ℕ → List ℕ
-above_rows name counts ranges rest =
+abbrev pub above_rows : List ℕ → Summary → List PageEntry → List Range → List ℕ → List ℕ
+above_rows name counts entries ranges rest =
     page_start (codes "../style.css") name
     (markup_then (links name)
-    (markup_then (bar counts)
+    (markup_then (bar counts entries)
     (markup_then (ranges_table ranges) (table_start (codes "Values") entry_columns rest))))
 
 -- these rows, and what stands below them
@@ -95,7 +99,8 @@ rows_left rows = markup_then (all_of (map entry_row rows)) below_rows
 -- what is left of a page by what is given next
 abbrev pub left_from : RegistryPage → Next → List ℕ
 left_from p next.Above =
-    page_by p.page.now.name (summary p.page.now) p.page.now.table.ranges (map row_view p.rows.items)
+    page_by p.page.now.name (summary p.page.now) p.page.now.entries p.page.now.table.ranges
+    (map row_view p.rows.items)
 left_from p (next.Row place) = rows_left (map row_view (drop place p.rows.items))
 left_from p next.Nothing = []
 

@@ -1,11 +1,13 @@
 //! The first page of the site.
-ghost use Rattle.std.specs.Prelude.{◌≡◌, map, string_bytes, IfOk, OnOk};
+ghost use Rattle.std.specs.Prelude.{◌≡◌, codes, map, string_bytes, IfOk, OnOk};
 ghost use Rattle.reg_html.specs.Appended.{Shown};
+ghost use Rattle.reg_html.specs.Document.{plain};
 ghost use Rattle.reg_html.specs.Markup.{all_of};
-ghost use Rattle.reg_site.specs.Index.{as_of, as_of_text, block_counts, counted_file, index_page, item, linked_cell, name_cell, number_cell, page_place, pool_list, prefix_item, registries_table, registry_row, share_item, share_texts, size_item};
+ghost use Rattle.reg_site.specs.Index.{as_of, as_of_text, block_counts, counted_file, index_page, item, linked_cell, name_cell, number_cell, page_place, pool_list, prefix_item, prefix_list, registries_shown, registries_table, registry_row, share_item, share_texts, size_item};
 
 use crate::blocks::count_of;
 use crate::moment::moment_text;
+use crate::policy::treatment_name;
 use crate::summary::{Share, Summary};
 use reg_blocks::pool::Pool;
 use reg_blocks::prefix;
@@ -75,6 +77,16 @@ fn push_registries(
     registries: &[Summary],
 ) -> Result<(), AllocError>
     ensures { OnOk result
+        (Shown out.old.items out.new.items (registries_shown registries.now)) }
+{
+    match registries.first() {
+        None => push(out, "<p>There are no registries yet.</p>"),
+        Some(_) => push_table(out, alloc, registries),
+    }
+}
+
+fn push_table(out: &mut Vec<u8>, alloc: Global, registries: &[Summary]) -> Result<(), AllocError>
+    ensures { OnOk result
         (Shown out.old.items out.new.items (registries_table registries.now)) }
 {
     let columns = [
@@ -108,7 +120,7 @@ fn push_registry_rows(
 fn push_registry(out: &mut Vec<u8>, alloc: Global, registry: &Summary) -> Result<(), AllocError>
     ensures { OnOk result (Shown out.old.items out.new.items (registry_row registry.now)) }
 {
-    push(out, "<tr>")?;
+    table::push_row_start(out, Some(registry.name.as_str()))?;
     push_name(out, alloc, &registry.name)?;
     push(out, "<td><ul>")?;
     push_shares(out, alloc, registry.shares.as_slice())?;
@@ -117,7 +129,7 @@ fn push_registry(out: &mut Vec<u8>, alloc: Global, registry: &Summary) -> Result
     push_number_cell(out, registry.temporary)?;
     push_number_cell(out, registry.expired)?;
     push_number_cell(out, registry.free)?;
-    push(out, "</tr>\n")?;
+    table::push_row_end(out)?;
     Ok(())
 }
 
@@ -140,7 +152,14 @@ fn push_name_texts<'a>(out: &mut Vec<u8>, target: &'a str, name: &'a str) -> Res
     ensures { OnOk result
         (Shown out.old.items out.new.items (linked_cell target.now name.now)) }
 {
-    push_all(out, &[Markup("<th>"), Link(target, name), Markup("</th>")])
+    push_all(
+        out,
+        &[
+            Markup("<th scope=\"row\">"),
+            Link(target, name),
+            Markup("</th>"),
+        ],
+    )
 }
 
 fn push_shares(out: &mut Vec<u8>, alloc: Global, shares: &[Share]) -> Result<(), AllocError>
@@ -158,7 +177,7 @@ fn push_share(out: &mut Vec<u8>, alloc: Global, share: &Share) -> Result<(), All
     ensures { OnOk result (Shown out.old.items out.new.items (share_item share.now)) }
 {
     let values = format!(in alloc; "{}", share.values)?;
-    push_share_texts(out, values.as_str(), share.treatment.word())
+    push_share_texts(out, values.as_str(), treatment_name(share.treatment))
 }
 
 fn push_share_texts<'a>(
@@ -191,7 +210,26 @@ fn push_pool(out: &mut Vec<u8>, alloc: Global, prefixes: &[u32]) -> Result<(), A
     ensures { OnOk result
         (Shown out.old.items out.new.items (pool_list prefixes.now)) }
 {
-    push(out, "<h2>Pool</h2><ul>")?;
+    push(out, "<h2>Pool</h2>")?;
+    push_prefix_list(out, alloc, prefixes)?;
+    Ok(())
+}
+
+fn push_prefix_list(out: &mut Vec<u8>, alloc: Global, prefixes: &[u32]) -> Result<(), AllocError>
+    ensures { OnOk result
+        (Shown out.old.items out.new.items (prefix_list prefixes.now)) }
+{
+    match prefixes.first() {
+        None => push(out, "<p>The pool is empty.</p>"),
+        Some(_) => push_items(out, alloc, prefixes),
+    }
+}
+
+fn push_items(out: &mut Vec<u8>, alloc: Global, prefixes: &[u32]) -> Result<(), AllocError>
+    ensures { OnOk result
+        (Shown out.old.items out.new.items (plain (codes "ul") (all_of (map prefix_item prefixes.now)))) }
+{
+    push(out, "<ul>")?;
     push_prefixes(out, alloc, prefixes)?;
     push(out, "</ul>")?;
     Ok(())

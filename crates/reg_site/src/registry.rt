@@ -1,5 +1,5 @@
 //! The page of a registry.
-ghost use Rattle.std.specs.Prelude.{◌≡◌, ◌∷◌, [], codes, map, option_map, string_bytes, None, IfOk, OnOk};
+ghost use Rattle.std.specs.Prelude.{◌≡◌, ◌∷◌, [], codes, map, option_map, string_bytes, Some, IfOk, OnOk};
 ghost use Rattle.reg_print.specs.Listing.{row_view};
 ghost use Rattle.reg_html.specs.Appended.{Appended, Shown};
 ghost use Rattle.reg_html.specs.Markup.{all_of};
@@ -8,15 +8,18 @@ ghost use Rattle.reg_site.specs.Registry.{above_rows, entry_columns, entry_row, 
 ghost use Rattle.reg_site.specs.Summary.{summary};
 
 use crate::bar::push_bar;
+use crate::policy::{named_policy, treatment_name};
 use crate::portions::{Next, Portions};
+use crate::status::shown_status;
 use crate::summary::Summary;
+use reg_core::entry::PageEntry;
 use reg_core::page::Page;
 use reg_html::document::push_start;
 use reg_html::markup::Piece::{Link, Markup};
 use reg_html::markup::push_all;
 use reg_html::table;
 use reg_html::table::push_row;
-use reg_print::listing::registry::{assignee_text, expiry_text, first_text, policy_word};
+use reg_print::listing::registry::{assignee_text, expiry_text, first_text};
 use reg_print::listing::rows::{ListingRow, Run, rows};
 use reg_print::note::note_text;
 use reg_ranges::range::Range;
@@ -66,7 +69,7 @@ impl Portions for RegistryPage<'_> {
 // What stands above the rows of the listing.
 fn push_above(out: &mut Vec<u8>, alloc: Global, page: &Page) -> Result<(), AllocError>
     ensures { OnOk result (Appended out.old.items out.new.items
-        (above_rows page.now.name (summary page.now) page.now.table.ranges)) }
+        (above_rows page.now.name (summary page.now) page.now.entries page.now.table.ranges)) }
 {
     let summary = Summary::of(alloc, page)?;
     push_above_of(
@@ -74,6 +77,7 @@ fn push_above(out: &mut Vec<u8>, alloc: Global, page: &Page) -> Result<(), Alloc
         alloc,
         page.name.as_str(),
         &summary,
+        page.entries.as_slice(),
         page.table.ranges(),
     )
 }
@@ -83,14 +87,15 @@ fn push_above_of(
     alloc: Global,
     name: &str,
     summary: &Summary,
+    entries: &[PageEntry],
     ranges: &[Range],
 ) -> Result<(), AllocError>
     ensures { OnOk result (Appended out.old.items out.new.items
-        (above_rows name.now summary.now ranges.now)) }
+        (above_rows name.now summary.now entries.now ranges.now)) }
 {
     push_start(out, "../style.css", name)?;
     push_links(out, alloc, name)?;
-    push_bar(out, summary)?;
+    push_bar(out, summary, entries)?;
     push_ranges(out, alloc, ranges)?;
     push_columns(out)
 }
@@ -154,24 +159,27 @@ fn push_range(out: &mut Vec<u8>, alloc: Global, range: &Range) -> Result<(), All
         hi: range.hi,
     };
     let values = format!(in alloc; "{run}")?;
+    let name = format!(in alloc; "r{run}")?;
     push_range_texts(
         out,
+        name.as_str(),
         values.as_str(),
-        range.treatment.word(),
+        treatment_name(range.treatment),
         note_text(&range.note),
     )
 }
 
 fn push_range_texts<'a>(
     out: &mut Vec<u8>,
+    name: &'a str,
     values: &'a str,
     policy: &'a str,
     note: &'a str,
 ) -> Result<(), AllocError>
     ensures { OnOk result
-        (Shown out.old.items out.new.items (row None values.now (policy.now ∷ note.now ∷ []))) }
+        (Shown out.old.items out.new.items (row (Some name.now) values.now (policy.now ∷ note.now ∷ []))) }
 {
-    push_row(out, None, values, &[policy, note])
+    push_row(out, Some(name), values, &[policy, note])
 }
 
 // The rows of the listing begin, by the heads of their columns.
@@ -184,7 +192,7 @@ fn push_columns(out: &mut Vec<u8>) -> Result<(), AllocError>
         "Description",
         "Status",
         "Policy",
-        "First",
+        "Since",
         "Expires",
         "Assignee",
     ];
@@ -204,8 +212,8 @@ fn push_entry(out: &mut Vec<u8>, alloc: Global, row: &ListingRow<'_>) -> Result<
         name.as_ref().map(|name| name.as_str()),
         values.as_str(),
         row.description,
-        row.status.word(),
-        policy_word(row.policy),
+        shown_status(row),
+        named_policy(row.policy),
         first.as_str(),
         expiry.as_str(),
         assignee_text(row),

@@ -17,9 +17,9 @@ returns c =
       | in-Above+in_ok-push_above-in-Above w ↦
           let then : c.after-self.result ≡ next.Row 0 =
           c.after-self.ensures ∙ ap (λ n. after n (length rows)) w.in-Above.is in
-          gives (rw (sym w.out-is) at w.in_ok-push_above-in-Above.ensures) blocks_above_some
+          gives (rw (sym w.out-is) at w.in_ok-push_above-in-Above.ensures) (blocks_above_some rows)
           (ap (left_from html) w.in-Above.is ∙ blocks_parts rows
-          ∙ ap (λ n. above_rows (left_from html n)) (sym then))
+          ∙ ap (λ n. above_rows rows (left_from html n)) (sym then))
       | in-Row+in-Some+in_ok-push_block-in-Some w ↦
           let place = w.in-Row.place in
           let row = w.in-Some.row.now in

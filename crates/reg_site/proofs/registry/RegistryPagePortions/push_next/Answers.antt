@@ -24,10 +24,10 @@ returns c =
           let then : c.after-self.result ≡ next.Row 0 =
           after_now ∙ ap (λ n. after n (length rows)) w.in-Above.is in
           gives (rw (sym w.out-is) at w.in_ok-push_above-in-Above.ensures)
-          (above_some page.name (summary page) page.table.ranges)
+          (above_some page.name (summary page) page.entries page.table.ranges)
           (ap (left_from html) w.in-Above.is
-          ∙ page_parts page.name (summary page) page.table.ranges (map row_view rows)
-          ∙ ap (λ n. above_rows page.name (summary page) page.table.ranges (left_from html n)) (sym then))
+          ∙ page_parts page.name (summary page) page.entries page.table.ranges (map row_view rows)
+          ∙ ap (λ n. above_rows page.name (summary page) page.entries page.table.ranges (left_from html n)) (sym then))
       | in-Row+in-Some+in_ok-push_entry-in-Some w ↦
           let place = w.in-Row.place in
           let row = w.in-Some.row.now in

@@ -1,5 +1,5 @@
 use Rattle.reg_html.proofs.Pieces.{joined, shown}
-use Rattle.reg_site.proofs.index.push_registries.Goals as goal
+use Rattle.reg_site.proofs.index.push_table.Goals as goal
 
 pub returns : goal.returns
 returns c =
