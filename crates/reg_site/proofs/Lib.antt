@@ -1,3 +1,5 @@
+pub mod NotesAgree
+pub mod NotEmpty
 pub mod Merging
 pub mod Portioned
 pub mod ShortPictures

@@ -17,6 +17,7 @@ use Rattle.reg_site.specs.declared.summary.Summary.{Summary}
 
 -- ---- Kinds
 
+-- the two kinds are the same
 abbrev pub same_kind : Kind → Kind → Bool
 same_kind Assigned Assigned = true
 same_kind Temporary Temporary = true
@@ -26,11 +27,13 @@ same_kind SetAsideKind SetAsideKind = true
 same_kind ReservedKind ReservedKind = true
 same_kind _ _ = false
 
+-- the kind of an entry, by its status
 abbrev pub kind_of_status : Status → Kind
 kind_of_status status.Assigned = Assigned
 kind_of_status status.Temporary = Temporary
 kind_of_status status.Expired = Expired
 
+-- the kind of values without an entry
 abbrev pub kind_of_rest : Rest → Kind
 kind_of_rest Free = FreeKind
 kind_of_rest SetAside = SetAsideKind
@@ -55,6 +58,7 @@ kind_top FreeKind = codes "2"
 kind_top SetAsideKind = codes "8"
 kind_top ReservedKind = codes "11"
 
+-- how high a part of a kind is
 abbrev pub kind_height : Kind → List ℕ
 kind_height Assigned = codes "24"
 kind_height Temporary = codes "12"
@@ -103,6 +107,7 @@ abbrev pub joins : Part → Part → Bool
 joins last next =
     nat_lt next.start last.end || (same_kind last.kind next.kind && next.start == last.end)
 
+-- the part that two parts make
 abbrev pub joined : Part → Part → Part
 joined last next = record {
   kind = last.kind;
@@ -116,6 +121,7 @@ merged last [] = last ∷ []
 merged last (next ∷ more) =
     if joins last next then merged (joined last next) more else last ∷ merged next more
 
+-- the same of all parts
 abbrev pub merged_all : List Part → List Part
 merged_all [] = []
 merged_all (first ∷ more) = merged first more
@@ -150,12 +156,14 @@ parts s entries =
 abbrev pub view : ℕ → List ℕ
 view cells = codes "0 0 " ++ (decimal cells ++ codes " 24")
 
+-- the attributes of a picture, by what it shows of its cells
 abbrev pub picture_attributes : List ℕ → List Attribute
 picture_attributes shown =
     attribute (codes "viewBox") shown ∷ attribute (codes "preserveAspectRatio") (codes "none")
     ∷ attribute (codes "role") (codes "img")
     ∷ attribute (codes "aria-label") (codes "The values in proportion, as told below") ∷ []
 
+-- the picture of a registry's values
 abbrev pub picture : Summary → List PageEntry → Markup
 picture s entries =
     element (codes "svg") (picture_attributes (view (cell_count s.max))) (parts s entries)
@@ -172,6 +180,7 @@ item class word n =
 abbrev pub counted : Kind → List ℕ → ℕ → Markup
 counted kind word n = item (kind_class kind) word n
 
+-- how many values there are of each kind
 abbrev pub legend : Summary → Markup
 legend s =
     plain (codes "ul")

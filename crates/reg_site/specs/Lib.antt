@@ -3,10 +3,16 @@ pub mod Summary
 pub mod Bar
 pub mod Policy
 pub mod Status
+pub mod Reference
+pub mod Noted
 pub mod Registry
 pub mod Blocks
 pub mod Listing
 pub mod Tree
+pub mod Records
+pub mod Changes
+pub mod Sums
+pub mod IndexTree
 pub mod Moment
 pub mod Index
 pub mod Files

@@ -22,6 +22,7 @@ white-space:nowrap}
 td:nth-child(4):nth-last-child(4){min-width:8rem}
 tr:target{background:var(--soft)}
 td ul{list-style:none;margin:0;padding:0}
+.note{font-size:.9rem;font-weight:400;white-space:normal}
 figure{margin:1.5rem 0}
 svg{display:block;width:100%;height:1.5rem;print-color-adjust:exact}
 rect.assigned,rect.temporary,rect.expired{fill:var(--used)}
