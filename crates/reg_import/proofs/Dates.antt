@@ -1,6 +1,6 @@
 -- The day of a date is jiff's.
-use Rattle.std.proofs.Common.{◌≡◌, ◌∙◌, ℕ, ◌+◌, ◌-◌, ◌<◌, ◌≤◌, Bool, true, false, get_or, ℤ, pos, ◌≤ℤ◌, Option, Some, None, Result, Ok, Err, refl, sym, ap, nat_lt, arith, subst}
-use Rattle.std.specs.Prelude.{◌↔◌, IfOk, IfSome, IsOk, IsSome, nat_le, ◌&&◌, unsigned_abs}
+use Rattle.std.proofs.Common.{◌≡◌, ◌∙◌, ℕ, ◌<◌, ◌≤◌, Bool, true, false, pos, Option, Some, None, Result, Ok, Err, refl, sym, ap, arith, subst}
+use Rattle.std.specs.Prelude.{◌↔◌, IfOk, IfSome, IsOk, IsSome, nat_le}
 use Rattle.std.specs.Result.{result_ok}
 use Rattle.std.proofs.lemmas.Bool.{and_parts, and_from}
 use Rattle.std.proofs.lemmas.Bool.Decides.{nat_tests}
@@ -10,7 +10,7 @@ use Rattle.jiff.specs.Words as jiff
 use Rattle.jiff.proofs.Family.{epoch_day_same}
 use Rattle.jiff.proofs.SpanFacts.{signed_arith}
 use Rattle.reg_ranges.specs.Texts.{is_within}
-use Rattle.reg_early.specs.Calendar.{CivilDate, civil_date, IsDate, IsDay, day_number, month_lengths}
+use Rattle.reg_early.specs.Calendar.{CivilDate, civil_date, IsDate, IsDay, day_number}
 use Rattle.reg_early.proofs.CalendarIsJiffs.{day_number_agrees, length_of_month, theirs}
 use Rattle.reg_early.proofs.DaysAreDates.{placed}
 use Rattle.reg_import.specs.Days.{day_at, is_date}
@@ -31,7 +31,7 @@ tested date h =
       within 1 _ date.day second.1,
     )
 
-passes : (date : CivilDate) → IsDate date → is_date date ≡ true
+pub passes : (date : CivilDate) → IsDate date → is_date date ≡ true
 passes date h =
     and_from _ _ (within_from 2000 9999 date.year h.0.0 h.0.1)
     (and_from _ _ (within_from 1 12 date.month h.1.0 h.1.1)

@@ -1,4 +1,5 @@
 pub mod Dates
+pub mod DaysReadBack
 pub mod LineTexts
 pub mod Places
 pub mod Registers

@@ -1,7 +1,7 @@
 -- The place of a column in a header is the first at which its word stands.
-use Rattle.std.proofs.Common.{◌≡◌, ℕ, zero, suc, ◌<◌, Bool, true, false, List, [], ◌∷◌, length, Option, Some, None, refl, arith}
+use Rattle.std.proofs.Common.{◌≡◌, ℕ, zero, suc, ◌<◌, true, false, List, [], ◌∷◌, length, Some, None, refl, arith}
 use Rattle.csv.specs.Records.{field_at}
-use Rattle.reg_import.specs.Columns.{column_word, place_of, stands_at}
+use Rattle.reg_import.specs.Columns.{place_of, stands_at}
 use Rattle.reg_import.specs.declared.column.Column.{Column}
 
 -- the word stands at none of the first places

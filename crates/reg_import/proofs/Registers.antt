@@ -1,5 +1,5 @@
 -- The script of rows, from one row to the next.
-use Rattle.std.proofs.Common.{◌≡◌, ◌∙◌, ℕ, suc, ◌+◌, ◌<◌, ◌≤◌, List, [], ◌∷◌, ◌++◌, length, map, drop, get_or, Option, Result, Ok, Err, refl, sym, ap, append_assoc, add-one}
+use Rattle.std.proofs.Common.{◌≡◌, ◌∙◌, ℕ, suc, ◌+◌, ◌<◌, ◌≤◌, List, [], ◌∷◌, ◌++◌, length, map, drop, get_or, Result, Ok, Err, refl, sym, ap, append_assoc, add-one}
 use Rattle.std.proofs.Math.Seq.{drop-cons}
 use Rattle.std.proofs.Math.ListN.{drop_of_length-le}
 use Rattle.std.proofs.lemmas.List.{drop-map}
@@ -8,7 +8,6 @@ use Rattle.reg_import.specs.Faults.{IsImportFaultOf}
 use Rattle.reg_import.specs.Lines.{Line, lines_text}
 use Rattle.reg_import.specs.Rows.{row_in}
 use Rattle.reg_import.specs.Scripts.{◌>>=◌, IsAppended, lines_from, lines_if, numbered, rows_script, text_if}
-use Rattle.reg_import.specs.declared.entry.ListedEntry.{ListedEntry}
 use Rattle.reg_import.specs.declared.fault.ImportFault.{ImportFault}
 use Rattle.reg_import.specs.declared.fault.ImportFault.TheVariants as import
 use Rattle.reg_import.specs.declared.import.Import.{Import}

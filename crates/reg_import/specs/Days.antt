@@ -1,8 +1,9 @@
 -- Days as registers write them, and those on which renewals are approved.
-use Rattle.std.specs.Prelude.{ℕ, ◌+◌, ◌-◌, ◌*◌, ◌==◌, ◌&&◌, Bool, List, length, slice_index, Option, Some, None, if◌then◌else◌}
+use Rattle.std.specs.Prelude.{◌≡◌, ℕ, ◌+◌, ◌-◌, ◌*◌, ◌==◌, ◌&&◌, Bool, List, length, slice_index, Option, Some, None, if◌then◌else◌}
 use Rattle.std.specs.Char.{is_ascii_digit}
 use Rattle.reg_ranges.specs.Texts.{is_within}
-use Rattle.reg_early.specs.Calendar.{CivilDate, civil_date, day_number, month_lengths, year_after}
+use Rattle.reg_early.specs.Calendar.{CivilDate, IsDay, civil_date, day_number, month_lengths, year_after}
+use Rattle.reg_early.specs.DayText.{text_of_day}
 use Rattle.reg_early.specs.Forms.{is_day}
 
 infixl 10 ◌>>=◌
@@ -41,6 +42,10 @@ unfoldable pub read_day : List ℕ → Option ℕ
 read_day text =
     if length text == 10 && (slice_index text 4 == 45 && slice_index text 7 == 45)
     then day_within text else None
+
+-- the text of a day is read as that day
+abbrev pub DaysReadBack : Type 0
+DaysReadBack = (day : ℕ) → IsDay day → read_day (text_of_day day) ≡ Some day
 
 -- the day so many days before another, where its year ends on that one
 abbrev pub year_before_by : ℕ → ℕ → Option ℕ

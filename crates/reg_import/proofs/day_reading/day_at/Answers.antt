@@ -1,9 +1,8 @@
 use Rattle.std.proofs.Common.{◌≡◌, ◌∙◌, arith, ap, pos, sym, to_z, w8, w32, FitsSigned, rules}
-use Rattle.std.specs.Prelude.{IsOk, unsigned_abs}
+use Rattle.std.specs.Prelude.{unsigned_abs}
 use Rattle.std.proofs.lemmas.Int.{ints, to_z-of_z}
 use Rattle.jiff.specs.Words as jiff
 use Rattle.reg_early.specs.Calendar.{civil_date, day_number}
-use Rattle.reg_import.specs.Days.{day_at}
 use Rattle.reg_import.proofs.Dates.{day_is, not_there, there, too_early}
 use Rattle.reg_import.proofs.day_reading.day_at.Goals as goal
 use mir.Syntax.{w16}

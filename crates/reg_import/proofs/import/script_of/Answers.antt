@@ -1,4 +1,4 @@
-use Rattle.std.proofs.Common.{◌≡◌, ◌∙◌, List, ℕ, ap, map, sym, subst, Ok}
+use Rattle.std.proofs.Common.{◌≡◌, ◌∙◌, List, ℕ, ap, map, subst, Ok}
 use Rattle.std.specs.Prelude.{IfErr, IfOk}
 use Rattle.csv.specs.Records.{fields_of}
 use Rattle.reg_import.specs.Faults.{IsImportFaultOf}

@@ -1,4 +1,4 @@
-use Rattle.std.proofs.Common.{◌+◌, [], ◌∷◌, drop, length, map, arith, rules}
+use Rattle.std.proofs.Common.{◌+◌, [], ◌∷◌, drop, map, arith, rules}
 use Rattle.csv.specs.Records.{fields_of}
 use Rattle.reg_import.proofs.Registers.{HasWritten, is_fault_met, none_left, row_at, written_all, written_next}
 use Rattle.reg_import.proofs.import.script_of_rows.Goals as goal
