@@ -1,20 +1,23 @@
 -- How histories grow, record by record.
-use Rattle.std.proofs.Common.{◌≡◌, ℕ, ◌+◌, ◌<◌, List, [], ◌∷◌, ◌++◌, length, map, take, get_or, true, refl, sym, ap, ◌∙◌, subst, append_assoc, append-nil, inl, inr, ◌==◌, arith, zero, suc}
+use Rattle.std.proofs.Common.{◌≡◌, ℕ, ◌+◌, ◌<◌, List, [], ◌∷◌, ◌++◌, length, map, take, get_or, true, refl, sym, ap, ◌∙◌, subst, append_assoc, append-nil, inl, inr, ◌==◌, arith, zero, suc, zero-add}
 use Rattle.std.specs.Prelude.{Some, None, slice_get}
 use Rattle.std.specs.Cmp.{tied_itself}
 use Rattle.std.specs.Cmp.Lexicographic.{nat_list_cmp_total}
 use Rattle.std.specs.Ordering.{is_le}
+use Rattle.std.proofs.lemmas.Grind.{common_steps}
 use Rattle.std.proofs.lemmas.Bool.{and_from, cases_Bool, eqb-true}
 use Rattle.reg_maps.specs.Maps.{text_cmp}
 use Rattle.reg_print.proofs.PrintedTokens.{one_more}
 use Rattle.reg_history.specs.Chain.{AddsLines, Chained, Record, at, begun, chain_from, chained, next_digest, next_line, record_of, says, with_record}
-use Rattle.reg_history.specs.History.{AddsRecord, Continues, IsHistory, IsHistoryOf, SaysJust, TakesRecord, later}
+use Rattle.reg_history.specs.History.{AddsRecord, Continues, IsHistory, IsHistoryOf, SaysJust, IsWrongAfter, TakesRecord, TellsWrong, later}
 use Rattle.reg_history.specs.Moment.{moment_text}
 use Rattle.reg_history.specs.Replay.{NothingIsLost, Said, SaysAfter, after, changes_to, nothing, replay}
 use Rattle.reg_history.specs.Said.{Says, TellsLoss, said_by}
 use Rattle.reg_history.specs.declared.change.Change.{Change}
 use Rattle.reg_history.specs.declared.change.Fact.{Fact}
 use Rattle.reg_history.specs.declared.history.History.{History}
+use Rattle.reg_history.specs.declared.history.Unreadable.{Unreadable}
+use Rattle.reg_history.specs.declared.history.Unreadable.TheVariants.{Memory, Header, Wrong}
 use Rattle.reg_history.specs.declared.said.Unrecorded.{Unrecorded}
 use Rattle.reg_history.proofs.Replayed.{replay-append}
 
@@ -236,3 +239,28 @@ digest-at (d ∷ ds) (suc k) x h is = digest-at ds k x (omega (arith, h)) is
 pub first-none : {X : Type 0} (xs : List X) → None ≡ slice_get xs 0 → xs ≡ []
 first-none [] e = refl
 first-none (x ∷ xs) e = cc e
+
+-- ---- Records that are wrong
+
+counted-from : (c : Chained) (rs : List Record)
+    → length (chain_from c rs).digests ≡ length c.digests + length rs
+counted-from c [] = omega arith
+counted-from c (r ∷ rs) =
+    counted-from (with_record c r) rs
+    ∙ (let more : length (c.digests ++ next_digest c.digests r ∷ []) ≡ length c.digests + 1 =
+    grind (arith, common_steps) in omega arith)
+
+pub wrong_after : (h : History) (before : List Record) → IsHistory h before
+    → length h.chain.digests.items + 1 ≡ length before + 1
+wrong_after h before is = ap (λ ds. length ds + 1) is.digests
+    ∙ ap (λ n. n + 1) (counted-from begun before ∙ zero-add (length before))
+
+-- what is wrong after the records that were taken is wrong in the text
+pub tells_wrong : (h : History) (records : List Record) (text rest : List ℕ) (why : Unreadable)
+    → TakesRecord h records text rest
+    → ((before : List Record) → IsHistory h before → IsWrongAfter (length before) why)
+    → TellsWrong ((chained records).text ++ text) why
+tells_wrong h records text rest Memory t wrong = tt
+tells_wrong h records text rest Header t wrong = absurd (wrong t.more t.grown)
+tells_wrong h records text rest (Wrong number) t wrong =
+    (length t.more, wrong t.more t.grown, (t.more, rest, refl, t.whole))

@@ -1,8 +1,8 @@
 -- A history that was read, and how it goes on.
-use Rattle.std.specs.Prelude.{◌≡◌, ℕ, ◌+◌, true, ⊤, List, [], ◌∷◌, ◌++◌, length, if◌then◌else◌}
+use Rattle.std.specs.Prelude.{◌≡◌, ◌≢◌, ℕ, ◌+◌, true, ⊤, List, [], ◌∷◌, ◌++◌, length, if◌then◌else◌}
 use Rattle.std.specs.Ordering.{is_le}
 use Rattle.reg_maps.specs.Maps.{text_cmp}
-use Rattle.reg_history.specs.Chain.{Record, at, chained, says}
+use Rattle.reg_history.specs.Chain.{Record, at, chained, header_line, says}
 use Rattle.reg_history.specs.Moment.{moment_text}
 use Rattle.reg_history.specs.Replay.{NothingIsLost, changes_to, facts_say, nothing}
 use Rattle.reg_history.specs.Said.{Says}
@@ -51,10 +51,16 @@ BeginsWith count text =
     (records : List Record) × (rest : List ℕ) × (length records ≡ count)
     × ((chained records).text ++ rest ≡ text)
 
--- the number of a record that is wrong, of which those before are not
+-- a record is wrong, or memory was wanting, after so many records
+abbrev pub IsWrongAfter : ℕ → Unreadable → Type 0
+IsWrongAfter count Memory = ⊤
+IsWrongAfter count Header = ⊥
+IsWrongAfter count (Wrong number) = number ≡ count + 1
+
+-- Why bytes are no history: they have not its first line, or go on wrongly after so many records of one.
 abbrev pub TellsWrong : List ℕ → Unreadable → Type 0
 TellsWrong text Memory = ⊤
-TellsWrong text Header = ⊤
+TellsWrong text Header = (rest : List ℕ) → text ≢ header_line ++ rest
 TellsWrong text (Wrong number) =
     (count : ℕ) × (number ≡ count + 1) × BeginsWith count text
 

@@ -1,10 +1,10 @@
 //! Histories, as they are read and go on.
-ghost use Rattle.std.specs.Prelude.{◌≡◌, ◌++◌, ◌∷◌, [], true, List, IfOk, IfErr, OnOk};
+ghost use Rattle.std.specs.Prelude.{◌≡◌, ◌++◌, ◌∷◌, ◌+◌, [], length, true, List, IfOk, IfErr, OnOk};
 ghost use Rattle.std.specs.Ordering.{is_le};
 ghost use Rattle.reg_maps.specs.Maps.{text_cmp};
 ghost use Rattle.reg_print.specs.Comparing.{Leaves};
 ghost use Rattle.reg_history.specs.Chain.{Record as Published, chained, record_of, says};
-ghost use Rattle.reg_history.specs.History.{AddsRecord, Continues, IsHistory, IsHistoryOf, SaysJust, TakesRecord, later};
+ghost use Rattle.reg_history.specs.History.{AddsRecord, Continues, IsHistory, IsHistoryOf, IsWrongAfter, SaysJust, TakesRecord, TellsWrong, later};
 ghost use Rattle.reg_history.specs.Said.{TellsLoss};
 ghost use Rattle.reg_history.specs.declared.history.Unreadable.TheVariants as un;
 
@@ -82,7 +82,8 @@ impl From<AllocError> for Unreadable {
 /// The history with these bytes. Each record has the number and the digest that follow from those before
 /// it, and is no earlier than the last of them.
 pub fn read(alloc: Global, text: &[u8]) -> Result<History, Unreadable>
-    ensures { IfOk result (λ history. IsHistoryOf history text.now) }
+    ensures history { IfOk result (λ history. IsHistoryOf history text.now) }
+    ensures wrong { IfErr result (TellsWrong text.now) }
 {
     let mut history = History::new(alloc)?;
     let Some(rest) = behind(HEADER, text) else {
@@ -106,8 +107,12 @@ impl History {
 
     // Takes all records of a text, which come next.
     fn take(&mut self, alloc: Global, text: &[u8]) -> Result<(), Unreadable>
-        ensures { IfOk result (λ _. (records : List Published) → IsHistory self.old records
+        ensures history { IfOk result (λ _. (records : List Published)
+            → IsHistory self.old records
             → IsHistoryOf self.new ((chained records).text ++ text.now)) }
+        ensures wrong { IfErr result (λ why. (records : List Published)
+            → IsHistory self.old records
+            → TellsWrong ((chained records).text ++ text.now) why) }
     {
         let mut records = Records::of(alloc, text)?;
         let mut rest = text;
@@ -127,8 +132,10 @@ impl History {
         records: &mut Records<'_>,
         text: &'a [u8],
     ) -> Result<&'a [u8], Unreadable>
-        ensures { IfOk result (λ rest. (before : List Published) → IsHistory self.old before
-            → TakesRecord self.new before text.now rest.now) }
+        ensures takes { IfOk result (λ rest. (before : List Published)
+            → IsHistory self.old before → TakesRecord self.new before text.now rest.now) }
+        ensures wrong { IfErr result (λ why. (before : List Published)
+            → IsHistory self.old before → IsWrongAfter (length before) why) }
     {
         let wrong = self.wrong();
         let Some(next) = records.next()? else {
@@ -145,7 +152,9 @@ impl History {
     }
 
     // That the record that comes next is wrong.
-    fn wrong(&self) -> Unreadable {
+    fn wrong(&self) -> Unreadable
+        ensures { result ≡ un.Wrong (length self.now.chain.digests.items + 1) }
+    {
         Unreadable::Wrong(self.chain.digests.len() as u64 + 1)
     }
 

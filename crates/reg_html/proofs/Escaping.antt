@@ -4,6 +4,7 @@ use Rattle.std.specs.List.{list_all}
 use Rattle.std.proofs.lemmas.Bool.Decides.{eqb_tells}
 use Rattle.std.proofs.lemmas.List.Folds.{list_all-append}
 use Rattle.reg_html.specs.Escape.{escaped, escaped_byte, followed, is_markup, unescaped, TextsAreInert}
+use Rattle.reg_html.proofs.EscapedUtf8.{IsUtf8-escaped}
 
 -- a byte that stands for itself
 record IsPlain (b : ℕ) : Type 0 where
@@ -66,4 +67,5 @@ pub texts_are_inert : TextsAreInert
 texts_are_inert text = record {
   no_markup = no_markup-escaped text;
   reads_back = unescaped-escaped text;
+  utf8 = IsUtf8-escaped text;
 }

@@ -1,3 +1,4 @@
 pub mod Pieces
+pub mod EscapedUtf8
 pub mod Escaping
 pub mod NestedTags

@@ -1,6 +1,6 @@
 -- What stands for a text on a page (HTML Living Standard, 13.1.4 and 13.5): text in which no byte is
 -- markup.
-use Rattle.std.specs.Prelude.{◌≡◌, ℕ, Bool, true, not, ◌||◌, ◌==◌, List, [], ◌∷◌, ◌++◌, Option, Some, None, option_map, unwrap_or, codes, if◌then◌else◌}
+use Rattle.std.specs.Prelude.{◌≡◌, ℕ, Bool, true, not, ◌||◌, ◌==◌, List, [], ◌∷◌, ◌++◌, Option, Some, None, option_map, unwrap_or, codes, if◌then◌else◌, IsUtf8}
 use Rattle.std.specs.List.{flat_map, list_all}
 use Rattle.std.specs.Str.{bytes_eq}
 
@@ -68,10 +68,11 @@ unescaped bytes = unescaped_in None bytes
 -- ---- The law
 
 -- What stands for a text has no byte of markup, and no ampersand but that of a reference of the five,
--- by which it reads back as the text.
+-- by which it reads back as the text. What stands for UTF-8 is UTF-8.
 pub record IsInert (text : List ℕ) : Type 0 where
   pub no_markup : list_all (λ b. not (is_markup b)) (escaped text) ≡ true
   pub reads_back : unescaped (escaped text) ≡ Some text
+  pub utf8 : IsUtf8 text → IsUtf8 (escaped text)
 
 abbrev pub TextsAreInert : Type 0
 TextsAreInert = (text : List ℕ) → IsInert text

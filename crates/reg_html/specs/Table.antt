@@ -1,7 +1,7 @@
 -- Tables on a page.
 use Rattle.std.specs.Prelude.{ℕ, List, [], ◌∷◌, ◌++◌, map, Option, Some, None, codes}
-use Rattle.reg_html.specs.Markup.{Attribute, Markup, text, element, beside, all_of, markup_then}
-use Rattle.reg_html.specs.Document.{attribute, page_end, plain}
+use Rattle.reg_html.specs.Markup.{Attribute, Markup, text, element, beside, all_of, opening_then, markup_then}
+use Rattle.reg_html.specs.Document.{attribute, link, page_end, plain}
 use Rattle.reg_html.specs.Escape.{escaped}
 
 abbrev pub column : List ℕ → Markup
@@ -18,9 +18,14 @@ table caption columns rows =
     ∷ plain (codes "tbody") rows
     ∷ []))
 
--- the first cell of a row heads it
-abbrev pub head_cell : List ℕ → Markup
-head_cell words = plain (codes "th") (text words)
+-- the cell of a row that heads it
+abbrev pub head_of : Markup → Markup
+head_of inside = element (codes "th") (attribute (codes "scope") (codes "row") ∷ []) inside
+
+-- the same, where a row that is found by a name links to itself
+abbrev pub head_cell : Option (List ℕ) → List ℕ → Markup
+head_cell None words = head_of (text words)
+head_cell (Some name) words = head_of (link (codes "#" ++ name) words)
 
 abbrev pub cell : List ℕ → Markup
 cell words = plain (codes "td") (text words)
@@ -30,12 +35,14 @@ abbrev pub anchor : Option (List ℕ) → List Attribute
 anchor None = []
 anchor (Some name) = attribute (codes "id") name ∷ []
 
--- a row on a line of its own: by what it is found, its first cell, and the others
+-- a row on a line of its own: by what it is found, and its cells
+abbrev pub row_of : Option (List ℕ) → Markup → Markup
+row_of name cells = beside (element (codes "tr") (anchor name) cells) (text (codes "\n"))
+
+-- a row by what it is found, its first cell, which heads it, and the others
 abbrev pub row : Option (List ℕ) → List ℕ → List (List ℕ) → Markup
 row name first others =
-    beside
-    (element (codes "tr") (anchor name) (beside (head_cell first) (all_of (map cell others))))
-    (text (codes "\n"))
+    row_of name (beside (head_cell name first) (all_of (map cell others)))
 
 -- ---- The same in pieces
 
@@ -46,6 +53,14 @@ table_start caption columns rest =
     ++ (escaped caption
     ++ (codes "</caption><thead><tr>"
     ++ markup_then (all_of (map column columns)) (codes "</tr></thead><tbody>" ++ rest)))
+
+-- a row up to its cells, and then the rest
+abbrev pub row_start : Option (List ℕ) → List ℕ → List ℕ
+row_start name rest = opening_then (codes "tr") (anchor name) rest
+
+-- what ends a row
+abbrev pub row_end : List ℕ
+row_end = codes "</tr>\n"
 
 -- what ends a table
 abbrev pub table_end : List ℕ

@@ -1,5 +1,5 @@
 -- Portions of a page.
-use Rattle.std.proofs.Common.{◌≡◌, ℕ, ◌+◌, ◌<◌, ◌≤◌, List, [], ◌∷◌, ◌++◌, length, get_or, drop, map, nat_lt, if◌then◌else◌, true, false, refl, sym, ap, ◌∙◌, append-nil, append_assoc, add-one, drop-cons, arith}
+use Rattle.std.proofs.Common.{◌≡◌, ℕ, ◌+◌, ◌<◌, ◌≤◌, List, [], ◌∷◌, ◌++◌, length, get_or, drop, map, nat_lt, if◌then◌else◌, true, false, refl, sym, ap, ◌∙◌, append-nil, append_assoc, add-one, drop-cons, arith, Option}
 use Rattle.std.proofs.lemmas.Bool.Decides.{nat_tests}
 use Rattle.std.proofs.lemmas.List.{drop_all, length-append}
 use Rattle.reg_core.specs.declared.entry.PageEntry.{PageEntry}
@@ -19,14 +19,18 @@ use Rattle.reg_print.proofs.ListingText.{record_then}
 use Rattle.reg_html.specs.Appended.{Appended}
 use Rattle.reg_html.specs.Markup.{markup_then}
 use Rattle.reg_site.specs.Portions.{GivesPortion, after}
+use Rattle.reg_site.specs.Noted.{noted_in}
+use Rattle.reg_site.specs.Records as records
 use Rattle.reg_site.specs.Registry as registry
 use Rattle.reg_site.specs.Blocks as blocks
 use Rattle.reg_html.specs.Table.{below_rows}
-use Rattle.reg_site.specs.Listing.{records}
+use Rattle.reg_site.specs.Listing.{records as listed_records}
 use Rattle.reg_site.specs.Tree.{entries_left}
 use Rattle.reg_site.specs.declared.portions.Next.TheVariants as next
 use Rattle.reg_site.specs.declared.summary.Summary.{Summary}
 use Rattle.reg_html.proofs.Pieces.{bytes}
+use Rattle.reg_notes.specs.declared.note.Note.{Note}
+use Rattle.reg_notes.specs.declared.notes.Notes.{Notes}
 
 -- what was appended was the next portion, and has a byte
 pub gives : {old new rest rest' : List ℕ} {f : List ℕ → List ℕ} → Appended old new f
@@ -77,53 +81,82 @@ below_some = omega arith
 -- ---- The page of a registry
 
 -- what stands above its rows has a byte
-pub above_some : (name : List ℕ) (counts : Summary) (ranges : List Range)
-    → 0 < length (registry.above_rows name counts ranges [])
-above_some name counts ranges = omega arith
+pub above_some : (notes : Option Notes) (changed name : List ℕ) (counts : Summary)
+    (entries : List PageEntry) (ranges : List Range)
+    → 0 < length (registry.above_rows notes changed name counts entries ranges [])
+above_some notes changed name counts entries ranges = omega arith
 
 -- a row has a byte
-pub row_some : (listed : ListedRow) → 0 < length (markup_then (registry.entry_row listed) [])
-row_some listed = omega arith
+pub row_some : (noted : Option Note) (listed : ListedRow)
+    → 0 < length (markup_then (registry.entry_row noted listed) [])
+row_some noted listed = omega arith
 
 -- the page is what stands above its rows, and then these and what stands below
-pub page_parts : (name : List ℕ) (counts : Summary) (ranges : List Range) (rows : List ListedRow)
-    → registry.page_by name counts ranges rows
-    ≡ registry.above_rows name counts ranges (registry.rows_left rows)
+pub page_parts : (notes : Option Notes) (changed name : List ℕ) (counts : Summary)
+    (entries : List PageEntry) (ranges : List Range) (rows : List ListedRow)
+    → registry.page_by notes changed name counts entries ranges rows
+    ≡ registry.above_rows notes changed name counts entries ranges (registry.rows_left notes name rows)
 unfolding registry.page_by
-page_parts name counts ranges rows = refl
+page_parts notes changed name counts entries ranges rows = refl
+
+-- ---- A registry in IANA's form
+
+-- what stands above its records has a byte
+pub above_records_some : (name title day : List ℕ) (ranges : List Range)
+    → 0 < length (records.above_records name title day ranges [])
+above_records_some name title day ranges = omega arith
+
+-- a record has a byte
+pub record_some : (notes : Option Notes) (name : List ℕ) (listed : ListedRow)
+    → 0 < length (markup_then (records.record_of notes name listed) [])
+record_some notes name listed = omega arith
+
+-- what stands below them has a byte
+pub below_records_some : 0 < length (records.below_records ++ [])
+below_records_some = omega arith
+
+-- the file is what stands above its records, and then these and what stands below
+pub records_parts : (notes : Option Notes) (name day : List ℕ) (ranges : List Range)
+    (rows : List ListedRow)
+    → records.records_by notes name day ranges rows
+    ≡ records.above_records name (records.title_of (noted_in notes name) name) day ranges
+    (records.records_after notes name rows)
+unfolding records.records_by
+records_parts notes name day ranges rows = refl
 
 -- ---- The listing of a registry
 
 -- the listing is the record of its columns, and then those of its rows
 pub listing_parts : (rows : List ListingRow)
-    → csv_text (header ∷ records (map row_view rows))
-    ≡ csv_text (header ∷ []) ++ csv_text (records (map row_view (drop 0 rows)))
-listing_parts rows = record_then header (records (map row_view rows))
+    → csv_text (header ∷ listed_records (map row_view rows))
+    ≡ csv_text (header ∷ []) ++ csv_text (listed_records (map row_view (drop 0 rows)))
+listing_parts rows = record_then header (listed_records (map row_view rows))
 
 -- from a row that is there it is that row's record, and then what is left
 pub record_of_row : (rows : List ListingRow) (place : ℕ) (row : ListingRow) → place < length rows
     → row ≡ get_or rows place row
-    → csv_text (records (map row_view (drop place rows)))
-    ≡ csv_text (row_fields (row_view row) ∷ []) ++ csv_text (records (map row_view (drop (place + 1) rows)))
+    → csv_text (listed_records (map row_view (drop place rows)))
+    ≡ csv_text (row_fields (row_view row) ∷ []) ++ csv_text (listed_records (map row_view (drop (place + 1) rows)))
 record_of_row rows place row h is =
-    ap (λ left. csv_text (records (map row_view left))) (at_place rows place row h is)
-    ∙ record_then (row_fields (row_view row)) (records (map row_view (drop (place + 1) rows)))
+    ap (λ left. csv_text (listed_records (map row_view left))) (at_place rows place row h is)
+    ∙ record_then (row_fields (row_view row)) (listed_records (map row_view (drop (place + 1) rows)))
 
 -- ---- The page of the blocks
 
 -- what stands above its rows has a byte
-pub blocks_above_some : 0 < length (blocks.above_rows [])
-blocks_above_some = omega arith
+pub blocks_above_some : (authority : Option Note) (rows : List Listed)
+    → 0 < length (blocks.above_rows authority rows [])
+blocks_above_some authority rows = omega arith
 
 -- a row has a byte
 pub block_some : (row : Listed) → 0 < length (markup_then (blocks.block_row row) [])
 block_some row = omega arith
 
 -- the page is what stands above its rows, and then these and what stands below
-pub blocks_parts : (rows : List Listed)
-    → blocks.blocks_page rows ≡ blocks.above_rows (blocks.rows_left rows)
-unfolding blocks.blocks_page
-blocks_parts rows = refl
+pub blocks_parts : (authority : Option Note) (rows : List Listed)
+    → blocks.noted_blocks authority rows ≡ blocks.above_rows authority rows (blocks.rows_left rows)
+unfolding blocks.noted_blocks
+blocks_parts authority rows = refl
 
 -- ---- The JSON of a registry
 

@@ -1,5 +1,5 @@
 -- Laws of the published site.
-use Rattle.std.proofs.Common.{◌≡◌, ℕ, true, List, [], ◌∷◌, ◌++◌, codes, refl, ap, inl, inr, option_map}
+use Rattle.std.proofs.Common.{◌≡◌, ℕ, true, List, [], ◌∷◌, ◌++◌, codes, refl, ap, inl, inr, option_map, None}
 use Rattle.std.specs.List.{AllByRecursion}
 use Rattle.reg_core.specs.Answer.{public_answer, reply_of}
 use Rattle.reg_core.specs.Names.{is_name}
@@ -7,6 +7,7 @@ use Rattle.reg_core.specs.declared.command.PublicCommand.TheVariants.{Registry, 
 use Rattle.reg_site.specs.Blocks.{assignments_text, blocks_page}
 use Rattle.reg_site.specs.Files.{path_of, other_files}
 use Rattle.reg_site.specs.Laws.{FilesStayInside, MomentsStandOnTheIndex, PrivateHoldersAreHidden, SameRegistersSameSite, SitesAreOfAnswers, StaysInside}
+use Rattle.reg_site.specs.Records.{records_text}
 use Rattle.reg_site.specs.Registry.{registry_page}
 use Rattle.reg_site.specs.Site.{answered, blocks_in, page_in, site}
 use Rattle.reg_site.specs.declared.files.File.TheVariants as file
@@ -26,6 +27,10 @@ moments_stand_on_the_index p m n (file.RegistryListing name) e other =
     ap (λ day. answered (reply_of (public_answer p day (RegistryListing name)))) e
 moments_stand_on_the_index p m n (file.RegistryTree name) e other =
     ap (λ day. answered (reply_of (public_answer p day (Registry name)))) e
+moments_stand_on_the_index p m n (file.RegistryRecords name) e other =
+    ap
+    (λ day. option_map (records_text None []) (page_in (reply_of (public_answer p day (Registry name)))))
+    e
 moments_stand_on_the_index p m n file.BlocksPage e other =
     ap (λ day. option_map blocks_page (blocks_in (reply_of (public_answer p day BlockListing)))) e
 moments_stand_on_the_index p m n file.BlocksListing e other =

@@ -1,5 +1,5 @@
 -- The page of the blocks that were given, and IEEE's files of them.
-use Rattle.std.specs.Prelude.{ℕ, Bool, true, false, List, [], ◌∷◌, ◌++◌, drop, map, filter, unwrap_or, Some, codes}
+use Rattle.std.specs.Prelude.{ℕ, Bool, true, false, List, [], ◌∷◌, ◌++◌, drop, map, filter, unwrap_or, Option, Some, None, option_map, codes}
 use Rattle.reg_blocks.specs.Digits.{block_text}
 use Rattle.reg_blocks.specs.Size.{word_of}
 use Rattle.reg_blocks.specs.declared.size.Size.{Size}
@@ -7,8 +7,10 @@ use Rattle.reg_blocks.specs.declared.size.Size.TheVariants.{MaL, MaM, MaS}
 use Rattle.reg_core.specs.declared.holding.Listed.{Listed}
 use Rattle.reg_print.specs.BlockListing.{block_header, block_listing_text}
 use Rattle.reg_html.specs.Document.{document, link, page, page_start, plain}
-use Rattle.reg_html.specs.Markup.{Markup, text, all_of, markup_then}
-use Rattle.reg_html.specs.Table.{below_rows, row, table, table_start}
+use Rattle.reg_html.specs.Markup.{Markup, nothing, text, beside, all_of, markup_then}
+use Rattle.reg_html.specs.Table.{below_rows, cell, head_cell, row_of, table, table_start}
+use Rattle.reg_notes.specs.declared.note.Note.{Note}
+use Rattle.reg_site.specs.Noted.{apply_line}
 use Rattle.reg_site.specs.declared.blocks.BlocksPage.{BlocksPage}
 use Rattle.reg_site.specs.declared.portions.Next.{Next}
 use Rattle.reg_site.specs.declared.portions.Next.TheVariants as next
@@ -32,12 +34,18 @@ assignments_text size rows = block_listing_text (rows_of size rows)
 
 -- ---- The page
 
+-- a block as a row, by what it is found, its size and its digits, which head it, and its holder
+abbrev pub row_by : List ℕ → List ℕ → List ℕ → List ℕ → List ℕ → Markup
+row_by name size digits organization address =
+    row_of (Some name)
+    (beside (cell size)
+    (beside (head_cell (Some name) digits) (all_of (map cell (organization ∷ address ∷ [])))))
+
 -- The fields of a row of the listing. A block is found by b and its digits.
 abbrev pub block_row : Listed → Markup
 block_row r =
-    row (Some (codes "b" ++ block_text r.block)) (word_of r.block.size)
-    (block_text r.block ∷ unwrap_or r.organization (codes "Private") ∷ unwrap_or r.address []
-    ∷ [])
+    row_by (codes "b" ++ block_text r.block) (word_of r.block.size) (block_text r.block)
+    (unwrap_or r.organization (codes "Private")) (unwrap_or r.address [])
 
 abbrev pub blocks_table : List Listed → Markup
 blocks_table rows = table (codes "Blocks of MAC addresses") block_header (all_of (map block_row rows))
@@ -52,29 +60,46 @@ block_links =
     ∷ link (codes "mam.csv") (codes "MA-M") ∷ text (codes " ")
     ∷ link (codes "oui36.csv") (codes "MA-S") ∷ []))
 
-abbrev pub blocks_markup : List Listed → Markup
-blocks_markup rows =
-    page (codes "style.css") (codes "Blocks") (all_of (block_links ∷ blocks_table rows ∷ []))
+-- that there are no blocks, where there are none
+abbrev pub no_blocks : List Listed → Markup
+no_blocks [] = plain (codes "p") (text (codes "No blocks have been assigned yet."))
+no_blocks (row ∷ more) = nothing
 
--- the bytes of that page
-unfoldable pub blocks_page : List Listed → List ℕ
-blocks_page rows = document (blocks_markup rows)
+abbrev pub blocks_markup : Option Note → List Listed → Markup
+blocks_markup authority rows =
+    page (codes "style.css") (codes "Blocks")
+    (all_of
+    (block_links ∷ apply_line authority ∷ no_blocks rows ∷ blocks_table rows ∷ []))
+
+-- the bytes of that page, with what is noted about the authority
+unfoldable pub noted_blocks : Option Note → List Listed → List ℕ
+noted_blocks authority rows = document (blocks_markup authority rows)
+
+-- the same without it
+abbrev pub blocks_page : List Listed → List ℕ
+blocks_page rows = noted_blocks None rows
 
 -- ---- The same in portions
 
--- what stands on the page above its rows, and then the rest
-abbrev pub above_rows : List ℕ → List ℕ
-above_rows rest =
+-- what stands on the page above these rows, and then the rest
+abbrev pub above_rows : Option Note → List Listed → List ℕ → List ℕ
+above_rows authority rows rest =
     page_start (codes "style.css") (codes "Blocks")
-    (markup_then block_links (table_start (codes "Blocks of MAC addresses") block_header rest))
+    (markup_then block_links
+    (markup_then (apply_line authority)
+    (markup_then (no_blocks rows)
+    (table_start (codes "Blocks of MAC addresses") block_header rest))))
 
 -- these rows, and what stands below them
 abbrev pub rows_left : List Listed → List ℕ
 rows_left rows = markup_then (all_of (map block_row rows)) below_rows
 
+abbrev pub authority_of : BlocksPage → Option Note
+authority_of p = option_map (λ n. n.now) p.authority
+
 -- what is left of the page by what is given next
 abbrev pub left_from : BlocksPage → Next → List ℕ
-left_from p next.Above = blocks_page p.rows.now
+left_from p next.Above = noted_blocks (authority_of p) p.rows.now
 left_from p (next.Row place) = rows_left (drop place p.rows.now)
 left_from p next.Nothing = []
 

@@ -4,13 +4,14 @@ use Rattle.std.specs.List.{flat_map}
 use Rattle.reg_blocks.specs.declared.size.Size.{Size}
 use Rattle.reg_blocks.specs.declared.size.Size.TheVariants.{MaL, MaM, MaS}
 use Rattle.reg_site.specs.declared.files.File.{File}
-use Rattle.reg_site.specs.declared.files.File.TheVariants.{RegistryPage, RegistryListing, RegistryTree, BlocksPage, BlocksListing, Assignments, Pool, Style, Index}
+use Rattle.reg_site.specs.declared.files.File.TheVariants.{RegistryPage, RegistryListing, RegistryTree, RegistryRecords, BlocksPage, BlocksListing, Assignments, Pool, Style, Index}
 
 -- the folder of a file, with the slash after it; none is nothing
 abbrev pub folder_of : File → List ℕ
 folder_of (RegistryPage name) = codes "registries/"
 folder_of (RegistryListing name) = codes "registries/"
 folder_of (RegistryTree name) = codes "registries/"
+folder_of (RegistryRecords name) = codes "registries/"
 folder_of BlocksPage = []
 folder_of BlocksListing = []
 folder_of (Assignments size) = []
@@ -29,6 +30,7 @@ abbrev pub stem_of : File → List ℕ
 stem_of (RegistryPage name) = name
 stem_of (RegistryListing name) = name
 stem_of (RegistryTree name) = name
+stem_of (RegistryRecords name) = name
 stem_of BlocksPage = codes "blocks"
 stem_of BlocksListing = codes "blocks"
 stem_of (Assignments size) = assignments_name size
@@ -41,6 +43,7 @@ abbrev pub extension_of : File → List ℕ
 extension_of (RegistryPage name) = codes "html"
 extension_of (RegistryListing name) = codes "csv"
 extension_of (RegistryTree name) = codes "json"
+extension_of (RegistryRecords name) = codes "xml"
 extension_of BlocksPage = codes "html"
 extension_of BlocksListing = codes "csv"
 extension_of (Assignments size) = codes "csv"

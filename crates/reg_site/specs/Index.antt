@@ -1,7 +1,6 @@
 -- The first page of the site.
-use Rattle.std.specs.Prelude.{ℕ, List, [], ◌∷◌, ◌++◌, map, length, codes}
+use Rattle.std.specs.Prelude.{ℕ, List, [], ◌∷◌, ◌++◌, map, length, codes, Bool, true, false, Option, Some, None}
 use Rattle.std.specs.Fmt.{decimal}
-use Rattle.reg_ranges.specs.Words.{treatment_word}
 use Rattle.reg_blocks.specs.Digits.{prefix_text}
 use Rattle.reg_blocks.specs.Size.{word_of}
 use Rattle.reg_blocks.specs.declared.size.Size.{Size}
@@ -9,10 +8,15 @@ use Rattle.reg_blocks.specs.declared.size.Size.TheVariants.{MaL, MaM, MaS}
 use Rattle.reg_core.specs.declared.holding.Listed.{Listed}
 use Rattle.reg_print.specs.Listing.{run_text}
 use Rattle.reg_site.specs.Blocks.{rows_of}
-use Rattle.reg_html.specs.Document.{document, link, page, plain}
-use Rattle.reg_html.specs.Markup.{Markup, text, beside, all_of}
+use Rattle.reg_html.specs.Document.{attribute, document, link, page, plain}
+use Rattle.reg_html.specs.Markup.{Markup, nothing, text, element, beside, all_of}
 use Rattle.reg_site.specs.Moment.{moment_text}
-use Rattle.reg_html.specs.Table.{table}
+use Rattle.reg_site.specs.Policy.{treatment_name}
+use Rattle.reg_html.specs.Table.{head_of, row_of, table}
+use Rattle.reg_notes.specs.declared.note.Note.{Note}
+use Rattle.reg_site.specs.Noted.{apply_line}
+use Rattle.reg_site.specs.Records.{title_of}
+use Rattle.reg_site.specs.declared.index_tree.Register.{Register}
 use Rattle.reg_site.specs.declared.summary.Share.{Share}
 use Rattle.reg_site.specs.declared.summary.Summary.{Summary}
 
@@ -25,41 +29,54 @@ share_texts values policy =
 
 -- a range with its policy
 abbrev pub share_item : Share → Markup
-share_item s = share_texts (run_text s.values) (treatment_word s.treatment)
+share_item s = share_texts (run_text s.values) (treatment_name s.treatment)
 
 -- where the page of a registry is
 abbrev pub page_place : List ℕ → List ℕ
 page_place name = codes "registries/" ++ (name ++ codes ".html")
 
-abbrev pub linked_cell : List ℕ → List ℕ → Markup
-linked_cell target name = plain (codes "th") (link target name)
+-- when a registry was last changed; nothing where it is not known
+abbrev pub changed_part : List ℕ → Markup
+changed_part [] = nothing
+changed_part (b ∷ more) =
+    element (codes "div") (attribute (codes "class") (codes "note") ∷ [])
+    (beside (text (codes "Last changed ")) (plain (codes "time") (text (b ∷ more))))
 
--- the name of a registry, by which its page is found
-abbrev pub name_cell : List ℕ → Markup
-name_cell name = linked_cell (page_place name) name
+abbrev pub linked_cell : List ℕ → List ℕ → List ℕ → Markup
+linked_cell target name changed = head_of (beside (link target name) (changed_part changed))
+
+-- the name of a registry, which heads its row, and by which its page is found, and its last change
+abbrev pub name_cell : List ℕ → List ℕ → Markup
+name_cell changed name = linked_cell (page_place name) name changed
 
 abbrev pub number_cell : ℕ → Markup
 number_cell n = plain (codes "td") (text (decimal n))
 
-abbrev pub registry_row : Summary → Markup
-registry_row s =
-    beside
-    (plain (codes "tr")
+-- a registry as a row, which is found by its name, by the moment of its last change
+abbrev pub registry_row : List ℕ → Summary → Markup
+registry_row changed s =
+    row_of (Some s.name)
     (all_of
-    (name_cell s.name
+    (name_cell changed s.name
     ∷ plain (codes "td") (plain (codes "ul") (all_of (map share_item s.shares)))
     ∷ number_cell s.assigned ∷ number_cell s.temporary ∷ number_cell s.expired
-    ∷ number_cell s.free ∷ [])))
-    (text (codes "\n"))
+    ∷ number_cell s.free ∷ []))
+
+abbrev pub register_row : Register → Markup
+register_row r = registry_row r.changed.now r.summary.now
 
 abbrev pub registry_columns : List (List ℕ)
 registry_columns =
     codes "Registry" ∷ codes "Policies" ∷ codes "Assigned" ∷ codes "Temporary" ∷ codes "Expired"
     ∷ codes "Free" ∷ []
 
-abbrev pub registries_table : List Summary → Markup
-registries_table registries =
-    table (codes "Registries") registry_columns (all_of (map registry_row registries))
+abbrev pub registries_table : List Markup → Markup
+registries_table rows = table (codes "Registries") registry_columns (all_of rows)
+
+-- the registries, or that there are none
+abbrev pub registries_shown : List Markup → Markup
+registries_shown [] = plain (codes "p") (text (codes "There are no registries yet."))
+registries_shown (first ∷ more) = registries_table (first ∷ more)
 
 -- ---- The pool and the blocks
 
@@ -71,11 +88,14 @@ item words = plain (codes "li") (text words)
 abbrev pub prefix_item : ℕ → Markup
 prefix_item prefix = item (prefix_text prefix)
 
+-- prefixes as a list, or that there are none
+abbrev pub prefix_list : List ℕ → Markup
+prefix_list [] = plain (codes "p") (text (codes "The pool is empty."))
+prefix_list (first ∷ more) = plain (codes "ul") (all_of (map prefix_item (first ∷ more)))
+
 -- the prefixes of the pool
 abbrev pub pool_list : List ℕ → Markup
-pool_list prefixes =
-    beside (plain (codes "h2") (text (codes "Pool")))
-    (plain (codes "ul") (all_of (map prefix_item prefixes)))
+pool_list prefixes = beside (plain (codes "h2") (text (codes "Pool"))) (prefix_list prefixes)
 
 -- a file of IEEE's form, and how many blocks it has
 abbrev pub counted_file : List ℕ → List ℕ → ℕ → Markup
@@ -106,14 +126,47 @@ as_of_text words =
 abbrev pub as_of : ℕ → Markup
 as_of moment = as_of_text (moment_text moment)
 
--- the first page: the moment, the registries, the pool and the blocks
-abbrev pub index_markup : List Summary → List ℕ → List Listed → ℕ → Markup
-index_markup registries prefixes rows moment =
-    page (codes "style.css") (codes "Registries")
-    (all_of
-    (as_of moment ∷ registries_table registries ∷ pool_list prefixes ∷ block_counts rows ∷ []))
+-- what else the authority says about itself
+abbrev pub said : List ℕ → Markup
+said [] = nothing
+said (b ∷ more) = plain (codes "p") (text (b ∷ more))
 
--- the bytes of the first page
-unfoldable pub index_page : List Summary → List ℕ → List Listed → ℕ → List ℕ
-index_page registries prefixes rows moment =
-    document (index_markup registries prefixes rows moment)
+abbrev pub authority_said : Option Note → Markup
+authority_said None = nothing
+authority_said (Some n) = said n.note
+
+-- links to the last changes, and to the index for programs, where there are these
+abbrev pub more_links : Bool → Markup
+more_links false = nothing
+more_links true =
+    plain (codes "p")
+    (all_of
+    (link (codes "changes.html") (codes "Changes") ∷ text (codes " ")
+    ∷ link (codes "index.json") (codes "JSON") ∷ []))
+
+-- what stands above the registries: what the authority says, where to apply, and links
+abbrev pub front : Bool → Option Note → Markup
+front linked authority =
+    beside (authority_said authority) (beside (apply_line authority) (more_links linked))
+
+-- the first page by its title: the moment, the registries as rows, the pool and the blocks
+abbrev pub index_markup : Bool → Option Note → List Markup → List ℕ → List Listed → ℕ → Markup
+index_markup linked authority rows prefixes blocks moment =
+    page (codes "style.css") (title_of authority (codes "Registries"))
+    (all_of
+    (as_of moment ∷ front linked authority ∷ registries_shown rows ∷ pool_list prefixes
+    ∷ block_counts blocks ∷ []))
+
+unfoldable pub index_by_rows : Bool → Option Note → List Markup → List ℕ → List Listed → ℕ → List ℕ
+index_by_rows linked authority rows prefixes blocks moment =
+    document (index_markup linked authority rows prefixes blocks moment)
+
+-- the bytes of the first page, without notes and changes
+abbrev pub index_page : List Summary → List ℕ → List Listed → ℕ → List ℕ
+index_page registries prefixes blocks moment =
+    index_by_rows false None (map (registry_row []) registries) prefixes blocks moment
+
+-- the bytes of the first page, with what is noted about the authority, and the last changes
+abbrev pub noted_index : Option Note → List Register → List ℕ → List Listed → ℕ → List ℕ
+noted_index authority registers prefixes blocks moment =
+    index_by_rows true authority (map register_row registers) prefixes blocks moment

@@ -1,5 +1,5 @@
 -- The laws of the published site.
-use Rattle.std.specs.Prelude.{◌≡◌, ◌≢◌, ◌⊎◌, ℕ, true, List, [], ◌∷◌, ◌++◌, Some, codes}
+use Rattle.std.specs.Prelude.{◌≡◌, ◌≢◌, ◌⊎◌, ℕ, true, List, [], ◌++◌, codes, Option, Some}
 use Rattle.std.specs.List.{AllByRecursion}
 use Rattle.reg_blocks.specs.Block.{SizedPrefix}
 use Rattle.reg_blocks.specs.Digits.{block_text}
@@ -13,10 +13,14 @@ use Rattle.reg_core.specs.World.{World}
 use Rattle.reg_core.specs.declared.command.Command.TheVariants.{Public}
 use Rattle.reg_core.specs.declared.command.PublicCommand.{PublicCommand}
 use Rattle.reg_core.specs.declared.holding.Holder.{Holder}
-use Rattle.reg_site.specs.Blocks.{block_row}
+use Rattle.reg_core.specs.declared.command.PublicCommand.TheVariants.{Registry}
+use Rattle.reg_core.specs.declared.page.Page.{Page}
+use Rattle.reg_notes.specs.Notes.{entry_thing}
+use Rattle.reg_notes.specs.declared.notes.Notes.{Notes}
+use Rattle.reg_site.specs.Blocks.{block_row, row_by}
+use Rattle.reg_site.specs.Noted.{noted_in}
 use Rattle.reg_site.specs.Files.{path_of, site_files}
-use Rattle.reg_site.specs.Site.{bytes_of, site, told_to_all}
-use Rattle.reg_html.specs.Table.{row}
+use Rattle.reg_site.specs.Site.{bytes_of, noted_bytes_of, page_in, site, told_to_all}
 use Rattle.reg_site.specs.declared.files.File.{File}
 use Rattle.reg_site.specs.declared.files.File.TheVariants.{Index}
 
@@ -67,5 +71,27 @@ abbrev pub PrivateHoldersAreHidden : Type 0
 PrivateHoldersAreHidden =
     (block : SizedPrefix) (h : Holder) → h.private ≡ true
     → block_row (listed_row block (masked h))
-    ≡ row (Some (codes "b" ++ block_text block)) (word_of block.size)
-    (block_text block ∷ codes "Private" ∷ [] ∷ [])
+    ≡ row_by (codes "b" ++ block_text block) (word_of block.size) (block_text block)
+    (codes "Private") []
+
+-- ---- Notes
+
+-- two offices' notes say the same about a registry, and about each of its entries
+pub record AgreeOnPage (a b : Option Notes) (page : Page) : Type 0 where
+  pub registry : noted_in a page.name ≡ noted_in b page.name
+  pub entries : AllByRecursion
+      (λ e. noted_in a (entry_thing page.name e.value) ≡ noted_in b (entry_thing page.name e.value))
+      page.entries
+
+-- they say the same about the authority, and about each registry that is published and its entries
+pub record AgreeOnPublished (a b : Option Notes) (p : Published) (moment : ℕ) : Type 0 where
+  pub authority : noted_in a [] ≡ noted_in b []
+  pub pages : (name : List ℕ) (page : Page)
+      → page_in (told_to_all p moment (Registry name)) ≡ Some page → AgreeOnPage a b page
+
+-- A note on a value without an entry has no effect on any byte of any file: notes that say the same about
+-- the authority, the registries and the entries that are published give the same files.
+abbrev pub NotesOnNothingAreHidden : Type 0
+NotesOnNothingAreHidden =
+    (a b : Option Notes) (p : Published) (moment : ℕ) (file : File) → AgreeOnPublished a b p moment
+    → noted_bytes_of a p moment file ≡ noted_bytes_of b p moment file

@@ -1,25 +1,31 @@
 -- The page of a registry.
-use Rattle.std.specs.Prelude.{ℕ, List, [], ◌∷◌, ◌++◌, drop, map, unwrap_or, codes, Option, None, option_map}
-use Rattle.reg_ranges.specs.Words.{treatment_word}
+use Rattle.std.specs.Prelude.{ℕ, List, [], ◌∷◌, ◌++◌, drop, map, unwrap_or, codes, Option, Some, None, option_map}
 use Rattle.reg_ranges.specs.declared.range.Range.{Range}
+use Rattle.reg_core.specs.declared.entry.PageEntry.{PageEntry}
 use Rattle.reg_core.specs.declared.page.Page.{Page}
-use Rattle.reg_print.specs.Listing.{ListedRow, assignee_text, expiry_text, first_text, page_rows, policy_text, row_view, run_text, status_word, whole}
+use Rattle.reg_print.specs.Listing.{ListedRow, assignee_text, expiry_text, first_text, page_rows, row_view, run_text, whole}
 use Rattle.reg_site.specs.Bar.{bar}
+use Rattle.reg_notes.specs.declared.note.Note.{Note}
+use Rattle.reg_notes.specs.declared.notes.Notes.{Notes}
+use Rattle.reg_site.specs.Noted.{apply_line, note_of_row, noted, noted_in}
+use Rattle.reg_site.specs.Policy.{named_policy, treatment_name}
+use Rattle.reg_site.specs.Status.{shown_status}
 use Rattle.reg_html.specs.Document.{document, link, page, page_start, plain}
-use Rattle.reg_html.specs.Markup.{Markup, text, all_of, markup_then}
+use Rattle.reg_html.specs.Markup.{Markup, nothing, text, beside, all_of, markup_then}
 use Rattle.reg_site.specs.Summary.{summary}
 use Rattle.reg_site.specs.declared.summary.Summary.{Summary}
-use Rattle.reg_html.specs.Table.{below_rows, row, table, table_start}
+use Rattle.reg_html.specs.Table.{below_rows, cell, head_cell, row, row_of, table, table_start}
 use Rattle.reg_site.specs.declared.portions.Next.{Next}
 use Rattle.reg_site.specs.declared.portions.Next.TheVariants as next
 use Rattle.reg_site.specs.declared.registry.RegistryPage.{RegistryPage}
 
 -- ---- The ranges
 
--- a range as a row: its values, its policy and its note
+-- a range as a row: its values, its policy and its note; it is found by r and its values
 abbrev pub range_row : Range → Markup
 range_row range =
-    row None (run_text (whole range)) (treatment_word range.treatment ∷ unwrap_or range.note [] ∷ [])
+    row (Some (codes "r" ++ run_text (whole range))) (run_text (whole range))
+    (treatment_name range.treatment ∷ unwrap_or range.note [] ∷ [])
 
 -- the heads of the columns
 abbrev pub range_columns : List (List ℕ)
@@ -36,20 +42,34 @@ ranges_table ranges =
 abbrev pub name_of : ListedRow → Option (List ℕ)
 name_of listed = option_map (λ entry. codes "v" ++ run_text listed.values) listed.entry
 
--- the fields of a row of the listing
-abbrev pub entry_row : ListedRow → Markup
-entry_row listed =
-    row (name_of listed) (run_text listed.values)
-    (listed.description ∷ status_word listed.status ∷ policy_text listed.policy
-    ∷ first_text listed.entry ∷ expiry_text listed.entry ∷ assignee_text listed.entry ∷ [])
+-- what a value is for, and what is noted about it
+abbrev pub description_cell : List ℕ → Option Note → Markup
+description_cell words note = plain (codes "td") (beside (text words) (noted note))
+
+-- the fields of a row of the listing; a policy by its name, of an entry that is held that it is, and what
+-- is noted about it
+abbrev pub entry_row : Option Note → ListedRow → Markup
+entry_row note listed =
+    row_of (name_of listed)
+    (beside (head_cell (name_of listed) (run_text listed.values))
+    (beside (description_cell listed.description note)
+    (all_of
+    (map cell
+    (shown_status listed ∷ named_policy listed.policy ∷ first_text listed.entry
+    ∷ expiry_text listed.entry ∷ assignee_text listed.entry ∷ [])))))
+
+-- the same of a registry whose notes these are
+abbrev pub noted_row : Option Notes → List ℕ → ListedRow → Markup
+noted_row notes name listed = entry_row (note_of_row notes name listed) listed
 
 abbrev pub entry_columns : List (List ℕ)
 entry_columns =
-    codes "Value" ∷ codes "Description" ∷ codes "Status" ∷ codes "Policy" ∷ codes "First"
+    codes "Value" ∷ codes "Description" ∷ codes "Status" ∷ codes "Policy" ∷ codes "Since"
     ∷ codes "Expires" ∷ codes "Assignee" ∷ []
 
-abbrev pub entries_table : List ListedRow → Markup
-entries_table rows = table (codes "Values") entry_columns (all_of (map entry_row rows))
+abbrev pub entries_table : Option Notes → List ℕ → List ListedRow → Markup
+entries_table notes name rows =
+    table (codes "Values") entry_columns (all_of (map (noted_row notes name) rows))
 
 -- ---- The page
 
@@ -64,39 +84,68 @@ forms listing tree =
 abbrev pub links : List ℕ → Markup
 links name = forms (name ++ codes ".csv") (name ++ codes ".json")
 
--- the page of a registry by its name, its counts, its ranges and the rows of its listing
-abbrev pub registry_markup : List ℕ → Summary → List Range → List ListedRow → Markup
-registry_markup name counts ranges rows =
+-- when a registry was last changed; nothing where it is not known
+abbrev pub last_changed : List ℕ → Markup
+last_changed [] = nothing
+last_changed (b ∷ more) =
+    plain (codes "p")
+    (beside (text (codes "Last changed ")) (plain (codes "time") (text (b ∷ more))))
+
+-- what is noted about a registry, its other files, where to apply, and when it was last changed
+abbrev pub intro : Option Notes → List ℕ → List ℕ → Markup
+intro notes changed name =
+    beside (noted (noted_in notes name))
+    (beside (links name) (beside (apply_line (noted_in notes [])) (last_changed changed)))
+
+-- the page of a registry by its notes, its last change, its name, its counts, its entries, its ranges and
+-- the rows of its listing
+abbrev pub registry_markup : Option Notes → List ℕ → List ℕ → Summary → List PageEntry → List Range
+    → List ListedRow → Markup
+registry_markup notes changed name counts entries ranges rows =
     page (codes "../style.css") name
     (all_of
-    (links name ∷ bar counts ∷ ranges_table ranges ∷ entries_table rows ∷ []))
+    (intro notes changed name ∷ bar counts entries ∷ ranges_table ranges
+    ∷ entries_table notes name rows ∷ []))
 
-unfoldable pub page_by : List ℕ → Summary → List Range → List ListedRow → List ℕ
-page_by name counts ranges rows = document (registry_markup name counts ranges rows)
+unfoldable pub page_by : Option Notes → List ℕ → List ℕ → Summary → List PageEntry → List Range
+    → List ListedRow → List ℕ
+page_by notes changed name counts entries ranges rows =
+    document (registry_markup notes changed name counts entries ranges rows)
 
--- the bytes of a registry's page
+-- the bytes of a registry's page, with these notes and the moment of its last change
+abbrev pub noted_page : Option Notes → List ℕ → Page → List ℕ
+noted_page notes changed p =
+    page_by notes changed p.name (summary p) p.entries p.table.ranges (page_rows p)
+
+-- the same without them
 abbrev pub registry_page : Page → List ℕ
-registry_page p = page_by p.name (summary p) p.table.ranges (page_rows p)
+registry_page p = noted_page None [] p
 
 -- ---- The same in portions
 
 -- what stands on a page above the rows of its listing, and then the rest
-abbrev pub above_rows : List ℕ → Summary → List Range → List ℕ → List ℕ
-above_rows name counts ranges rest =
+abbrev pub above_rows : Option Notes → List ℕ → List ℕ → Summary → List PageEntry → List Range
+    → List ℕ → List ℕ
+above_rows notes changed name counts entries ranges rest =
     page_start (codes "../style.css") name
-    (markup_then (links name)
-    (markup_then (bar counts)
+    (markup_then (intro notes changed name)
+    (markup_then (bar counts entries)
     (markup_then (ranges_table ranges) (table_start (codes "Values") entry_columns rest))))
 
 -- these rows, and what stands below them
-abbrev pub rows_left : List ListedRow → List ℕ
-rows_left rows = markup_then (all_of (map entry_row rows)) below_rows
+abbrev pub rows_left : Option Notes → List ℕ → List ListedRow → List ℕ
+rows_left notes name rows = markup_then (all_of (map (noted_row notes name) rows)) below_rows
+
+abbrev pub notes_of : RegistryPage → Option Notes
+notes_of p = option_map (λ n. n.now) p.notes
 
 -- what is left of a page by what is given next
 abbrev pub left_from : RegistryPage → Next → List ℕ
 left_from p next.Above =
-    page_by p.page.now.name (summary p.page.now) p.page.now.table.ranges (map row_view p.rows.items)
-left_from p (next.Row place) = rows_left (map row_view (drop place p.rows.items))
+    page_by (notes_of p) p.changed.now p.page.now.name (summary p.page.now) p.page.now.entries
+    p.page.now.table.ranges (map row_view p.rows.items)
+left_from p (next.Row place) =
+    rows_left (notes_of p) p.page.now.name (map row_view (drop place p.rows.items))
 left_from p next.Nothing = []
 
 -- the bytes of a page that are still to be given

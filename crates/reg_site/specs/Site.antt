@@ -15,12 +15,14 @@ use Rattle.reg_print.specs.declared.answer.Answer.TheVariants as answer
 use Rattle.reg_site.specs.Blocks.{assignments_text, blocks_page}
 use Rattle.reg_site.specs.Files.{path_of, site_files}
 use Rattle.reg_site.specs.Index.{index_page}
-use Rattle.reg_site.specs.Registry.{registry_page}
+use Rattle.reg_notes.specs.declared.notes.Notes.{Notes}
+use Rattle.reg_site.specs.Records.{records_text}
+use Rattle.reg_site.specs.Registry.{noted_page, registry_page}
 use Rattle.reg_site.specs.Summary.{summary}
 use Rattle.reg_site.specs.declared.summary.Summary.{Summary}
 use Rattle.reg_site.specs.declared.style.TheConstants.{STYLE}
 use Rattle.reg_site.specs.declared.files.File.{File}
-use Rattle.reg_site.specs.declared.files.File.TheVariants.{RegistryPage, RegistryListing as RegistryListingFile, RegistryTree, BlocksPage, BlocksListing as BlocksListingFile, Assignments, Pool, Style, Index}
+use Rattle.reg_site.specs.declared.files.File.TheVariants.{RegistryPage, RegistryListing as RegistryListingFile, RegistryTree, RegistryRecords, BlocksPage, BlocksListing as BlocksListingFile, Assignments, Pool, Style, Index}
 
 -- ---- What an office answers anybody
 
@@ -78,6 +80,8 @@ bytes_of p moment (RegistryPage name) =
     option_map registry_page (page_in (told_to_all p moment (Registry name)))
 bytes_of p moment (RegistryListingFile name) = answered (told_to_all p moment (RegistryListing name))
 bytes_of p moment (RegistryTree name) = answered (told_to_all p moment (Registry name))
+bytes_of p moment (RegistryRecords name) =
+    option_map (records_text None []) (page_in (told_to_all p moment (Registry name)))
 bytes_of p moment BlocksPage = option_map blocks_page (blocks_in (told_to_all p moment BlockListing))
 bytes_of p moment BlocksListingFile = answered (told_to_all p moment BlockListing)
 bytes_of p moment (Assignments size) =
@@ -93,3 +97,20 @@ abbrev pub site : Published → ℕ → List (List ℕ × Option (List ℕ))
 site p moment =
     map (λ file. (path_of file, bytes_of p moment file))
     (site_files (names_in (told_to_all p moment Registries)))
+
+-- ---- With notes
+
+-- the bytes of a file at a moment, with these notes
+abbrev pub noted_bytes_of : Option Notes → Published → ℕ → File → Option (List ℕ)
+noted_bytes_of notes p moment (RegistryPage name) =
+    option_map (noted_page notes []) (page_in (told_to_all p moment (Registry name)))
+noted_bytes_of notes p moment (RegistryRecords name) =
+    option_map (records_text notes []) (page_in (told_to_all p moment (Registry name)))
+noted_bytes_of notes p moment (RegistryListingFile name) = bytes_of p moment (RegistryListingFile name)
+noted_bytes_of notes p moment (RegistryTree name) = bytes_of p moment (RegistryTree name)
+noted_bytes_of notes p moment BlocksPage = bytes_of p moment BlocksPage
+noted_bytes_of notes p moment BlocksListingFile = bytes_of p moment BlocksListingFile
+noted_bytes_of notes p moment (Assignments size) = bytes_of p moment (Assignments size)
+noted_bytes_of notes p moment Pool = bytes_of p moment Pool
+noted_bytes_of notes p moment Style = bytes_of p moment Style
+noted_bytes_of notes p moment Index = bytes_of p moment Index

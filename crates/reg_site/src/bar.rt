@@ -1,151 +1,366 @@
 //! A picture of a registry's values, and its legend in words.
-ghost use Rattle.std.specs.Prelude.{◌≡◌, map, OnOk};
-ghost use Rattle.reg_html.specs.Appended.{Shown};
-ghost use Rattle.reg_html.specs.Markup.{all_of};
-ghost use Rattle.reg_site.specs.Bar.{bar, counted, legend, part, picture, rest_word, share_parts, thousandths, used_part, whole_part};
-ghost use Rattle.reg_site.specs.Summary.{rest_of};
+ghost use Rattle.std.specs.Prelude.{◌≡◌, ◌≤◌, codes, map, string_bytes, IfOk, OnOk};
+ghost use Rattle.reg_html.specs.Appended.{Appended, Shown};
+ghost use Rattle.reg_html.specs.Markup.{all_of, opening_then};
+ghost use Rattle.reg_site.specs.Bar.{bar, cell_count, cell_of, counted, end_of, entry_part, entry_parts, joined, joins, item, kind_class, kind_height, kind_of_rest, kind_of_status, kind_top, legend, merged, part, picture, picture_attributes, rect, same_kind, share_part, view};
 
 use crate::summary::{Rest, Share, Summary, rest_of};
+use reg_core::entry::PageEntry;
+use reg_early::term::Status;
 use reg_html::markup::Piece::{Markup, Number, Text};
 use reg_html::markup::{push, push_all};
-use std::alloc::AllocError;
+use std::alloc::{AllocError, Global};
 
-/// Appends a bar of a registry's values: each range as long as it has values, and of those the ones
-/// with an entry; and how many there are of each kind, in words.
-pub(crate) fn push_bar(out: &mut Vec<u8>, summary: &Summary) -> Result<(), AllocError>
-    ensures { OnOk result (Shown out.old.items out.new.items (bar summary.now)) }
+/// How many cells a picture has at most.
+const MOST_CELLS: u64 = 400;
+
+/// What a part of the picture stands for.
+#[derive(Clone, Copy)]
+pub(crate) enum Kind {
+    /// Entries for good.
+    Assigned,
+    /// Early allocations that stand.
+    Temporary,
+    /// Early allocations that do not stand any more.
+    Expired,
+    /// Values that can be assigned.
+    Free,
+    /// Values that are assigned by others, or need no assignment.
+    SetAside,
+    /// Values that are not available.
+    Reserved,
+}
+
+/// A part of the picture: the cells from `start` on and below `end`.
+#[derive(Clone, Copy)]
+pub(crate) struct Part {
+    kind: Kind,
+    start: u64,
+    end: u64,
+}
+
+/// Appends a bar of a registry's values: each range as long as it has values, and upon it the entries
+/// where they are; and how many there are of each kind, in words.
+pub(crate) fn push_bar(
+    out: &mut Vec<u8>,
+    summary: &Summary,
+    entries: &[PageEntry],
+) -> Result<(), AllocError>
+    ensures { OnOk result (Shown out.old.items out.new.items (bar summary.now entries.now)) }
 {
     push(out, "<figure>")?;
-    push_picture(out, summary)?;
+    push_picture(out, summary, entries)?;
     push(out, "<figcaption>")?;
     push_legend(out, summary)?;
     push(out, "</figcaption></figure>")?;
     Ok(())
 }
 
-fn push_picture(out: &mut Vec<u8>, summary: &Summary) -> Result<(), AllocError>
-    ensures { OnOk result (Shown out.old.items out.new.items (picture summary.now)) }
+fn push_picture(
+    out: &mut Vec<u8>,
+    summary: &Summary,
+    entries: &[PageEntry],
+) -> Result<(), AllocError>
+    ensures { OnOk result (Shown out.old.items out.new.items (picture summary.now entries.now)) }
 {
-    push(
-        out,
-        "<svg viewBox=\"0 0 1000 24\" preserveAspectRatio=\"none\"",
-    )?;
-    push(
-        out,
-        " role=\"img\" aria-label=\"The values in proportion, as told below\">",
-    )?;
-    push_parts(out, summary.max, summary.shares.as_slice())?;
+    let view = view(*out.allocator(), cell_count(summary.max))?;
+    push_picture_start(out, view.as_str())?;
+    push_shares(out, summary.max, summary.shares.as_slice())?;
+    push_entries(out, summary.max, entries)?;
     push(out, "</svg>")?;
     Ok(())
 }
 
-fn push_parts(out: &mut Vec<u8>, most: u32, shares: &[Share]) -> Result<(), AllocError>
+// What the picture shows of its cells.
+fn view(alloc: Global, cells: u64) -> Result<String, AllocError>
+    ensures { IfOk result (λ shown. string_bytes shown ≡ view cells) }
+{
+    format!(in alloc; "0 0 {cells} 24")
+}
+
+fn push_picture_start(out: &mut Vec<u8>, view: &str) -> Result<(), AllocError>
+    ensures { OnOk result (Appended out.old.items out.new.items
+        (opening_then (codes "svg") (picture_attributes view.now))) }
+{
+    push_all(
+        out,
+        &[
+            Markup("<svg viewBox=\""),
+            Text(view),
+            Markup("\" preserveAspectRatio=\"none\" role=\"img\""),
+            Markup(" aria-label=\"The values in proportion, as told below\">"),
+        ],
+    )
+}
+
+fn push_shares(out: &mut Vec<u8>, most: u32, shares: &[Share]) -> Result<(), AllocError>
     ensures { OnOk result
-        (Shown out.old.items out.new.items (all_of (map (share_parts most) shares.now))) }
+        (Shown out.old.items out.new.items (all_of (map (λ share. part (share_part most share)) shares.now))) }
 {
     for share in shares {
-        push_share(out, most, share)?;
+        push_part(out, share_part(most, share))?;
     }
     Ok(())
 }
 
-fn push_share(out: &mut Vec<u8>, most: u32, share: &Share) -> Result<(), AllocError>
+// The entries where they are: a part is appended once the next one is not its neighbour.
+fn push_entries(out: &mut Vec<u8>, most: u32, entries: &[PageEntry]) -> Result<(), AllocError>
     ensures { OnOk result
-        (Shown out.old.items out.new.items (share_parts most share.now)) }
+        (Shown out.old.items out.new.items (all_of (map part (entry_parts most entries.now)))) }
 {
-    push_whole(out, most, share)?;
-    push_used(out, most, share)?;
+    match entries.split_first() {
+        Some((first, others)) => push_after(out, most, entry_part(most, first), others),
+        None => Ok(()),
+    }
+}
+
+fn push_after(
+    out: &mut Vec<u8>,
+    most: u32,
+    first: Part,
+    others: &[PageEntry],
+) -> Result<(), AllocError>
+    ensures { OnOk result
+        (Shown out.old.items out.new.items
+        (all_of (map part (merged first (map (entry_part most) others.now))))) }
+{
+    let mut last = first;
+    for entry in others {
+        let next = entry_part(most, entry);
+        if joins(&last, &next) {
+            last = joined(&last, &next);
+        } else {
+            push_part(out, last)?;
+            last = next;
+        }
+    }
+    push_part(out, last)?;
     Ok(())
 }
 
-fn push_whole(out: &mut Vec<u8>, most: u32, share: &Share) -> Result<(), AllocError>
-    ensures { OnOk result
-        (Shown out.old.items out.new.items (whole_part most share.now)) }
+// ---- Parts
+
+fn share_part(most: u32, share: &Share) -> Part
+    ensures { result ≡ share_part most share.now }
 {
-    let start = thousandths(most, u64::from(share.values.lo));
-    let end = thousandths(most, u64::from(share.values.hi) + 1);
-    let kind = rest_word(rest_of(share.treatment));
-    push_part(out, kind, start, end.saturating_sub(start))
+    Part {
+        kind: kind_of_rest(rest_of(share.treatment)),
+        start: cell_of(most, share.values.lo),
+        end: end_of(most, u64::from(share.values.hi) + 1),
+    }
 }
 
-fn push_used(out: &mut Vec<u8>, most: u32, share: &Share) -> Result<(), AllocError>
-    ensures { OnOk result
-        (Shown out.old.items out.new.items (used_part most share.now)) }
+fn entry_part(most: u32, entry: &PageEntry) -> Part
+    ensures { result ≡ entry_part most entry.now }
 {
-    if share.used == 0 {
-        return Ok(());
+    let start = cell_of(most, entry.value);
+    Part {
+        kind: kind_of_status(entry.status),
+        start,
+        end: start + 1,
     }
-    let start = thousandths(most, u64::from(share.values.lo));
-    let long = thousandths(most, share.used);
-    push_part(out, "used", start, long.max(2))
+}
+
+// Whether a part is not shown apart from the one before it.
+fn joins(last: &Part, next: &Part) -> bool
+    ensures { result ≡ joins last.now next.now }
+{
+    next.start < last.end || (same_kind(last.kind, next.kind) && next.start == last.end)
+}
+
+fn joined(last: &Part, next: &Part) -> Part
+    ensures { result ≡ joined last.now next.now }
+{
+    Part {
+        kind: last.kind,
+        start: last.start,
+        end: last.end.max(next.end),
+    }
 }
 
 // A part of the picture: its kind, where it begins and how long it is.
-fn push_part(out: &mut Vec<u8>, kind: &str, start: u64, long: u64) -> Result<(), AllocError>
+fn push_part(out: &mut Vec<u8>, p: Part) -> Result<(), AllocError>
+    ensures { OnOk result (Shown out.old.items out.new.items (part p)) }
+{
+    push_rect(
+        out,
+        kind_class(p.kind),
+        p.start,
+        kind_top(p.kind),
+        p.end.saturating_sub(p.start),
+        kind_height(p.kind),
+    )
+}
+
+fn push_rect<'a>(
+    out: &mut Vec<u8>,
+    class: &'a str,
+    start: u64,
+    top: &'a str,
+    long: u64,
+    height: &'a str,
+) -> Result<(), AllocError>
     ensures { OnOk result
-        (Shown out.old.items out.new.items (part kind.now start long)) }
+        (Shown out.old.items out.new.items (rect class.now start top.now long height.now)) }
 {
     push_all(
         out,
         &[
             Markup("<rect class=\""),
-            Text(kind),
+            Text(class),
             Markup("\" x=\""),
             Number(start),
+            Markup("\" y=\""),
+            Text(top),
             Markup("\" width=\""),
             Number(long),
-            Markup("\" height=\"24\"></rect>"),
+            Markup("\" height=\""),
+            Text(height),
+            Markup("\"></rect>"),
         ],
     )
 }
 
-// A number of values in thousandths of all, of which the largest is this.
-fn thousandths(most: u32, n: u64) -> u64
-    ensures { result ≡ thousandths most n }
+// ---- Cells
+
+// How many cells the picture has: one for each value, and 400 at most.
+fn cell_count(most: u32) -> u64
+    ensures value { result ≡ cell_count most }
+    ensures few { result ≤ 400 }
 {
-    let all = u64::from(most) + 1;
-    n.min(all) * 1000 / all
+    MOST_CELLS.min(u64::from(most) + 1)
 }
 
-fn rest_word(rest: Rest) -> &'static str
-    ensures { result.now ≡ rest_word rest }
+// The cell in which a number of values ends.
+fn end_of(most: u32, n: u64) -> u64
+    ensures value { result ≡ end_of most n }
+    ensures few { result ≤ 400 }
 {
-    match rest {
-        Rest::Free => "free",
-        Rest::SetAside => "aside",
-        Rest::Reserved => "reserved",
+    let all = u64::from(most) + 1;
+    n.min(all) * cell_count(most) / all
+}
+
+// The cell of a value.
+fn cell_of(most: u32, value: u32) -> u64
+    ensures value { result ≡ cell_of most value }
+    ensures few { result ≤ 400 }
+{
+    end_of(most, u64::from(value.min(most)))
+}
+
+// ---- Kinds
+
+fn same_kind(a: Kind, b: Kind) -> bool
+    ensures { result ≡ same_kind a b }
+{
+    matches!(
+        (a, b),
+        (Kind::Assigned, Kind::Assigned)
+            | (Kind::Temporary, Kind::Temporary)
+            | (Kind::Expired, Kind::Expired)
+            | (Kind::Free, Kind::Free)
+            | (Kind::SetAside, Kind::SetAside)
+            | (Kind::Reserved, Kind::Reserved)
+    )
+}
+
+fn kind_of_status(status: Status) -> Kind
+    ensures { result ≡ kind_of_status status }
+{
+    match status {
+        Status::Assigned => Kind::Assigned,
+        Status::Temporary => Kind::Temporary,
+        Status::Expired => Kind::Expired,
     }
 }
+
+fn kind_of_rest(rest: Rest) -> Kind
+    ensures { result ≡ kind_of_rest rest }
+{
+    match rest {
+        Rest::Free => Kind::Free,
+        Rest::SetAside => Kind::SetAside,
+        Rest::Reserved => Kind::Reserved,
+    }
+}
+
+// The class by which the style sheet knows a kind.
+fn kind_class(kind: Kind) -> &'static str
+    ensures { result.now ≡ kind_class kind }
+{
+    match kind {
+        Kind::Assigned => "assigned",
+        Kind::Temporary => "temporary",
+        Kind::Expired => "expired",
+        Kind::Free => "free",
+        Kind::SetAside => "aside",
+        Kind::Reserved => "reserved",
+    }
+}
+
+// Where a part of a kind begins, from above.
+fn kind_top(kind: Kind) -> &'static str
+    ensures { result.now ≡ kind_top kind }
+{
+    match kind {
+        Kind::Assigned | Kind::Temporary => "0",
+        Kind::Expired => "18",
+        Kind::Free => "2",
+        Kind::SetAside => "8",
+        Kind::Reserved => "11",
+    }
+}
+
+// How high a part of a kind is.
+fn kind_height(kind: Kind) -> &'static str
+    ensures { result.now ≡ kind_height kind }
+{
+    match kind {
+        Kind::Assigned => "24",
+        Kind::Temporary => "12",
+        Kind::Expired => "6",
+        Kind::Free => "20",
+        Kind::SetAside => "8",
+        Kind::Reserved => "2",
+    }
+}
+
+// ---- The legend
 
 fn push_legend(out: &mut Vec<u8>, summary: &Summary) -> Result<(), AllocError>
     ensures { OnOk result (Shown out.old.items out.new.items (legend summary.now)) }
 {
     push(out, "<ul>")?;
-    push_counted(out, "used", "Assigned", summary.assigned)?;
-    push_counted(out, "used", "Temporary", summary.temporary)?;
-    push_counted(out, "used", "Expired", summary.expired)?;
-    push_counted(out, "free", "Free", summary.free)?;
-    push_counted(out, "aside", "Set aside by policy", summary.set_aside)?;
-    push_counted(out, "reserved", "Reserved", summary.reserved)?;
+    push_counted(out, Kind::Assigned, "Assigned", summary.assigned)?;
+    push_counted(out, Kind::Temporary, "Temporary", summary.temporary)?;
+    push_counted(out, Kind::Expired, "Expired", summary.expired)?;
+    push_counted(out, Kind::Free, "Free", summary.free)?;
+    push_counted(
+        out,
+        Kind::SetAside,
+        "Set aside by policy",
+        summary.set_aside,
+    )?;
+    push_counted(out, Kind::Reserved, "Reserved", summary.reserved)?;
     push(out, "</ul>")?;
     Ok(())
 }
 
-// A word with a number, in the colour of its kind.
-fn push_counted<'a>(
-    out: &mut Vec<u8>,
-    kind: &'a str,
-    word: &'a str,
-    n: u64,
-) -> Result<(), AllocError>
-    ensures { OnOk result
-        (Shown out.old.items out.new.items (counted kind.now word.now n)) }
+// A word with a number, and how its kind is drawn.
+fn push_counted(out: &mut Vec<u8>, kind: Kind, word: &str, n: u64) -> Result<(), AllocError>
+    ensures { OnOk result (Shown out.old.items out.new.items (counted kind word.now n)) }
+{
+    push_item(out, kind_class(kind), word, n)
+}
+
+fn push_item<'a>(out: &mut Vec<u8>, class: &'a str, word: &'a str, n: u64) -> Result<(), AllocError>
+    ensures { OnOk result (Shown out.old.items out.new.items (item class.now word.now n)) }
 {
     push_all(
         out,
         &[
             Markup("<li class=\""),
-            Text(kind),
+            Text(class),
             Markup("\">"),
             Text(word),
             Markup(": "),

@@ -1,18 +1,20 @@
 //! The page of the blocks that were given, and IEEE's files of them.
-ghost use Rattle.std.specs.Prelude.{◌≡◌, ◌++◌, ◌∷◌, [], codes, length, string_bytes, Some, IfOk, OnOk};
+ghost use Rattle.std.specs.Prelude.{◌≡◌, ◌++◌, codes, length, string_bytes, IfOk, OnOk};
+ghost use Rattle.std.specs.Option.{option_copied};
 ghost use Rattle.reg_html.specs.Appended.{Appended, Shown};
-ghost use Rattle.reg_html.specs.Table.{row, table_start};
-ghost use Rattle.reg_site.specs.Blocks.{above_rows, assignments_text, block_links, block_row, blocks_page, page_left, rows_of, same_size};
+ghost use Rattle.reg_html.specs.Table.{table_start};
+ghost use Rattle.reg_site.specs.Blocks.{above_rows, assignments_text, block_links, block_row, blocks_page, no_blocks, noted_blocks, page_left, row_by, rows_of, same_size};
 ghost use Rattle.reg_print.specs.BlockListing.{block_header};
 
+use crate::noted::push_apply;
 use crate::portions::{Next, Portions};
 use reg_blocks::size::Size;
 use reg_core::holding::Listed;
 use reg_html::document::push_start;
 use reg_html::markup::Piece::{Link, Markup};
-use reg_html::markup::push_all;
+use reg_html::markup::{push, push_all};
 use reg_html::table;
-use reg_html::table::push_row;
+use reg_notes::note::Note;
 use reg_print::listing::blocks::{address_text, block_listing, organization_text};
 use std::alloc::{AllocError, Global};
 
@@ -62,16 +64,26 @@ fn same_size(a: Size, b: Size) -> bool
 #[derive(Drop)]
 pub struct BlocksPage<'a> {
     rows: &'a [Listed],
+    authority: Option<&'a Note>,
     next: Next,
 }
 
 impl<'a> BlocksPage<'a> {
-    /// All of the page of these blocks is to be given.
+    /// All of the page of these blocks is to be given, without notes.
     pub fn of(rows: &'a [Listed]) -> Self
         ensures { page_left result ≡ blocks_page rows.now }
     {
+        BlocksPage::noted(rows, None)
+    }
+
+    /// All of the page of these blocks is to be given, with a line that says where to apply, if this note
+    /// says so.
+    pub fn noted(rows: &'a [Listed], authority: Option<&'a Note>) -> Self
+        ensures { page_left result ≡ noted_blocks (option_copied authority.entry) rows.now }
+    {
         BlocksPage {
             rows,
+            authority,
             next: Next::Above,
         }
     }
@@ -83,7 +95,7 @@ impl Portions for BlocksPage<'_> {
     fn push_next(&mut self, out: &mut Vec<u8>) -> Result<bool, AllocError> {
         let alloc = *out.allocator();
         match self.next {
-            Next::Above => push_above(out)?,
+            Next::Above => push_above(out, self.authority, self.rows)?,
             Next::Row(place) => match self.rows.get(place) {
                 Some(row) => push_block(out, alloc, row)?,
                 None => table::push_below(out)?,
@@ -96,12 +108,29 @@ impl Portions for BlocksPage<'_> {
 }
 
 // What stands above the rows of the listing.
-fn push_above(out: &mut Vec<u8>) -> Result<(), AllocError>
-    ensures { OnOk result (Appended out.old.items out.new.items above_rows) }
+fn push_above(
+    out: &mut Vec<u8>,
+    authority: Option<&Note>,
+    rows: &[Listed],
+) -> Result<(), AllocError>
+    ensures { OnOk result (Appended out.old.items out.new.items
+        (above_rows (option_copied authority.entry) rows.now)) }
 {
     push_start(out, "style.css", "Blocks")?;
     push_links(out)?;
+    push_apply(out, authority)?;
+    push_if_none(out, rows)?;
     push_columns(out)
+}
+
+// That there are no blocks, where there are none.
+fn push_if_none(out: &mut Vec<u8>, rows: &[Listed]) -> Result<(), AllocError>
+    ensures { OnOk result (Shown out.old.items out.new.items (no_blocks rows.now)) }
+{
+    match rows.first() {
+        None => push(out, "<p>No blocks have been assigned yet.</p>"),
+        Some(_) => Ok(()),
+    }
 }
 
 // Links to the first page, and to the blocks in other forms.
@@ -172,8 +201,12 @@ fn push_block_texts<'a>(
 ) -> Result<(), AllocError>
     ensures { OnOk result
         (Shown out.old.items out.new.items
-        (row (Some name.now) size.now
-        (digits.now ∷ organization.now ∷ address.now ∷ []))) }
+        (row_by name.now size.now digits.now organization.now address.now)) }
 {
-    push_row(out, Some(name), size, &[digits, organization, address])
+    table::push_row_start(out, Some(name))?;
+    table::push_cell(out, size)?;
+    table::push_head(out, Some(name), digits)?;
+    table::push_cells(out, &[organization, address])?;
+    table::push_row_end(out)?;
+    Ok(())
 }

@@ -15,6 +15,8 @@ pub enum File {
     RegistryListing(Name),
     /// A registry, as an office answers it (JSON).
     RegistryTree(Name),
+    /// A registry in the form in which IANA publishes registries (XML).
+    RegistryRecords(Name),
     /// The page of all blocks that were given.
     BlocksPage,
     /// The listing of all blocks that were given, as an office answers it (CSV).
@@ -46,8 +48,10 @@ impl File {
         ensures { result.now ≡ folder_of self.now }
     {
         match self {
-            File::RegistryPage(_) | File::RegistryListing(_) | File::RegistryTree(_) =>
-                "registries/",
+            File::RegistryPage(_)
+            | File::RegistryListing(_)
+            | File::RegistryTree(_)
+            | File::RegistryRecords(_) => "registries/",
             File::BlocksPage
             | File::BlocksListing
             | File::Assignments(_)
@@ -61,9 +65,10 @@ impl File {
         ensures { result.now ≡ stem_of self.now }
     {
         match self {
-            File::RegistryPage(name) | File::RegistryListing(name) | File::RegistryTree(name) => {
-                name.as_str()
-            }
+            File::RegistryPage(name)
+            | File::RegistryListing(name)
+            | File::RegistryTree(name)
+            | File::RegistryRecords(name) => name.as_str(),
             File::BlocksPage | File::BlocksListing => "blocks",
             File::Assignments(Size::MaL) => "oui",
             File::Assignments(Size::MaM) => "mam",
@@ -81,6 +86,7 @@ impl File {
             File::RegistryPage(_) | File::BlocksPage | File::Index => "html",
             File::RegistryListing(_) | File::BlocksListing | File::Assignments(_) => "csv",
             File::RegistryTree(_) | File::Pool => "json",
+            File::RegistryRecords(_) => "xml",
             File::Style => "css",
         }
     }

@@ -1,11 +1,17 @@
 //! The first page of the site.
-ghost use Rattle.std.specs.Prelude.{◌≡◌, map, string_bytes, IfOk, OnOk};
+ghost use Rattle.std.specs.Prelude.{◌≡◌, [], codes, map, string_bytes, IfOk, OnOk};
+ghost use Rattle.std.specs.Option.{option_copied};
 ghost use Rattle.reg_html.specs.Appended.{Shown};
+ghost use Rattle.reg_html.specs.Document.{plain};
 ghost use Rattle.reg_html.specs.Markup.{all_of};
-ghost use Rattle.reg_site.specs.Index.{as_of, as_of_text, block_counts, counted_file, index_page, item, linked_cell, name_cell, number_cell, page_place, pool_list, prefix_item, registries_table, registry_row, share_item, share_texts, size_item};
+ghost use Rattle.reg_site.specs.Index.{as_of, as_of_text, authority_said, block_counts, changed_part, counted_file, front, index_by_rows, index_page, item, linked_cell, more_links, name_cell, noted_index, number_cell, page_place, pool_list, prefix_item, prefix_list, register_row, registries_shown, registries_table, registry_row, said, share_item, share_texts, size_item};
 
 use crate::blocks::count_of;
+use crate::index_tree::Register;
 use crate::moment::moment_text;
+use crate::noted::push_apply;
+use crate::policy::treatment_name;
+use crate::records::title_of;
 use crate::summary::{Share, Summary};
 use reg_blocks::pool::Pool;
 use reg_blocks::prefix;
@@ -16,6 +22,7 @@ use reg_html::document::{push_end, push_start};
 use reg_html::markup::Piece::{Link, Markup, Number, Text};
 use reg_html::markup::{push, push_all};
 use reg_html::table;
+use reg_notes::note::Note;
 use std::alloc::{AllocError, Global};
 
 /// The first page: the moment, in seconds since 1970-01-01T00:00:00Z; the registries with the policies
@@ -30,27 +37,125 @@ pub fn index_page(
 ) -> Result<Vec<u8>, AllocError>
     ensures { IfOk result (λ v. v.items ≡ index_page registries.now pool.now blocks.now moment) }
 {
-    page_of(alloc, registries, pool.prefixes(), blocks, moment)
+    let rows = rows_of_summaries(alloc, registries)?;
+    page_of(alloc, false, None, &rows, pool.prefixes(), blocks, moment)
+}
+
+/// The same with the moments of the last changes, links to them and to the index for programs, and what
+/// is noted about the authority: its title, which is the title of the page, where to apply, and what else
+/// it says. Only want of memory is an error.
+pub fn noted_index(
+    alloc: Global,
+    authority: Option<&Note>,
+    registers: &[Register<'_>],
+    pool: &Pool,
+    blocks: &[Listed],
+    moment: u64,
+) -> Result<Vec<u8>, AllocError>
+    ensures { IfOk result
+        (λ v. v.items
+        ≡ noted_index (option_copied authority.entry) registers.now pool.now blocks.now moment) }
+{
+    page_of(
+        alloc,
+        true,
+        authority,
+        registers,
+        pool.prefixes(),
+        blocks,
+        moment,
+    )
+}
+
+// Registries of which no last change is known.
+fn rows_of_summaries<'a>(
+    alloc: Global,
+    registries: &'a [Summary],
+) -> Result<Vec<Register<'a>>, AllocError>
+    ensures { IfOk result
+        (λ v. map register_row v.items ≡ map (registry_row []) registries.now) }
+{
+    let mut rows = Vec::new(alloc);
+    for summary in registries {
+        rows.push(Register {
+            summary,
+            changed: "",
+        })?;
+    }
+    Ok(rows)
 }
 
 fn page_of(
     alloc: Global,
-    registries: &[Summary],
+    linked: bool,
+    authority: Option<&Note>,
+    registers: &[Register<'_>],
     prefixes: &[u32],
     blocks: &[Listed],
     moment: u64,
 ) -> Result<Vec<u8>, AllocError>
     ensures { IfOk result
-        (λ v. v.items ≡ index_page registries.now prefixes.now blocks.now moment) }
+        (λ v. v.items
+        ≡ index_by_rows linked (option_copied authority.entry) (map register_row registers.now)
+        prefixes.now blocks.now moment) }
 {
     let mut out = Vec::new(alloc);
-    push_start(&mut out, "style.css", "Registries")?;
+    push_start(&mut out, "style.css", title_of(authority, "Registries"))?;
     push_as_of(&mut out, alloc, moment)?;
-    push_registries(&mut out, alloc, registries)?;
+    push_front(&mut out, linked, authority)?;
+    push_registries(&mut out, alloc, registers)?;
     push_pool(&mut out, alloc, prefixes)?;
     push_blocks(&mut out, blocks)?;
     push_end(&mut out)?;
     Ok(out)
+}
+
+// What stands above the registries.
+fn push_front(out: &mut Vec<u8>, linked: bool, authority: Option<&Note>) -> Result<(), AllocError>
+    ensures { OnOk result
+        (Shown out.old.items out.new.items (front linked (option_copied authority.entry))) }
+{
+    push_authority(out, authority)?;
+    push_apply(out, authority)?;
+    push_more_links(out, linked)?;
+    Ok(())
+}
+
+fn push_authority(out: &mut Vec<u8>, authority: Option<&Note>) -> Result<(), AllocError>
+    ensures { OnOk result
+        (Shown out.old.items out.new.items (authority_said (option_copied authority.entry))) }
+{
+    match authority {
+        Some(note) => push_said(out, note.note.as_str()),
+        None => Ok(()),
+    }
+}
+
+fn push_said(out: &mut Vec<u8>, words: &str) -> Result<(), AllocError>
+    ensures { OnOk result (Shown out.old.items out.new.items (said words.now)) }
+{
+    if words.is_empty() {
+        return Ok(());
+    }
+    push_all(out, &[Markup("<p>"), Text(words), Markup("</p>")])
+}
+
+fn push_more_links(out: &mut Vec<u8>, linked: bool) -> Result<(), AllocError>
+    ensures { OnOk result (Shown out.old.items out.new.items (more_links linked)) }
+{
+    if !linked {
+        return Ok(());
+    }
+    push_all(
+        out,
+        &[
+            Markup("<p>"),
+            Link("changes.html", "Changes"),
+            Markup(" "),
+            Link("index.json", "JSON"),
+            Markup("</p>"),
+        ],
+    )
 }
 
 fn push_as_of(out: &mut Vec<u8>, alloc: Global, moment: u64) -> Result<(), AllocError>
@@ -72,10 +177,24 @@ fn push_time(out: &mut Vec<u8>, text: &str) -> Result<(), AllocError>
 fn push_registries(
     out: &mut Vec<u8>,
     alloc: Global,
-    registries: &[Summary],
+    registers: &[Register<'_>],
 ) -> Result<(), AllocError>
     ensures { OnOk result
-        (Shown out.old.items out.new.items (registries_table registries.now)) }
+        (Shown out.old.items out.new.items (registries_shown (map register_row registers.now))) }
+{
+    match registers.first() {
+        None => push(out, "<p>There are no registries yet.</p>"),
+        Some(_) => push_table(out, alloc, registers),
+    }
+}
+
+fn push_table(
+    out: &mut Vec<u8>,
+    alloc: Global,
+    registers: &[Register<'_>],
+) -> Result<(), AllocError>
+    ensures { OnOk result
+        (Shown out.old.items out.new.items (registries_table (map register_row registers.now))) }
 {
     let columns = [
         "Registry",
@@ -86,7 +205,7 @@ fn push_registries(
         "Free",
     ];
     table::push_start(out, "Registries", &columns)?;
-    push_registry_rows(out, alloc, registries)?;
+    push_registry_rows(out, alloc, registers)?;
     table::push_end(out)?;
     Ok(())
 }
@@ -94,22 +213,28 @@ fn push_registries(
 fn push_registry_rows(
     out: &mut Vec<u8>,
     alloc: Global,
-    registries: &[Summary],
+    registers: &[Register<'_>],
 ) -> Result<(), AllocError>
     ensures { OnOk result
-        (Shown out.old.items out.new.items (all_of (map registry_row registries.now))) }
+        (Shown out.old.items out.new.items (all_of (map register_row registers.now))) }
 {
-    for registry in registries {
-        push_registry(out, alloc, registry)?;
+    for register in registers {
+        push_registry(out, alloc, register.changed, register.summary)?;
     }
     Ok(())
 }
 
-fn push_registry(out: &mut Vec<u8>, alloc: Global, registry: &Summary) -> Result<(), AllocError>
-    ensures { OnOk result (Shown out.old.items out.new.items (registry_row registry.now)) }
+fn push_registry(
+    out: &mut Vec<u8>,
+    alloc: Global,
+    changed: &str,
+    registry: &Summary,
+) -> Result<(), AllocError>
+    ensures { OnOk result
+        (Shown out.old.items out.new.items (registry_row changed.now registry.now)) }
 {
-    push(out, "<tr>")?;
-    push_name(out, alloc, &registry.name)?;
+    table::push_row_start(out, Some(registry.name.as_str()))?;
+    push_name(out, alloc, changed, &registry.name)?;
     push(out, "<td><ul>")?;
     push_shares(out, alloc, registry.shares.as_slice())?;
     push(out, "</ul></td>")?;
@@ -117,16 +242,16 @@ fn push_registry(out: &mut Vec<u8>, alloc: Global, registry: &Summary) -> Result
     push_number_cell(out, registry.temporary)?;
     push_number_cell(out, registry.expired)?;
     push_number_cell(out, registry.free)?;
-    push(out, "</tr>\n")?;
+    table::push_row_end(out)?;
     Ok(())
 }
 
-// The name of a registry, by which its page is found.
-fn push_name(out: &mut Vec<u8>, alloc: Global, name: &Name) -> Result<(), AllocError>
-    ensures { OnOk result (Shown out.old.items out.new.items (name_cell name.now)) }
+// The name of a registry, by which its page is found, and its last change.
+fn push_name(out: &mut Vec<u8>, alloc: Global, changed: &str, name: &Name) -> Result<(), AllocError>
+    ensures { OnOk result (Shown out.old.items out.new.items (name_cell changed.now name.now)) }
 {
     let target = target_of(alloc, name.as_str())?;
-    push_name_texts(out, target.as_str(), name.as_str())
+    push_name_texts(out, target.as_str(), name.as_str(), changed)
 }
 
 // Where the page of a registry is.
@@ -136,11 +261,36 @@ fn target_of(alloc: Global, name: &str) -> Result<String, AllocError>
     format!(in alloc; "registries/{name}.html")
 }
 
-fn push_name_texts<'a>(out: &mut Vec<u8>, target: &'a str, name: &'a str) -> Result<(), AllocError>
+fn push_name_texts<'a>(
+    out: &mut Vec<u8>,
+    target: &'a str,
+    name: &'a str,
+    changed: &'a str,
+) -> Result<(), AllocError>
     ensures { OnOk result
-        (Shown out.old.items out.new.items (linked_cell target.now name.now)) }
+        (Shown out.old.items out.new.items (linked_cell target.now name.now changed.now)) }
 {
-    push_all(out, &[Markup("<th>"), Link(target, name), Markup("</th>")])
+    push_all(out, &[Markup("<th scope=\"row\">"), Link(target, name)])?;
+    push_changed(out, changed)?;
+    push(out, "</th>")?;
+    Ok(())
+}
+
+fn push_changed(out: &mut Vec<u8>, changed: &str) -> Result<(), AllocError>
+    ensures { OnOk result (Shown out.old.items out.new.items (changed_part changed.now)) }
+{
+    if changed.is_empty() {
+        return Ok(());
+    }
+    push_all(
+        out,
+        &[
+            Markup("<div class=\"note\">Last changed <time>"),
+            Text(changed),
+            Markup("</time></div>"),
+        ],
+    )?;
+    Ok(())
 }
 
 fn push_shares(out: &mut Vec<u8>, alloc: Global, shares: &[Share]) -> Result<(), AllocError>
@@ -158,7 +308,7 @@ fn push_share(out: &mut Vec<u8>, alloc: Global, share: &Share) -> Result<(), All
     ensures { OnOk result (Shown out.old.items out.new.items (share_item share.now)) }
 {
     let values = format!(in alloc; "{}", share.values)?;
-    push_share_texts(out, values.as_str(), share.treatment.word())
+    push_share_texts(out, values.as_str(), treatment_name(share.treatment))
 }
 
 fn push_share_texts<'a>(
@@ -191,7 +341,26 @@ fn push_pool(out: &mut Vec<u8>, alloc: Global, prefixes: &[u32]) -> Result<(), A
     ensures { OnOk result
         (Shown out.old.items out.new.items (pool_list prefixes.now)) }
 {
-    push(out, "<h2>Pool</h2><ul>")?;
+    push(out, "<h2>Pool</h2>")?;
+    push_prefix_list(out, alloc, prefixes)?;
+    Ok(())
+}
+
+fn push_prefix_list(out: &mut Vec<u8>, alloc: Global, prefixes: &[u32]) -> Result<(), AllocError>
+    ensures { OnOk result
+        (Shown out.old.items out.new.items (prefix_list prefixes.now)) }
+{
+    match prefixes.first() {
+        None => push(out, "<p>The pool is empty.</p>"),
+        Some(_) => push_items(out, alloc, prefixes),
+    }
+}
+
+fn push_items(out: &mut Vec<u8>, alloc: Global, prefixes: &[u32]) -> Result<(), AllocError>
+    ensures { OnOk result
+        (Shown out.old.items out.new.items (plain (codes "ul") (all_of (map prefix_item prefixes.now)))) }
+{
+    push(out, "<ul>")?;
     push_prefixes(out, alloc, prefixes)?;
     push(out, "</ul>")?;
     Ok(())

@@ -1,5 +1,6 @@
 //! Laws of the published site, as the contracts of functions that do nothing.
-ghost use Rattle.reg_site.specs.Laws.{FilesStayInside, MomentsStandOnTheIndex, PrivateHoldersAreHidden, SameRegistersSameSite, SitesAreOfAnswers};
+ghost use Rattle.reg_site.specs.Bar.{PicturesAreShort};
+ghost use Rattle.reg_site.specs.Laws.{FilesStayInside, MomentsStandOnTheIndex, NotesOnNothingAreHidden, PrivateHoldersAreHidden, SameRegistersSameSite, SitesAreOfAnswers};
 
 /// Two offices that publish the same registers publish the same bytes, whatever else they hold.
 pub fn same_registers_same_site()
@@ -24,4 +25,14 @@ pub fn files_stay_inside()
 /// A private holder is shown as `Private`, with no organization and no address.
 pub fn private_holders_are_hidden()
     ensures { PrivateHoldersAreHidden }
+{}
+
+/// The picture of a registry shows its entries in at most 400 parts.
+pub fn pictures_are_short()
+    ensures { PicturesAreShort }
+{}
+
+/// A note on a value without an entry has no effect on any byte of any file.
+pub fn notes_on_nothing_are_hidden()
+    ensures { NotesOnNothingAreHidden }
 {}

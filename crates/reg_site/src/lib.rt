@@ -4,13 +4,21 @@
 
 mod bar;
 pub mod blocks;
+pub mod changes;
 pub mod files;
 pub mod index;
+pub mod index_tree;
 pub mod laws;
 pub mod listing;
 mod moment;
+mod noted;
+mod policy;
 pub mod portions;
+pub mod records;
+mod reference;
 pub mod registry;
+mod status;
 pub mod style;
 pub mod summary;
+pub mod sums;
 pub mod tree;

@@ -1,22 +1,29 @@
 //! The page of a registry.
-ghost use Rattle.std.specs.Prelude.{◌≡◌, ◌∷◌, [], codes, map, option_map, string_bytes, None, IfOk, OnOk};
+ghost use Rattle.std.specs.Prelude.{◌≡◌, ◌∷◌, [], codes, map, option_map, string_bytes, Some, IfOk, OnOk};
+ghost use Rattle.std.specs.Option.{option_copied};
 ghost use Rattle.reg_print.specs.Listing.{row_view};
 ghost use Rattle.reg_html.specs.Appended.{Appended, Shown};
-ghost use Rattle.reg_html.specs.Markup.{all_of};
-ghost use Rattle.reg_html.specs.Table.{row, table_start};
-ghost use Rattle.reg_site.specs.Registry.{above_rows, entry_columns, entry_row, forms, links, name_of, page_left, range_row, ranges_table, registry_page};
+ghost use Rattle.reg_html.specs.Markup.{all_of, beside};
+ghost use Rattle.reg_html.specs.Table.{cell, head_cell, row, row_of, table_start};
+ghost use Rattle.reg_site.specs.Registry.{above_rows, description_cell, entry_columns, forms, intro, last_changed, links, name_of, noted_page, noted_row, page_left, range_row, ranges_table, registry_page};
 ghost use Rattle.reg_site.specs.Summary.{summary};
 
 use crate::bar::push_bar;
+use crate::noted::{of_authority, of_registry, of_row, push_apply, push_noted};
+use crate::policy::{named_policy, treatment_name};
 use crate::portions::{Next, Portions};
+use crate::status::shown_status;
 use crate::summary::Summary;
+use reg_core::entry::PageEntry;
 use reg_core::page::Page;
 use reg_html::document::push_start;
-use reg_html::markup::Piece::{Link, Markup};
-use reg_html::markup::push_all;
+use reg_html::markup::Piece::{Link, Markup, Text};
+use reg_html::markup::{push, push_all};
 use reg_html::table;
 use reg_html::table::push_row;
-use reg_print::listing::registry::{assignee_text, expiry_text, first_text, policy_word};
+use reg_notes::note::Note;
+use reg_notes::notes::Notes;
+use reg_print::listing::registry::{assignee_text, expiry_text, first_text};
 use reg_print::listing::rows::{ListingRow, Run, rows};
 use reg_print::note::note_text;
 use reg_ranges::range::Range;
@@ -28,17 +35,35 @@ use std::alloc::{AllocError, Global};
 #[derive(Drop)]
 pub struct RegistryPage<'a> {
     page: &'a Page,
+    notes: Option<&'a Notes>,
+    changed: &'a str,
     rows: Vec<ListingRow<'a>>,
     next: Next,
 }
 
 impl<'a> RegistryPage<'a> {
-    /// All of the page is to be given. Only want of memory is an error.
+    /// All of the page is to be given, without notes. Only want of memory is an error.
     pub fn of(alloc: Global, page: &'a Page) -> Result<Self, AllocError>
         ensures { IfOk result (λ html. page_left html ≡ registry_page page.now) }
     {
+        RegistryPage::noted(alloc, page, None, "")
+    }
+
+    /// All of the page is to be given, with what is noted, and the moment of its last change, which is
+    /// empty where it is not known. Only want of memory is an error.
+    pub fn noted(
+        alloc: Global,
+        page: &'a Page,
+        notes: Option<&'a Notes>,
+        changed: &'a str,
+    ) -> Result<Self, AllocError>
+        ensures { IfOk result
+            (λ html. page_left html ≡ noted_page (option_copied notes.entry) changed.now page.now) }
+    {
         Ok(RegistryPage {
             page,
+            notes,
+            changed,
             rows: rows(alloc, page)?,
             next: Next::Above,
         })
@@ -51,9 +76,9 @@ impl Portions for RegistryPage<'_> {
     fn push_next(&mut self, out: &mut Vec<u8>) -> Result<bool, AllocError> {
         let alloc = *out.allocator();
         match self.next {
-            Next::Above => push_above(out, alloc, self.page)?,
+            Next::Above => push_above(out, alloc, self.page, self.notes, self.changed)?,
             Next::Row(place) => match self.rows.get(place) {
-                Some(row) => push_entry(out, alloc, row)?,
+                Some(row) => push_entry(out, alloc, self.notes, self.page.name.as_str(), row)?,
                 None => table::push_below(out)?,
             },
             Next::Nothing => return Ok(false),
@@ -64,16 +89,26 @@ impl Portions for RegistryPage<'_> {
 }
 
 // What stands above the rows of the listing.
-fn push_above(out: &mut Vec<u8>, alloc: Global, page: &Page) -> Result<(), AllocError>
+fn push_above(
+    out: &mut Vec<u8>,
+    alloc: Global,
+    page: &Page,
+    notes: Option<&Notes>,
+    changed: &str,
+) -> Result<(), AllocError>
     ensures { OnOk result (Appended out.old.items out.new.items
-        (above_rows page.now.name (summary page.now) page.now.table.ranges)) }
+        (above_rows (option_copied notes.entry) changed.now page.now.name (summary page.now)
+        page.now.entries page.now.table.ranges)) }
 {
     let summary = Summary::of(alloc, page)?;
     push_above_of(
         out,
         alloc,
+        notes,
+        changed,
         page.name.as_str(),
         &summary,
+        page.entries.as_slice(),
         page.table.ranges(),
     )
 }
@@ -81,18 +116,55 @@ fn push_above(out: &mut Vec<u8>, alloc: Global, page: &Page) -> Result<(), Alloc
 fn push_above_of(
     out: &mut Vec<u8>,
     alloc: Global,
+    notes: Option<&Notes>,
+    changed: &str,
     name: &str,
     summary: &Summary,
+    entries: &[PageEntry],
     ranges: &[Range],
 ) -> Result<(), AllocError>
     ensures { OnOk result (Appended out.old.items out.new.items
-        (above_rows name.now summary.now ranges.now)) }
+        (above_rows (option_copied notes.entry) changed.now name.now summary.now entries.now ranges.now)) }
 {
     push_start(out, "../style.css", name)?;
-    push_links(out, alloc, name)?;
-    push_bar(out, summary)?;
+    push_intro(out, alloc, notes, changed, name)?;
+    push_bar(out, summary, entries)?;
     push_ranges(out, alloc, ranges)?;
     push_columns(out)
+}
+
+// What is noted about a registry, its other files, where to apply, and when it was last changed.
+fn push_intro(
+    out: &mut Vec<u8>,
+    alloc: Global,
+    notes: Option<&Notes>,
+    changed: &str,
+    name: &str,
+) -> Result<(), AllocError>
+    ensures { OnOk result
+        (Shown out.old.items out.new.items (intro (option_copied notes.entry) changed.now name.now)) }
+{
+    push_noted(out, of_registry(notes, name))?;
+    push_links(out, alloc, name)?;
+    push_apply(out, of_authority(notes))?;
+    push_last_changed(out, changed)?;
+    Ok(())
+}
+
+fn push_last_changed(out: &mut Vec<u8>, changed: &str) -> Result<(), AllocError>
+    ensures { OnOk result (Shown out.old.items out.new.items (last_changed changed.now)) }
+{
+    if changed.is_empty() {
+        return Ok(());
+    }
+    push_all(
+        out,
+        &[
+            Markup("<p>Last changed <time>"),
+            Text(changed),
+            Markup("</time></p>"),
+        ],
+    )
 }
 
 // Links to the first page, and to the same registry in other forms.
@@ -154,24 +226,27 @@ fn push_range(out: &mut Vec<u8>, alloc: Global, range: &Range) -> Result<(), All
         hi: range.hi,
     };
     let values = format!(in alloc; "{run}")?;
+    let name = format!(in alloc; "r{run}")?;
     push_range_texts(
         out,
+        name.as_str(),
         values.as_str(),
-        range.treatment.word(),
+        treatment_name(range.treatment),
         note_text(&range.note),
     )
 }
 
 fn push_range_texts<'a>(
     out: &mut Vec<u8>,
+    name: &'a str,
     values: &'a str,
     policy: &'a str,
     note: &'a str,
 ) -> Result<(), AllocError>
     ensures { OnOk result
-        (Shown out.old.items out.new.items (row None values.now (policy.now ∷ note.now ∷ []))) }
+        (Shown out.old.items out.new.items (row (Some name.now) values.now (policy.now ∷ note.now ∷ []))) }
 {
-    push_row(out, None, values, &[policy, note])
+    push_row(out, Some(name), values, &[policy, note])
 }
 
 // The rows of the listing begin, by the heads of their columns.
@@ -184,28 +259,38 @@ fn push_columns(out: &mut Vec<u8>) -> Result<(), AllocError>
         "Description",
         "Status",
         "Policy",
-        "First",
+        "Since",
         "Expires",
         "Assignee",
     ];
     table::push_start(out, "Values", &columns)
 }
 
-// A row of the listing.
-fn push_entry(out: &mut Vec<u8>, alloc: Global, row: &ListingRow<'_>) -> Result<(), AllocError>
-    ensures { OnOk result (Shown out.old.items out.new.items (entry_row (row_view row.now))) }
+// A row of the listing, with what is noted about its entry.
+fn push_entry(
+    out: &mut Vec<u8>,
+    alloc: Global,
+    notes: Option<&Notes>,
+    registry: &str,
+    row: &ListingRow<'_>,
+) -> Result<(), AllocError>
+    ensures { OnOk result
+        (Shown out.old.items out.new.items
+        (noted_row (option_copied notes.entry) registry.now (row_view row.now))) }
 {
     let values = format!(in alloc; "{}", row.values)?;
     let name = name_of(alloc, row)?;
     let first = first_text(alloc, row)?;
     let expiry = expiry_text(alloc, row)?;
+    let note = of_row(alloc, notes, registry, row)?;
     push_entry_texts(
         out,
         name.as_ref().map(|name| name.as_str()),
         values.as_str(),
         row.description,
-        row.status.word(),
-        policy_word(row.policy),
+        note,
+        shown_status(row),
+        named_policy(row.policy),
         first.as_str(),
         expiry.as_str(),
         assignee_text(row),
@@ -227,6 +312,7 @@ fn push_entry_texts<'a>(
     name: Option<&'a str>,
     values: &'a str,
     description: &'a str,
+    note: Option<&'a Note>,
     status: &'a str,
     policy: &'a str,
     first: &'a str,
@@ -235,14 +321,28 @@ fn push_entry_texts<'a>(
 ) -> Result<(), AllocError>
     ensures { OnOk result
         (Shown out.old.items out.new.items
-        (row (option_map (λ n. n.now) name.entry) values.now
-        (description.now ∷ status.now ∷ policy.now ∷ first.now ∷ expiry.now ∷ assignee.now
-        ∷ []))) }
+        (row_of (option_map (λ n. n.now) name.entry)
+        (beside (head_cell (option_map (λ n. n.now) name.entry) values.now)
+        (beside (description_cell description.now (option_copied note.entry))
+        (all_of
+        (map cell
+        (status.now ∷ policy.now ∷ first.now ∷ expiry.now ∷ assignee.now ∷ []))))))) }
 {
-    push_row(
-        out,
-        name,
-        values,
-        &[description, status, policy, first, expiry, assignee],
-    )
+    table::push_row_start(out, name)?;
+    table::push_head(out, name, values)?;
+    push_description(out, description, note)?;
+    table::push_cells(out, &[status, policy, first, expiry, assignee])?;
+    table::push_row_end(out)?;
+    Ok(())
+}
+
+// What a value is for, and what is noted about it.
+fn push_description(out: &mut Vec<u8>, words: &str, note: Option<&Note>) -> Result<(), AllocError>
+    ensures { OnOk result
+        (Shown out.old.items out.new.items (description_cell words.now (option_copied note.entry))) }
+{
+    push_all(out, &[Markup("<td>"), Text(words)])?;
+    push_noted(out, note)?;
+    push(out, "</td>")?;
+    Ok(())
 }

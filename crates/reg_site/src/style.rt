@@ -1,13 +1,14 @@
 //! How the pages look.
 ghost use Rattle.std.specs.Prelude.{◌≡◌};
 
-/// The style sheet of all pages (CSS): light and dark as the reader prefers, and for print. On a narrow
-/// screen a row of a table becomes a few lines, where each day and count says what it is.
+/// The style sheet of all pages (CSS): light and dark as the reader prefers, and for print. The kinds of
+/// a picture differ in place and height as well as in colour. On a narrow screen a row of a table becomes
+/// a few lines, where each day and count says what it is.
 pub const STYLE: &str = "\
 :root{color-scheme:light dark;--ink:#1b1f24;--paper:#fff;--line:#c9d1d9;--soft:#fff4c2;--link:#0550ae;\
---used:#0b6b3a;--free:#a6d8ba;--aside:#e6c565;--reserved:#98a2ad}
+--used:#0b6b3a;--free:#a6d8ba;--aside:#b98a14;--reserved:#6b7580}
 @media(prefers-color-scheme:dark){:root{--ink:#e6e8eb;--paper:#14171a;--line:#3a4148;--soft:#3d3620;\
---link:#7cb7ff;--used:#5fd39a;--free:#235a3d;--aside:#86691c;--reserved:#56606a}}
+--link:#7cb7ff;--used:#7be0ae;--free:#235a3d;--aside:#c39a2e;--reserved:#8a949e}}
 body{margin:0;background:var(--paper);color:var(--ink);font:1rem/1.5 system-ui,sans-serif}
 main{max-width:64rem;margin:0 auto;padding:1rem}
 a{color:var(--link)}
@@ -21,22 +22,26 @@ white-space:nowrap}
 td:nth-child(4):nth-last-child(4){min-width:8rem}
 tr:target{background:var(--soft)}
 td ul{list-style:none;margin:0;padding:0}
+.note{font-size:.9rem;font-weight:400;white-space:normal}
 figure{margin:1.5rem 0}
 svg{display:block;width:100%;height:1.5rem;print-color-adjust:exact}
-rect.used{fill:var(--used)}
+rect.assigned,rect.temporary,rect.expired{fill:var(--used)}
 rect.free{fill:var(--free)}
 rect.aside{fill:var(--aside)}
 rect.reserved{fill:var(--reserved)}
 figcaption ul{display:flex;flex-wrap:wrap;gap:.2rem 1.2rem;list-style:none;margin:.5rem 0;padding:0}
-figcaption li{padding-left:.6rem;border-left:.8rem solid}
-li.used{border-color:var(--used)}
-li.free{border-color:var(--free)}
-li.aside{border-color:var(--aside)}
-li.reserved{border-color:var(--reserved)}
+figcaption li::before{content:'';display:inline-block;box-sizing:border-box;width:1.2rem;height:1.2rem;\
+margin-right:.5rem;vertical-align:-.2rem;print-color-adjust:exact}
+li.assigned::before{background:var(--used)}
+li.temporary::before{background:linear-gradient(var(--used) 50%,var(--free) 50%)}
+li.expired::before{background:linear-gradient(var(--free) 75%,var(--used) 75%)}
+li.free::before{background:var(--free)}
+li.aside::before{background:linear-gradient(transparent 33%,var(--aside) 33% 67%,transparent 67%)}
+li.reserved::before{background:linear-gradient(transparent 45%,var(--reserved) 45% 55%,transparent 55%)}
 @media(max-width:40rem){main{padding:.6rem}thead{position:absolute;clip-path:inset(50%)}
 tr{display:flex;flex-wrap:wrap;gap:0 .8rem;padding:.3rem 0;border-bottom:1px solid var(--line)}
 th,td{padding:0;border:0}td:empty{display:none}td:nth-child(2):nth-last-child(6){flex-basis:100%}
-td:nth-child(5):nth-last-child(3)::before{content:'First '}
+td:nth-child(5):nth-last-child(3)::before{content:'Since '}
 td:nth-child(6):nth-last-child(2)::before{content:'Expires '}
 td:nth-child(3):nth-last-child(4)::before{content:'Assigned '}
 td:nth-child(4):nth-last-child(3)::before{content:'Temporary '}

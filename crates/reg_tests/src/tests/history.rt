@@ -26,27 +26,16 @@ const SECOND: &str = "5,2026-11-28T08:00:01Z,ports,term,4,,,,2028-11-01,held,,\
 bcf1295c9dabe2f2a1c865b4f33b8400ed5a7ba0b9e17c01bad2496340a2370b
 ";
 
-// A fact by its texts: registry, value, description, policy, first day, and assignee.
-fn fact(
+fn subject(
     alloc: Global,
+    registry: &str,
     class: Class,
-    texts: [&str; 6],
-    standing: Standing,
-) -> Result<Fact, AllocError> {
-    let [registry, value, description, policy, first, assignee] = texts;
-    Ok(Fact {
-        subject: Subject {
-            registry: Field::new(alloc, registry)?,
-            class,
-            value: Field::new(alloc, value)?,
-        },
-        details: Details {
-            description: Field::new(alloc, description)?,
-            policy: Field::new(alloc, policy)?,
-            first: Field::new(alloc, first)?,
-            standing,
-            assignee: Field::new(alloc, assignee)?,
-        },
+    value: &str,
+) -> Result<Subject, AllocError> {
+    Ok(Subject {
+        registry: Field::new(alloc, registry)?,
+        class,
+        value: Field::new(alloc, value)?,
     })
 }
 
@@ -57,25 +46,61 @@ fn standing(alloc: Global, expires: &str, held: &str) -> Result<Standing, AllocE
     })
 }
 
-fn entry(alloc: Global, expires: &str, held: &str) -> Result<Fact, AllocError> {
-    fact(
-        alloc,
-        Class::Entry,
-        ["ports", "4", "first", "", "2026-11-01", "ann"],
-        standing(alloc, expires, held)?,
-    )
+// What is published of anything but an entry.
+fn details(alloc: Global, description: &str, policy: &str) -> Result<Details, AllocError> {
+    Ok(Details {
+        description: Field::new(alloc, description)?,
+        policy: Field::new(alloc, policy)?,
+        first: Field::new(alloc, "")?,
+        standing: standing(alloc, "", "")?,
+        assignee: Field::new(alloc, "")?,
+    })
 }
+
+fn range(alloc: Global) -> Result<Fact, AllocError> {
+    Ok(Fact {
+        subject: subject(alloc, "ports", Class::Range, "0-9")?,
+        details: details(alloc, "for, \"all\"", "expert-review")?,
+    })
+}
+
+fn prefix(alloc: Global) -> Result<Fact, AllocError> {
+    Ok(Fact {
+        subject: subject(alloc, "", Class::Prefix, "0050C2")?,
+        details: details(alloc, "", "")?,
+    })
+}
+
+fn block(alloc: Global) -> Result<Fact, AllocError> {
+    Ok(Fact {
+        subject: subject(alloc, "", Class::Block, "0050C2123")?,
+        details: details(alloc, "", "")?,
+    })
+}
+
+fn entry(alloc: Global, expires: &str, held: &str) -> Result<Fact, AllocError> {
+    Ok(Fact {
+        subject: subject(alloc, "ports", Class::Entry, "4")?,
+        details: Details {
+            description: Field::new(alloc, "first")?,
+            policy: Field::new(alloc, "")?,
+            first: Field::new(alloc, "2026-11-01")?,
+            standing: standing(alloc, expires, held)?,
+            assignee: Field::new(alloc, "ann")?,
+        },
+    })
+}
+
+// A byte of the fourth record.
+const IN_FOURTH: usize = 510;
 
 // What is published, where the entry stands so long.
 fn facts(alloc: Global, expires: &str, held: &str) -> Result<Vec<Fact>, AllocError> {
     let mut facts = Vec::new(alloc);
-    let range = ["ports", "0-9", "for, \"all\"", "expert-review", "", ""];
-    facts.push(fact(alloc, Class::Range, range, standing(alloc, "", "")?)?)?;
+    facts.push(range(alloc)?)?;
     facts.push(entry(alloc, expires, held)?)?;
-    let prefix = ["", "0050C2", "", "", "", ""];
-    facts.push(fact(alloc, Class::Prefix, prefix, standing(alloc, "", "")?)?)?;
-    let block = ["", "0050C2123", "", "", "", ""];
-    facts.push(fact(alloc, Class::Block, block, standing(alloc, "", "")?)?)?;
+    facts.push(prefix(alloc)?)?;
+    facts.push(block(alloc)?)?;
     Ok(facts)
 }
 
@@ -170,8 +195,7 @@ fn what_was_lost_is_named(rt: HostRuntime) -> Result<(), Fail> {
 fn a_changed_byte_is_noticed(rt: HostRuntime) -> Result<(), Fail> {
     let alloc = rt.alloc();
     let mut text = history_of(alloc, &[FIRST, SECOND])?;
-    let place = HEADER.len() + FIRST.len() - 100;
-    if let Some(byte) = text.get_mut(place) {
+    if let Some(byte) = text.get_mut(IN_FOURTH) {
         *byte = b'x';
     }
     let wrong = matches!(read(alloc, &text), Err(Unreadable::Wrong(4)));

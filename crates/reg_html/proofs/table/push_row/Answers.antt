@@ -5,6 +5,6 @@ pub returns : goal.returns
 returns c =
     shown
     (joined c.in_ok-push_row_start.ensures
-    (joined c.in_ok-push_all.ensures
+    (joined c.in_ok-push_head.ensures.bytes
     (joined c.in_ok-push_cells.ensures.bytes
-    (c.in_ok-push.ensures))))
+    (c.in_ok-push_row_end.ensures))))

@@ -4,7 +4,7 @@ use Rattle.reg_site.proofs.bar.push_picture.Goals as goal
 pub returns : goal.returns
 returns c =
     shown
-    (joined c.in_ok-push.ensures
-    (joined c.in_ok-push-2.ensures
-    (joined (rw c.as_slice.ensures at c.in_ok-push_parts.ensures).bytes
-    (c.in_ok-push-3.ensures))))
+    (joined (rw (c.as_str.ensures.value, c.in_ok-view.ensures, c.cell_count.ensures.value) at c.in_ok-push_picture_start.ensures)
+    (joined (rw c.as_slice.ensures at c.in_ok-push_shares.ensures).bytes
+    (joined c.in_ok-push_entries.ensures.bytes
+    (c.in_ok-push.ensures))))

@@ -1,6 +1,6 @@
 use Rattle.std.proofs.Common.{◌≡◌, ◌+◌, ◌<◌, ◌≤◌, ◌++◌, ◌∙◌, length, get_or, ap, sym, append-nil, rules}
 use Rattle.std.proofs.lemmas.List.{drop_all}
-use Rattle.reg_site.specs.Blocks.{above_rows, block_row, left_from, rows_left}
+use Rattle.reg_site.specs.Blocks.{above_rows, authority_of, block_row, left_from, rows_left}
 use Rattle.reg_html.specs.Markup.{markup_then}
 use Rattle.reg_site.specs.Portions.{after}
 use Rattle.reg_html.specs.Table.{below_rows}
@@ -13,13 +13,14 @@ pub returns : goal.returns
 returns c =
     let html = c.args.self.now in
     let rows = html.rows.now in
+    let authority = authority_of html in
     elim c.match-self.branch [
       | in-Above+in_ok-push_above-in-Above w ↦
           let then : c.after-self.result ≡ next.Row 0 =
           c.after-self.ensures ∙ ap (λ n. after n (length rows)) w.in-Above.is in
-          gives (rw (sym w.out-is) at w.in_ok-push_above-in-Above.ensures) blocks_above_some
-          (ap (left_from html) w.in-Above.is ∙ blocks_parts rows
-          ∙ ap (λ n. above_rows (left_from html n)) (sym then))
+          gives (rw (sym w.out-is) at w.in_ok-push_above-in-Above.ensures) (blocks_above_some authority rows)
+          (ap (left_from html) w.in-Above.is ∙ blocks_parts authority rows
+          ∙ ap (λ n. above_rows authority rows (left_from html n)) (sym then))
       | in-Row+in-Some+in_ok-push_block-in-Some w ↦
           let place = w.in-Row.place in
           let row = w.in-Some.row.now in

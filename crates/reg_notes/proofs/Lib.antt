@@ -1,0 +1,2 @@
+pub mod FiveFields
+pub mod NotesRows

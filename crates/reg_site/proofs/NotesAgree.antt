@@ -1,0 +1,140 @@
+-- Notes that say the same about what is published give the same files.
+use Rattle.std.proofs.Common.{◌≡◌, ℕ, ◌+◌, ◌-◌, Bool, true, false, List, [], ◌∷◌, ◌++◌, map, filter, nat_lt, Option, Some, None, option_map, if◌then◌else◌, refl, ap, ap₂}
+use Rattle.std.specs.List.{AllByRecursion, flat_map}
+use Rattle.reg_core.specs.declared.command.PublicCommand.TheVariants.{Registry}
+use Rattle.reg_core.specs.declared.entry.PageEntry.{PageEntry}
+use Rattle.reg_core.specs.declared.page.Page.{Page}
+use Rattle.reg_notes.specs.Notes.{entry_thing}
+use Rattle.reg_notes.specs.declared.notes.Notes.{Notes}
+use Rattle.reg_print.specs.Listing.{ListedRow, closed_status, entry_row, free_row, free_rows, is_in, page_rows, range_rows, rows_by, rows_from}
+use Rattle.reg_print.specs.declared.listing.rows.Status.{Status}
+use Rattle.reg_ranges.specs.declared.range.Range.{Range}
+use Rattle.reg_site.specs.Laws.{AgreeOnPage, NotesOnNothingAreHidden}
+use Rattle.reg_site.specs.Noted.{noted_in, note_of_row}
+use Rattle.reg_site.specs.Records as records
+use Rattle.reg_site.specs.Registry as registry
+use Rattle.reg_site.specs.Site.{page_in, told_to_all}
+use Rattle.reg_site.specs.declared.files.File.TheVariants as file
+
+-- the notes say the same about the entry of a row
+abbrev SaysSame : Option Notes → Option Notes → List ℕ → ListedRow → Type 0
+SaysSame a b name listed = note_of_row a name listed ≡ note_of_row b name listed
+
+abbrev SaysSameOf : Option Notes → Option Notes → List ℕ → PageEntry → Type 0
+SaysSameOf a b name e = noted_in a (entry_thing name e.value) ≡ noted_in b (entry_thing name e.value)
+
+all-append : {X : Type 0} (P : X → Type 0) (xs ys : List X) → AllByRecursion P xs
+    → AllByRecursion P ys → AllByRecursion P (xs ++ ys)
+all-append P [] ys hx hy = hy
+all-append P (x ∷ xs) ys hx hy = (hx.0, all-append P xs ys hx.1 hy)
+
+kept_or_not : {X : Type 0} (P : X → Type 0) (x : X) (xs : List X) → P x → AllByRecursion P xs
+    → (b : Bool) → AllByRecursion P (if b then x ∷ xs else xs)
+kept_or_not P x xs h hs true = (h, hs)
+kept_or_not P x xs h hs false = hs
+
+all-filter : {X : Type 0} (P : X → Type 0) (test : X → Bool) (xs : List X) → AllByRecursion P xs
+    → AllByRecursion P (filter test xs)
+all-filter P test [] h = tt
+all-filter P test (x ∷ xs) h =
+    kept_or_not P x (filter test xs) h.0 (all-filter P test xs h.1) (test x)
+
+-- ---- The rows of a registry
+
+one_or_none : {X : Type 0} (P : X → Type 0) (x : X) → P x → (b : Bool)
+    → AllByRecursion P (if b then x ∷ [] else [])
+one_or_none P x h true = (h, tt)
+one_or_none P x h false = tt
+
+free_agree : (a b : Option Notes) (name : List ℕ) (range : Range) (next end : ℕ)
+    → AllByRecursion (SaysSame a b name) (free_rows range next end)
+free_agree a b name range next end =
+    one_or_none (SaysSame a b name) (free_row range (record { lo = next; hi = end - 1 })) refl
+    (nat_lt next end)
+
+rows_agree : (a b : Option Notes) (name : List ℕ) (range : Range) (next : ℕ) (es : List PageEntry)
+    → AllByRecursion (SaysSameOf a b name) es
+    → AllByRecursion (SaysSame a b name) (rows_from range next es)
+rows_agree a b name range next [] h = free_agree a b name range next (range.hi + 1)
+rows_agree a b name range next (e ∷ es) h =
+    all-append (SaysSame a b name) (free_rows range next e.value)
+    (entry_row range e ∷ rows_from range (e.value + 1) es)
+    (free_agree a b name range next e.value)
+    (h.0, rows_agree a b name range (e.value + 1) es h.1)
+
+range_agrees : (a b : Option Notes) (name : List ℕ) (es : List PageEntry) (range : Range)
+    → AllByRecursion (SaysSameOf a b name) es
+    → (closed : Option Status) → AllByRecursion (SaysSame a b name) (rows_by closed es range)
+range_agrees a b name es range h (Some status) = (refl, tt)
+range_agrees a b name es range h None =
+    rows_agree a b name range range.lo (filter (is_in range) es)
+    (all-filter (SaysSameOf a b name) (is_in range) es h)
+
+ranges_agree : (a b : Option Notes) (name : List ℕ) (es : List PageEntry) (ranges : List Range)
+    → AllByRecursion (SaysSameOf a b name) es
+    → AllByRecursion (SaysSame a b name) (flat_map (range_rows es) ranges)
+ranges_agree a b name es [] h = tt
+ranges_agree a b name es (range ∷ ranges) h =
+    all-append (SaysSame a b name) (range_rows es range) (flat_map (range_rows es) ranges)
+    (range_agrees a b name es range h (closed_status range.treatment))
+    (ranges_agree a b name es ranges h)
+
+-- ---- The files of a registry
+
+rows_same : (a b : Option Notes) (name : List ℕ) (rows : List ListedRow)
+    → AllByRecursion (SaysSame a b name) rows
+    → map (registry.noted_row a name) rows ≡ map (registry.noted_row b name) rows
+rows_same a b name [] h = refl
+rows_same a b name (row ∷ rows) h =
+    ap₂ (λ x xs. x ∷ xs) (ap (λ note. registry.entry_row note row) h.0) (rows_same a b name rows h.1)
+
+records_same : (a b : Option Notes) (name : List ℕ) (rows : List ListedRow)
+    → AllByRecursion (SaysSame a b name) rows
+    → map (records.record_of a name) rows ≡ map (records.record_of b name) rows
+records_same a b name [] h = refl
+records_same a b name (row ∷ rows) h =
+    ap₂ (λ x xs. x ∷ xs) (ap (records.record_with row) h.0) (records_same a b name rows h.1)
+
+page_same : (a b : Option Notes) (changed : List ℕ) (page : Page) → noted_in a [] ≡ noted_in b []
+    → AgreeOnPage a b page → registry.noted_page a changed page ≡ registry.noted_page b changed page
+unfolding registry.page_by
+page_same a b changed page authority h =
+    rw (
+      authority,
+      h.registry,
+      rows_same a b page.name (page_rows page)
+          (ranges_agree a b page.name page.entries page.table.ranges h.entries),
+    ) refl
+
+file_same : (a b : Option Notes) (day : List ℕ) (page : Page) → AgreeOnPage a b page
+    → records.records_text a day page ≡ records.records_text b day page
+unfolding records.records_by
+file_same a b day page h =
+    rw (
+      h.registry,
+      records_same a b page.name (page_rows page)
+          (ranges_agree a b page.name page.entries page.table.ranges h.entries),
+    ) refl
+
+by_page : (told : Option Page) (f g : Page → List ℕ)
+    → ((page : Page) → told ≡ Some page → f page ≡ g page) → option_map f told ≡ option_map g told
+by_page None f g h = refl
+by_page (Some page) f g h = ap Some (h page refl)
+
+pub notes_on_nothing_are_hidden : NotesOnNothingAreHidden
+notes_on_nothing_are_hidden a b p moment (file.RegistryPage name) h =
+    by_page (page_in (told_to_all p moment (Registry name))) (registry.noted_page a [])
+    (registry.noted_page b [])
+    (λ page told. page_same a b [] page h.authority (h.pages name page told))
+notes_on_nothing_are_hidden a b p moment (file.RegistryRecords name) h =
+    by_page (page_in (told_to_all p moment (Registry name))) (records.records_text a [])
+    (records.records_text b [])
+    (λ page told. file_same a b [] page (h.pages name page told))
+notes_on_nothing_are_hidden a b p moment (file.RegistryListing name) h = refl
+notes_on_nothing_are_hidden a b p moment (file.RegistryTree name) h = refl
+notes_on_nothing_are_hidden a b p moment file.BlocksPage h = refl
+notes_on_nothing_are_hidden a b p moment file.BlocksListing h = refl
+notes_on_nothing_are_hidden a b p moment (file.Assignments size) h = refl
+notes_on_nothing_are_hidden a b p moment file.Pool h = refl
+notes_on_nothing_are_hidden a b p moment file.Style h = refl
+notes_on_nothing_are_hidden a b p moment file.Index h = refl

@@ -1,0 +1,11 @@
+use Rattle.std.proofs.Common.{map}
+use Rattle.reg_html.specs.Markup.{all_of, markup_then}
+use Rattle.reg_site.specs.Records.{range_of}
+use Rattle.reg_html.proofs.Pieces.{Leads, from_place}
+use Rattle.reg_site.proofs.records.push_ranges.Given as goal
+
+abbrev pub invariant-loop-range : goal.invariant-loop-range
+invariant-loop-range l =
+    Leads l.fn.out.items l.out.items
+    (from_place (λ rs. all_of (map range_of rs)) l.ranges l.range-index)
+    (markup_then (all_of (map range_of l.ranges)))
