@@ -1,7 +1,6 @@
 //! An office kept in SQLite tables.
 #![tactic(auto)]
 
-pub mod copier;
 mod copying;
 mod following;
 pub mod keeper;

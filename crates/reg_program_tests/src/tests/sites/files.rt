@@ -82,7 +82,7 @@ const BEFORE: [(&str, &str); 2] = [
     ),
     (
         "registries/bits.html",
-        "<td>Two</td><td>Temporary</td><td>standards-action</td>",
+        "<td>Two</td><td>Temporary</td><td>Standards Action</td>",
     ),
 ];
 
@@ -93,7 +93,7 @@ const AFTER: [(&str, &str); 2] = [
     ),
     (
         "registries/bits.html",
-        "<td>Two</td><td>Expired</td><td>standards-action</td>",
+        "<td>Two</td><td>Expired</td><td>Standards Action</td>",
     ),
 ];
 
