@@ -3,3 +3,4 @@ pub mod Listed
 pub mod Failing
 pub mod Opening
 pub mod Troubles
+pub mod Looking

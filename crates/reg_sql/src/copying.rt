@@ -1,7 +1,8 @@
 //! The files of an office, copied into memory. They are read, and never written: an absent one is not
 //! made, and a file that cannot be written is copied like any other.
-ghost use Rattle.std.specs.Prelude.{IsTrue, IfOk};
+ghost use Rattle.std.specs.Prelude.{IsTrue, IfErr, IfOk};
 ghost use Rattle.sqlite_disk.specs.Memory.{memory_is_usable};
+ghost use Rattle.reg_sql.specs.Looking.{IsOfCopies};
 
 use crate::trouble::Trouble;
 use os::RangeLock;
@@ -21,8 +22,9 @@ const LOCK_BYTES: u64 = 512;
 /// Copies of the database file at a path and of its log, as they stand beside each other: nobody
 /// writes them meanwhile who locks them as SQLite does.
 pub fn copies(rt: &HostRuntime, path: &str) -> Result<Files<Memory>, Trouble>
-    ensures { IfOk result (λ files. IsTrue (memory_is_usable files.log)
+    ensures usable { IfOk result (λ files. IsTrue (memory_is_usable files.log)
         × IsTrue (memory_is_usable files.db)) }
+    ensures trouble { IfErr result IsOfCopies }
 {
     if path == ":memory:" || path.starts_with("file:") {
         return Err(Trouble::NoFile);
@@ -42,7 +44,8 @@ pub fn copies(rt: &HostRuntime, path: &str) -> Result<Files<Memory>, Trouble>
 
 /// A copy of the log at a path, which is empty where there is none.
 fn copy_of_log(rt: &HostRuntime, path: &str) -> Result<Memory, Trouble>
-    ensures { IfOk result (λ copy. IsTrue (memory_is_usable copy)) }
+    ensures usable { IfOk result (λ copy. IsTrue (memory_is_usable copy)) }
+    ensures trouble { IfErr result IsOfCopies }
 {
     match open_shared(rt, path) {
         Ok(mut log) => copy_of(rt.alloc(), &mut log),
@@ -52,7 +55,9 @@ fn copy_of_log(rt: &HostRuntime, path: &str) -> Result<Memory, Trouble>
 }
 
 /// Opens a regular file with one name for reading, where no other has it open to write it.
-fn open_shared(rt: &HostRuntime, path: &str) -> Result<fs::File, Trouble> {
+fn open_shared(rt: &HostRuntime, path: &str) -> Result<fs::File, Trouble>
+    ensures { IfErr result IsOfCopies }
+{
     let file = fs::open(rt, path).map_err(trouble)?;
     let found = file.metadata().map_err(trouble)?;
     if !found.is_file() || found.nlink() != 1 {
@@ -66,7 +71,9 @@ fn open_shared(rt: &HostRuntime, path: &str) -> Result<fs::File, Trouble> {
 
 /// Whether SQLite left a rollback journal that it has to play back: one that is there, and does not
 /// begin with a zero.
-fn has_hot_journal(rt: &HostRuntime, path: &str) -> Result<bool, Trouble> {
+fn has_hot_journal(rt: &HostRuntime, path: &str) -> Result<bool, Trouble>
+    ensures { IfErr result IsOfCopies }
+{
     match fs::open(rt, path) {
         Ok(mut journal) => {
             let mut first = [0];
@@ -80,7 +87,8 @@ fn has_hot_journal(rt: &HostRuntime, path: &str) -> Result<bool, Trouble> {
 
 /// A copy of all the bytes of a reader.
 fn copy_of<R: Read>(alloc: Global, reader: &mut R) -> Result<Memory, Trouble>
-    ensures { IfOk result (λ copy. IsTrue (memory_is_usable copy)) }
+    ensures usable { IfOk result (λ copy. IsTrue (memory_is_usable copy)) }
+    ensures trouble { IfErr result IsOfCopies }
 {
     let mut copy = Memory::new(alloc);
     let mut buffer = [0; 4096];
@@ -97,7 +105,9 @@ fn copy_of<R: Read>(alloc: Global, reader: &mut R) -> Result<Memory, Trouble>
 }
 
 /// What an error of the system is to who looks at a file.
-fn trouble(error: io::Error) -> Trouble {
+fn trouble(error: io::Error) -> Trouble
+    ensures { IsOfCopies result }
+{
     match error.kind() {
         ErrorKind::OutOfMemory => Trouble::Memory,
         ErrorKind::NotFound => Trouble::NoFile,

@@ -1,6 +1,7 @@
 //! An office kept in SQLite tables.
 #![tactic(auto)]
 
+pub mod copier;
 mod copying;
 mod following;
 pub mod keeper;

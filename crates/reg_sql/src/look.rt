@@ -1,23 +1,23 @@
 //! Offices that are looked at and not changed.
-ghost use Rattle.std.specs.Prelude.{◌≡◌, false, IfErr, IfOk, IsTrue};
+ghost use Rattle.std.specs.Prelude.{◌≡◌, false, IfErr, IfOk};
+ghost use Rattle.sqlite.specs.Files.{file_state};
 ghost use Rattle.sqlite.specs.Held.{state};
-ghost use Rattle.sqlite_disk.specs.Memory.{memory_is_usable};
 ghost use Rattle.reg_tables.specs.Connection.{Holds, Works};
 ghost use Rattle.reg_tables.specs.Version.{number_of, schema_of};
 ghost use Rattle.reg_statements.specs.Content.{world_in};
 ghost use Rattle.reg_opening.specs.Opening.{IsOfVersion, IsOurs};
+ghost use Rattle.reg_sql.specs.Looking.{CopiesFiles, IsSeenIn, IsUnseenIn};
 ghost use Rattle.reg_sql.specs.Opening.{IsOpened};
 ghost use Rattle.reg_sql.specs.Troubles.{IsGivenUp, IsTrouble};
 
-use crate::copying::copies;
+use crate::copier::{Copier, SystemCopies};
 use crate::keeper::SqlKeeper;
 use crate::trouble::Trouble;
 use reg_opening::kind::{Found, find};
 use reg_tables::version::Version;
-use sqlite::{Alter, Connection, Error, ErrorCode, FileStore, Files, Options};
+use sqlite::{Alter, Connection, FileStore};
 use sqlite_disk::Memory;
 use std::alloc::Global;
-use std::hash::{BuildHasher, RandomState};
 
 /// An office that was looked at: the version of its file, and a keeper over a copy in memory.
 #[derive(Drop)]
@@ -30,52 +30,47 @@ pub struct Look<S: Alter> {
 
 /// The office in the files at a path, which are read into memory and stay as they are: an older
 /// version is brought to the newest in the copy alone, and an absent file is not made.
-pub fn look_at(rt: &HostRuntime, path: &str) -> Result<Look<FileStore<Memory>>, Trouble> {
-    let files = copies(rt, path)?;
-    let seed = RandomState::new(rt)
-        .map_err(|_| Trouble::Unreadable)?
-        .hash_one(&0u8);
-    let conn = connect(rt.alloc(), files, seed)?;
-    kept_look(rt.alloc(), conn)
+pub fn look_at(rt: &HostRuntime, path: &str) -> Result<Look<FileStore<Memory>>, Trouble>
+    ensures { IfOk result (λ look.
+        IsSeenIn file_state CopiesFiles look.version look.keeper.tables) }
+{
+    seen_by(rt, SystemCopies, path)
 }
 
-/// The office in a store, or what is wrong. It is over any store, since what is over a known one
-/// unfolds all that it holds.
-fn kept_look<S: Alter + Drop>(alloc: Global, conn: Connection<S>) -> Result<Look<S>, Trouble> {
-    match look_into(alloc, conn) {
+/// The office in a copy, or what is wrong; what was copied is dropped then.
+fn seen_by<C: Copier>(rt: &HostRuntime, copier: C, path: &str) -> Result<Look<C::Base>, Trouble>
+    ensures { IfOk result (λ look.
+        IsSeenIn (state C.Base.Store) (C.Copies path.now) look.version look.keeper.tables) }
+{
+    match look_by(rt, copier, path) {
         Ok(look) => Ok(look),
-        Err((trouble, conn)) => {
-            drop(conn);
+        Err((trouble, left)) => {
+            drop(left);
             Err(trouble)
         }
     }
 }
 
-/// A connection to copies of a database and its log.
-fn connect(
-    alloc: Global,
-    files: Files<Memory>,
-    seed: u64,
-) -> Result<Connection<FileStore<Memory>>, Trouble>
-    requires { IsTrue (memory_is_usable files.log) × IsTrue (memory_is_usable files.db) }
+/// The office in a copy of the store at a path. What is at the path stays as it is, if the copier
+/// leaves it so: the copy alone is brought to the newest version. Where there is no office the copy
+/// comes back, if there is one.
+pub fn look_by<C: Copier>(
+    rt: &HostRuntime,
+    copier: C,
+    path: &str,
+) -> Result<Look<C::Base>, (Trouble, Option<Connection<C::Base>>)>
+    ensures office { IfOk result (λ look.
+        IsSeenIn (state C.Base.Store) (C.Copies path.now) look.version look.keeper.tables) }
+    ensures trouble { IfErr result (λ refusal.
+        IsUnseenIn (state C.Base.Store) (C.Copies path.now) refusal.0 refusal.1) }
 {
-    match Connection::open_files(alloc, files, Options::new(seed)) {
-        Ok(conn) => Ok(conn),
-        Err((error, left)) => {
-            drop(left);
-            Err(trouble(&error))
-        }
-    }
-}
-
-/// What an error of copies that do not open is to who looks at them.
-fn trouble(error: &Error) -> Trouble {
-    match error {
-        Error::SqliteFailure(ErrorCode::OutOfMemory) => Trouble::Memory,
-        Error::SqliteFailure(ErrorCode::NotADatabase | ErrorCode::DatabaseCorrupt) => {
-            Trouble::NoDatabase
-        }
-        _ => Trouble::Store,
+    let conn = match copier.copy(rt, path) {
+        Ok(conn) => conn,
+        Err(trouble) => return Err((trouble, None)),
+    };
+    match look_into(rt.alloc(), conn) {
+        Ok(look) => Ok(look),
+        Err((trouble, conn)) => Err((trouble, Some(conn))),
     }
 }
 
