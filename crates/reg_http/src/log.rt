@@ -1,4 +1,5 @@
 //! What is told of connections while they are served.
+use reg_parse::shown::Shown;
 
 /// An answer that was written whole.
 #[derive(Clone, Copy, Debug, PartialEq, Eq)]
@@ -15,8 +16,8 @@ pub trait Log {
     /// Whether it keeps what it is told.
     const IS_KEPT: bool;
 
-    /// The connection asks by this method for this path.
-    fn asked(&mut self, method: &[u8], path: &[u8]);
+    /// The connection asks by this method for a path, of which no more is told than may be shown.
+    fn asked(&mut self, method: &[u8], path: Shown<'_>);
 
     /// The connection, which came at this moment, was answered so, or dropped.
     fn ended(&mut self, moment: u64, sent: Option<Sent>);
@@ -29,7 +30,7 @@ pub struct Unlogged;
 impl Log for Unlogged {
     const IS_KEPT: bool = false;
 
-    fn asked(&mut self, _method: &[u8], _path: &[u8]) {}
+    fn asked(&mut self, _method: &[u8], _path: Shown<'_>) {}
 
     fn ended(&mut self, _moment: u64, _sent: Option<Sent>) {}
 }

@@ -24,7 +24,8 @@ use std::alloc::Global;
 use std::io::{Read, Write};
 
 /// Reads one request (RFC 9112), answers it, and gives the status of the answer. The moment is in
-/// seconds since 1970-01-01T00:00:00Z. The log is told what is asked, where that could be read.
+/// seconds since 1970-01-01T00:00:00Z. The log is told what is asked, where that could be read: the
+/// method, and what may be shown of the path.
 ///
 /// A request is answered as its call is; one at which the store or memory failed by
 /// `503 {"error":"storage"}`, with the content of the office unchanged. Bytes that are no request
@@ -91,7 +92,7 @@ pub(crate) fn respond<K: Keeper, R: Read, L: Log>(
 {
     match read_request(alloc, reader, watch) {
         Ok(message) => {
-            tell(&message, log);
+            tell(routes, &message, log);
             let response = respond_to(alloc, office, routes, moment, &message);
             drop(message);
             Ok(response)
@@ -102,12 +103,14 @@ pub(crate) fn respond<K: Keeper, R: Read, L: Log>(
     }
 }
 
-// Tells the log what a request asks.
-fn tell<L: Log>(message: &Message, log: &mut L)
+// Tells a log that is kept what a request asks, and of its path what may be shown.
+fn tell<L: Log>(routes: &Routes, message: &Message, log: &mut L)
     requires { IsPlaced message.now }
 {
-    let parts = message.parts();
-    log.asked(parts.method, parts.path);
+    if L::IS_KEPT {
+        let parts = message.parts();
+        log.asked(parts.method, routes.shown(parts.path));
+    }
 }
 
 // What is answered to a request.

@@ -11,15 +11,15 @@ use Rattle.reg_import.specs.declared.fault.RowFault.TheVariants as fault
 
 -- that a column has not what it may have
 abbrev pub form_text : Column → List ℕ
-form_text column.Value = codes "is no number of 0 to 4294967295"
-form_text column.Status = codes "is no status of a listing"
-form_text column.Policy = codes "is no policy"
-form_text column.First = codes "is no day of 2000 to 9999 as YYYY-MM-DD"
-form_text column.Expires = codes "is no day of 2000 to 9999 as YYYY-MM-DD"
+form_text column.Value = codes "is not a number from 0 to 4294967295"
+form_text column.Status = codes "is not a status of a listing"
+form_text column.Policy = codes "is not a policy"
+form_text column.First = codes "is not a day from 2000 to 9999 as YYYY-MM-DD"
+form_text column.Expires = codes "is not a day from 2000 to 9999 as YYYY-MM-DD"
 form_text column.Assignee = codes "is not 1 to 32 of a to z, 0 to 9 and -"
-form_text column.Rfc = codes "is no number of 1 to 99999"
-form_text column.Stream = codes "is no stream of RFCs"
-form_text column.Track = codes "is no track of RFCs"
+form_text column.Rfc = codes "is not a number from 1 to 99999"
+form_text column.Stream = codes "is not a stream of RFCs"
+form_text column.Track = codes "is not a track of RFCs"
 form_text column.Stable = codes "is neither true nor false nor empty"
 form_text column.Interest = codes "is neither true nor false nor empty"
 form_text column.WillBeRfc = codes "is neither true nor false nor empty"
@@ -34,12 +34,12 @@ form_text column.Director = codes "is not 1 to 200 printable ASCII characters"
 
 -- what is wrong with a row
 abbrev pub row_fault_text : RowFault → List ℕ
-row_fault_text fault.Columns = codes "it has not as many fields as the header"
+row_fault_text fault.Columns = codes "it does not have as many fields as the header"
 row_fault_text (fault.Form c) = column_word c ++ (codes " " ++ form_text c)
 row_fault_text fault.Future = codes "First is after today"
-row_fault_text fault.Expiry = codes "Expires is no day on which such an entry expires"
-row_fault_text fault.Held = codes "Held is set, and the entry does not expire"
-row_fault_text (fault.Lacks item) = codes "its policy asks for what it lacks: " ++ item_word item
+row_fault_text fault.Expiry = codes "Expires is not a day on which such an entry can expire"
+row_fault_text fault.Held = codes "Held is set, but the entry does not expire"
+row_fault_text (fault.Lacks item) = codes "it lacks what its policy needs: " ++ item_word item
 row_fault_text fault.Own = codes "Assignee is the expert"
 row_fault_text fault.Memory = codes "memory"
 

@@ -41,19 +41,19 @@ pub enum ImportFault {
     Memory,
 }
 
-/// What a column may have, for people: `Value is no number of 0 to 4294967295` without the column.
+/// What a column may have, for people: `Value is not a number from 0 to 4294967295` without the column.
 fn form_text(column: Column) -> &'static str
     ensures { result.now ≡ form_text column }
 {
     match column {
-        Column::Value => "is no number of 0 to 4294967295",
-        Column::Status => "is no status of a listing",
-        Column::Policy => "is no policy",
-        Column::First | Column::Expires => "is no day of 2000 to 9999 as YYYY-MM-DD",
+        Column::Value => "is not a number from 0 to 4294967295",
+        Column::Status => "is not a status of a listing",
+        Column::Policy => "is not a policy",
+        Column::First | Column::Expires => "is not a day from 2000 to 9999 as YYYY-MM-DD",
         Column::Assignee => "is not 1 to 32 of a to z, 0 to 9 and -",
-        Column::Rfc => "is no number of 1 to 99999",
-        Column::Stream => "is no stream of RFCs",
-        Column::Track => "is no track of RFCs",
+        Column::Rfc => "is not a number from 1 to 99999",
+        Column::Stream => "is not a stream of RFCs",
+        Column::Track => "is not a track of RFCs",
         Column::Stable | Column::Interest | Column::WillBeRfc => {
             "is neither true nor false nor empty"
         }
@@ -73,13 +73,13 @@ impl fmt::Display for RowFault {
 
     fn fmt<W: fmt::Write>(&self, f: &mut fmt::Formatter<W>) -> fmt::Result {
         match self {
-            RowFault::Columns => write!(f, "it has not as many fields as the header"),
+            RowFault::Columns => write!(f, "it does not have as many fields as the header"),
             RowFault::Form(column) => write!(f, "{} {}", column.word(), form_text(*column)),
             RowFault::Future => write!(f, "First is after today"),
-            RowFault::Expiry => write!(f, "Expires is no day on which such an entry expires"),
-            RowFault::Held => write!(f, "Held is set, and the entry does not expire"),
+            RowFault::Expiry => write!(f, "Expires is not a day on which such an entry can expire"),
+            RowFault::Held => write!(f, "Held is set, but the entry does not expire"),
             RowFault::Lacks(item) => {
-                write!(f, "its policy asks for what it lacks: {}", item.word())
+                write!(f, "it lacks what its policy needs: {}", item.word())
             }
             RowFault::Own => write!(f, "Assignee is the expert"),
             RowFault::Memory => write!(f, "memory"),

@@ -1,5 +1,5 @@
 -- What the values of arguments are that are read as texts and numbers.
-use Rattle.std.proofs.Common.{◌≡◌, ◌∙◌, ◌<◌, ◌^◌, ℕ, List, MatchResult, Option, Some, None, Result, Ok, ap, is_some, option_map, refl, subst, sym, true}
+use Rattle.std.proofs.Common.{◌≡◌, ◌∙◌, ◌<◌, ◌≤◌, ◌^◌, ℕ, List, MatchResult, Option, Some, None, Result, Ok, ap, is_some, option_map, refl, subst, sym, true}
 use Rattle.std.specs.Borrow.{Bor}
 use Rattle.std.specs.Option.{ok_or}
 use Rattle.std.specs.Str.Parse.{ParsesUnsigned}
@@ -7,7 +7,7 @@ use Rattle.clap.specs.Words.{ReadsOne, Text, first_value, one_text, rows_of, wit
 use Rattle.clap.specs.declared.parser.matches.Found.{Found}
 use Rattle.clap.proofs.CallerReads.{signed_reads}
 use Rattle.clap.proofs.WalkLemmas.{first_value-rows, one_text-rows}
-use Rattle.reg_jobs.specs.Asking.{HasNumber, HasText, IsFromOneTo, IsNumberOf}
+use Rattle.reg_jobs.specs.Asking.{HasNumber, HasText, IsNumberOf}
 
 pub number_read : {E : Type 0} (bits : ℕ) (gives : List ℕ → Result ℕ E → Type 0) (f : Found) (id : Text) (r : Option ℕ) (n : ℕ)
     → ((t : List ℕ) (x : Result ℕ E) → gives t x → ParsesUnsigned bits 10 t x)
@@ -26,14 +26,14 @@ number_read {E = E} bits gives f id r n parses none value is = go (one_text f id
         (t, sym (one_text-rows f id) ∙ e, parsed.0.0, sym parsed.1)
 
 -- an argument that has a number in its range is read as one
-pub number_given : {E : Type 0} (bits most : ℕ) (gives : List ℕ → Result ℕ E → Type 0) (f : Found) (id : Text) (r : Option ℕ)
+pub number_given : {E : Type 0} (bits least most : ℕ) (gives : List ℕ → Result ℕ E → Type 0) (f : Found) (id : Text) (r : Option ℕ)
     → ((t : List ℕ) (x : Result ℕ E) → gives t x → ParsesUnsigned bits 10 t x)
     → most < 2 ^ bits
     → ((t : List ℕ) → one_text f id ≡ Some t → ReadsOne gives t r)
-    → HasNumber id most (rows_of f) → (n : ℕ) × (r ≡ Some n) × IsFromOneTo most n
-number_given {E = E} bits most gives f id r parses fits value has =
+    → HasNumber id least most (rows_of f) → (n : ℕ) × (r ≡ Some n) × ((least ≤ n) × (n ≤ most))
+number_given {E = E} bits least most gives f id r parses fits value has =
     let read = value (without_minus has.0) (one_text-rows f id ∙ has.1) in
-    let number = signed_reads E gives bits 1 most has.0 r read parses fits has.2 in
+    let number = signed_reads E gives bits least most has.0 r read parses fits has.2 in
     (number.0, number.1, (number.2, number.3))
 
 -- and then the code that reads it fails in no way

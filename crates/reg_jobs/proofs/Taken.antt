@@ -19,21 +19,21 @@ use Rattle.clap.specs.declared.builder.action.ArgAction.TheVariants.{Set}
 use Rattle.clap.specs.declared.builder.value_parser.Reading.TheVariants.{WithoutMinus}
 use Rattle.clap.specs.declared.builder.value_parser.ValueParser.TheVariants.{Signed}
 use Rattle.reg_jobs.specs.Asking.{HasJob, HasNumber, HasText, MayHaveNumber}
-use Rattle.reg_jobs.specs.CommandLine.{check_app, clerk_rule, connections_rule, define_app, expert_rule, flag_rule, import_app, init_app, last_place_rule, listing_app, office_app, option_rule, place_rule, port_rule, publish_app, request_app, revoke_app, script_app, serve_app, tokens_app}
+use Rattle.reg_jobs.specs.CommandLine.{check_app, clerk_rule, connections_rule, define_app, due_app, expert_rule, flag_rule, import_app, init_app, last_place_rule, listing_app, office_app, option_rule, place_rule, port_rule, publish_app, request_app, revoke_app, script_app, serve_app, tokens_app, verify_app, within_rule}
 use Rattle.reg_jobs.proofs.Walks.{Each, Keeps, KeepsDefault, found_holds, leaf_holds, no_faults, none_keeps}
 use Rattle.reg_jobs.proofs.Uses.{default_row_with, flag_keeps, help_keeps, row_with, set_keeps, value_keeps}
 use Rattle.reg_jobs.proofs.Stops.{StopsElsewhere, walk_stops}
 
 -- ---- rows
 
--- where the row is the one of this id, its text is read as a number from 1 to the most
-abbrev IsNumberRow : Row → Text → Text → ℕ → Type 0
-IsNumberRow r v id most = r.id ≡ id → (r.reading ≡ WithoutMinus) × IsSignedIn (pos 1) (pos most) v
+-- where the row is the one of this id, its text is read as a number from the least to the most
+abbrev IsNumberRow : Row → Text → Text → ℕ → ℕ → Type 0
+IsNumberRow r v id least most = r.id ≡ id → (r.reading ≡ WithoutMinus) × IsSignedIn (pos least) (pos most) v
 
 -- the row has a value, and the numbers are in their ranges
 abbrev HoldsValue : Row → Type 0
-HoldsValue r = (v : Text) × (slice_get r.values 0 ≡ Some v) × IsNumberRow r v (codes "port") 65535
-    × IsNumberRow r v (codes "connections") 1000000
+HoldsValue r = (v : Text) × (slice_get r.values 0 ≡ Some v) × IsNumberRow r v (codes "port") 1 65535
+    × IsNumberRow r v (codes "connections") 1 1000000 × IsNumberRow r v (codes "within") 0 36500
 
 pub different : (id name : Text) → bytes_eq id name ≡ false → id ≡ name → ⊥
 different id name differs same = true≢false (sym ((bytes_eq-Decides id name).1 same) ∙ differs)
@@ -44,12 +44,13 @@ Fills again a = Keeps HoldsValue again a × KeepsDefault HoldsValue a
 
 -- a row of another argument than the numbers has any value
 any_value : (id : Text) (r : Row) (v : Text) → r.id ≡ id → slice_get r.values 0 ≡ Some v → bytes_eq id (codes "port") ≡ false
-    → bytes_eq id (codes "connections") ≡ false → HoldsValue r
-any_value id r v named has port connections = (
+    → bytes_eq id (codes "connections") ≡ false → bytes_eq id (codes "within") ≡ false → HoldsValue r
+any_value id r v named has port connections within = (
   v,
   has,
   (λ same. absurd (different _ _ port (sym named ∙ same))),
   (λ same. absurd (different _ _ connections (sym named ∙ same))),
+  (λ same. absurd (different _ _ within (sym named ∙ same))),
 )
 
 accepted : (a : Rule) (v : Text) → values_fault a (v ∷ []) ≡ [] → accepts a.ignore_case (parser_of_value a.parser) v ≡ true
@@ -60,15 +61,15 @@ accepted a v none = go (accepts a.ignore_case (parser_of_value a.parser) v) (no_
     go false e = absurd (cc)
 
 text_keeps : (a : Rule) → action_of a ≡ Set → (unwrap_or_range a.range).start_inclusive ≡ 1 → most_values a ≡ 1 → a.defaults ≡ []
-    → bytes_eq a.id (codes "port") ≡ false → bytes_eq a.id (codes "connections") ≡ false → Fills false a
-text_keeps a set least most bare port connections = (
-  set_keeps HoldsValue a set least most (λ v none. any_value a.id (row_with a v) v refl refl port connections),
+    → bytes_eq a.id (codes "port") ≡ false → bytes_eq a.id (codes "connections") ≡ false → bytes_eq a.id (codes "within") ≡ false → Fills false a
+text_keeps a set least most bare port connections within = (
+  set_keeps HoldsValue a set least most (λ v none. any_value a.id (row_with a v) v refl refl port connections within),
   none_keeps HoldsValue a bare,
 )
 
-number_taken : (a : Rule) (v : Text) (most : ℕ) → a.parser ≡ Some (Signed (pos 1) (pos most)) → values_fault a (v ∷ []) ≡ []
-    → ((row_with a v).reading ≡ WithoutMinus) × IsSignedIn (pos 1) (pos most) v
-number_taken a v most parser none = (
+number_taken : (a : Rule) (v : Text) (least most : ℕ) → a.parser ≡ Some (Signed (pos least) (pos most)) → values_fault a (v ∷ []) ≡ []
+    → ((row_with a v).reading ≡ WithoutMinus) × IsSignedIn (pos least) (pos most) v
+number_taken a v least most parser none = (
   ap (λ p. reading_of (parser_of_value p)) parser,
   subst (λ p. Accepts a.ignore_case (parser_of_value p) v) parser (accepts-Accepts a.ignore_case (parser_of_value a.parser) v (accepted a v none)),
 )
@@ -78,8 +79,9 @@ port_keeps = (
   set_keeps HoldsValue (filled port_rule) refl refl refl (λ v none. (
     v,
     refl,
-    (λ same. number_taken (filled port_rule) v 65535 refl none),
+    (λ same. number_taken (filled port_rule) v 1 65535 refl none),
     (λ same. absurd (different (codes "port") (codes "connections") refl same)),
+    (λ same. absurd (different (codes "port") (codes "within") refl same)),
   )),
   none_keeps HoldsValue (filled port_rule) refl,
 )
@@ -90,35 +92,50 @@ connections_keeps = (
     v,
     refl,
     (λ same. absurd (different (codes "connections") (codes "port") refl same)),
-    (λ same. number_taken (filled connections_rule) v 1000000 refl none),
+    (λ same. number_taken (filled connections_rule) v 1 1000000 refl none),
+    (λ same. absurd (different (codes "connections") (codes "within") refl same)),
   )),
   none_keeps HoldsValue (filled connections_rule) refl,
 )
 
+within_keeps : Fills false (filled within_rule)
+within_keeps = (
+  set_keeps HoldsValue (filled within_rule) refl refl refl (λ v none. (
+    v,
+    refl,
+    (λ same. absurd (different (codes "within") (codes "port") refl same)),
+    (λ same. absurd (different (codes "within") (codes "connections") refl same)),
+    (λ same. number_taken (filled within_rule) v 0 36500 refl none),
+  )),
+  none_keeps HoldsValue (filled within_rule) refl,
+)
+
 clerk_keeps : Fills false (filled clerk_rule)
-clerk_keeps = text_keeps (filled clerk_rule) refl refl refl refl refl refl
+clerk_keeps = text_keeps (filled clerk_rule) refl refl refl refl refl refl refl
 
 expert_keeps : Fills false (filled expert_rule)
-expert_keeps = text_keeps (filled expert_rule) refl refl refl refl refl refl
+expert_keeps = text_keeps (filled expert_rule) refl refl refl refl refl refl refl
 
-option_keeps : (id : Text) → bytes_eq id (codes "port") ≡ false → bytes_eq id (codes "connections") ≡ false → Fills false (filled (option_rule id))
-option_keeps id port connections = text_keeps (filled (option_rule id)) refl refl refl refl port connections
+option_keeps : (id : Text) → bytes_eq id (codes "port") ≡ false → bytes_eq id (codes "connections") ≡ false → bytes_eq id (codes "within") ≡ false
+    → Fills false (filled (option_rule id))
+option_keeps id port connections within = text_keeps (filled (option_rule id)) refl refl refl refl port connections within
 
 log_keeps : Fills false (filled (flag_rule (codes "log")))
 log_keeps = (
-  flag_keeps HoldsValue (filled (flag_rule (codes "log"))) (codes "true") refl refl refl refl (any_value (codes "log") (row_with (filled (flag_rule (codes "log"))) (codes "true")) (codes "true") refl refl refl refl),
-  value_keeps HoldsValue (filled (flag_rule (codes "log"))) (codes "false") refl (any_value (codes "log") (default_row_with (filled (flag_rule (codes "log"))) (codes "false")) (codes "false") refl refl refl refl),
+  flag_keeps HoldsValue (filled (flag_rule (codes "log"))) (codes "true") refl refl refl refl (any_value (codes "log") (row_with (filled (flag_rule (codes "log"))) (codes "true")) (codes "true") refl refl refl refl refl),
+  value_keeps HoldsValue (filled (flag_rule (codes "log"))) (codes "false") refl (any_value (codes "log") (default_row_with (filled (flag_rule (codes "log"))) (codes "false")) (codes "false") refl refl refl refl refl),
 )
 
-place_keeps : (i : ℕ) (id : Text) → bytes_eq id (codes "port") ≡ false → bytes_eq id (codes "connections") ≡ false → Fills false (with_index i (filled (place_rule id)))
-place_keeps i id port connections = text_keeps (with_index i (filled (place_rule id))) refl refl refl refl port connections
+place_keeps : (i : ℕ) (id : Text) → bytes_eq id (codes "port") ≡ false → bytes_eq id (codes "connections") ≡ false → bytes_eq id (codes "within") ≡ false
+    → Fills false (with_index i (filled (place_rule id)))
+place_keeps i id port connections within = text_keeps (with_index i (filled (place_rule id))) refl refl refl refl port connections within
 
 last_place_keeps : (i : ℕ) (id : Text) → bytes_eq id (codes "port") ≡ false → bytes_eq id (codes "connections") ≡ false
-    → Fills false (with_index i (filled (last_place_rule id)))
-last_place_keeps i id port connections = text_keeps (with_index i (filled (last_place_rule id))) refl refl refl refl port connections
+    → bytes_eq id (codes "within") ≡ false → Fills false (with_index i (filled (last_place_rule id)))
+last_place_keeps i id port connections within = text_keeps (with_index i (filled (last_place_rule id))) refl refl refl refl port connections within
 
 file_keeps : Fills false (with_index 1 (filled (place_rule (codes "FILE"))))
-file_keeps = place_keeps 1 (codes "FILE") refl refl
+file_keeps = place_keeps 1 (codes "FILE") refl refl refl
 
 help_flag_keeps : Fills false (filled help_rule)
 help_flag_keeps = (help_keeps HoldsValue false (filled help_rule) refl, none_keeps HoldsValue (filled help_rule) refl)
@@ -134,29 +151,39 @@ text_given id rows each given = go (find (λ r. bytes_eq r.id id) rows) refl giv
         let good = (found_holds HoldsValue (λ r. bytes_eq r.id id) rows r each found).0 in
         (good.0, ap (option_and_then (λ r. slice_get r.values 0)) found ∙ good.1)
 
-number_at : (id : Text) (most : ℕ) (rows : List Row) (r : Row) (v : Text) → find (λ r. bytes_eq r.id id) rows ≡ Some r → slice_get r.values 0 ≡ Some v
-    → (r.reading ≡ WithoutMinus) × IsSignedIn (pos 1) (pos most) v → HasNumber id most rows
-number_at id most rows r v found at number =
+number_at : (id : Text) (least most : ℕ) (rows : List Row) (r : Row) (v : Text) → find (λ r. bytes_eq r.id id) rows ≡ Some r → slice_get r.values 0 ≡ Some v
+    → (r.reading ≡ WithoutMinus) × IsSignedIn (pos least) (pos most) v → HasNumber id least most rows
+number_at id least most rows r v found at number =
     (v, ap (option_and_then row_text) found ∙ ap₂ (λ how o. option_map (read_as how) o) number.0 at, number.1)
 
-port_given : (rows : List Row) → Each HoldsValue rows → is_given (codes "port") rows ≡ true → HasNumber (codes "port") 65535 rows
+port_given : (rows : List Row) → Each HoldsValue rows → is_given (codes "port") rows ≡ true → HasNumber (codes "port") 1 65535 rows
 port_given rows each given = go (find (λ r. bytes_eq r.id (codes "port")) rows) refl given
   where
     go : (o : Option Row) → find (λ r. bytes_eq r.id (codes "port")) rows ≡ o → option_map_or (λ r. explicit_source r.source) o false ≡ true
-        → HasNumber (codes "port") 65535 rows
+        → HasNumber (codes "port") 1 65535 rows
     go None found given = absurd (cc)
     go (Some r) found given =
         let good = found_holds HoldsValue (λ r. bytes_eq r.id (codes "port")) rows r each found in
-        number_at (codes "port") 65535 rows r good.0.0 found good.0.1 (good.0.2 ((bytes_eq-Decides r.id (codes "port")).0 good.1))
+        number_at (codes "port") 1 65535 rows r good.0.0 found good.0.1 (good.0.2 ((bytes_eq-Decides r.id (codes "port")).0 good.1))
 
-connections_given : (rows : List Row) → Each HoldsValue rows → MayHaveNumber (codes "connections") 1000000 rows
+within_given : (rows : List Row) → Each HoldsValue rows → is_given (codes "within") rows ≡ true → HasNumber (codes "within") 0 36500 rows
+within_given rows each given = go (find (λ r. bytes_eq r.id (codes "within")) rows) refl given
+  where
+    go : (o : Option Row) → find (λ r. bytes_eq r.id (codes "within")) rows ≡ o → option_map_or (λ r. explicit_source r.source) o false ≡ true
+        → HasNumber (codes "within") 0 36500 rows
+    go None found given = absurd (cc)
+    go (Some r) found given =
+        let good = found_holds HoldsValue (λ r. bytes_eq r.id (codes "within")) rows r each found in
+        number_at (codes "within") 0 36500 rows r good.0.0 found good.0.1 (good.0.4 ((bytes_eq-Decides r.id (codes "within")).0 good.1))
+
+connections_given : (rows : List Row) → Each HoldsValue rows → MayHaveNumber (codes "connections") 1 1000000 rows
 connections_given rows each = go (find (λ r. bytes_eq r.id (codes "connections")) rows) refl
   where
-    go : (o : Option Row) → find (λ r. bytes_eq r.id (codes "connections")) rows ≡ o → MayHaveNumber (codes "connections") 1000000 rows
+    go : (o : Option Row) → find (λ r. bytes_eq r.id (codes "connections")) rows ≡ o → MayHaveNumber (codes "connections") 1 1000000 rows
     go None found = inl (ap (option_and_then (λ r. slice_get r.values 0)) found)
     go (Some r) found =
         let good = found_holds HoldsValue (λ r. bytes_eq r.id (codes "connections")) rows r each found in
-        inr (number_at (codes "connections") 1000000 rows r good.0.0 found good.0.1 (good.0.3 ((bytes_eq-Decides r.id (codes "connections")).0 good.1)))
+        inr (number_at (codes "connections") 1 1000000 rows r good.0.0 found good.0.1 (good.0.3 ((bytes_eq-Decides r.id (codes "connections")).0 good.1)))
 
 -- ---- the last checks
 
@@ -213,14 +240,14 @@ GivesJob s = (words : List Text) → level_fault s [] nothing_held words false [
 
 script_gives : GivesJob (sub_of script_app)
 script_gives words none =
-    let held = leaf_rows (sub_of script_app) (clerk_keeps, (option_keeps (codes "file") refl refl, (help_flag_keeps, tt))) refl words none in
+    let held = leaf_rows (sub_of script_app) (clerk_keeps, (option_keeps (codes "file") refl refl refl, (help_flag_keeps, tt))) refl words none in
     text_given _ _ held.0 (held.1.0 refl)
 
 import_gives : GivesJob (sub_of import_app)
 import_gives words none =
     let held = leaf_rows (sub_of import_app) (
-      place_keeps 1 (codes "CSV") refl refl,
-      (place_keeps 2 (codes "NAME") refl refl, (clerk_keeps, (expert_keeps, (help_flag_keeps, tt)))),
+      place_keeps 1 (codes "CSV") refl refl refl,
+      (place_keeps 2 (codes "NAME") refl refl refl, (clerk_keeps, (expert_keeps, (help_flag_keeps, tt)))),
     ) refl words none in (
       text_given _ _ held.0 (held.1.0 refl),
       text_given _ _ held.0 (held.1.1.0 refl),
@@ -243,10 +270,10 @@ request_gives words none =
     let held = leaf_rows (sub_of request_app) (
       file_keeps,
       (
-        place_keeps 2 (codes "METHOD") refl refl,
+        place_keeps 2 (codes "METHOD") refl refl refl,
         (
-          place_keeps 3 (codes "PATH") refl refl,
-          (last_place_keeps 4 (codes "BODY") refl refl, (option_keeps (codes "token") refl refl, (help_flag_keeps, tt))),
+          place_keeps 3 (codes "PATH") refl refl refl,
+          (last_place_keeps 4 (codes "BODY") refl refl refl, (option_keeps (codes "token") refl refl refl, (help_flag_keeps, tt))),
         ),
       ),
     ) refl words none in
@@ -257,8 +284,8 @@ define_gives words none =
     let held = leaf_rows (sub_of define_app) (
       file_keeps,
       (
-        place_keeps 2 (codes "NAME") refl refl,
-        (place_keeps 3 (codes "MAX") refl refl, (place_keeps 4 (codes "CSV") refl refl, (clerk_keeps, (help_flag_keeps, tt)))),
+        place_keeps 2 (codes "NAME") refl refl refl,
+        (place_keeps 3 (codes "MAX") refl refl refl, (place_keeps 4 (codes "CSV") refl refl refl, (clerk_keeps, (help_flag_keeps, tt)))),
       ),
     ) refl words none in (
       text_given _ _ held.0 (held.1.0 refl),
@@ -270,16 +297,32 @@ define_gives words none =
 
 listing_gives : GivesJob (sub_of listing_app)
 listing_gives words none =
-    let held = leaf_rows (sub_of listing_app) (file_keeps, (option_keeps (codes "registry") refl refl, (help_flag_keeps, tt))) refl words none in
+    let held = leaf_rows (sub_of listing_app) (file_keeps, (option_keeps (codes "registry") refl refl refl, (help_flag_keeps, tt))) refl words none in
     text_given _ _ held.0 (held.1.0 refl)
 
 publish_gives : GivesJob (sub_of publish_app)
 publish_gives words none =
     let held = leaf_rows (sub_of publish_app) (
-      place_keeps 1 (codes "SOURCE") refl refl,
-      (place_keeps 2 (codes "FOLDER") refl refl, (help_flag_keeps, tt)),
+      place_keeps 1 (codes "SOURCE") refl refl refl,
+      (place_keeps 2 (codes "FOLDER") refl refl refl, (option_keeps (codes "notes") refl refl refl, (help_flag_keeps, tt))),
     ) refl words none in
     (text_given _ _ held.0 (held.1.0 refl), text_given _ _ held.0 (held.1.1.0 refl))
+
+verify_gives : GivesJob (sub_of verify_app)
+verify_gives words none =
+    let held = leaf_rows (sub_of verify_app) (
+      place_keeps 1 (codes "FOLDER") refl refl refl,
+      (option_keeps (codes "digest") refl refl refl, (help_flag_keeps, tt)),
+    ) refl words none in
+    text_given _ _ held.0 (held.1.0 refl)
+
+due_gives : GivesJob (sub_of due_app)
+due_gives words none =
+    let held = leaf_rows (sub_of due_app) (
+      place_keeps 1 (codes "SOURCE") refl refl refl,
+      (within_keeps, (help_flag_keeps, tt)),
+    ) refl words none in
+    (text_given _ _ held.0 (held.1.0 refl), within_given _ held.0 (held.1.1.0 refl))
 
 check_gives : GivesJob (sub_of check_app)
 check_gives words none =
@@ -295,7 +338,7 @@ revoke_gives : GivesJob (sub_of revoke_app)
 revoke_gives words none =
     let held = leaf_rows (sub_of revoke_app) (
       file_keeps,
-      (option_keeps (codes "digest") refl refl, (option_keeps (codes "account") refl refl, (help_flag_keeps, tt))),
+      (option_keeps (codes "digest") refl refl refl, (option_keeps (codes "account") refl refl refl, (help_flag_keeps, tt))),
     ) refl words none in
     text_given _ _ held.0 (held.1.0 refl)
 
@@ -329,14 +372,20 @@ each_gives = (
             (
               (λ p answers elsewhere none. listing_gives p.1 none),
               (
-                (λ p answers elsewhere none. publish_gives p.1 none),
+                (λ p answers elsewhere none. due_gives p.1 none),
                 (
-                  (λ p answers elsewhere none. check_gives p.1 none),
+                  (λ p answers elsewhere none. publish_gives p.1 none),
                   (
-                    (λ p answers elsewhere none. tokens_gives p.1 none),
+                    (λ p answers elsewhere none. verify_gives p.1 none),
                     (
-                      (λ p answers elsewhere none. revoke_gives p.1 none),
-                      (help_not_entered, tt),
+                      (λ p answers elsewhere none. check_gives p.1 none),
+                      (
+                        (λ p answers elsewhere none. tokens_gives p.1 none),
+                        (
+                          (λ p answers elsewhere none. revoke_gives p.1 none),
+                          (help_not_entered, tt),
+                        ),
+                      ),
                     ),
                   ),
                 ),

@@ -7,12 +7,12 @@ use Rattle.std.specs.String.{string_bytes}
 use Rattle.std.specs.Str.Parse.{IsNumeral, digits_value, without_leading_plus}
 use Rattle.clap.specs.Words.{IsAmong, IsSignedIn, Row, Text, fault_of, first_of, one_of, subcommand_of, without_minus}
 use Rattle.clap.specs.declared.error.kind.ErrorKind.{ErrorKind}
-use Rattle.clap.specs.declared.error.kind.ErrorKind.TheVariants.{DisplayHelp}
+use Rattle.clap.specs.declared.error.kind.ErrorKind.TheVariants.{DisplayHelp, DisplayVersion}
 use Rattle.reg_jobs.specs.CommandLine.{office_app}
 use Rattle.reg_jobs.specs.declared.jobs.Job.{Job}
 use Rattle.reg_jobs.specs.declared.jobs.Job.TheVariants.{Script, Import, Init, Serve, Request, Define}
-use Rattle.reg_jobs.specs.declared.jobs.Job.TheVariants.{Listing, Publish, Check, Tokens, Revoke}
-use Rattle.reg_jobs.specs.declared.jobs.Job.TheVariants.{Help}
+use Rattle.reg_jobs.specs.declared.jobs.Job.TheVariants.{Listing, Due, Publish, Verify, Check, Tokens, Revoke}
+use Rattle.reg_jobs.specs.declared.jobs.Job.TheVariants.{Version, Help}
 use Rattle.reg_jobs.specs.declared.jobs.Which.{Which}
 use Rattle.reg_jobs.specs.declared.jobs.Which.TheVariants.{Digest, Account}
 
@@ -82,9 +82,16 @@ IsJobOf name rows (Define order) =
 IsJobOf name rows (Listing file registry) =
     (name ≡ codes "listing") × IsTextOf (codes "FILE") rows (string_bytes file)
     × (first_of (codes "registry") rows ≡ option_map string_bytes registry)
-IsJobOf name rows (Publish source folder) =
+IsJobOf name rows (Publish source folder notes) =
     (name ≡ codes "publish") × IsTextOf (codes "SOURCE") rows (string_bytes source)
     × IsTextOf (codes "FOLDER") rows (string_bytes folder)
+    × (first_of (codes "notes") rows ≡ option_map string_bytes notes)
+IsJobOf name rows (Verify folder digest) =
+    (name ≡ codes "verify") × IsTextOf (codes "FOLDER") rows (string_bytes folder)
+    × (first_of (codes "digest") rows ≡ option_map string_bytes digest)
+IsJobOf name rows (Due source within) =
+    (name ≡ codes "due") × IsTextOf (codes "SOURCE") rows (string_bytes source)
+    × IsNumberOf (codes "within") rows within
 IsJobOf name rows (Check file) =
     (name ≡ codes "check") × IsTextOf (codes "FILE") rows (string_bytes file)
 IsJobOf name rows (Tokens file) =
@@ -92,48 +99,65 @@ IsJobOf name rows (Tokens file) =
 IsJobOf name rows (Revoke file which) =
     (name ≡ codes "revoke") × IsTextOf (codes "FILE") rows (string_bytes file)
     × IsWhichOf rows which
+IsJobOf name rows Version = ⊥
 IsJobOf name rows (Help text) = ⊥
 
-abbrev pub IsHelp : Job → Type 0
-IsHelp (Help text) = ⊤
-IsHelp _ = ⊥
+-- the job is the one for which words ask by this kind of fault, as the library says it
+abbrev pub IsAskedBy : Job → ErrorKind → Type 0
+IsAskedBy (Help text) kind = kind ≡ DisplayHelp
+IsAskedBy Version kind = kind ≡ DisplayVersion
+IsAskedBy _ kind = ⊥
+
+-- the fault is no question for help, nor for the version
+abbrev pub IsOther : ErrorKind → Type 0
+IsOther kind = (kind ≡ DisplayHelp → ⊥) × (kind ≡ DisplayVersion → ⊥)
 
 abbrev pub IsFromOneTo : ℕ → ℕ → Type 0
 IsFromOneTo most number = (1 ≤ number) × (number ≤ most)
 
--- where the job serves, the port and the count of connections are in their ranges
+-- the port, the count of connections and the days are in their ranges
 abbrev pub IsInRange : Job → Type 0
 IsInRange (Serve file port connections log) =
     IsFromOneTo 65535 port × IsFromOneTo 1000000 connections
+IsInRange (Due source within) = within ≤ 36500
 IsInRange _ = ⊤
 
 -- the argument has a value
 abbrev pub HasText : Text → List Row → Type 0
 HasText id rows = (text : Text) × IsTextOf id rows text
 
--- the argument has a value, which is a number from 1 to the most
-abbrev pub HasNumber : Text → ℕ → List Row → Type 0
-HasNumber id most rows = (text : Text) × (one_of id rows ≡ Some (without_minus text))
-    × IsSignedIn (pos 1) (pos most) text
+-- the argument has a value, which is a number from the least to the most
+abbrev pub HasNumber : Text → ℕ → ℕ → List Row → Type 0
+HasNumber id least most rows = (text : Text) × (one_of id rows ≡ Some (without_minus text))
+    × IsSignedIn (pos least) (pos most) text
 
 -- the argument has no value, or such a number
-abbrev pub MayHaveNumber : Text → ℕ → List Row → Type 0
-MayHaveNumber id most rows = (first_of id rows ≡ None) ⊎ HasNumber id most rows
+abbrev pub MayHaveNumber : Text → ℕ → ℕ → List Row → Type 0
+MayHaveNumber id least most rows = (first_of id rows ≡ None) ⊎ HasNumber id least most rows
 
 -- the first fact where the condition holds, and else the second
 abbrev pub Where : Bool → Type 0 → Type 0 → Type 0
 Where true P Q = P
 Where false P Q = Q
 
--- there is a job of this name among those that change or look after an office, and the values that
--- it needs are there
+-- there is a job of this name among those that look after an office, and the values that it needs
+-- are there
 abbrev pub HasKeepingJob : Text → List Row → Type 0
 HasKeepingJob name rows =
-    Where (bytes_eq name (codes "publish"))
-    (HasText (codes "SOURCE") rows × HasText (codes "FOLDER") rows)
-    (Where (bytes_eq name (codes "check")) (HasText (codes "FILE") rows)
+    Where (bytes_eq name (codes "check")) (HasText (codes "FILE") rows)
     (Where (bytes_eq name (codes "tokens")) (HasText (codes "FILE") rows)
-    (Where (bytes_eq name (codes "revoke")) (HasText (codes "FILE") rows) ⊥)))
+    (Where (bytes_eq name (codes "revoke")) (HasText (codes "FILE") rows) ⊥))
+
+-- there is a job of this name among those that tell others what is published or look after an
+-- office, and the values that it needs are there
+abbrev pub HasTellingJob : Text → List Row → Type 0
+HasTellingJob name rows =
+    Where (bytes_eq name (codes "due"))
+    (HasText (codes "SOURCE") rows × HasNumber (codes "within") 0 36500 rows)
+    (Where (bytes_eq name (codes "publish"))
+    (HasText (codes "SOURCE") rows × HasText (codes "FOLDER") rows)
+    (Where (bytes_eq name (codes "verify")) (HasText (codes "FOLDER") rows)
+    (HasKeepingJob name rows)))
 
 -- there is a job of this name, and the values that it needs are there
 abbrev pub HasJob : Text → List Row → Type 0
@@ -145,31 +169,32 @@ HasJob name rows =
     (Where (bytes_eq name (codes "init"))
     (HasText (codes "FILE") rows × HasText (codes "clerk") rows)
     (Where (bytes_eq name (codes "serve"))
-    (HasText (codes "FILE") rows × HasNumber (codes "port") 65535 rows
-    × MayHaveNumber (codes "connections") 1000000 rows)
+    (HasText (codes "FILE") rows × HasNumber (codes "port") 1 65535 rows
+    × MayHaveNumber (codes "connections") 1 1000000 rows)
     (Where (bytes_eq name (codes "request"))
     (HasText (codes "FILE") rows × HasText (codes "METHOD") rows × HasText (codes "PATH") rows)
     (Where (bytes_eq name (codes "define"))
     (HasText (codes "FILE") rows × HasText (codes "NAME") rows × HasText (codes "MAX") rows
     × HasText (codes "CSV") rows × HasText (codes "clerk") rows)
     (Where (bytes_eq name (codes "listing")) (HasText (codes "FILE") rows)
-    (HasKeepingJob name rows)))))))
+    (HasTellingJob name rows)))))))
 
 -- the words of `revoke` do not say which
 abbrev pub IsUnclearRevoke : Text → List Row → Type 0
 IsUnclearRevoke name rows = (name ≡ codes "revoke") × IsUnclear rows
 
--- the words are taken, name a job, and it is this one; or they ask for help, and that is printed
+-- the words are taken, name a job, and it is this one; or they ask for help, or for the version, and
+-- that is printed
 abbrev pub IsAsked : List Text → Job → Type 0
 IsAsked words job =
     ((met : Text × List Row) × (subcommand_of office_app words ≡ Some met)
     × IsJobOf met.0 met.1 job × IsInRange job × (fault_of office_app words ≡ []))
-    ⊎ (IsHelp job × IsAmong DisplayHelp (fault_of office_app words))
+    ⊎ ((kind : ErrorKind) × IsAskedBy job kind × IsAmong kind (fault_of office_app words))
 
--- the words are refused, by a fault other than that they ask for help; or they are taken, and ask
--- that capabilities are taken away, and not clearly which
+-- the words are refused, by a fault other than that they ask for help or for the version; or they are
+-- taken, and ask that capabilities are taken away, and not clearly which
 abbrev pub IsRefused : List Text → Type 0
 IsRefused words =
-    ((fault : ErrorKind) × IsAmong fault (fault_of office_app words) × (fault ≡ DisplayHelp → ⊥))
+    ((fault : ErrorKind) × IsAmong fault (fault_of office_app words) × IsOther fault)
     ⊎ ((met : Text × List Row) × (subcommand_of office_app words ≡ Some met)
     × IsUnclearRevoke met.0 met.1 × (fault_of office_app words ≡ []))

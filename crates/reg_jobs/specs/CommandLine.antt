@@ -20,7 +20,8 @@ option_rule id = record (new_rule id) { long = Some id; value_names = 1; action 
 abbrev pub flag_rule : Text → Rule
 flag_rule id = record (new_rule id) { long = Some id; action = Some SetTrue }
 
--- the options of the jobs: the clerk's token, the expert's account, the port, how many connections
+-- the options of the jobs: the clerk's token, the expert's account, the port, how many connections,
+-- in how many days
 abbrev pub clerk_rule : Rule
 clerk_rule = record (option_rule (codes "clerk")) { required = true }
 
@@ -36,6 +37,12 @@ port_rule = record (option_rule (codes "port")) {
 abbrev pub connections_rule : Rule
 connections_rule = record (option_rule (codes "connections")) {
   parser = Some (Signed (pos 1) (pos 1000000));
+}
+
+abbrev pub within_rule : Rule
+within_rule = record (option_rule (codes "within")) {
+  required = true;
+  parser = Some (Signed (pos 0) (pos 36500));
 }
 
 -- a command whose first word is an office's file
@@ -99,14 +106,22 @@ revoke_app =
 
 abbrev pub publish_app : App
 publish_app =
-    with_rule (with_rule (new_app (codes "publish")) (place_rule (codes "SOURCE")))
-    (place_rule (codes "FOLDER"))
+    with_rule (with_rule (with_rule (new_app (codes "publish")) (place_rule (codes "SOURCE")))
+    (place_rule (codes "FOLDER"))) (option_rule (codes "notes"))
+
+abbrev pub verify_app : App
+verify_app =
+    with_rule (with_rule (new_app (codes "verify")) (place_rule (codes "FOLDER")))
+    (option_rule (codes "digest"))
+
+abbrev pub due_app : App
+due_app = with_rule (with_rule (new_app (codes "due")) (place_rule (codes "SOURCE"))) within_rule
 
 -- the program, before its jobs
 abbrev pub program_app : App
 program_app =
     let named = new_app (codes "reg_cli") in
-    record named { top = record named.top { subcommand_required = true } }
+    record named { top = record named.top { has_version = true; subcommand_required = true } }
 
 -- the program with the jobs that begin an office and have it served
 abbrev pub serving_app : App
@@ -117,10 +132,16 @@ serving_app =
 -- the program with the jobs that ask an office too
 abbrev pub asking_app : App
 asking_app =
-    with_subcommand (with_subcommand (with_subcommand (with_subcommand serving_app
-    request_app.top) define_app.top) listing_app.top) publish_app.top
+    with_subcommand (with_subcommand (with_subcommand serving_app
+    request_app.top) define_app.top) listing_app.top
+
+-- the program with the jobs that tell others what is published, too
+abbrev pub telling_app : App
+telling_app =
+    with_subcommand (with_subcommand (with_subcommand asking_app
+    due_app.top) publish_app.top) verify_app.top
 
 abbrev pub office_app : App
 office_app =
-    with_subcommand (with_subcommand (with_subcommand asking_app
+    with_subcommand (with_subcommand (with_subcommand telling_app
     check_app.top) tokens_app.top) revoke_app.top

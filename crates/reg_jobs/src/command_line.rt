@@ -1,9 +1,9 @@
 //! The command line.
-ghost use Rattle.std.specs.Prelude.{◌≡◌, IfErr, IfOk, List, MatchResult, Some, codes, map, option_map};
+ghost use Rattle.std.specs.Prelude.{◌≡◌, ◌≤◌, IfErr, IfOk, List, MatchResult, Some, codes, map, option_map};
 ghost use Rattle.std.specs.String.{string_bytes};
 ghost use Rattle.clap.specs.Words.{Row, Text, first_of, found_of, kind_of, rows_of, subcommand_rows_of};
-ghost use Rattle.clap.specs.declared.error.kind.ErrorKind.TheVariants.{DisplayHelp, OutOfMemory};
-ghost use Rattle.reg_jobs.specs.Asking.{HasJob, HasNumber, HasText, IsAsked, IsCountOf, IsFromOneTo, IsHelp, IsInRange, IsJobOf, IsNumberOf, IsRefused, IsTextOf, IsUnclear, IsUnclearRevoke, IsWhichOf, MayHaveNumber, is_used};
+ghost use Rattle.clap.specs.declared.error.kind.ErrorKind.TheVariants.{OutOfMemory};
+ghost use Rattle.reg_jobs.specs.Asking.{HasJob, HasNumber, HasText, IsAsked, IsAskedBy, IsCountOf, IsFromOneTo, IsInRange, IsJobOf, IsNumberOf, IsOther, IsRefused, IsTextOf, IsUnclear, IsUnclearRevoke, IsWhichOf, MayHaveNumber, is_used};
 ghost use Rattle.reg_jobs.specs.declared.jobs.JobFault.TheVariants.{Line, Memory};
 
 use crate::definition::{MOST_CONNECTIONS, office};
@@ -25,20 +25,21 @@ pub fn job(alloc: Global, words: &[&str]) -> Result<Job, JobFault>
             drop(matches);
             job
         }
-        Err(error) => help_of(alloc, &error),
+        Err(error) => answer_to(alloc, &error),
     }
 }
 
-// The job where the words were not taken: that help is printed, where they ask for it.
-fn help_of(alloc: Global, error: &Error) -> Result<Job, JobFault>
-    ensures help { IfOk result (λ job. IsHelp job × (kind_of error.now ≡ DisplayHelp)) }
+// The job where the words were not taken: that help or the version is printed, where they ask for it.
+fn answer_to(alloc: Global, error: &Error) -> Result<Job, JobFault>
+    ensures asked { IfOk result (λ job. IsAskedBy job (kind_of error.now)) }
     ensures memory { IfErr result (λ fault. kind_of error.now ≡ OutOfMemory → fault ≡ Memory) }
-    ensures line { IfErr result (λ fault. fault ≡ Line → kind_of error.now ≡ DisplayHelp → ⊥) }
+    ensures line { IfErr result (λ fault. fault ≡ Line → IsOther (kind_of error.now)) }
 {
     match error.kind() {
         ErrorKind::DisplayHelp => Ok(Job::Help {
             text: format!(in alloc; "{error}")?,
         }),
+        ErrorKind::DisplayVersion => Ok(Job::Version),
         ErrorKind::OutOfMemory => Err(JobFault::Memory),
         _ => Err(JobFault::Line),
     }
@@ -63,7 +64,9 @@ fn job_of(alloc: Global, matches: &ArgMatches) -> Result<Job, JobFault>
         "request" => request_of(alloc, inner),
         "define" => define_of(alloc, inner),
         "listing" => listing_of(alloc, inner),
+        "due" => due_of(alloc, inner),
         "publish" => publish_of(alloc, inner),
+        "verify" => verify_of(alloc, inner),
         "check" => check_of(alloc, inner),
         "tokens" => tokens_of(alloc, inner),
         "revoke" => revoke_of(alloc, inner),
@@ -113,8 +116,8 @@ fn init_of(alloc: Global, matches: &ArgMatches) -> Result<Job, JobFault>
 fn serve_of(alloc: Global, matches: &ArgMatches) -> Result<Job, JobFault>
     ensures said { IfOk result (IsJobOf (codes "serve") (rows_of (found_of matches.now))) }
     ensures given { HasText (codes "FILE") (rows_of (found_of matches.now))
-        → HasNumber (codes "port") 65535 (rows_of (found_of matches.now))
-        → MayHaveNumber (codes "connections") 1000000 (rows_of (found_of matches.now))
+        → HasNumber (codes "port") 1 65535 (rows_of (found_of matches.now))
+        → MayHaveNumber (codes "connections") 1 1000000 (rows_of (found_of matches.now))
         → MatchResult result IsInRange (λ fault. fault ≡ Memory) }
 {
     Ok(Job::Serve {
@@ -127,7 +130,7 @@ fn serve_of(alloc: Global, matches: &ArgMatches) -> Result<Job, JobFault>
 
 fn port(matches: &ArgMatches) -> Result<u16, JobFault>
     ensures said { IfOk result (IsNumberOf (codes "port") (rows_of (found_of matches.now))) }
-    ensures given { HasNumber (codes "port") 65535 (rows_of (found_of matches.now))
+    ensures given { HasNumber (codes "port") 1 65535 (rows_of (found_of matches.now))
         → MatchResult result (IsFromOneTo 65535) (λ fault. fault ≡ Memory) }
 {
     matches.get_one::<u16>("port").ok_or(JobFault::Line)
@@ -136,7 +139,7 @@ fn port(matches: &ArgMatches) -> Result<u16, JobFault>
 // How many connections are served: as many as is said, or the most.
 fn connections(matches: &ArgMatches) -> Result<u32, JobFault>
     ensures said { IfOk result (IsCountOf (rows_of (found_of matches.now))) }
-    ensures given { MayHaveNumber (codes "connections") 1000000 (rows_of (found_of matches.now))
+    ensures given { MayHaveNumber (codes "connections") 1 1000000 (rows_of (found_of matches.now))
         → MatchResult result (IsFromOneTo 1000000) (λ fault. fault ≡ Memory) }
 {
     match matches.get_str("connections") {
@@ -147,7 +150,7 @@ fn connections(matches: &ArgMatches) -> Result<u32, JobFault>
 
 fn said_connections(matches: &ArgMatches) -> Result<u32, JobFault>
     ensures said { IfOk result (IsNumberOf (codes "connections") (rows_of (found_of matches.now))) }
-    ensures given { HasNumber (codes "connections") 1000000 (rows_of (found_of matches.now))
+    ensures given { HasNumber (codes "connections") 1 1000000 (rows_of (found_of matches.now))
         → MatchResult result (IsFromOneTo 1000000) (λ fault. fault ≡ Memory) }
 {
     matches.get_one::<u32>("connections").ok_or(JobFault::Line)
@@ -207,7 +210,39 @@ fn publish_of(alloc: Global, matches: &ArgMatches) -> Result<Job, JobFault>
     Ok(Job::Publish {
         source: text(alloc, matches, "SOURCE")?,
         folder: text(alloc, matches, "FOLDER")?,
+        notes: optional_text(alloc, matches, "notes")?,
     })
+}
+
+fn verify_of(alloc: Global, matches: &ArgMatches) -> Result<Job, JobFault>
+    ensures said { IfOk result (IsJobOf (codes "verify") (rows_of (found_of matches.now))) }
+    ensures given { HasText (codes "FOLDER") (rows_of (found_of matches.now))
+        → MatchResult result IsInRange (λ fault. fault ≡ Memory) }
+{
+    Ok(Job::Verify {
+        folder: text(alloc, matches, "FOLDER")?,
+        digest: optional_text(alloc, matches, "digest")?,
+    })
+}
+
+fn due_of(alloc: Global, matches: &ArgMatches) -> Result<Job, JobFault>
+    ensures said { IfOk result (IsJobOf (codes "due") (rows_of (found_of matches.now))) }
+    ensures given { HasText (codes "SOURCE") (rows_of (found_of matches.now))
+        → HasNumber (codes "within") 0 36500 (rows_of (found_of matches.now))
+        → MatchResult result IsInRange (λ fault. fault ≡ Memory) }
+{
+    Ok(Job::Due {
+        source: text(alloc, matches, "SOURCE")?,
+        within: days(matches)?,
+    })
+}
+
+fn days(matches: &ArgMatches) -> Result<u32, JobFault>
+    ensures said { IfOk result (IsNumberOf (codes "within") (rows_of (found_of matches.now))) }
+    ensures given { HasNumber (codes "within") 0 36500 (rows_of (found_of matches.now))
+        → MatchResult result (λ days. days ≤ 36500) (λ fault. fault ≡ Memory) }
+{
+    matches.get_one::<u32>("within").ok_or(JobFault::Line)
 }
 
 fn check_of(alloc: Global, matches: &ArgMatches) -> Result<Job, JobFault>

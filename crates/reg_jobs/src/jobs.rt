@@ -2,6 +2,9 @@
 use std::alloc::{AllocError, AllocFailed};
 use std::io;
 
+/// The version of the program. Its first number is the version of the offices that it keeps.
+pub const VERSION: &str = "3.0.0";
+
 /// What the program is asked to do.
 #[derive(Drop)]
 pub enum Job {
@@ -49,6 +52,22 @@ pub enum Job {
         source: String,
         /// The path of the folder in which the files are.
         folder: String,
+        /// The path of the notes that the pages show; without one, they show none.
+        notes: Option<String>,
+    },
+    /// Checks the history of what is published in a folder, and the files there against it.
+    Verify {
+        /// The path of the folder.
+        folder: String,
+        /// The first digits of a digest that the history has to have.
+        digest: Option<String>,
+    },
+    /// Prints the early allocations that expire soon.
+    Due {
+        /// The path of the office's file, or the address at which it is served.
+        source: String,
+        /// In how many days they expire at most, from 0 to 36,500.
+        within: u32,
     },
     /// Says whether the office in a file is well kept, and counts what is in it.
     Check {
@@ -67,6 +86,8 @@ pub enum Job {
         /// Which capabilities are taken away.
         which: Which,
     },
+    /// Prints the version of the program.
+    Version,
     /// Prints how the program, or one of its jobs, is used.
     Help {
         /// What is printed.

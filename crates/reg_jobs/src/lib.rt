@@ -3,4 +3,5 @@
 
 pub mod command_line;
 mod definition;
+mod help;
 pub mod jobs;

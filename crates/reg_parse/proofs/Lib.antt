@@ -7,4 +7,5 @@ pub mod FormedCommands
 pub mod Objects
 pub mod Routed
 pub mod Routing
+pub mod ShownPaths
 pub mod SizeWords

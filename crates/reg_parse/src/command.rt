@@ -56,7 +56,7 @@ pub fn read_command(
 }
 
 // The path as a text, and what the methods do there.
-fn routed<'p>(routes: &Routes, path: &'p [u8]) -> Option<(&'p str, Methods)>
+pub(crate) fn routed<'p>(routes: &Routes, path: &'p [u8]) -> Option<(&'p str, Methods)>
     ensures methods { option_map (λ r. r.1) result ≡ routed path.now }
     ensures same_path { IfSome result (λ r. r.0.now ≡ path.now) }
 {

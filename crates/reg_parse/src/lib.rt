@@ -8,3 +8,4 @@ pub mod laws;
 mod path;
 mod range_file;
 pub mod route;
+pub mod shown;

@@ -1,10 +1,13 @@
 use Rattle.std.proofs.Common.{◌≡◌, ◌∙◌, Err, IfErr, IfOk, MatchResult, Ok, Result, [], ap, inl, inr, sym, subst, true, refl, map}
 use Rattle.std.proofs.lemmas.Result.{IfErr-weaker, IfOk-weaker}
 use Rattle.clap.specs.Words.{HasKind, IsAmong, app_of, fault_of, is_simple, is_simple_and_free, kind_of, subcommand_of}
-use Rattle.clap.specs.declared.error.kind.ErrorKind.TheVariants.{DisplayHelp}
+use Rattle.clap.specs.declared.error.kind.ErrorKind.{ErrorKind}
+use Rattle.clap.specs.declared.error.kind.ErrorKind.TheVariants.{OutOfMemory}
 use Rattle.clap.proofs.OnLiterals.{clap_on_literals}
-use Rattle.reg_jobs.specs.Asking.{IsInRange, IsUnclearRevoke}
+use Rattle.reg_jobs.specs.Asking.{IsAskedBy, IsInRange, IsUnclearRevoke}
 use Rattle.reg_jobs.specs.CommandLine.{office_app}
+use Rattle.reg_jobs.specs.declared.jobs.Job.{Job}
+use Rattle.reg_jobs.specs.declared.jobs.Job.TheVariants.{Version, Help}
 use Rattle.reg_jobs.specs.declared.jobs.JobFault.TheVariants.{Line}
 use Rattle.reg_jobs.proofs.Taken.{taken_gives}
 use Rattle.reg_jobs.proofs.command_line.job.Goals as goal
@@ -29,6 +32,12 @@ on_error : {X E : Type 0} (r : Result X E) (P : X → Type 0) (Q R : E → Type 
 on_error (Ok x) P Q R h weaker = tt
 on_error (Err e) P Q R h weaker = weaker e h
 
+-- nobody asks by want of memory
+not_by_memory : (job : Job) (kind : ErrorKind) → IsAskedBy job kind → kind ≡ OutOfMemory → ⊥
+not_by_memory (Help text) kind asked memory = cc
+not_by_memory Version kind asked memory = cc
+not_by_memory _ kind asked memory = absurd asked
+
 pub returns-in-Ok : goal.returns-in-Ok
 returns-in-Ok c =
     let is : app_of c.in_ok-office.field-0 ≡ office_app = c.in_ok-office.ensures in
@@ -51,15 +60,14 @@ returns-in-Err c =
     let kinds : HasKind (fault_of office_app words) c.in-Err.error =
     subst (λ a. HasKind (fault_of a words) c.in-Err.error) is (c.in-Err.ensures.kinds (ap is_simple_and_free is ∙ simple_and_free)) in
     record {
-      asked = IfOk-weaker c.help_of.result _ _ (λ job h.
-          let kind : kind_of c.in-Err.error ≡ DisplayHelp = h.1 in
+      asked = IfOk-weaker c.answer_to.result _ _ (λ job h.
           elim kinds [
-            | inl memory ↦ absurd (cc)
-            | inr among ↦ inr (h.0, subst (λ k. IsAmong k (fault_of office_app words)) kind among)
-          ]) c.help_of.ensures.help;
-      line = IfErr-weaker c.help_of.result _ _ (λ fault h line.
+            | inl memory ↦ absurd (not_by_memory job (kind_of c.in-Err.error) h memory)
+            | inr among ↦ inr (kind_of c.in-Err.error, h, among)
+          ]) c.answer_to.ensures.asked;
+      line = IfErr-weaker c.answer_to.result _ _ (λ fault h line.
           elim kinds [
             | inl memory ↦ let not_line = h.0 memory in absurd (cc)
             | inr among ↦ inl (kind_of c.in-Err.error, among, h.1 line)
-          ]) (both_err c.help_of.result _ _ c.help_of.ensures.memory c.help_of.ensures.line);
+          ]) (both_err c.answer_to.result _ _ c.answer_to.ensures.memory c.answer_to.ensures.line);
     }

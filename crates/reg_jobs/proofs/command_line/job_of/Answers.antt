@@ -136,6 +136,18 @@ returns-in-listing c =
           (λ h. only_memory c.listing_of.result (codes "listing", rows) (c.listing_of.ensures.given h));
     }
 
+pub returns-in-due : goal.returns-in-due
+returns-in-due c =
+    let name = c.in-Some.name.now in
+    let rows = rows_of (found_of c.in-Some.inner.now) in
+    let here = met_at c.args.matches.now name rows c.in-Some.ensures.name c.in-Some.ensures.rows in
+    let o = subcommand_rows_of c.args.matches.now in
+    record {
+      said = said_at o name (codes "due") rows c.due_of.result here c.in-due.is c.due_of.ensures.said;
+      given = given_at o name (codes "due") rows c.due_of.result here c.in-due.is
+          (λ h. only_memory c.due_of.result (codes "due", rows) (c.due_of.ensures.given h.0 h.1));
+    }
+
 pub returns-in-publish : goal.returns-in-publish
 returns-in-publish c =
     let name = c.in-Some.name.now in
@@ -146,6 +158,18 @@ returns-in-publish c =
       said = said_at o name (codes "publish") rows c.publish_of.result here c.in-publish.is c.publish_of.ensures.said;
       given = given_at o name (codes "publish") rows c.publish_of.result here c.in-publish.is
           (λ h. only_memory c.publish_of.result (codes "publish", rows) (c.publish_of.ensures.given h.0 h.1));
+    }
+
+pub returns-in-verify : goal.returns-in-verify
+returns-in-verify c =
+    let name = c.in-Some.name.now in
+    let rows = rows_of (found_of c.in-Some.inner.now) in
+    let here = met_at c.args.matches.now name rows c.in-Some.ensures.name c.in-Some.ensures.rows in
+    let o = subcommand_rows_of c.args.matches.now in
+    record {
+      said = said_at o name (codes "verify") rows c.verify_of.result here c.in-verify.is c.verify_of.ensures.said;
+      given = given_at o name (codes "verify") rows c.verify_of.result here c.in-verify.is
+          (λ h. only_memory c.verify_of.result (codes "verify", rows) (c.verify_of.ensures.given h));
     }
 
 pub returns-in-check : goal.returns-in-check

@@ -14,6 +14,6 @@ returns-clause-said c =
 
 pub returns-clause-given : goal.returns-clause-given
 returns-clause-given c has = number_returned c.ok_or.result c.get_one.result _ _ _ c.ok_or.ensures.value
-    (number_given 16 65535 (λ t r. ParsesUnsigned 16 10 t r × ExplainsUnsignedError 10 t r
+    (number_given 16 1 65535 (λ t r. ParsesUnsigned 16 10 t r × ExplainsUnsignedError 10 t r
     × HasUnsignedDigitsIfOk t r) (found_of c.args.matches.now) _ c.get_one.result (λ t x h. h.0)
     (omega arith) c.get_one.ensures.value has)

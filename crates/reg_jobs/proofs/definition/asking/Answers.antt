@@ -1,4 +1,4 @@
-use Rattle.reg_jobs.specs.CommandLine.{define_app, listing_app, publish_app, request_app, serving_app}
+use Rattle.reg_jobs.specs.CommandLine.{define_app, listing_app, request_app, serving_app}
 use Rattle.reg_jobs.proofs.Adding.{job_added}
 use Rattle.reg_jobs.proofs.definition.asking.Goals as goal
 
@@ -8,7 +8,5 @@ returns c =
     c.request.ensures.shape c.request.ensures.local in
     let two = job_added c.with_job-program.result c.define.result c.with_job-program-2.result _ define_app c.with_job-program-2.ensures one
     c.define.ensures.shape c.define.ensures.local in
-    let three = job_added c.with_job-program-2.result c.listing.result c.with_job-program-3.result _ listing_app c.with_job-program-3.ensures two
-    c.listing.ensures.shape c.listing.ensures.local in
-    job_added c.with_job-program-3.result c.publish.result c.with_job.result _ publish_app c.with_job.ensures three
-    c.publish.ensures.shape c.publish.ensures.local
+    job_added c.with_job-program-2.result c.listing.result c.with_job.result _ listing_app c.with_job.ensures two
+    c.listing.ensures.shape c.listing.ensures.local

@@ -1,10 +1,10 @@
-use Rattle.reg_jobs.specs.CommandLine.{asking_app, check_app, revoke_app, tokens_app}
+use Rattle.reg_jobs.specs.CommandLine.{check_app, revoke_app, telling_app, tokens_app}
 use Rattle.reg_jobs.proofs.Adding.{job_added}
 use Rattle.reg_jobs.proofs.definition.office.Goals as goal
 
 pub returns : goal.returns
 returns c =
-    let one = job_added c.asking.result c.check.result c.with_job-program.result asking_app check_app c.with_job-program.ensures c.asking.ensures
+    let one = job_added c.telling.result c.check.result c.with_job-program.result telling_app check_app c.with_job-program.ensures c.telling.ensures
     c.check.ensures.shape c.check.ensures.local in
     let two = job_added c.with_job-program.result c.tokens.result c.with_job-program-2.result _ tokens_app c.with_job-program-2.ensures one
     c.tokens.ensures.shape c.tokens.ensures.local in

@@ -7,8 +7,10 @@ use Rattle.reg_jobs.proofs.definition.serving.Goals as goal
 
 pub returns : goal.returns
 returns c =
+    let versioned = ap app_of_fields c.version.ensures
+    ∙ ap (λ (a : App). record a { top = record a.top { has_version = true } }) c.command.ensures.shape in
     let start : app_of c.subcommand_required-program.result ≡ program_app = ap app_of_fields c.subcommand_required-program.ensures
-    ∙ ap (λ (a : App). record a { top = record a.top { subcommand_required = true } }) c.command.ensures.shape in
+    ∙ ap (λ (a : App). record a { top = record a.top { subcommand_required = true } }) versioned in
     let one = job_added (Ok c.subcommand_required-program.result) c.script.result c.with_job-program.result program_app script_app
     c.with_job-program.ensures start c.script.ensures.shape c.script.ensures.local in
     let two = job_added c.with_job-program.result c.import.result c.with_job-program-2.result _ import_app c.with_job-program-2.ensures one

@@ -1,0 +1,3 @@
+pub mod Allocation
+pub mod Table
+pub mod Asking

@@ -1,0 +1,6 @@
+//! The early allocations of published registries that expire soon.
+#![tactic(auto)]
+
+pub mod allocation;
+pub mod asking;
+pub mod table;
