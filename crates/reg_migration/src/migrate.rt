@@ -7,10 +7,11 @@ ghost use Rattle.reg_tables.specs.Schema.{office_table};
 ghost use Rattle.reg_tables.specs.Connection.{IsIdle, Works};
 ghost use Rattle.reg_tables.specs.Editing.{IsOffice, IsOfficeOf};
 ghost use Rattle.reg_tables.specs.Faulting.{IsGivenUp};
-ghost use Rattle.reg_tables.specs.Having.{GainsTables};
+ghost use Rattle.reg_tables.specs.Having.{GainsTables, HasTable};
 ghost use Rattle.reg_tables.specs.Inside.{GoesInside, StaysInside};
 ghost use Rattle.reg_tables.specs.Making.{HasLater, HasVersion, IsMigrated, IsRaised};
 ghost use Rattle.reg_tables.specs.Version.{later_than, number_of};
+ghost use Rattle.reg_migration.specs.Beside.{IsSole, MakesLater, RaisesVersion, UpgradesBeside};
 
 use reg_tables::make::{later_texts, make_each};
 use reg_tables::reports::Reports;
@@ -31,6 +32,9 @@ fn make_later<S: Reports>(tx: &mut Transaction<'_, S>, from: Version) -> Result<
     ensures gained { HasCleanDisk (state S.Store tx.new.conn.now)
         → OnOk result (GainsTables (later_than from) (state S.Store tx.old.conn.now).now.schema
         (state S.Store tx.new.conn.now).now.schema) }
+    ensures beside { HasCleanDisk (state S.Store tx.new.conn.now)
+        → OnOk result (MakesLater from (state S.Store tx.old.conn.now).now
+        (state S.Store tx.new.conn.now).now) }
     ensures reported { IfErr result S.Reported }
 {
     make_each(tx, later_texts(from))
@@ -48,6 +52,11 @@ fn raise_version<S: Reports>(tx: &mut Transaction<'_, S>) -> Result<(), Error>
     ensures defined { HasCleanDisk (state S.Store tx.new.conn.now)
         → OnOk result ((state S.Store tx.new.conn.now).now.schema
         ≡ (state S.Store tx.old.conn.now).now.schema) }
+    ensures anywhere { HasCleanDisk (state S.Store tx.new.conn.now)
+        → OnOk result ((at : HasTable (state S.Store tx.old.conn.now).now.schema office_table)
+        → IsSole (state S.Store tx.old.conn.now).now.schema at
+        → RaisesVersion (state S.Store tx.old.conn.now).now
+        (state S.Store tx.new.conn.now).now at) }
     ensures reported { IfErr result S.Reported }
 {
     run(tx, texts::CHANGE_VERSION, &[ValueRef::Int(NEWEST.number())])?;
@@ -67,6 +76,9 @@ fn make_and_raise<S: Reports>(tx: &mut Transaction<'_, S>, from: Version) -> Res
     ensures gained { HasCleanDisk (state S.Store tx.new.conn.now)
         → OnOk result (GainsTables (later_than from) (state S.Store tx.old.conn.now).now.schema
         (state S.Store tx.new.conn.now).now.schema) }
+    ensures beside { HasCleanDisk (state S.Store tx.new.conn.now)
+        → OnOk result (UpgradesBeside from (state S.Store tx.old.conn.now).now
+        (state S.Store tx.new.conn.now).now) }
     ensures reported { IfErr result S.Reported }
 {
     make_later(tx, from)?;
@@ -87,6 +99,9 @@ pub fn migrate<S: Reports>(conn: &mut Connection<S>, from: Version) -> Result<()
     ensures gained { Works (state S.Store conn.new)
         → OnOk result (GainsTables (later_than from) (state S.Store conn.old).now.schema
         (state S.Store conn.new).now.schema) }
+    ensures beside { Works (state S.Store conn.new)
+        → OnOk result (UpgradesBeside from (state S.Store conn.old).now
+        (state S.Store conn.new).now) }
     ensures kept { Works (state S.Store conn.new)
         → OnErr result ((state S.Store conn.new).now ≡ (state S.Store conn.old).now) }
     ensures given_up { IfErr result (IsGivenUp S.Reported

@@ -30,10 +30,12 @@ pub enum RowFlaw {
 impl Display for Flaw {
     fn fmt<W: Write>(&self, f: &mut Formatter<W>) -> fmt::Result {
         match self {
-            Flaw::NoOffice => f.write_str("it has not the tables of an office"),
-            Flaw::NoVersion => f.write_str("its table office has not one row with a version"),
+            Flaw::NoOffice => f.write_str("it does not have the tables of an office"),
+            Flaw::NoVersion => f.write_str(
+                "its table office does not have exactly one row, with a version",
+            ),
             Flaw::OtherTables => f.write_str(
-                "a table of its version is missing or another, or the name of a later one is taken",
+                "a table of its version is missing or different, or the name of a later one is taken",
             ),
             Flaw::Rows(flaw) => write!(f, "{flaw}"),
         }
@@ -45,7 +47,7 @@ impl Display for RowFlaw {
         match self {
             RowFlaw::Unread(place) => {
                 let table = table_name(*place);
-                write!(f, "a row of the table {table} does not read")
+                write!(f, "a row of the table {table} is malformed")
             }
             RowFlaw::Unfit(place) => {
                 let table = table_name(*place);
@@ -54,7 +56,7 @@ impl Display for RowFlaw {
                     "a row of the table {table} does not fit the rows before it"
                 )
             }
-            RowFlaw::Unkept => f.write_str("its tables make no well kept office"),
+            RowFlaw::Unkept => f.write_str("its tables are not those of a well kept office"),
         }
     }
 }

@@ -1,19 +1,22 @@
 -- Why an opening fails, by the calls that it is made of.
-use Rattle.std.proofs.Common.{◌≡◌, ◌⊎◌, inl, inr, subst}
+use Rattle.std.proofs.Common.{◌≡◌, inl, inr, subst}
 use Rattle.std.specs.Prelude.{Result, Ok, Err, IfErr}
 use Rattle.sqlite.specs.Effect.{Database}
 use Rattle.sqlite.specs.State.{State}
 use Rattle.sqlite.specs.declared.error.Error.{Error}
 use Rattle.sqlite_trees.specs.declared.store.Store.{Ghosts}
 use Rattle.reg_keeper.specs.declared.keeper.Fault.{Fault as Given}
+use Rattle.reg_keeper.specs.declared.keeper.Fault.TheVariants as faults
 use Rattle.reg_tables.specs.Connection.{Stays, Works}
 use Rattle.reg_tables.specs.Faulting.{IsGivenUp}
 use Rattle.reg_statements.specs.Reading.{fault_of}
-use Rattle.reg_opening.specs.Opening.{IsStopped}
 use Rattle.reg_opening.proofs.Causes.{cause_later}
-use Rattle.reg_sql.specs.Failing.{IsFailed, IsMade}
+use Rattle.reg_sql.specs.Failing.{IsCaused, IsFailed, IsMade}
+use Rattle.reg_sql.specs.Troubles.{fault_trouble, refused_trouble}
 use Rattle.reg_sql.specs.declared.open.OpenFault.{OpenFault}
 use Rattle.reg_sql.specs.declared.open.OpenFault.TheVariants as refusals
+use Rattle.reg_sql.specs.declared.trouble.Trouble.{Trouble}
+use Rattle.reg_sql.specs.declared.trouble.Trouble.TheVariants as troubles
 
 module _ {S : Type 0} (g : Ghosts S) (Reported : Error → Type 0) (Refused : Type 0) where
   -- what was to be made was given up
@@ -31,6 +34,7 @@ module _ {S : Type 0} (g : Ghosts S) (Reported : Error → Type 0) (Refused : Ty
       → (Works new → new.now ≡ mid.now) → IsFailed Reported Refused g mid new refusal
       → IsFailed Reported Refused g old new refusal
   later old mid new (refusals.Version n) first worked same failed = tt
+  later old mid new refusals.Busy first worked same failed = absurd failed
   later old mid new refusals.NotOurs first worked same failed = tt
   later old mid new (refusals.Fault fault) first worked same (inl stopped) =
       inl (cause_later old mid new fault first (record { worked = worked; unchanged = same }) stopped)
@@ -50,3 +54,37 @@ module _ {S : Type 0} (g : Ghosts S) (Reported : Error → Type 0) (Refused : Ty
   failed_later old mid new (Ok a) first worked same failed = tt
   failed_later old mid new (Err refusal) first worked same failed =
       later old mid new refusal first worked same failed
+
+  -- ---- Of a store that is looked into
+
+  pub caused_by_fault : (old new : State) (fault : Given)
+      → IsFailed Reported Refused g old new (refusals.Fault fault)
+      → IsCaused Reported Refused g old new (fault_trouble fault)
+  caused_by_fault old new faults.Memory failed = failed
+  caused_by_fault old new faults.Store failed = failed
+
+  pub caused_by_refusal : (old new : State) (refusal : OpenFault)
+      → IsFailed Reported Refused g old new refusal
+      → IsCaused Reported Refused g old new (refused_trouble refusal)
+  caused_by_refusal old new (refusals.Version n) failed = tt
+  caused_by_refusal old new refusals.Busy failed = tt
+  caused_by_refusal old new refusals.NotOurs failed = tt
+  caused_by_refusal old new (refusals.Fault fault) failed = caused_by_fault old new fault failed
+
+  pub caused_later : (old mid new : State) (trouble : Trouble) → Stays old mid
+      → (Works new → Works mid) → (Works new → new.now ≡ mid.now)
+      → IsCaused Reported Refused g mid new trouble → IsCaused Reported Refused g old new trouble
+  caused_later old mid new troubles.Memory first worked same caused =
+      later old mid new (refusals.Fault faults.Memory) first worked same caused
+  caused_later old mid new troubles.Store first worked same caused =
+      later old mid new (refusals.Fault faults.Store) first worked same caused
+  caused_later old mid new troubles.NoFile first worked same caused = tt
+  caused_later old mid new troubles.Unreadable first worked same caused = tt
+  caused_later old mid new troubles.Special first worked same caused = tt
+  caused_later old mid new troubles.Busy first worked same caused = tt
+  caused_later old mid new troubles.Unsteady first worked same caused = tt
+  caused_later old mid new troubles.Journal first worked same caused = tt
+  caused_later old mid new troubles.NoDatabase first worked same caused = tt
+  caused_later old mid new troubles.InTransaction first worked same caused = tt
+  caused_later old mid new (troubles.Version n) first worked same caused = tt
+  caused_later old mid new (troubles.NotOurs flaw) first worked same caused = tt

@@ -5,3 +5,5 @@ mod Giving
 mod ListedRows
 mod Reading
 mod Taking
+mod Tried
+mod WorkedIn

@@ -1,11 +1,12 @@
 -- What an opening makes of a store, in each way that it can go.
-use Rattle.std.proofs.Common.{◌≡◌, ℕ, ℤ, Bool, List, [], ◌∷◌, inl, inr, true, Ok, Err, Result, refl, sym, ap, subst, ◌∙◌}
+use Rattle.std.proofs.Common.{◌≡◌, ℕ, ℤ, Bool, List, [], ◌∷◌, slice_get, take, inl, inr, true, Ok, Err, Result, refl, sym, ap, subst, ◌∙◌, arith}
 use Rattle.std.specs.Prelude.{◌≢◌, IfErr, IfOk, IsTrue, Some}
-use Rattle.std.specs.List.{AllByRecursion}
+use Rattle.std.specs.List.{AllByRecursion, position_from}
 use Rattle.std.proofs.lemmas.List.{take-append-drop}
 use Rattle.sqlite.specs.Effect.{Database}
 use Rattle.sqlite.specs.Schema.{Schema}
 use Rattle.sqlite.specs.Table.{Table}
+use Rattle.sqlite.specs.Tree.{Trees}
 use Rattle.sqlite.specs.State.{State, HasCleanDisk}
 use Rattle.sqlite_schema.specs.Names.{same_name}
 use Rattle.reg_core.specs.WellKept.{WellKept}
@@ -13,9 +14,10 @@ use Rattle.reg_core.specs.World.{empty_world}
 use Rattle.reg_keeper.specs.declared.keeper.Fault.{Fault as KeeperFault}
 use Rattle.reg_vacancies.specs.declared.vacancies.Vacancies.{Vacancies}
 use Rattle.reg_tables.specs.Connection.{Holds, IsIdle, Works}
+use Rattle.reg_tables.specs.Editing.{AreKeyed}
 use Rattle.reg_tables.specs.Having.{AreFree, AreFreeLater, Extends, FindsTablesOf, GainsTables, HasTable, HasTables}
 use Rattle.reg_tables.specs.Making.{HasCounter, IsBegunBeside, IsMigrated, no_schema}
-use Rattle.reg_tables.specs.Schema.{office_schema}
+use Rattle.reg_tables.specs.Schema.{office_schema, office_table}
 use Rattle.reg_tables.specs.Selecting.{BeginsWith}
 use Rattle.reg_tables.specs.Version.{later_than, newest, number_of, schema_of, table_count, tables_of}
 use Rattle.reg_tables.specs.declared.version.Version.{Version}
@@ -24,10 +26,11 @@ use Rattle.reg_tables.proofs.HavingLemmas.{all_has}
 use Rattle.reg_tables.proofs.Library.GrowingSchemas.{still_has}
 use Rattle.reg_tables.proofs.PartLemmas.{part_before}
 use Rattle.reg_tables.proofs.RestLemmas.{stays_held, stays_same}
+use Rattle.reg_migration.specs.Beside.{IsSole, UpgradesBeside}
 use Rattle.reg_statements.specs.Content.{IsStoredAs, content_at, content_of, world_in}
-use Rattle.reg_statements.proofs.Migrated.{migrated_same}
+use Rattle.reg_statements.proofs.Migrated.{migrated_same, version_is}
 use Rattle.reg_opening.specs.Opening.{FindsKind, HasVersionTables, ComesFirst, IsFoundAs, IsFree, IsOfVersion, IsOurs, kind_of}
-use Rattle.reg_opening.proofs.Versions.{both_all, schema_first}
+use Rattle.reg_opening.proofs.Versions.{both_all, first_begins, schema_first}
 use Rattle.reg_opening.specs.declared.flaw.Flaw.{Flaw}
 use Rattle.reg_opening.specs.declared.kind.Found.{Found}
 use Rattle.reg_opening.specs.declared.kind.Found.TheVariants as finding
@@ -191,6 +194,43 @@ none_there Second schema is finds =
 none_there Third schema is finds =
     let named = (subst (FindsTablesOf Third) is finds).0.has.named in absurd (cc)
 
+-- ---- Where the tables of a version come first
+
+office_named : same_name office_table.name office_table.name ≡ true
+unfolding same_name
+office_named = refl
+
+-- the table of the office is in the first tree
+first_tree : (schema : Schema) (tables : List Table) → schema.tables ≡ tables
+    → take 1 tables ≡ office_table ∷ [] → (has : HasTable schema office_table) → has.table.tree ≡ 0
+first_tree schema [] is front has = absurd (cc)
+first_tree schema (t ∷ tables) is front has =
+    let office : t ≡ office_table = cc in
+    let is_office = λ (u : Table). same_name u.name office_table.name in
+    let named : position_from is_office 0 schema.tables ≡ Some 0 =
+    ap (position_from is_office 0) is
+    ∙ ap (λ (s : Table). position_from is_office 0 (s ∷ tables)) office ∙ rw office_named refl in
+    let places : Some 0 ≡ Some has.at = sym named ∙ has.named in
+    let place : 0 ≡ has.at = cc in
+    let both : Some t ≡ Some has.table =
+    sym (ap (λ all. slice_get all 0) is) ∙ ap (slice_get schema.tables) place ∙ has.there in
+    let same : t ≡ has.table = cc in
+    ap (λ (u : Table). u.tree) (sym same ∙ office)
+
+-- and its rows are known by their rowids
+first_keyed : (v : Version) (trees : Trees)
+    → AllByRecursion (λ (t : Table). AreKeyed (trees t.tree)) (tables_of v) → AreKeyed (trees 0)
+first_keyed First trees all = all.0
+first_keyed Second trees all = all.0
+first_keyed Third trees all = all.0
+
+office_keyed : (v : Version) (db : Database) (has : HasTable db.schema office_table)
+    → BeginsWith (table_count v) db.schema → ComesFirst v db → AreKeyed (db.trees has.table.tree)
+office_keyed v db has begins comes =
+    subst (λ k. AreKeyed (db.trees k))
+    (sym (first_tree db.schema db.schema.tables refl (first_begins v 1 (omega arith) begins).tables has))
+    (first_keyed v db.trees comes.keyed)
+
 module _ (fresh : Bool) (old new : State) (idle : IsIdle old) {E : Type 0} (f : Found)
     (finds : FindsKind {E = E} old new (Ok f)) where
   -- what was found is told of the store as it was
@@ -322,12 +362,26 @@ module _ (fresh : Bool) (old new : State) (idle : IsIdle old) {E : Type 0} (f : 
           };
           taken = λ w.
               let tables = had v free is (brings.worked w) in
+              let says = says_was v free is (brings.worked w) in
+              let beside = λ (counter : HasCounter old.now.schema) (sole : IsSole old.now.schema says.has).
+              (subst (λ (db : Database). UpgradesBeside v db last.now) (same w)
+              (brings.beside w)).beside says.has counter sole
+              (version_is (number_of v) (old.now.trees says.has.table.tree) says.says) in
               let gained = subst (λ (db : Database).
               GainsTables (later_than v) db.schema last.now.schema) (same w) (brings.gained w) in
               record {
                 has = brought v old.now.schema last.now.schema tables.0 gained;
                 first = first_was v free is (brings.worked w);
-                from = inr (inr (v, older, says_was v free is (brings.worked w), tables.0, tables.1));
+                from = inr (inr (record {
+                  version = v;
+                  older = older;
+                  says = says;
+                  tables = tables;
+                  beside = beside;
+                  first = λ begins counter sole. (beside counter sole).version
+                      (office_keyed v old.now says.has begins
+                      (first_was v free is (brings.worked w) v tables begins));
+                }));
                 alone = λ stands. elim stands [
                   | inl version ↦
                       let is = migrated w (version.1

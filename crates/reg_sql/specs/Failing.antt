@@ -1,11 +1,12 @@
 -- Why an opening of an office tells a fault.
-use Rattle.std.specs.Prelude.{◌≡◌, ◌⊎◌, Result, Ok, Err}
+use Rattle.std.specs.Prelude.{◌≡◌, ◌⊎◌, Option, Some, None, Result, Ok, Err}
 use Rattle.sqlite.specs.Effect.{Database}
 use Rattle.sqlite.specs.Held.{Held, state}
 use Rattle.sqlite.specs.State.{State}
 use Rattle.sqlite.specs.declared.error.Error.{Error}
 use Rattle.sqlite_trees.specs.declared.store.Store.{Ghosts}
 use Rattle.reg_keeper.specs.declared.keeper.Fault.{Fault as Given}
+use Rattle.reg_keeper.specs.declared.keeper.Fault.TheVariants as faults
 use Rattle.reg_tables.specs.Connection.{Works}
 use Rattle.reg_tables.specs.Having.{GainsTables}
 use Rattle.reg_tables.specs.Making.{Founds}
@@ -15,6 +16,8 @@ use Rattle.reg_statements.specs.Reading.{fault_of}
 use Rattle.reg_opening.specs.Opening.{IsStopped}
 use Rattle.reg_sql.specs.declared.open.OpenFault.{OpenFault}
 use Rattle.reg_sql.specs.declared.open.OpenFault.TheVariants as refusals
+use Rattle.reg_sql.specs.declared.trouble.Trouble.{Trouble}
+use Rattle.reg_sql.specs.declared.trouble.Trouble.TheVariants as troubles
 
 -- a new office was founded, or one of a version brought to the newest
 abbrev pub IsMade : Database → Database → Type 0
@@ -27,11 +30,14 @@ IsUnkept old new fault =
     (error : Error) × (fault ≡ fault_of error) × (Works new → (seen : Database) × IsMade old.now seen)
 
 -- A fault has a cause: that of a call that finds what a store is, or what was made was not committed.
+-- No other has a store open that was opened.
 abbrev pub IsFailed : {S : Type 0} → (Error → Type 0) → Type 0 → Ghosts S → State → State → OpenFault
     → Type 0
 IsFailed Reported Refused g old new (refusals.Fault fault) =
     IsStopped Reported Refused g old new fault ⊎ IsUnkept old new fault
-IsFailed Reported Refused g old new _ = Unit {0}
+IsFailed Reported Refused g old new refusals.Busy = ⊥
+IsFailed Reported Refused g old new (refusals.Version n) = Unit {0}
+IsFailed Reported Refused g old new refusals.NotOurs = Unit {0}
 
 -- of a store that was opened, which comes back; why none was is known by the error
 abbrev pub IsFailedBy : {S L : Type 0} → (Error → Type 0) → Type 0 → (g : Ghosts S)
@@ -40,3 +46,31 @@ IsFailedBy {S} Reported Refused g Opens refusal (Ok left) =
     (opened : Held S) × Opens (Ok opened)
     × IsFailed Reported Refused g (state g opened) (state g left) refusal
 IsFailedBy Reported Refused g Opens refusal (Err failed) = Unit {0}
+
+-- ---- Of a store that is looked into
+
+-- a trouble that is a fault has such a cause
+abbrev pub IsCaused : {S : Type 0} → (Error → Type 0) → Type 0 → Ghosts S → State → State → Trouble
+    → Type 0
+IsCaused Reported Refused g old new troubles.Memory =
+    IsFailed Reported Refused g old new (refusals.Fault faults.Memory)
+IsCaused Reported Refused g old new troubles.Store =
+    IsFailed Reported Refused g old new (refusals.Fault faults.Store)
+IsCaused Reported Refused g old new troubles.NoFile = Unit {0}
+IsCaused Reported Refused g old new troubles.Unreadable = Unit {0}
+IsCaused Reported Refused g old new troubles.Special = Unit {0}
+IsCaused Reported Refused g old new troubles.Busy = Unit {0}
+IsCaused Reported Refused g old new troubles.Unsteady = Unit {0}
+IsCaused Reported Refused g old new troubles.Journal = Unit {0}
+IsCaused Reported Refused g old new troubles.NoDatabase = Unit {0}
+IsCaused Reported Refused g old new troubles.InTransaction = Unit {0}
+IsCaused Reported Refused g old new (troubles.Version n) = Unit {0}
+IsCaused Reported Refused g old new (troubles.NotOurs flaw) = Unit {0}
+
+-- of a copy that was made, which comes back; why none was is told by what copies
+abbrev pub IsCausedIn : {S : Type 0} → (Error → Type 0) → Type 0 → (g : Ghosts S)
+    → (Result (Held S) Trouble → Type 0) → Trouble → Option (Held S) → Type 0
+IsCausedIn {S} Reported Refused g Copies trouble (Some left) =
+    (copied : Held S) × Copies (Ok copied)
+    × IsCaused Reported Refused g (state g copied) (state g left) trouble
+IsCausedIn Reported Refused g Copies trouble None = Unit {0}

@@ -1,6 +1,8 @@
+pub mod Failing
 pub mod Keeping
 pub mod Listed
-pub mod Failing
-pub mod Opening
-pub mod Troubles
 pub mod Looking
+pub mod Opening
+pub mod Snapshots
+pub mod Steady
+pub mod Troubles

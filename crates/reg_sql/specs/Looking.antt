@@ -14,7 +14,7 @@ use Rattle.reg_opening.specs.Opening.{IsOfVersion, IsOurs}
 use Rattle.reg_sql.specs.Opening.{IsFoundFirst, IsOpened}
 use Rattle.reg_sql.specs.Troubles.{IsTrouble}
 use Rattle.reg_sql.specs.declared.trouble.Trouble.{Trouble}
-use Rattle.reg_sql.specs.declared.trouble.Trouble.TheVariants.{InTransaction, Version as OfVersion, NotOurs}
+use Rattle.reg_sql.specs.declared.trouble.Trouble.TheVariants.{NoFile, Unreadable, Special, Journal, InTransaction, Version as OfVersion, NotOurs, Memory}
 
 -- what is wrong is of the files or of their copies, and of no office
 abbrev pub IsOfCopies : Trouble → Type 0
@@ -22,6 +22,15 @@ IsOfCopies InTransaction = ⊥
 IsOfCopies (OfVersion n) = ⊥
 IsOfCopies (NotOurs flaw) = ⊥
 IsOfCopies _ = Unit {0}
+
+-- and what is wrong is of files that are read, of which none was copied yet
+abbrev pub IsOfReading : Trouble → Type 0
+IsOfReading NoFile = Unit {0}
+IsOfReading Unreadable = Unit {0}
+IsOfReading Special = Unit {0}
+IsOfReading Journal = Unit {0}
+IsOfReading Memory = Unit {0}
+IsOfReading _ = ⊥
 
 -- what a copy of files may be: what is found in some files, where the copy returns it; or none, for a
 -- reason that is of no office

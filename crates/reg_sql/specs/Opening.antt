@@ -19,12 +19,13 @@ use Rattle.reg_keeper.specs.declared.keeper.Fault.{Fault as Given}
 use Rattle.reg_keeper.specs.declared.keeper.Fault.TheVariants.{Memory, Store}
 use Rattle.reg_vacancies.specs.declared.vacancies.Vacancies.{Vacancies}
 use Rattle.reg_tables.specs.Connection.{Holds, IsIdle, Works}
-use Rattle.reg_tables.specs.Having.{AreFree, AreFreeLater, FindsTablesOf, GainsTables, HasTables}
-use Rattle.reg_tables.specs.Making.{HasCounter, IsBegunBeside, IsMigrated, no_schema}
+use Rattle.reg_tables.specs.Having.{AreFree, GainsTables, HasTables}
+use Rattle.reg_tables.specs.Making.{HasCounter, HasVersion, IsBegunBeside, IsMigrated, no_schema}
 use Rattle.reg_tables.specs.Schema.{office_schema}
 use Rattle.reg_tables.specs.Selecting.{BeginsWith}
 use Rattle.reg_tables.specs.Version.{IsOther, later_than, newest, number_of, schema_of, table_count}
 use Rattle.reg_tables.specs.declared.version.Version.{Version}
+use Rattle.reg_migration.specs.Beside.{IsSole, IsUpgradedBeside, UpgradesBeside}
 use Rattle.reg_statements.specs.Content.{IsStoredAs, content_at, world_in}
 use Rattle.reg_opening.specs.Opening.{HasVersionTables, ComesFirst, IsOfVersion, IsOurs}
 use Rattle.reg_sql.specs.Keeping.{IsHonest, KeepsOffice}
@@ -52,13 +53,6 @@ IsOpened fresh db w =
     ((v : Version) × IsOurs v db × (w ≡ content_at v db))
     ⊎ ((fresh ≡ true) × HasNoTables db × (w ≡ empty_world))
 
--- the row of the version says an older one, whose tables are there, and no name of those that it
--- lacks is taken
-abbrev pub WasOlder : Database → Type 0
-WasOlder db =
-    (v : Version) × (v ≢ newest) × IsOfVersion (number_of v) db × FindsTablesOf v db.schema
-    × AreFreeLater v db.schema
-
 -- A new office was wanted, and no name of its tables was taken. It is begun beside what is there,
 -- which stays as it was.
 pub record IsBegun (fresh : Bool) (old new : Database) : Type 0 where
@@ -66,24 +60,40 @@ pub record IsBegun (fresh : Bool) (old new : Database) : Type 0 where
   pub free : AreFree old.schema
   pub beside : HasCounter old.schema → IsBegunBeside old new
 
+-- The row of the version said an older one, whose tables were there, and no name of those that it
+-- lacked was taken. The office is brought to the newest, and the rows of all other tables stay, if no
+-- other table is in the tree of `office`, and none refers to it. Where the tables of the older version
+-- came first, the row says the newest.
+pub record IsUpgraded (old new : Database) : Type 0 where
+  pub version : Version
+  pub older : version ≢ newest
+  pub says : IsOfVersion (number_of version) old
+  pub tables : HasVersionTables version old
+  pub beside : HasCounter old.schema → IsSole old.schema says.has
+      → IsUpgradedBeside version old new says.has
+  pub first : BeginsWith (table_count version) old.schema → HasCounter old.schema
+      → IsSole old.schema says.has
+      → HasVersion (number_of newest) (new.trees says.has.table.tree)
+
 -- The tables of an office are there, whatever stands beside them. They were there before, of the
 -- newest version, and nothing was changed; or a new office was begun; or those of an older version
--- were there, and no name of the others was taken. Where those of a version came first, whatever
--- followed them, their rows were an office's that is well kept.
+-- were there, and were brought to the newest. Where those of a version came first, whatever followed
+-- them, their rows were an office's that is well kept.
 pub record IsTakenOver (fresh : Bool) (old new : Database) : Type 0 where
   pub has : HasTables new.schema
   pub first : (v : Version) → HasVersionTables v old → BeginsWith (table_count v) old.schema
       → ComesFirst v old
   pub from : ((new ≡ old) × IsOfVersion (number_of newest) old)
-      ⊎ (IsBegun fresh old new ⊎ WasOlder old)
+      ⊎ (IsBegun fresh old new ⊎ IsUpgraded old new)
   pub alone : StandsAlone old → new.schema ≡ office_schema
   pub was_alone : new.schema ≡ office_schema → StandsAlone old
 
--- why there is no office: the row of the version says one that is none of the three, whatever tables
--- there are; no office, neither alone nor before other tables, and no such version, and a name is
+-- why there is no office in a store that was opened: the row of the version says one that is none of
+-- the three, whatever tables there are; no office, neither alone nor before other tables, and no such version, and a name is
 -- taken where a new one is wanted; a fault
 abbrev pub IsRefused : Bool → Database → OpenFault → Type 0
 IsRefused fresh db (refusals.Version n) = IsOfVersion n db × IsOther n
+IsRefused fresh db refusals.Busy = ⊥
 IsRefused fresh db refusals.NotOurs =
     ((v : Version) → ¬ IsOurs v db) × ((n : ℤ) → IsOfVersion n db → ¬ IsOther n)
     × (fresh ≡ true → ¬ AreFree db.schema)
@@ -124,18 +134,20 @@ pub record Brings (v : Version) (was : Vacancies) (old new : State)
       → IfOk result (λ kept. IsStoredAs v old.now → IsMigrated v old.now new.now)
   pub gained : Works new
       → IfOk result (λ kept. GainsTables (later_than v) old.now.schema new.now.schema)
+  pub beside : Works new
+      → IfOk result (λ kept. UpgradesBeside v old.now new.now)
   pub free : IfOk result (λ kept. kept ≡ was)
   pub fault : IfErr result (λ refusal. (given : Given) × (refusal ≡ refusals.Fault given))
   pub unchanged : Works new → IfErr result (λ refusal. new.now ≡ old.now)
 
--- what an error of an opened file is to an office: it is none of an office's, but where there was
--- no memory, or the disk failed, or it is too big
+-- what an error of an opened file is to an office: it is none of an office's, but where another has
+-- it open, there was no memory, the disk failed, or it is too big
 abbrev pub refusal_of : Error → OpenFault
 refusal_of (SqliteFailure OutOfMemory) = refusals.Fault Memory
 refusal_of (SqliteFailure NotADatabase) = refusals.NotOurs
 refusal_of (SqliteFailure DatabaseCorrupt) = refusals.NotOurs
 refusal_of (SqliteFailure CannotOpen) = refusals.NotOurs
-refusal_of (SqliteFailure DatabaseBusy) = refusals.NotOurs
+refusal_of (SqliteFailure DatabaseBusy) = refusals.Busy
 refusal_of _ = refusals.Fault Store
 
 -- ---- Files in which no office is

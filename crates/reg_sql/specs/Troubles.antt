@@ -11,7 +11,7 @@ use Rattle.reg_sql.specs.Opening.{IsRefusedOf}
 use Rattle.reg_sql.specs.declared.open.OpenFault.{OpenFault}
 use Rattle.reg_sql.specs.declared.open.OpenFault.TheVariants as refusals
 use Rattle.reg_sql.specs.declared.trouble.Trouble.{Trouble}
-use Rattle.reg_sql.specs.declared.trouble.Trouble.TheVariants.{InTransaction, Version, NotOurs, Memory, Store}
+use Rattle.reg_sql.specs.declared.trouble.Trouble.TheVariants.{NoFile, Unreadable, Special, Busy, Unsteady, Journal, NoDatabase, InTransaction, Version, NotOurs, Memory, Store}
 
 -- what a fault is to who looks into a store
 abbrev pub fault_trouble : Given → Trouble
@@ -21,8 +21,24 @@ fault_trouble faults.Store = Store
 -- and what a refusal of the store is
 abbrev pub refused_trouble : OpenFault → Trouble
 refused_trouble (refusals.Version n) = Version n
+refused_trouble refusals.Busy = Busy
 refused_trouble refusals.NotOurs = NotOurs (Rows Unkept)
 refused_trouble (refusals.Fault fault) = fault_trouble fault
+
+-- how an opening for another job says what is wrong
+abbrev pub opening_fault : Trouble → OpenFault
+opening_fault NoFile = refusals.NotOurs
+opening_fault Unreadable = refusals.NotOurs
+opening_fault Special = refusals.NotOurs
+opening_fault Busy = refusals.Busy
+opening_fault Unsteady = refusals.Busy
+opening_fault Journal = refusals.NotOurs
+opening_fault NoDatabase = refusals.NotOurs
+opening_fault InTransaction = refusals.NotOurs
+opening_fault (Version n) = refusals.Version n
+opening_fault (NotOurs flaw) = refusals.NotOurs
+opening_fault Memory = refusals.Fault faults.Memory
+opening_fault Store = refusals.Fault faults.Store
 
 -- a store is given up as it is refused, and left as it was
 pub record IsGivenUp (old new : State) (trouble : Trouble) : Type 0 where

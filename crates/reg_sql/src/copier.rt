@@ -1,11 +1,13 @@
 //! What copies the store of an office that is looked at.
 ghost use Rattle.std.specs.Prelude.{IsTrue, IfErr, IfOk};
-ghost use Rattle.sqlite_disk.specs.Memory.{memory_is_usable};
-ghost use Rattle.reg_sql.specs.Looking.{CopiesFiles, IsOfCopies};
+ghost use Rattle.sqlite_disk.specs.Memory.{memory_bytes, memory_is_usable};
+ghost use Rattle.reg_sql.specs.Looking.{CopiesFiles, IsOfCopies, IsOfReading};
+ghost use Rattle.reg_sql.specs.Snapshots.{ReadsFiles, image_with};
 
 use crate::copying::copies;
 use crate::trouble::Trouble;
-use sqlite::{Alter, Connection, Error, ErrorCode, FileStore, Files, Options};
+use reg_opening::opens::Opens;
+use sqlite::{Connection, Error, ErrorCode, FileStore, Files, Options};
 use sqlite_disk::Memory;
 use std::alloc::Global;
 use std::hash::{BuildHasher, RandomState};
@@ -17,7 +19,7 @@ pub trait Copier: Drop {
     ghost use Rattle.reg_sql.specs.declared.trouble.Trouble.{Trouble as Why};
 
     /// The store that the copy is.
-    type Base: Alter + Drop;
+    type Base: Opens + Drop;
 
     /// What it may answer at a path.
     ghost Copies: { List ℕ → Result (Held Self.Base) Why → Type 0 };
@@ -39,21 +41,27 @@ impl Copier for SystemCopies {
 
     fn copy(self, rt: &HostRuntime, path: &str) -> Result<Connection<Self::Base>, Trouble> {
         let files = copies(rt, path)?;
-        let seed = RandomState::new(rt)
-            .map_err(|_| Trouble::Unreadable)?
-            .hash_one(&0u8);
-        connect(rt.alloc(), files, seed)
+        connect(rt.alloc(), files, seed(rt)?)
     }
 }
 
+/// Any number, for the tables of a store.
+pub(crate) fn seed(rt: &HostRuntime) -> Result<u64, Trouble>
+    ensures { IfErr result IsOfReading }
+{
+    let state = RandomState::new(rt).map_err(|_| Trouble::Unreadable)?;
+    Ok(state.hash_one(&0u8))
+}
+
 /// A connection to copies of a database and its log.
-fn connect(
+pub(crate) fn connect(
     alloc: Global,
     files: Files<Memory>,
     seed: u64,
 ) -> Result<Connection<FileStore<Memory>>, Trouble>
     requires { IsTrue (memory_is_usable files.log) × IsTrue (memory_is_usable files.db) }
-    ensures { CopiesFiles result }
+    ensures copies { CopiesFiles result }
+    ensures reads { ReadsFiles (image_with (memory_bytes files.log) (memory_bytes files.db)) result }
 {
     match Connection::open_files(alloc, files, Options::new(seed)) {
         Ok(conn) => Ok(conn),
@@ -65,7 +73,7 @@ fn connect(
 }
 
 /// What an error of copies that do not open is to who looks at them.
-fn trouble(error: &Error) -> Trouble
+pub(crate) fn trouble(error: &Error) -> Trouble
     ensures { IsOfCopies result }
 {
     match error {

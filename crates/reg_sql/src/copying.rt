@@ -2,7 +2,7 @@
 //! made, and a file that cannot be written is copied like any other.
 ghost use Rattle.std.specs.Prelude.{IsTrue, IfErr, IfOk};
 ghost use Rattle.sqlite_disk.specs.Memory.{memory_is_usable};
-ghost use Rattle.reg_sql.specs.Looking.{IsOfCopies};
+ghost use Rattle.reg_sql.specs.Looking.{IsOfCopies, IsOfReading};
 
 use crate::trouble::Trouble;
 use os::RangeLock;
@@ -19,6 +19,33 @@ const LOCK_START: u64 = 1 << 30;
 
 const LOCK_BYTES: u64 = 512;
 
+/// Where an office's files are.
+#[derive(Drop)]
+pub(crate) struct Places {
+    /// The database file.
+    pub file: String,
+    /// Its log.
+    pub log: String,
+    /// The rollback journal that SQLite may have left.
+    pub journal: String,
+}
+
+impl Places {
+    /// Those of the database file at a path, whatever links lead to it. `NoFile` where there is none.
+    pub(crate) fn of(rt: &HostRuntime, path: &str) -> Result<Places, Trouble>
+        ensures { IfErr result IsOfReading }
+    {
+        if path == ":memory:" || path.starts_with("file:") {
+            return Err(Trouble::NoFile);
+        }
+        let real = fs::canonicalize(rt, path).map_err(trouble)?;
+        let log = format!(in rt.alloc(); "{}-wal", real.as_str())?;
+        let journal = format!(in rt.alloc(); "{}-journal", real.as_str())?;
+        let file = String::from_str(rt.alloc(), real.as_str())?;
+        Ok(Places { file, log, journal })
+    }
+}
+
 /// Copies of the database file at a path and of its log, as they stand beside each other: nobody
 /// writes them meanwhile who locks them as SQLite does.
 pub fn copies(rt: &HostRuntime, path: &str) -> Result<Files<Memory>, Trouble>
@@ -26,18 +53,12 @@ pub fn copies(rt: &HostRuntime, path: &str) -> Result<Files<Memory>, Trouble>
         × IsTrue (memory_is_usable files.db)) }
     ensures trouble { IfErr result IsOfCopies }
 {
-    if path == ":memory:" || path.starts_with("file:") {
-        return Err(Trouble::NoFile);
-    }
-    let real = fs::canonicalize(rt, path).map_err(trouble)?;
-    let mut db = open_shared(rt, real.as_str())?;
-    let log_path = format!(in rt.alloc(); "{}-wal", real.as_str())?;
-    let journal_path = format!(in rt.alloc(); "{}-journal", real.as_str())?;
-    drop(real);
-    if has_hot_journal(rt, journal_path.as_str())? {
+    let places = Places::of(rt, path)?;
+    let mut db = open_shared(rt, places.file.as_str())?;
+    if has_hot_journal(rt, places.journal.as_str())? {
         return Err(Trouble::Journal);
     }
-    let log = copy_of_log(rt, log_path.as_str())?;
+    let log = copy_of_log(rt, places.log.as_str())?;
     let db = copy_of(rt.alloc(), &mut db)?;
     Ok(Files { log, db })
 }
@@ -54,15 +75,23 @@ fn copy_of_log(rt: &HostRuntime, path: &str) -> Result<Memory, Trouble>
     }
 }
 
-/// Opens a regular file with one name for reading, where no other has it open to write it.
-fn open_shared(rt: &HostRuntime, path: &str) -> Result<fs::File, Trouble>
-    ensures { IfErr result IsOfCopies }
+/// Opens a regular file with one name for reading.
+pub(crate) fn open_regular(rt: &HostRuntime, path: &str) -> Result<fs::File, Trouble>
+    ensures { IfErr result IsOfReading }
 {
     let file = fs::open(rt, path).map_err(trouble)?;
     let found = file.metadata().map_err(trouble)?;
     if !found.is_file() || found.nlink() != 1 {
         return Err(Trouble::Special);
     }
+    Ok(file)
+}
+
+/// Opens it where no other has it open to write it.
+fn open_shared(rt: &HostRuntime, path: &str) -> Result<fs::File, Trouble>
+    ensures { IfErr result IsOfCopies }
+{
+    let file = open_regular(rt, path)?;
     if os::try_lock_range(file.as_raw_fd(), RangeLock::Shared, LOCK_START, LOCK_BYTES) != 0 {
         return Err(Trouble::Busy);
     }
@@ -71,8 +100,8 @@ fn open_shared(rt: &HostRuntime, path: &str) -> Result<fs::File, Trouble>
 
 /// Whether SQLite left a rollback journal that it has to play back: one that is there, and does not
 /// begin with a zero.
-fn has_hot_journal(rt: &HostRuntime, path: &str) -> Result<bool, Trouble>
-    ensures { IfErr result IsOfCopies }
+pub(crate) fn has_hot_journal(rt: &HostRuntime, path: &str) -> Result<bool, Trouble>
+    ensures { IfErr result IsOfReading }
 {
     match fs::open(rt, path) {
         Ok(mut journal) => {
@@ -86,9 +115,9 @@ fn has_hot_journal(rt: &HostRuntime, path: &str) -> Result<bool, Trouble>
 }
 
 /// A copy of all the bytes of a reader.
-fn copy_of<R: Read>(alloc: Global, reader: &mut R) -> Result<Memory, Trouble>
+pub(crate) fn copy_of<R: Read>(alloc: Global, reader: &mut R) -> Result<Memory, Trouble>
     ensures usable { IfOk result (λ copy. IsTrue (memory_is_usable copy)) }
-    ensures trouble { IfErr result IsOfCopies }
+    ensures trouble { IfErr result IsOfReading }
 {
     let mut copy = Memory::new(alloc);
     let mut buffer = [0; 4096];
@@ -106,7 +135,7 @@ fn copy_of<R: Read>(alloc: Global, reader: &mut R) -> Result<Memory, Trouble>
 
 /// What an error of the system is to who looks at a file.
 fn trouble(error: io::Error) -> Trouble
-    ensures { IsOfCopies result }
+    ensures { IsOfReading result }
 {
     match error.kind() {
         ErrorKind::OutOfMemory => Trouble::Memory,

@@ -8,5 +8,8 @@ pub mod keeper;
 pub mod look;
 pub mod open;
 pub mod opener;
+mod originals;
+pub mod snapshot;
+pub mod steady;
 pub mod trouble;
 mod vacancies;

@@ -1,11 +1,12 @@
 //! Offices that are looked at and not changed.
-ghost use Rattle.std.specs.Prelude.{◌≡◌, false, IfErr, IfOk};
+ghost use Rattle.std.specs.Prelude.{◌≡◌, ◌⊎◌, false, IfErr, IfOk};
 ghost use Rattle.sqlite.specs.Files.{file_state};
 ghost use Rattle.sqlite.specs.Held.{state};
 ghost use Rattle.reg_tables.specs.Connection.{Holds, Works};
 ghost use Rattle.reg_tables.specs.Version.{number_of, schema_of};
 ghost use Rattle.reg_statements.specs.Content.{world_in};
 ghost use Rattle.reg_opening.specs.Opening.{IsOfVersion, IsOurs};
+ghost use Rattle.reg_sql.specs.Failing.{IsCaused, IsCausedIn};
 ghost use Rattle.reg_sql.specs.Looking.{CopiesFiles, IsSeenIn, IsUnseenIn};
 ghost use Rattle.reg_sql.specs.Opening.{IsOpened};
 ghost use Rattle.reg_sql.specs.Troubles.{IsGivenUp, IsTrouble};
@@ -14,6 +15,7 @@ use crate::copier::{Copier, SystemCopies};
 use crate::keeper::SqlKeeper;
 use crate::trouble::Trouble;
 use reg_opening::kind::{Found, find};
+use reg_opening::opens::Opens;
 use reg_tables::version::Version;
 use sqlite::{Alter, Connection, FileStore};
 use sqlite_disk::Memory;
@@ -63,6 +65,8 @@ pub fn look_by<C: Copier>(
         IsSeenIn (state C.Base.Store) (C.Copies path.now) look.version look.keeper.tables) }
     ensures trouble { IfErr result (λ refusal.
         IsUnseenIn (state C.Base.Store) (C.Copies path.now) refusal.0 refusal.1) }
+    ensures cause { IfErr result (λ refusal. IsCausedIn C.Base.Reported
+        (C.Base.Unloaded ⊎ C.Base.Ungrown) C.Base.Store (C.Copies path.now) refusal.0 refusal.1) }
 {
     let conn = match copier.copy(rt, path) {
         Ok(conn) => conn,
@@ -76,7 +80,7 @@ pub fn look_by<C: Copier>(
 
 /// The office in a store, with the version that the store says. It is brought to the newest there.
 /// Where there is none, what is wrong is told, and the connection comes back.
-pub fn look_into<S: Alter + Drop>(
+pub fn look_into<S: Opens + Drop>(
     alloc: Global,
     mut conn: Connection<S>,
 ) -> Result<Look<S>, (Trouble, Connection<S>)>
@@ -90,6 +94,8 @@ pub fn look_into<S: Alter + Drop>(
         → IsOurs look.version (state S.Store conn).now) }
     ensures trouble { IfErr result (λ refusal. Works (state S.Store refusal.1)
         → IsTrouble (state S.Store conn) refusal.0) }
+    ensures cause { IfErr result (λ refusal. IsCaused S.Reported (S.Unloaded ⊎ S.Ungrown) S.Store
+        (state S.Store conn) (state S.Store refusal.1) refusal.0) }
 {
     if !conn.is_autocommit() {
         return Err((Trouble::InTransaction, conn));
@@ -109,7 +115,7 @@ pub fn look_into<S: Alter + Drop>(
 }
 
 /// Takes over a store in which an office of a version was found.
-fn adopted<S: Alter + Drop>(
+fn adopted<S: Opens + Drop>(
     alloc: Global,
     conn: Connection<S>,
     version: Version,
@@ -122,6 +128,8 @@ fn adopted<S: Alter + Drop>(
         → Works (state S.Store conn)) }
     ensures refused { IfErr result (λ refusal.
         IsGivenUp (state S.Store conn) (state S.Store refusal.1) refusal.0) }
+    ensures cause { IfErr result (λ refusal. IsCaused S.Reported (S.Unloaded ⊎ S.Ungrown) S.Store
+        (state S.Store conn) (state S.Store refusal.1) refusal.0) }
 {
     match SqlKeeper::adopt(alloc, conn, false) {
         Ok(keeper) => Ok(Look { version, keeper }),

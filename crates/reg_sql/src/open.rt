@@ -37,6 +37,8 @@ use std::alloc::Global;
 pub enum OpenFault {
     /// The store is an office's, of this version, which is none that this library knows.
     Version(i64),
+    /// Another has the store open.
+    Busy,
     /// Anything else than an office's tables with rows of a well kept office in them.
     NotOurs,
     /// There was no memory, or the store could not be read or written.
@@ -200,7 +202,7 @@ pub type Opened<S, L> = Result<Connection<S>, (Error, L)>;
 /// The office in the store that is opened at a path. A `fresh` one is founded where no name of its
 /// tables is taken. Where there is none, what was opened comes back: a store is refused as by `adopt`;
 /// of an error want of memory, a disk that failed or is full, or a file that is too long is a fault,
-/// and any other is `NotOurs`.
+/// a file that another has open is `Busy`, and any other is `NotOurs`.
 pub fn open_by<O: Opener>(
     rt: &HostRuntime,
     opener: O,
@@ -230,11 +232,9 @@ fn refusal(error: &Error) -> OpenFault
 {
     match error {
         Error::SqliteFailure(ErrorCode::OutOfMemory) => OpenFault::Fault(Fault::Memory),
+        Error::SqliteFailure(ErrorCode::DatabaseBusy) => OpenFault::Busy,
         Error::SqliteFailure(
-            ErrorCode::NotADatabase
-            | ErrorCode::DatabaseCorrupt
-            | ErrorCode::CannotOpen
-            | ErrorCode::DatabaseBusy,
+            ErrorCode::NotADatabase | ErrorCode::DatabaseCorrupt | ErrorCode::CannotOpen,
         ) => OpenFault::NotOurs,
         _ => OpenFault::Fault(Fault::Store),
     }

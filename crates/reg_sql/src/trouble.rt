@@ -1,4 +1,7 @@
 //! What is wrong with a file in which no office is found, for people.
+ghost use Rattle.std.specs.Prelude.{◌≡◌};
+ghost use Rattle.reg_sql.specs.Troubles.{opening_fault};
+
 use crate::open::OpenFault;
 use reg_keeper::keeper::Fault;
 use reg_opening::flaw::{Flaw, RowFlaw};
@@ -17,6 +20,8 @@ pub enum Trouble {
     Special,
     /// Another has it open.
     Busy,
+    /// Another changed it each time that it was copied.
+    Unsteady,
     /// A rollback journal stands beside it, which only SQLite can play back.
     Journal,
     /// It is no database, or a damaged one.
@@ -35,8 +40,11 @@ pub enum Trouble {
 
 impl Trouble {
     /// How an opening of the file for another job says it.
-    pub fn fault(self) -> OpenFault {
+    pub fn fault(self) -> OpenFault
+        ensures { result ≡ opening_fault self }
+    {
         match self {
+            Trouble::Busy | Trouble::Unsteady => OpenFault::Busy,
             Trouble::Version(version) => OpenFault::Version(version),
             Trouble::Memory => OpenFault::Fault(Fault::Memory),
             Trouble::Store => OpenFault::Fault(Fault::Store),
@@ -79,6 +87,7 @@ impl From<OpenFault> for Trouble {
     fn from(fault: OpenFault) -> Trouble {
         match fault {
             OpenFault::Version(version) => Trouble::Version(version),
+            OpenFault::Busy => Trouble::Busy,
             OpenFault::NotOurs => Trouble::NotOurs(Flaw::Rows(RowFlaw::Unkept)),
             OpenFault::Fault(fault) => Trouble::from(fault),
         }
@@ -90,12 +99,15 @@ impl Display for Trouble {
         match self {
             Trouble::NoFile => f.write_str("there is no such file"),
             Trouble::Unreadable => f.write_str("the file cannot be read"),
-            Trouble::Special => f.write_str("it is no regular file, or it has another name too"),
+            Trouble::Special => f.write_str("it is not a regular file, or it has a second name"),
             Trouble::Busy => f.write_str("another program has the file open"),
+            Trouble::Unsteady => f.write_str(
+                "it was changed each time that it was copied: try again",
+            ),
             Trouble::Journal => {
                 f.write_str("SQLite left a rollback journal beside it: open it with sqlite3 first")
             }
-            Trouble::NoDatabase => f.write_str("it is no SQLite database, or a damaged one"),
+            Trouble::NoDatabase => f.write_str("it is not an SQLite database, or it is damaged"),
             Trouble::InTransaction => f.write_str("a transaction is open on it"),
             Trouble::Version(version) => {
                 write!(
@@ -104,7 +116,7 @@ impl Display for Trouble {
                 )
             }
             Trouble::NotOurs(flaw) => write!(f, "{flaw}"),
-            Trouble::Memory => f.write_str("there was no memory"),
+            Trouble::Memory => f.write_str("there is not enough memory"),
             Trouble::Store => f.write_str("the copy in memory failed"),
         }
     }

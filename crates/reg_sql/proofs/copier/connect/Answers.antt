@@ -23,8 +23,12 @@ found_first {g = g} files c store found = record {
   };
 }
 
-pub returns-in-Ok : goal.returns-in-Ok
-returns-in-Ok c = λ clean. (
+pub returns-in-Ok-clause-copies : goal.returns-in-Ok-clause-copies
+returns-in-Ok-clause-copies c = λ clean. (
   c.args.files,
   found_first c.args.files c.in-Ok.conn (c.in-Ok.ensures.opened clean) (c.in-Ok.ensures.found clean),
 )
+
+pub returns-in-Ok-clause-reads : goal.returns-in-Ok-clause-reads
+returns-in-Ok-clause-reads c = λ clean.
+    found_first c.args.files c.in-Ok.conn (c.in-Ok.ensures.opened clean) (c.in-Ok.ensures.found clean)

@@ -11,3 +11,7 @@ returns-in-Ok-look_into-clause-office g c =
 pub returns-in-Err-look_into-clause-trouble : goal.returns-in-Err-look_into-clause-trouble
 returns-in-Err-look_into-clause-trouble g c =
     (c.in-Ok.conn, c.in-Ok.ensures, c.in-Err-look_into.ensures.trouble)
+
+pub returns-in-Err-look_into-clause-cause : goal.returns-in-Err-look_into-clause-cause
+returns-in-Err-look_into-clause-cause g c =
+    (c.in-Ok.conn, c.in-Ok.ensures, c.in-Err-look_into.ensures.cause)

@@ -1,4 +1,4 @@
-use Rattle.std.proofs.Common.{◌≡◌, Ok, Err, Result, IfOk, false, subst, sym, rules, FitsSigned, w64}
+use Rattle.std.proofs.Common.{◌≡◌, ◌⊎◌, inl, Ok, Err, Result, IfErr, IfOk, false, subst, sym, rules, FitsSigned, w64}
 use Rattle.std.proofs.lemmas.Int.{to_z-of_z}
 use Rattle.std.proofs.lemmas.Result.{IfErr-weaker, IfOk-weaker}
 use Rattle.sqlite.specs.Held.{state}
@@ -13,11 +13,13 @@ use Rattle.reg_statements.specs.Content.{world_in}
 use Rattle.reg_opening.specs.Opening.{FindsKind, HasFlaw, IsFoundAs, IsOfVersion, IsOurs, kind_of}
 use Rattle.reg_opening.specs.declared.kind.Found.{Found}
 use Rattle.reg_opening.specs.declared.kind.Found.TheVariants as finding
+use Rattle.reg_sql.specs.Failing.{IsCaused}
 use Rattle.reg_sql.specs.Opening.{IsOpened, IsRefused}
 use Rattle.reg_sql.specs.Troubles.{IsGivenUp, IsTrouble, fault_trouble, refused_trouble}
 use Rattle.reg_sql.specs.declared.open.OpenFault.{OpenFault}
 use Rattle.reg_sql.specs.declared.open.OpenFault.TheVariants as refusals
 use Rattle.reg_sql.specs.declared.trouble.Trouble.{Trouble}
+use Rattle.reg_sql.proofs.Failed.{caused_by_fault, caused_later}
 use Rattle.reg_sql.proofs.look.look_into.Goals as goal
 
 -- a fault tells nothing of the store
@@ -67,6 +69,7 @@ module _ (old mid : State) {E : Type 0} (found : Found) (finds : FindsKind {E = 
     refused_as : (last : State) (refusal : OpenFault) → Works mid → IsRefused false old.now refusal
         → IsTrouble old (refused_trouble refusal)
     refused_as last (refusals.Version n) w refused = refused
+    refused_as last refusals.Busy w refused = absurd refused
     refused_as last refusals.NotOurs w refused =
         let is_it = told (finding.Ours v free) is w in
         (v, is_it.3, (is_it.0, λ begins. absurd (refused.3 v (is_it.0, is_it.2 begins))))
@@ -125,3 +128,28 @@ pub returns-in-NotOurs-clause-trouble : goal.returns-in-NotOurs-clause-trouble
 returns-in-NotOurs-clause-trouble g c works =
     flawed (state g.S.Store c.args.conn) (state g.S.Store c.find.new.conn) c.in-Ok.found
     c.in-Ok.ensures.finds (finding.NotOurs c.in-NotOurs.flaw) c.in-NotOurs.is works
+
+-- ---- Why it is a fault
+
+pub returns-in-Err-clause-cause : goal.returns-in-Err-clause-cause
+returns-in-Err-clause-cause g c =
+    let refused = g.S.Loads.Unloaded ⊎ g.S.Grows.Ungrown in
+    let old = state g.S.Store c.args.conn in
+    let new = state g.S.Store c.find.new.conn in
+    subst (IsCaused g.S.Reports.Reported refused g.S.Store old new) (sym c.from.ensures)
+    (caused_by_fault g.S.Store g.S.Reports.Reported refused old new c.in-Err.fault
+    (inl c.in-Err.ensures.fault))
+
+-- an office was found, and then not taken over
+both_err : {A E : Type 0} (P Q R : E → Type 0) (r : Result A E) → ((e : E) → P e → Q e → R e)
+    → IfErr r P → IfErr r Q → IfErr r R
+both_err P Q R (Ok a) f p q = tt
+both_err P Q R (Err e) f p q = f e p q
+
+pub returns-in-Ours-clause-cause : goal.returns-in-Ours-clause-cause
+returns-in-Ours-clause-cause g c =
+    both_err _ _ _ c.adopted.result (λ refusal given caused.
+    caused_later g.S.Store g.S.Reports.Reported (g.S.Loads.Unloaded ⊎ g.S.Grows.Ungrown)
+    (state g.S.Store c.args.conn) (state g.S.Store c.find.new.conn) (state g.S.Store refusal.1)
+    refusal.0 c.in-Ok.ensures.finds.stays given.refused.unchanged.worked
+    given.refused.unchanged.now caused) c.adopted.ensures.refused c.adopted.ensures.cause

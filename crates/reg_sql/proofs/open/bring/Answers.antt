@@ -15,6 +15,7 @@ returns-in-Ok-clause-brings g c =
       migrated = λ w stored.
           c.in-Ok.ensures.migrated w stored.office (stored_version v old.now stored);
       gained = c.in-Ok.ensures.gained;
+      beside = c.in-Ok.ensures.beside;
       free = refl;
       fault = tt;
       unchanged = λ w. tt;

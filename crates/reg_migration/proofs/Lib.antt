@@ -1,0 +1,3 @@
+mod ChangeBeside
+mod LaterBeside
+mod RaiseBeside
