@@ -2,6 +2,7 @@
 #![tactic(auto)]
 
 mod access;
+pub mod laws;
 
 use crate::access::{make_private, warn_of_readers};
 use reg_http::dates::Dates;
@@ -173,6 +174,7 @@ fn explained(alloc: Global, trouble: Trouble) -> Result<Undone, AllocError> {
 fn failure(fault: OpenFault) -> JobFailure {
     match fault {
         OpenFault::Version(version) => JobFailure::Version(version),
+        OpenFault::Busy => JobFailure::Busy,
         OpenFault::NotOurs => JobFailure::NotOurs,
         OpenFault::Fault(fault) => JobFailure::from(fault),
     }

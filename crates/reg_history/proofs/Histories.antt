@@ -8,8 +8,9 @@ use Rattle.std.proofs.lemmas.Grind.{common_steps}
 use Rattle.std.proofs.lemmas.Bool.{and_from, cases_Bool, eqb-true}
 use Rattle.reg_maps.specs.Maps.{text_cmp}
 use Rattle.reg_print.proofs.PrintedTokens.{one_more}
-use Rattle.reg_history.specs.Chain.{AddsLines, Chained, Record, at, begun, chain_from, chained, next_digest, next_line, record_of, says, with_record}
-use Rattle.reg_history.specs.History.{AddsRecord, Continues, IsHistory, IsHistoryOf, SaysJust, IsWrongAfter, TakesRecord, TellsWrong, later}
+use Rattle.reg_history.specs.Chain.{AddsLines, Chained, at, begun, chain_from, chained, next_digest, next_line, record_of, says, with_record}
+use Rattle.reg_history.specs.declared.change.Record.{Record}
+use Rattle.reg_history.specs.History.{AddsRecord, Continues, IsHistory, IsHistoryOf, SaysJust, IsWrongAfter, TakesRecord, TellsWrong, later, news}
 use Rattle.reg_history.specs.Moment.{moment_text}
 use Rattle.reg_history.specs.Replay.{NothingIsLost, Said, SaysAfter, after, changes_to, nothing, replay}
 use Rattle.reg_history.specs.Said.{Says, TellsLoss, said_by}
@@ -83,11 +84,12 @@ says-more records r =
 -- a history with one record more
 pub history-more : (h h' : History) (records : List Record) (moment : List ℕ) (change : Change)
     → IsHistory h records → is_le (text_cmp h.moment moment) ≡ true
+    → h'.records.items ≡ h.records.items ++ record_of moment change ∷ []
     → Says h'.said (after (said_by h.said) change)
     → h'.chain.digests.items
     ≡ h.chain.digests.items ++ next_digest h.chain.digests.items (record_of moment change) ∷ []
     → h'.moment ≡ moment → IsHistory h' (records ++ record_of moment change ∷ [])
-history-more h h' records moment change is ordered said digests now =
+history-more h h' records moment change is ordered pushed said digests now =
     let r : Record = record_of moment change in
     let grown = chain_from-append begun records (r ∷ []) in
     let was : said_by h.said ≡ says records = λ i s. is.said s i in
@@ -96,6 +98,7 @@ history-more h h' records moment change is ordered said digests now =
     is.in_order
     (ap (λ m. is_le (text_cmp m moment)) (sym is.moment) ∙ ordered) in
     record {
+      kept = pushed ∙ ap (λ rs. rs ++ r ∷ []) is.kept;
       said = λ s. said s ∙ ap (λ (f : Said). after f change s) was
           ∙ ap (λ (f : Said). f s) (sym (says-more records r));
       digests =
@@ -107,15 +110,16 @@ history-more h h' records moment change is ordered said digests now =
 
 pub adds_record : (h h' : History) (records : List Record) (moment : List ℕ) (change : Change)
     (bytes : List ℕ) → IsHistory h records → is_le (text_cmp h.moment moment) ≡ true
+    → h'.records.items ≡ h.records.items ++ record_of moment change ∷ []
     → Says h'.said (after (said_by h.said) change)
     → h'.chain.digests.items
     ≡ h.chain.digests.items ++ next_digest h.chain.digests.items (record_of moment change) ∷ []
     → h'.moment ≡ moment → bytes ≡ next_line h.chain.digests.items (record_of moment change)
     → AddsRecord h' records (record_of moment change) bytes
-adds_record h h' records moment change bytes is ordered said digests now line =
+adds_record h h' records moment change bytes is ordered pushed said digests now line =
     let r : Record = record_of moment change in
     record {
-      grown = history-more h h' records moment change is ordered said digests now;
+      grown = history-more h h' records moment change is ordered pushed said digests now;
       text =
           ap (λ (k : Chained). k.text) (chain_from-append begun records (r ∷ []))
           ∙ ap (λ ds. (chained records).text ++ next_line ds r) (sym is.digests)
@@ -212,6 +216,19 @@ continues h records moment facts changes more digests is made kept says_after li
           ∙ says_after (map (λ (x : Record). x.change) records) is.said s;
     }
 
+-- all records of a history that goes on
+pub records_on : (h : History) (records : List Record) (moment : ℕ) (facts : List Fact)
+    (changes : List Change) (all : List Record) → IsHistory h records
+    → changes ≡ changes_to (said_by h.said) facts
+    → all ≡ h.records.items ++ at (later h.moment (moment_text moment)) changes
+    → all ≡ records ++ news records moment facts
+records_on h records moment facts changes all is made kept =
+    let was : said_by h.said ≡ says records = λ i s. is.said s i in
+    kept ∙ ap (λ rs. rs ++ at (later h.moment (moment_text moment)) changes) is.kept
+    ∙ ap (λ m. records ++ at (later m (moment_text moment)) changes) is.moment
+    ∙ ap (λ cs. records ++ at (later (chained records).moment (moment_text moment)) cs)
+    (made ∙ ap (λ (f : Said). changes_to f facts) was)
+
 -- where nothing would be recorded, and nothing is lost, the records say just what the facts say
 pub says_just : (h : History) (records : List Record) (facts : List Fact) (changes : List Change)
     → IsHistory h records → SaysAfter (said_by h.said) facts changes → changes ≡ []
@@ -249,6 +266,10 @@ counted-from c (r ∷ rs) =
     counted-from (with_record c r) rs
     ∙ (let more : length (c.digests ++ next_digest c.digests r ∷ []) ≡ length c.digests + 1 =
     grind (arith, common_steps) in omega arith)
+
+-- there is a digest for each record
+pub counted : (records : List Record) → length (chained records).digests ≡ length records
+counted records = counted-from begun records ∙ zero-add (length records)
 
 pub wrong_after : (h : History) (before : List Record) → IsHistory h before
     → length h.chain.digests.items + 1 ≡ length before + 1

@@ -1,6 +1,8 @@
+pub mod Changed
 mod Fronts
-mod Histories
+pub mod Histories
 mod Mapped
 mod Replayed
 mod SameSubjects
 mod Unique
+mod UnlikeHistories

@@ -10,13 +10,9 @@ use Rattle.reg_history.specs.Replay.{Said, nothing, replay}
 use Rattle.reg_history.specs.Words.{class_word}
 use Rattle.reg_history.specs.declared.change.Change.{Change}
 use Rattle.reg_history.specs.declared.change.Change.TheVariants.{Made, Term}
+use Rattle.reg_history.specs.declared.change.Record.{Record}
 
 -- ---- One record
-
--- a change, and when it was published; its number and its digest follow from the records before it
-pub record Record : Type 0 where
-  pub moment : List ℕ
-  pub change : Change
 
 -- a change that was published at a moment
 abbrev pub record_of : List ℕ → Change → Record

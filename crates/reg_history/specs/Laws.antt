@@ -1,6 +1,7 @@
 -- The laws of histories.
 use Rattle.std.specs.Prelude.{◌≡◌, ℕ, List}
-use Rattle.reg_history.specs.Chain.{Record, chained}
+use Rattle.reg_history.specs.Chain.{chained}
+use Rattle.reg_history.specs.declared.change.Record.{Record}
 use Rattle.reg_history.specs.History.{Continues}
 use Rattle.reg_history.specs.declared.change.Fact.{Fact}
 

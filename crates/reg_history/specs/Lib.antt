@@ -2,9 +2,12 @@ pub mod Chain
 pub mod History
 pub mod Laws
 pub mod Moment
+pub mod Noted
 pub mod Published
 pub mod Replay
 pub mod Said
 pub mod Subjects
 pub mod Texts
+pub mod Unlike
 pub mod Words
+pub mod Recorded

@@ -1,9 +1,10 @@
 //! Records, each of which is tied to all before it by a digest.
-ghost use Rattle.std.specs.Prelude.{◌≡◌, ◌<◌, ◌++◌, ◌∷◌, [], map, length, codes, IfOk, IsTrue, OnOk};
+ghost use Rattle.std.specs.Prelude.{◌≡◌, ◌↔◌, ◌<◌, ◌++◌, ◌∷◌, [], map, length, codes, IfOk, IsTrue, OnOk};
 ghost use Rattle.hex.specs.Hex.{encode_lower};
 ghost use Rattle.sha2.specs.Sha256.{sha256};
 ghost use Rattle.csv.specs.Writing.{default_writer, row_body};
 ghost use Rattle.reg_history.specs.Chain.{AddsLines, Chained, HasDigest, last_digest, next_digest, next_line, record_of};
+ghost use Rattle.reg_history.specs.Noted.{some_begins};
 ghost use Rattle.reg_history.specs.Texts.{texts_of};
 
 use crate::change::Change;
@@ -84,12 +85,19 @@ impl Chain {
 
     /// Whether the record of this number has this digest. There is none of number 0.
     pub fn has(&self, number: u64, digest: &[u8]) -> bool
-        ensures { IsTrue result → HasDigest self.now.digests.items number digest.now }
+        ensures { IsTrue result ↔ HasDigest self.now.digests.items number digest.now }
     {
         if number == 0 || self.count() < number {
             return false;
         }
         is_same(&self.digests[(number - 1) as usize], digest)
+    }
+
+    /// Whether the digest of some record begins with these digits.
+    pub fn has_front(&self, digits: &[u8]) -> bool
+        ensures { result ≡ some_begins digits.now self.now.digests.items }
+    {
+        self.digests.iter().any(|digest| digest.starts_with(digits))
     }
 
     /// The digits of the last digest; none where there is no record.
@@ -105,7 +113,7 @@ impl Chain {
 
 // Whether these are the digits of a digest.
 fn is_same(digest: &[u8; DIGITS], digits: &[u8]) -> bool
-    ensures { IsTrue result → digest.now ≡ digits.now }
+    ensures { IsTrue result ↔ (digest.now ≡ digits.now) }
 {
     digest.as_slice() == digits
 }

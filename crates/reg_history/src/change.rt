@@ -1,6 +1,7 @@
 //! What a history says: facts, each of which is about a subject, and the changes that make them.
 ghost use Rattle.std.specs.Prelude.{◌≡◌, Some, IfOk};
 ghost use Rattle.std.specs.Ordering.{nat_cmp, eq_by_cmp, as_partial_cmp};
+ghost use Rattle.reg_history.specs.Recorded.{change_word, description_of, registry_of, value_of};
 ghost use Rattle.reg_history.specs.Replay.{subject_of};
 ghost use Rattle.reg_history.specs.Words.{class_place, class_word};
 
@@ -103,6 +104,14 @@ pub enum Change {
     Term(Field, Field, Standing),
 }
 
+/// A change, and when it was published. Its number and its digest follow from the records before it.
+#[derive(Debug, Drop)]
+pub struct Record {
+    /// As `YYYY-MM-DDThh:mm:ssZ`.
+    pub moment: Field,
+    pub change: Change,
+}
+
 impl Subject {
     /// An equal subject. Only want of memory is an error.
     pub fn copy(&self) -> Result<Self, AllocError>
@@ -169,6 +178,60 @@ impl Fact {
 }
 
 impl Change {
+    /// An equal change. Only want of memory is an error.
+    pub fn copy(&self) -> Result<Self, AllocError>
+        ensures { IfOk result (λ change. change ≡ self.now) }
+    {
+        match self {
+            Change::Made(fact) => Ok(Change::Made(fact.copy()?)),
+            Change::Term(registry, value, standing) => Ok(Change::Term(
+                registry.copy()?,
+                value.copy()?,
+                standing.copy()?,
+            )),
+        }
+    }
+
+    /// The name of the registry that it is about; empty where it is of none.
+    pub fn registry(&self) -> &str
+        ensures { result.now ≡ registry_of self.now }
+    {
+        match self {
+            Change::Made(fact) => fact.subject.registry.as_str(),
+            Change::Term(registry, _, _) => registry.as_str(),
+        }
+    }
+
+    /// Its word: `range`, `entry`, `prefix` or `block`, by what is first published, or `term`.
+    pub fn word(&self) -> &'static str
+        ensures { result.now ≡ change_word self.now }
+    {
+        match self {
+            Change::Made(fact) => fact.subject.class.word(),
+            Change::Term(_, _, _) => "term",
+        }
+    }
+
+    /// The value or the values, or the digits.
+    pub fn value(&self) -> &str
+        ensures { result.now ≡ value_of self.now }
+    {
+        match self {
+            Change::Made(fact) => fact.subject.value.as_str(),
+            Change::Term(_, value, _) => value.as_str(),
+        }
+    }
+
+    /// What is first published as its description; empty where nothing is.
+    pub fn description(&self) -> &str
+        ensures { result.now ≡ description_of self.now }
+    {
+        match self {
+            Change::Made(fact) => fact.details.description.as_str(),
+            Change::Term(_, _, _) => "",
+        }
+    }
+
     /// What it is about. Only want of memory is an error.
     pub fn subject(&self) -> Result<Subject, AllocError>
         ensures { IfOk result (λ subject. subject ≡ subject_of self.now) }

@@ -3,13 +3,15 @@ ghost use Rattle.std.specs.Prelude.{◌≡◌, ◌++◌, ◌∷◌, ◌+◌, [],
 ghost use Rattle.std.specs.Ordering.{is_le};
 ghost use Rattle.reg_maps.specs.Maps.{text_cmp};
 ghost use Rattle.reg_print.specs.Comparing.{Leaves};
-ghost use Rattle.reg_history.specs.Chain.{Record as Published, chained, record_of, says};
-ghost use Rattle.reg_history.specs.History.{AddsRecord, Continues, IsHistory, IsHistoryOf, IsWrongAfter, SaysJust, TakesRecord, TellsWrong, later};
+ghost use Rattle.reg_history.specs.Chain.{at, chained, record_of, says};
+ghost use Rattle.reg_history.specs.History.{AddsRecord, Continues, IsHistory, IsHistoryOf, IsWrongAfter, SaysJust, TakesRecord, TellsWrong, later, news};
 ghost use Rattle.reg_history.specs.Said.{TellsLoss};
+ghost use Rattle.reg_history.specs.Unlike.{TellsUnlike, unlike_of};
+ghost use Rattle.reg_history.specs.declared.history.Unlike.TheVariants as unlike;
 ghost use Rattle.reg_history.specs.declared.history.Unreadable.TheVariants as un;
 
 use crate::chain::Chain;
-use crate::change::{Change, Fact, Subject};
+use crate::change::{Change, Fact, Record, Subject};
 use crate::field::Field;
 use crate::moment::moment_text;
 use crate::reading::Records;
@@ -21,18 +23,21 @@ use std::collections::BTreeMap;
 pub const HEADER: &[u8] =
     b"Number,Moment,Register,Change,Value,Description,Policy,First,Expires,Held,Assignee,Digest\n";
 
-/// A history: what its records say, the digest of each, and the moment of the last.
+/// A history: its records, what they say, the digest of each, and the moment of the last. What they say
+/// shares its texts with them.
 #[derive(Drop)]
 pub struct History {
+    pub records: Vec<Record>,
     pub said: Said,
     pub chain: Chain,
     pub moment: Field,
 }
 
-/// What was added to a history: the bytes of the new records, and the digests of all.
+/// What was added to a history: the bytes of the new records; and all records, with their digests.
 #[derive(Drop)]
 pub struct Added {
     pub lines: Vec<u8>,
+    pub records: Vec<Record>,
     pub chain: Chain,
 }
 
@@ -46,12 +51,16 @@ pub enum Unlike {
 }
 
 impl From<AllocError> for Unlike {
+    ghost from_gives = { λ _ e. e ≡ unlike.Memory };
+
     fn from(_error: AllocError) -> Unlike {
         Unlike::Memory
     }
 }
 
 impl From<Unrecorded> for Unlike {
+    ghost from_gives = { λ why e. e ≡ unlike_of why };
+
     fn from(why: Unrecorded) -> Unlike {
         match why {
             Unrecorded::Memory => Unlike::Memory,
@@ -99,6 +108,7 @@ impl History {
         ensures { IfOk result (λ history. IsHistory history []) }
     {
         Ok(History {
+            records: Vec::new(alloc),
             said: BTreeMap::new(alloc),
             chain: Chain::new(alloc),
             moment: Field::new(alloc, "")?,
@@ -107,10 +117,10 @@ impl History {
 
     // Takes all records of a text, which come next.
     fn take(&mut self, alloc: Global, text: &[u8]) -> Result<(), Unreadable>
-        ensures history { IfOk result (λ _. (records : List Published)
+        ensures history { IfOk result (λ _. (records : List Record)
             → IsHistory self.old records
             → IsHistoryOf self.new ((chained records).text ++ text.now)) }
-        ensures wrong { IfErr result (λ why. (records : List Published)
+        ensures wrong { IfErr result (λ why. (records : List Record)
             → IsHistory self.old records
             → TellsWrong ((chained records).text ++ text.now) why) }
     {
@@ -132,9 +142,9 @@ impl History {
         records: &mut Records<'_>,
         text: &'a [u8],
     ) -> Result<&'a [u8], Unreadable>
-        ensures takes { IfOk result (λ rest. (before : List Published)
+        ensures takes { IfOk result (λ rest. (before : List Record)
             → IsHistory self.old before → TakesRecord self.new before text.now rest.now) }
-        ensures wrong { IfErr result (λ why. (before : List Published)
+        ensures wrong { IfErr result (λ why. (before : List Record)
             → IsHistory self.old before → IsWrongAfter (length before) why) }
     {
         let wrong = self.wrong();
@@ -160,11 +170,15 @@ impl History {
 
     // Adds a record, and gives its bytes.
     fn add(&mut self, alloc: Global, moment: Field, change: Change) -> Result<Vec<u8>, AllocError>
-        ensures { IfOk result (λ v. (records : List Published) → IsHistory self.old records
+        ensures { IfOk result (λ v. (records : List Record) → IsHistory self.old records
             → is_le (text_cmp self.old.moment moment) ≡ true
             → AddsRecord self.new records (record_of moment change) v.items) }
     {
         let line = self.chain.add(alloc, &moment, &change)?;
+        self.records.push(Record {
+            moment: moment.copy()?,
+            change: change.copy()?,
+        })?;
         apply(&mut self.said, change)?;
         self.moment = moment;
         Ok(line)
@@ -173,13 +187,17 @@ impl History {
     /// What is added to a history at a moment, in seconds since 1970-01-01T00:00:00Z, so that it says these
     /// facts; or what was lost.
     pub fn go_on(self, alloc: Global, moment: u64, facts: &[Fact]) -> Result<Added, Unrecorded>
-        ensures continues { IfOk result (λ added. (records : List Published)
+        ensures continues { IfOk result (λ added. (records : List Record)
             → IsHistory self records
             → Continues records moment facts.now added.lines.items added.chain.digests.items) }
-        ensures lost { IfErr result (λ why. (records : List Published)
+        ensures records { IfOk result (λ added. (records : List Record)
+            → IsHistory self records
+            → added.records.items ≡ records ++ news records moment facts.now) }
+        ensures lost { IfErr result (λ why. (records : List Record)
             → IsHistory self records → TellsLoss (says records) facts.now why) }
     {
         let History {
+            records,
             said,
             mut chain,
             moment: last,
@@ -188,16 +206,24 @@ impl History {
         let now = moment_text(alloc, moment)?;
         let moment = later(last, Field::new(alloc, now.as_str())?);
         let lines = chain.add_all(alloc, &moment, changes.as_slice())?;
-        Ok(Added { lines, chain })
+        let records = with_changes(records, &moment, changes.as_slice())?;
+        Ok(Added {
+            lines,
+            records,
+            chain,
+        })
     }
 
     /// That it says just these facts, and no others.
     pub fn says_just(self, alloc: Global, facts: &[Fact]) -> Result<Chain, Unlike>
-        ensures says { OnOk result ((records : List Published) → IsHistory self records
+        ensures says { OnOk result ((records : List Record) → IsHistory self records
             → SaysJust records facts.now) }
         ensures chain { IfOk result (λ chain. chain ≡ self.chain) }
+        ensures unlike { IfErr result (λ why. (records : List Record)
+            → IsHistory self records → TellsUnlike (says records) facts.now why) }
     {
         let History {
+            records: _,
             said,
             chain,
             moment: _,
@@ -208,6 +234,23 @@ impl History {
             Some(change) => Err(Unlike::Subject(change.subject()?)),
         }
     }
+}
+
+// Records, and those of these changes, which are published at a moment.
+fn with_changes(
+    mut records: Vec<Record>,
+    moment: &Field,
+    changes: &[Change],
+) -> Result<Vec<Record>, AllocError>
+    ensures { IfOk result (λ v. v.items ≡ records.items ++ at moment.now changes.now) }
+{
+    for change in changes {
+        records.push(Record {
+            moment: moment.copy()?,
+            change: change.copy()?,
+        })?;
+    }
+    Ok(records)
 }
 
 // Whether a moment is not earlier than the last.

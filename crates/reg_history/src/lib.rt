@@ -10,5 +10,6 @@ pub mod laws;
 pub mod moment;
 pub mod published;
 mod reading;
+pub mod recorded;
 pub mod said;
 mod texts;

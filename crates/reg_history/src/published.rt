@@ -39,6 +39,36 @@ pub fn facts_of(
     Ok(facts)
 }
 
+/// Adds the facts of a registry to others. Only want of memory is an error.
+pub fn add_page(alloc: Global, facts: &mut Vec<Fact>, page: &Page) -> Result<(), AllocError>
+    ensures { OnOk result (facts.new.items ≡ facts.old.items ++ page_facts page.now) }
+{
+    let none = Field::new(alloc, "")?;
+    push_page(alloc, facts, &none, page)
+}
+
+/// Adds the facts of the prefixes of a pool to others. Only want of memory is an error.
+pub fn add_prefixes(
+    alloc: Global,
+    facts: &mut Vec<Fact>,
+    prefixes: &[u32],
+) -> Result<(), AllocError>
+    ensures { OnOk result
+        (facts.new.items ≡ facts.old.items ++ map prefix_fact prefixes.now) }
+{
+    let none = Field::new(alloc, "")?;
+    push_prefixes(alloc, facts, &none, prefixes)
+}
+
+/// Adds the facts of blocks to others. Only want of memory is an error.
+pub fn add_blocks(alloc: Global, facts: &mut Vec<Fact>, rows: &[Listed]) -> Result<(), AllocError>
+    ensures { OnOk result
+        (facts.new.items ≡ facts.old.items ++ map (λ row. block_fact row.block) rows.now) }
+{
+    let none = Field::new(alloc, "")?;
+    push_blocks(alloc, facts, &none, rows)
+}
+
 // Adds the facts of a registry. `none` is the empty field.
 fn push_page(
     alloc: Global,

@@ -1,16 +1,9 @@
 //! Reads the records of a history, as CSV has them.
-use crate::change::{Change, Class, Details, Fact, Standing, Subject};
+use crate::change::{Change, Class, Details, Fact, Record, Standing, Subject};
 use crate::field::Field;
 use crate::texts::Texts;
 use csv::{ByteRecord, ErrorKind, Reader, ReaderBuilder};
 use std::alloc::{AllocError, Global};
-
-/// A record that was read.
-#[derive(Drop)]
-pub(crate) struct Record {
-    pub moment: Field,
-    pub change: Change,
-}
 
 /// The records of a text, one after the other.
 #[derive(Drop)]

@@ -7,6 +7,7 @@ ghost use Rattle.reg_notes.specs.Notes.{entry_thing, note_at, note_count};
 use crate::note::Note;
 use std::alloc::{AllocError, Global};
 use std::collections::BTreeMap;
+use std::collections::btree_map::Keys;
 
 /// The notes of an authority: at most one on each thing. One is looked up in time that grows with the
 /// logarithm of their number.
@@ -58,6 +59,12 @@ impl Notes {
         ensures { option_copied result ≡ note_at self.now thing.now }
     {
         self.rows.get(thing)
+    }
+
+    /// The names of all things that there are notes on, in order: the authority's is empty, a registry's
+    /// its name, and an entry's the name of its registry, a comma and its value.
+    pub fn things(&self) -> Keys<'_, String, Note> {
+        self.rows.keys()
     }
 
     /// How many notes there are.

@@ -31,6 +31,7 @@ printing_fails fails failure.Memory h = tt
 printing_fails fails failure.Store h = absurd h
 printing_fails fails failure.Read h = tt
 printing_fails fails failure.Write h = tt
+printing_fails fails failure.Busy h = tt
 printing_fails fails failure.NotOurs h = tt
 printing_fails fails (failure.Version version) h = tt
 printing_fails fails failure.Token h = tt
@@ -39,6 +40,8 @@ printing_fails fails failure.Port h = tt
 printing_fails fails failure.Large h = tt
 printing_fails fails failure.Header h = tt
 printing_fails fails (failure.Row number) h = tt
+printing_fails fails failure.History h = tt
+printing_fails fails failure.Notes h = tt
 
 pub printing_may : (fails : Bool) (why : Undone) → IsOfPrinting why → MayUndo fails why
 printing_may fails (Fault why) h = printing_fails fails why h
@@ -63,6 +66,7 @@ printing_common failure.Memory h = tt
 printing_common failure.Store h = tt
 printing_common failure.Read h = absurd h
 printing_common failure.Write h = tt
+printing_common failure.Busy h = absurd h
 printing_common failure.NotOurs h = absurd h
 printing_common (failure.Version version) h = absurd h
 printing_common failure.Token h = absurd h
@@ -71,6 +75,8 @@ printing_common failure.Port h = absurd h
 printing_common failure.Large h = absurd h
 printing_common failure.Header h = absurd h
 printing_common (failure.Row number) h = absurd h
+printing_common failure.History h = absurd h
+printing_common failure.Notes h = absurd h
 
 pub printing_is_common : (why : Undone) → IsOfPrinting why → IsOfStoreOrPrinting why
 printing_is_common (Fault why) h = printing_common why h

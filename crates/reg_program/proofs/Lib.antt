@@ -11,3 +11,4 @@ pub mod Results
 pub mod Revoked
 pub mod Taken
 pub mod Imported
+pub mod Verified

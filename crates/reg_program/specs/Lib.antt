@@ -2,6 +2,7 @@ pub mod Asking
 pub mod Carrying
 pub mod Checking
 pub mod Doing
+pub mod Expiring
 pub mod Founding
 pub mod Importing
 pub mod Inputs
@@ -14,3 +15,5 @@ pub mod Serving
 pub mod Tasks
 pub mod Tokens
 pub mod Undone
+pub mod Verifying
+pub mod Version

@@ -1,5 +1,6 @@
 -- What becomes of a job: which task is carried out, with the office in which file.
-use Rattle.std.specs.Prelude.{◌≡◌, ◌⊎◌, ⊤, ℕ, false, [], List, Option, Some, None, Result, Ok, Err, codes, option_map}
+use Rattle.std.specs.Prelude.{◌≡◌, ◌⊎◌, ⊤, ℕ, Bool, false, is_some, [], List, Option, Some, None, Result, Ok, Err, OnOk, codes, option_map}
+use Rattle.std.specs.Io.KnownBytes.{Appends}
 use Rattle.std.specs.Option.{option_copied}
 use Rattle.std.specs.String.{string_bytes}
 use Rattle.reg_jobs.specs.declared.jobs.Definition.{Definition}
@@ -16,14 +17,17 @@ use Rattle.reg_store.specs.Lists.{world_in}
 use Rattle.reg_store.specs.declared.lists.ListKeeper.{ListKeeper}
 use Rattle.reg_core.specs.World.{empty_world}
 use Rattle.reg_program.specs.Asking.{definition_at, listing_at}
+use Rattle.reg_program.specs.Expiring.{PrintsTable}
 use Rattle.reg_program.specs.Founding.{RunsAll, told_beside}
 use Rattle.reg_program.specs.Importing.{IsImported}
 use Rattle.reg_program.specs.Inputs.{AreKnown, IsServed, IsTokenOf, body_in, token_in}
 use Rattle.reg_program.specs.Tasks.{Streams}
+use Rattle.reg_program.specs.Verifying.{IsVerifiedBy}
+use Rattle.reg_program.specs.Version.{version_line}
 use Rattle.reg_program.specs.declared.asking.Form.TheVariants.{Body, Line}
 use Rattle.reg_program.specs.declared.faults.Undone.{Undone}
 use Rattle.reg_program.specs.declared.tasks.Task.{Task}
-use Rattle.reg_program.specs.declared.tasks.Task.TheVariants.{Found, Run, Serve, Ask, Tokens, Revoke, Publish}
+use Rattle.reg_program.specs.declared.tasks.Task.TheVariants.{Found, Run, Serve, Ask, Tokens, Revoke, Publish, Due}
 
 -- the exit status where there is no job
 abbrev pub refused_status : JobFault → ℕ
@@ -65,10 +69,10 @@ IsListedBy registry (Ask None command form) =
     (form ≡ Body) × (asked (codes "GET") (listing_at registry) [] ≡ Ok command)
 IsListedBy registry _ = ⊥
 
--- the office is published in this folder
-abbrev pub IsPublishedTo : List ℕ → Task → Type 0
-IsPublishedTo folder (Publish given) = given.now ≡ folder
-IsPublishedTo folder _ = ⊥
+-- the office is published in this folder, with notes or without
+abbrev pub IsPublishedTo : List ℕ → Bool → Task → Type 0
+IsPublishedTo folder noted (Publish given notes) = (given.now ≡ folder) × (is_some notes ≡ noted)
+IsPublishedTo folder noted _ = ⊥
 
 -- just these capabilities are taken away
 abbrev pub IsTakenBy : Which → Task → Type 0
@@ -116,10 +120,20 @@ module _ (Carried : List ℕ → Task → Streams → Result ⊤ Undone → Type
   RunsIn (Some file) clerk io done = Carries Carried file (IsRunning clerk) io done
 
   -- the office in a file is published in a folder; of one that is served nothing is said here
-  abbrev pub PublishesFrom : List ℕ → List ℕ → Streams → Result ⊤ Undone → Type 0
-  PublishesFrom source folder io done =
+  abbrev pub PublishesFrom : List ℕ → List ℕ → Bool → Streams → Result ⊤ Undone → Type 0
+  PublishesFrom source folder noted io done =
       (IsServed source → Untouched)
-      × ((IsServed source → ⊥) → Carries Carried source (IsPublishedTo folder) io done)
+      × ((IsServed source → ⊥) → Carries Carried source (IsPublishedTo folder noted) io done)
+
+  -- what is due is printed, of the office in a file, or of one that is served
+  abbrev pub TellsDue : List ℕ → ℕ → Streams → Result ⊤ Undone → Type 0
+  TellsDue source days io done =
+      (IsServed source → Untouched × OnOk done (PrintsTable io.had io.has))
+      × ((IsServed source → ⊥) → Carries Carried source (λ task. task ≡ Due days) io done)
+
+  -- the version is printed
+  abbrev pub PrintsVersion : Streams → Result ⊤ Undone → Type 0
+  PrintsVersion io done = Untouched × OnOk done (Appends io.had io.has version_line)
 
   -- What a job does, with this result, by what is known of standard input and output and of the
   -- clock. Of what a served office publishes and of help nothing else is said here.
@@ -137,13 +151,17 @@ module _ (Carried : List ℕ → Task → Streams → Result ⊤ Undone → Type
       Carries Carried (string_bytes order.file) (IsDefinedBy order) io done
   DoesJob io (job.Listing file registry) done =
       Carries Carried (string_bytes file) (IsListedBy (option_map string_bytes registry)) io done
-  DoesJob io (job.Publish source folder) done =
-      PublishesFrom (string_bytes source) (string_bytes folder) io done
+  DoesJob io (job.Publish source folder notes) done =
+      PublishesFrom (string_bytes source) (string_bytes folder) (is_some notes) io done
+  DoesJob io (job.Verify folder digest) done =
+      Untouched × IsVerifiedBy (option_map string_bytes digest) io.had io.has done
+  DoesJob io (job.Due source within) done = TellsDue (string_bytes source) within io done
   DoesJob io (job.Check file) done = Checked (string_bytes file) io done
   DoesJob io (job.Tokens file) done =
       Carries Carried (string_bytes file) (λ task. task ≡ Tokens) io done
   DoesJob io (job.Revoke file chosen) done =
       Carries Carried (string_bytes file) (IsTakenBy chosen) io done
+  DoesJob io job.Version done = PrintsVersion io done
   DoesJob io (job.Help text) done = Untouched
 
 -- Either this was done; or it was not, and then nothing was, or it itself failed.

@@ -2,18 +2,21 @@
 use Rattle.std.specs.Prelude.{◌≡◌, ⊤, ℕ, Bool, true, false, List, Option, Result, OnOk, MatchResult}
 use Rattle.std.specs.Option.{option_copied}
 use Rattle.std.specs.declared.time.Duration.{Duration}
+use Rattle.reg_core.specs.View.{published}
 use Rattle.reg_core.specs.World.{World}
 use Rattle.reg_office.specs.Caller.{step_by}
 use Rattle.reg_http.specs.Meeting.{ReadsMoment}
+use Rattle.reg_notes.specs.declared.notes.Notes.{Notes}
 use Rattle.reg_program.specs.Asking.{IsPrinted, IsUnprinted}
 use Rattle.reg_program.specs.Doing.{Does}
+use Rattle.reg_program.specs.Expiring.{PrintsDue}
 use Rattle.reg_program.specs.Founding.{IsReady, IsUnready, RunsAll, RunsUpTo, told_beside}
 use Rattle.reg_program.specs.Looking.{only_looks}
 use Rattle.reg_program.specs.Revoking.{IsUnrevoked, Revokes}
 use Rattle.reg_program.specs.Tokens.{IsListed}
 use Rattle.reg_program.specs.declared.faults.Undone.{Undone}
 use Rattle.reg_program.specs.declared.tasks.Task.{Task}
-use Rattle.reg_program.specs.declared.tasks.Task.TheVariants.{Found, Run, Serve, Ask, Tokens, Revoke, Publish}
+use Rattle.reg_program.specs.declared.tasks.Task.TheVariants.{Found, Run, Serve, Ask, Tokens, Revoke, Publish, Due}
 
 -- What is known of standard input and output and of the clock, before and after: what is left to be
 -- read, what was written, and what the clock is to say. Where progress is told on a terminal it is
@@ -48,7 +51,7 @@ IsMoment io moment = ReadsMoment io.readings io.later moment
 -- clock said. An office that is served on a port, for so many connections, is changed by these alone,
 -- as `served` says; and what is published in a folder is what `placed` says.
 abbrev pub Did : {S : Type 0} → (S → World) → (S → Type 0) → (S → Type 0) → Bool → S → S → Streams
-    → (ℕ → ℕ → Type 0) → (List ℕ → ℕ → Type 0) → Result ⊤ Undone → Task → Type 0
+    → (ℕ → ℕ → Type 0) → (List ℕ → Option Notes → ℕ → Type 0) → Result ⊤ Undone → Task → Type 0
 Did world Holds Sound fails before after io served placed result (Found clerk) =
     Does world Holds Sound fails before after result (IsReady clerk.now io.had io.has)
     (IsUnready clerk.now)
@@ -70,8 +73,11 @@ Did world Holds Sound fails before after io served placed result Tokens =
 Did world Holds Sound fails before after io served placed result (Revoke choice) =
     (moment : ℕ) × IsMoment io moment × Does world Holds Sound fails before after result
     (Revokes moment choice io.had io.has) (IsUnrevoked moment choice)
-Did world Holds Sound fails before after io served placed result (Publish folder) =
-    OnOk result ((moment : ℕ) × IsMoment io moment × placed folder.now moment)
+Did world Holds Sound fails before after io served placed result (Publish folder notes) =
+    OnOk result ((moment : ℕ) × IsMoment io moment × placed folder.now (option_copied notes) moment)
+Did world Holds Sound fails before after io served placed result (Due days) =
+    OnOk result ((moment : ℕ) × IsMoment io moment
+    × PrintsDue (λ k. published (world k)) Holds before after moment days io.had io.has)
 
 -- the capabilities are listed, or a command that only looks is asked
 abbrev pub looks_on : Task → Bool
@@ -81,7 +87,8 @@ looks_on (Serve port connections log) = false
 looks_on (Ask token command form) = only_looks command
 looks_on Tokens = true
 looks_on (Revoke choice) = false
-looks_on (Publish folder) = false
+looks_on (Publish folder notes) = false
+looks_on (Due days) = false
 
 -- an office is begun where there is none
 abbrev pub begins : Task → Bool
@@ -91,4 +98,5 @@ begins (Serve port connections log) = false
 begins (Ask token command form) = false
 begins Tokens = false
 begins (Revoke choice) = false
-begins (Publish folder) = false
+begins (Publish folder notes) = false
+begins (Due days) = false

@@ -29,6 +29,8 @@ pub enum JobFailure {
     Read,
     /// Output could not be written.
     Write,
+    /// Another job has the file open.
+    Busy,
     /// The file has no office, or one that is not well kept.
     NotOurs,
     /// The file has an office of this other version.
@@ -39,12 +41,16 @@ pub enum JobFailure {
     Exists,
     /// The port cannot be listened on.
     Port,
-    /// The range file has more than 65,536 bytes.
+    /// The range file has more than 65,536 bytes, or the file of notes more than 1,048,576.
     Large,
     /// The register has no header of a register.
     Header,
     /// The row of this number of the register is at fault.
     Row(usize),
+    /// The history in a folder is at fault, or it differs from what is published.
+    History,
+    /// The file of notes is at fault.
+    Notes,
 }
 
 impl From<JobFailure> for Undone {
@@ -158,6 +164,7 @@ impl Display for JobFailure {
             JobFailure::Store => f.write_str("store"),
             JobFailure::Read => f.write_str("read"),
             JobFailure::Write => f.write_str("write"),
+            JobFailure::Busy => f.write_str("busy"),
             JobFailure::NotOurs => f.write_str("not ours"),
             JobFailure::Version(version) => write!(f, "version {version}"),
             JobFailure::Token => f.write_str("token"),
@@ -166,6 +173,8 @@ impl Display for JobFailure {
             JobFailure::Large => f.write_str("large"),
             JobFailure::Header => f.write_str("header"),
             JobFailure::Row(number) => write!(f, "row {number}"),
+            JobFailure::History => f.write_str("history"),
+            JobFailure::Notes => f.write_str("notes"),
         }
     }
 }

@@ -16,6 +16,9 @@ pub const MOST_BYTES: usize = 65_536;
 /// How many bytes a register has at most.
 pub const MOST_REGISTER_BYTES: usize = 268_435_456;
 
+/// How many bytes a file of notes has at most.
+pub const MOST_NOTES_BYTES: usize = 1_048_576;
+
 /// The bytes of the file at a path. `Large` where it has more than 65,536, and `Read` where it
 /// cannot be read.
 pub fn bytes_of<H: Files>(rt: &H, alloc: Global, path: &str) -> Result<Vec<u8>, JobFailure>
@@ -34,6 +37,17 @@ pub fn register_of<H: Files>(rt: &H, alloc: Global, path: &str) -> Result<Vec<u8
 {
     let mut file = fs::open(rt, path).map_err(failure)?;
     let read = up_to(alloc, &mut file, MOST_REGISTER_BYTES);
+    drop(file);
+    read
+}
+
+/// The bytes of the file of notes at a path. `Large` where it has more than 1,048,576, and `Read` where
+/// it cannot be read.
+pub fn notes_of<H: Files>(rt: &H, alloc: Global, path: &str) -> Result<Vec<u8>, JobFailure>
+    ensures { IfOk result (λ bytes. length bytes.items ≤ 1048576) }
+{
+    let mut file = fs::open(rt, path).map_err(failure)?;
+    let read = up_to(alloc, &mut file, MOST_NOTES_BYTES);
     drop(file);
     read
 }

@@ -3,14 +3,16 @@ ghost use Rattle.std.specs.Prelude.{◌<◌};
 
 use jiff::Timestamp;
 use reg_http::log::{Log, Sent};
+use reg_parse::shown::Shown;
 use std::alloc::{AllocError, Global};
 use std::io::Write;
 
 /// What stands for a method and a path that could not be read.
 const UNREAD: &[u8] = b"- -";
 
-/// Tells of each connection by a line: the moment, the method, the path, the status and how many
-/// bytes the body of the answer has; `dropped` in place of the last two where it was not answered.
+/// Tells of each connection by a line: the moment, the method, what may be shown of the path, the
+/// status and how many bytes the body of the answer has; `dropped` in place of the last two where it
+/// was not answered.
 /// That a line cannot be written, or that there is no memory for it, ends nothing.
 #[derive(Drop)]
 pub struct Lines<'a, E: Write> {
@@ -34,7 +36,7 @@ impl<'a, E: Write> Lines<'a, E> {
 impl<E: Write> Log for Lines<'_, E> {
     const IS_KEPT: bool = true;
 
-    fn asked(&mut self, method: &[u8], path: &[u8]) {
+    fn asked(&mut self, method: &[u8], path: Shown<'_>) {
         if write_asked(&mut self.asked, method, path).is_err() {
             self.asked.clear();
         }
@@ -49,11 +51,11 @@ impl<E: Write> Log for Lines<'_, E> {
     }
 }
 
-fn write_asked(asked: &mut Vec<u8>, method: &[u8], path: &[u8]) -> Result<(), AllocError> {
+fn write_asked(asked: &mut Vec<u8>, method: &[u8], path: Shown<'_>) -> Result<(), AllocError> {
     asked.clear();
     write_escaped(asked, method)?;
     asked.push(b' ')?;
-    write_escaped(asked, path)
+    write_escaped(asked, path.text())
 }
 
 // A space, a backslash and what is no printable ASCII is written as `\x` and two digits.

@@ -1,25 +1,31 @@
 //! Doing the jobs of the program.
-ghost use Rattle.std.specs.Prelude.{◌≡◌, ◌⊎◌, IfOk, OnOk, option_map};
+ghost use Rattle.std.specs.Prelude.{◌≡◌, ◌⊎◌, IfOk, OnOk, is_some, option_map};
 ghost use Rattle.std.specs.String.{string_bytes};
 ghost use Rattle.reg_program.specs.Founding.{RunsAll, told_beside};
 ghost use Rattle.reg_program.specs.Importing.{IsImported};
 ghost use Rattle.reg_program.specs.Inputs.{AreKnown, body_in};
-ghost use Rattle.reg_program.specs.Performing.{Carries, CarriesThen, DoesJob, EndsBy, IsDefinedBy, IsFounding, IsListedBy};
-ghost use Rattle.reg_program.specs.Performing.{IsRequestedBy, IsTakenBy, PublishesFrom, RunsIn, Tries, refused_status};
+ghost use Rattle.reg_program.specs.Performing.{Carries, CarriesThen, DoesJob, EndsBy, IsDefinedBy, IsFounding, IsListedBy, IsPublishedTo};
+ghost use Rattle.reg_program.specs.Performing.{IsRequestedBy, IsTakenBy, PublishesFrom, RunsIn, TellsDue, Tries, refused_status};
 ghost use Rattle.reg_program.specs.Tasks.{streams};
+ghost use Rattle.reg_program.specs.Verifying.{IsVerifiedBy};
 
 use crate::asking::{Form, definition, listing, print, requested};
 use crate::console::Console;
+use crate::expiring::print_due_served;
 use crate::faults::Undone;
 use crate::importing::import;
 use crate::inputs::{all_of, bytes_of, optional_token, token_of};
+use crate::noting::notes_at;
 use crate::publishing::{port_of, publish_served};
 use crate::scripts::run_in;
 use crate::tasks::{Offices, Task};
 use crate::tokens::account_of;
+use crate::verifying::verify;
+use crate::version::print_version;
 use reg_http::dates::{Dates, moment_now};
 use reg_jobs::jobs::{Definition, Importation, Job, JobFault, Request, Which};
 use reg_keeper::keeper::Keeper;
+use reg_notes::notes::Notes;
 use reg_office::{Choice, Office};
 use reg_store::lists::ListKeeper;
 use std::alloc::Global;
@@ -135,19 +141,29 @@ fn attempt<D: Dates, O: Offices, R: Read, W: Write, E: Write>(
             registry,
             console,
         ),
-        Job::Publish { source, folder } => {
+        Job::Publish {
+            source,
+            folder,
+            notes,
+        } => {
             publish_at(
                 rt,
                 dates,
                 offices,
                 source.as_str(),
                 folder.as_str(),
+                notes,
                 console,
             )
+        }
+        Job::Verify { folder, digest } => verify_at(rt, folder.as_str(), digest, console),
+        Job::Due { source, within } => {
+            due_at(rt, dates, offices, source.as_str(), *within, console)
         }
         Job::Check { file } => offices.check(rt, dates, file.as_str(), console),
         Job::Tokens { file } => carry_out(rt, dates, offices, file.as_str(), Task::Tokens, console),
         Job::Revoke { file, which } => revoke(rt, dates, offices, file.as_str(), which, console),
+        Job::Version => print_version(rt.alloc(), console.output),
         Job::Help { text } => print(console.output, text.as_bytes()),
     }
 }
@@ -344,13 +360,15 @@ fn list<D: Dates, O: Offices, R: Read, W: Write, E: Write>(
     carry_out(rt, dates, offices, file, task, console)
 }
 
-// Publishes the office that is served at an address, or the one in a file.
+// Publishes the office that is served at an address, or the one in a file, with the notes in a file, if
+// there is one.
 fn publish_at<D: Dates, O: Offices, R: Read, W: Write, E: Write>(
     rt: &HostRuntime,
     dates: &mut D,
     offices: &mut O,
     source: &str,
     folder: &str,
+    notes: &Option<String>,
     console: &mut Console<'_, R, W, E>,
 ) -> Result<(), Undone>
     ensures { let io = streams console.old.is_watched
@@ -358,20 +376,83 @@ fn publish_at<D: Dates, O: Offices, R: Read, W: Write, E: Write>(
         (W.contents console.old.output.now) (W.contents console.new.output.now)
         (D.readings dates.old) (D.readings dates.new) in
         Tries (offices.new ≡ offices.old) (PublishesFrom (O.Carried offices.old offices.new)
-        (O.Checked offices.old offices.new) (offices.new ≡ offices.old) source.now folder.now io)
+        (O.Checked offices.old offices.new) (offices.new ≡ offices.old) source.now folder.now
+        (is_some notes.now) io)
+        result }
+{
+    let port = port_of(source)?;
+    let read = notes_at(rt, rt.alloc(), notes)?;
+    match port {
+        Some(port) => {
+            publish_served(
+                rt,
+                port,
+                moment_now(dates),
+                folder,
+                read.as_ref(),
+                console.output,
+                console.errors,
+            )
+        }
+        None => publish_noted(rt, dates, offices, source, folder, read.as_ref(), console),
+    }
+}
+
+// Prints what is due of the office that is served at an address, or of the one in a file.
+fn due_at<D: Dates, O: Offices, R: Read, W: Write, E: Write>(
+    rt: &HostRuntime,
+    dates: &mut D,
+    offices: &mut O,
+    source: &str,
+    days: u32,
+    console: &mut Console<'_, R, W, E>,
+) -> Result<(), Undone>
+    ensures { let io = streams console.old.is_watched
+        (R.remaining console.old.input.now) (R.remaining console.new.input.now)
+        (W.contents console.old.output.now) (W.contents console.new.output.now)
+        (D.readings dates.old) (D.readings dates.new) in
+        Tries (offices.new ≡ offices.old) (TellsDue (O.Carried offices.old offices.new)
+        (O.Checked offices.old offices.new) (offices.new ≡ offices.old) source.now days io)
         result }
 {
     match port_of(source)? {
-        Some(port) => publish_served(rt, port, moment_now(dates), folder, console.output),
-        None => carry_out(
-            rt,
-            dates,
-            offices,
-            source,
-            Task::Publish { folder },
-            console,
-        ),
+        Some(port) => print_due_served(rt, port, moment_now(dates), days, console.output),
+        None => carry_out(rt, dates, offices, source, Task::Due { days }, console),
     }
+}
+
+// Verifies a published folder. No office is opened.
+fn verify_at<R: Read, W: Write, E: Write>(
+    rt: &HostRuntime,
+    folder: &str,
+    noted: &Option<String>,
+    console: &mut Console<'_, R, W, E>,
+) -> Result<(), Undone>
+    ensures { IsVerifiedBy (option_map string_bytes noted.now) (W.contents console.old.output.now)
+        (W.contents console.new.output.now) result }
+{
+    verify(rt, folder, noted, console.output)
+}
+
+// Publishes the office in a file with these notes.
+fn publish_noted<'a, D: Dates, O: Offices, R: Read, W: Write, E: Write>(
+    rt: &HostRuntime,
+    dates: &mut D,
+    offices: &mut O,
+    source: &str,
+    folder: &'a str,
+    notes: Option<&'a Notes>,
+    console: &mut Console<'_, R, W, E>,
+) -> Result<(), Undone>
+    ensures { let io = streams console.old.is_watched
+        (R.remaining console.old.input.now) (R.remaining console.new.input.now)
+        (W.contents console.old.output.now) (W.contents console.new.output.now)
+        (D.readings dates.old) (D.readings dates.new) in
+        Carries (O.Carried offices.old offices.new) source.now
+        (IsPublishedTo folder.now (is_some notes.entry)) io result }
+{
+    let task = Task::Publish { folder, notes };
+    carry_out(rt, dates, offices, source, task, console)
 }
 
 fn revoke<D: Dates, O: Offices, R: Read, W: Write, E: Write>(

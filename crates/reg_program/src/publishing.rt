@@ -1,13 +1,18 @@
 //! The job that publishes an office.
 ghost use Rattle.std.specs.Prelude.{◌<◌, IfOk, OnOk, IfSome, MatchOption};
+ghost use Rattle.std.specs.Option.{option_copied};
 ghost use Rattle.reg_program.specs.Inputs.{IsServed};
 ghost use Rattle.reg_program.specs.Publishing.{PublishesIn};
 
 use crate::asking::{print, refusal_line};
 use crate::faults::{JobFailure, Undone};
+use reg_history::change::{Class, Subject};
+use reg_notes::notes::Notes;
 use reg_publish::directory::Directory;
 use reg_publish::disk::SystemDisk;
+use reg_publish::faults::{HistoryFault, PublishFault};
 use reg_publish::folder::Folder;
+use reg_publish::left_out::LeftOut;
 use reg_publish::peer::Peer;
 use reg_publish::publishing::{Count, publish};
 use reg_publish::source::Source;
@@ -78,6 +83,10 @@ pub struct LockedDirectory<'a> {
 }
 
 impl Folder for LockedDirectory<'_> {
+    fn read(&self, alloc: Global, file: File) -> Result<Option<Vec<u8>>, Unpublished> {
+        self.directory.read(alloc, file)
+    }
+
     fn publish<P: Portions>(&mut self, file: File, bytes: &mut P) -> Result<(), Unpublished> {
         self.directory.publish(file, bytes)
     }
@@ -94,13 +103,15 @@ fn locked(rt: &HostRuntime, folder: &str) -> Result<fs::File, Unpublished> {
     }
 }
 
-/// Publishes the office that is served on a port of loopback, in the folder at a path.
-pub fn publish_served<W: Write>(
+/// Publishes the office that is served on a port of loopback, in the folder at a path, with these notes.
+pub fn publish_served<W: Write, E: Write>(
     rt: &HostRuntime,
     port: u16,
     moment: u64,
     folder: &str,
+    notes: Option<&Notes>,
     output: &mut W,
+    errors: &mut E,
 ) -> Result<(), Undone> {
     let mut peer = Peer::new(rt, port);
     publish_in(
@@ -109,26 +120,32 @@ pub fn publish_served<W: Write>(
         &mut peer,
         moment,
         folder,
+        notes,
         output,
+        errors,
     )
 }
 
-/// Publishes what a source tells anybody at a moment in the folder at a path, and prints how much
-/// that is. `Write` where the folder cannot be opened, or a file cannot be written.
-pub fn publish_in<S: Source, F: Folders, W: Write>(
+/// Publishes what a source tells anybody at a moment in the folder at a path, with these notes, so that
+/// the history there goes on, and prints how much that is. Says on standard error which notes no page
+/// shows. `Write` where the folder cannot be opened, or a file cannot be written, and `Explained` with
+/// `History` where the history is at fault.
+pub fn publish_in<S: Source, F: Folders, W: Write, E: Write>(
     alloc: Global,
     folders: &F,
     source: &mut S,
     moment: u64,
     folder: &str,
+    notes: Option<&Notes>,
     output: &mut W,
+    errors: &mut E,
 ) -> Result<(), Undone>
-    ensures { OnOk result (PublishesIn S.published S.Holds F.Given.Puts
-        (F.Opened folders.now folder.now) source.old source.new moment) }
+    ensures { OnOk result (PublishesIn S.published S.Holds F.Given.Tells F.Given.held F.Given.Puts
+        (F.Opened folders.now folder.now) source.old source.new (option_copied notes.entry) moment) }
 {
-    match publish_to(alloc, folders, source, moment, folder) {
-        Ok(count) => print(output, line_of(alloc, count)?.as_bytes()),
-        Err(why) => Err(undone(alloc, why)?),
+    match publish_to(alloc, folders, source, moment, folder, notes) {
+        Ok(count) => tell(alloc, &count, output, errors),
+        Err(why) => Err(failure_of(alloc, why)?),
     }
 }
 
@@ -139,26 +156,65 @@ fn publish_to<S: Source, F: Folders>(
     source: &mut S,
     moment: u64,
     folder: &str,
-) -> Result<Count, Unpublished>
-    ensures { OnOk result (PublishesIn S.published S.Holds F.Given.Puts
-        (F.Opened folders.now folder.now) source.old source.new moment) }
+    notes: Option<&Notes>,
+) -> Result<Count, PublishFault>
+    ensures { OnOk result (PublishesIn S.published S.Holds F.Given.Tells F.Given.held F.Given.Puts
+        (F.Opened folders.now folder.now) source.old source.new (option_copied notes.entry) moment) }
 {
     let mut given = folders.open(alloc, folder)?;
-    let count = publish(alloc, source, &mut given, moment);
+    let count = publish(alloc, source, &mut given, notes, moment);
     drop(given);
     count
 }
 
-fn line_of(alloc: Global, count: Count) -> Result<String, AllocError> {
-    let Count {
-        registries,
-        entries,
-        blocks,
-    } = count;
+// Says which notes were left out, and prints how much was published.
+fn tell<W: Write, E: Write>(
+    alloc: Global,
+    count: &Count,
+    output: &mut W,
+    errors: &mut E,
+) -> Result<(), Undone> {
+    if count.left_out.count > 0 {
+        let line = left_out_line(alloc, &count.left_out)?;
+        let _ = errors.write_all(line.as_bytes());
+    }
+    print(output, line_of(alloc, count)?.as_bytes())
+}
+
+fn left_out_line(alloc: Global, left: &LeftOut) -> Result<String, AllocError> {
+    let count = left.count;
+    match left.first.split_once(',') {
+        Some((registry, value)) => format!(in alloc;
+            "{count} notes were left out, the first on value {value} of {registry}, which has no entry\n"
+        ),
+        None => format!(in alloc;
+            "{count} notes were left out, the first on {}, which is no registry\n",
+            left.first.as_str()
+        ),
+    }
+}
+
+fn line_of(alloc: Global, count: &Count) -> Result<String, AllocError> {
+    let registries = count.registries;
+    let entries = count.entries;
+    let blocks = count.blocks;
     format!(in alloc; "published {registries} registries, {entries} entries, {blocks} blocks\n")
 }
 
-fn undone(alloc: Global, why: Unpublished) -> Result<Undone, AllocError> {
+// ---- Faults
+
+fn failure_of(alloc: Global, why: PublishFault) -> Result<Undone, AllocError> {
+    match why {
+        PublishFault::Unpublished(why) => undone(alloc, why),
+        PublishFault::History(fault) => {
+            let explained = explained(alloc, &fault)?;
+            Ok(Undone::Explained(JobFailure::History, explained))
+        }
+    }
+}
+
+/// Why a job was not done to which a source did not tell what is published.
+pub fn undone(alloc: Global, why: Unpublished) -> Result<Undone, AllocError> {
     Ok(Undone::Fault(match why {
         Unpublished::Memory => JobFailure::Memory,
         Unpublished::Store => JobFailure::Store,
@@ -167,4 +223,48 @@ fn undone(alloc: Global, why: Unpublished) -> Result<Undone, AllocError> {
         Unpublished::Write => JobFailure::Write,
         Unpublished::Refused(refusal) => return Ok(Undone::Refused(refusal_line(alloc, refusal)?)),
     }))
+}
+
+// What is wrong with a history, for people.
+fn explained(alloc: Global, fault: &HistoryFault) -> Result<String, AllocError> {
+    match fault {
+        HistoryFault::Missing => String::from_str(
+            alloc,
+            "changes.csv is not there, but index.json is",
+        ),
+        HistoryFault::Header => {
+            String::from_str(
+                alloc,
+                "changes.csv does not begin with the header of a history",
+            )
+        }
+        HistoryFault::Record(number) => {
+            format!(in alloc; "record {number} of changes.csv is wrong")
+        }
+        HistoryFault::Index => {
+            String::from_str(
+                alloc,
+                "index.json names a record that changes.csv does not have",
+            )
+        }
+        HistoryFault::Lost(subject) => lost(alloc, subject),
+    }
+}
+
+// What was published of a subject is published no more, or otherwise.
+fn lost(alloc: Global, subject: &Subject) -> Result<String, AllocError> {
+    let registry = subject.registry.as_str();
+    let value = subject.value.as_str();
+    match subject.class {
+        Class::Range => format!(in alloc;
+            "range {value} of {registry} was published, and is not in the office as it was"
+        ),
+        Class::Entry => format!(in alloc;
+            "value {value} of {registry} was published, and is not in the office as it was"
+        ),
+        Class::Prefix => {
+            format!(in alloc; "prefix {value} was published, and is not in the office")
+        }
+        Class::Block => format!(in alloc; "block {value} was published, and is not in the office"),
+    }
 }

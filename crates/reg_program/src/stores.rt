@@ -1,5 +1,6 @@
 //! Offices in what keeps them at paths: one is opened, has a task carried out, and is closed.
-ghost use Rattle.std.specs.Prelude.{ℕ, List, MatchResult};
+ghost use Rattle.std.specs.Prelude.{ℕ, List, MatchResult, Option};
+ghost use Rattle.reg_notes.specs.declared.notes.Notes.{Notes};
 ghost use Rattle.reg_core.specs.View.{published};
 ghost use Rattle.reg_http.specs.Serving.{AnswersOver};
 ghost use Rattle.reg_program.specs.Carrying.{CarriesOut, LooksInto};
@@ -90,9 +91,10 @@ impl<T: Stores, N: Ports, F: Folders> Offices for OfficesIn<T, N, F> {
         ServesOn (AnswersOver T.Kept.world T.Kept.Holds T.Kept.Sound T.Kept.FAILS)
         (N.Opened old.ports) N.Given.blank N.Given.coming N.Given.written io.readings io.later port count first last
         in
-        let placed : T.Kept → T.Kept → List ℕ → ℕ → Type 0 = λ first last folder moment.
-        PublishesIn (λ k. published (T.Kept.world k)) T.Kept.Holds F.Given.Puts
-        (F.Opened old.folders folder) first last moment in
+        let placed : T.Kept → T.Kept → List ℕ → Option Notes → ℕ → Type 0
+        = λ first last folder notes moment.
+        PublishesIn (λ k. published (T.Kept.world k)) T.Kept.Holds F.Given.Tells F.Given.held F.Given.Puts
+        (F.Opened old.folders folder) first last notes moment in
         CarriesOut (λ during keeper. T.Opened old.stores during path (begins task) keeper)
         (λ why. T.Unopened old.stores new.stores path (begins task) why)
         (λ result first last. Did T.Kept.world T.Kept.Holds T.Kept.Sound T.Kept.FAILS first last io

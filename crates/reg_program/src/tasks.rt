@@ -1,5 +1,6 @@
 //! What jobs do with the offices in files.
-ghost use Rattle.std.specs.Prelude.{◌≡◌, ℕ, List, false, true, Err};
+ghost use Rattle.std.specs.Prelude.{◌≡◌, ℕ, List, Option, false, true, Err};
+ghost use Rattle.reg_notes.specs.declared.notes.Notes.{Notes as OfAuthority};
 ghost use Rattle.reg_core.specs.Names.{is_token};
 ghost use Rattle.reg_core.specs.View.{published};
 ghost use Rattle.reg_program.specs.Doing.{Does};
@@ -12,6 +13,7 @@ ghost use Rattle.reg_program.specs.declared.faults.JobFailure.TheVariants as fai
 
 use crate::asking::{Form, ask_in, print};
 use crate::console::Console;
+use crate::expiring::print_due;
 use crate::faults::Undone;
 use crate::listening::serve_in;
 use crate::publishing::{Folders, publish_in};
@@ -21,6 +23,7 @@ use reg_core::command::Command;
 use reg_http::dates::{Dates, moment_now};
 use reg_http::peers::Ports;
 use reg_keeper::keeper::Keeper;
+use reg_notes::notes::Notes;
 use reg_office::{Choice, Office};
 use std::io::{Read, Write};
 
@@ -53,9 +56,14 @@ pub enum Task<'a> {
     Revoke {
         choice: Choice<'a>,
     },
-    /// Publishes it in the folder at this path.
+    /// Publishes it in the folder at this path, with these notes.
     Publish {
         folder: &'a str,
+        notes: Option<&'a Notes>,
+    },
+    /// Prints which of its early allocations are due within so many days.
+    Due {
+        days: u32,
     },
 }
 
@@ -74,9 +82,9 @@ pub trait Offices {
     ghost Checked: { Self → Self → List ℕ → OfConsole → Result ⊤ OfJob → Type 0 };
 
     /// Carries a task out with the office in the file at a path, which is begun, empty, where the
-    /// task begins it and there is no file, or one with nothing in it. `NotOurs` where there is no
-    /// office, or one that is not well kept, and `Version` where it is of another version; else as
-    /// `Task::carry_out`.
+    /// task begins it and there is no file, or one with nothing in it. `Busy` where another job has
+    /// the file open, `NotOurs` where there is no office, or one that is not well kept, and `Version`
+    /// where it is of another version; else as `Task::carry_out`.
     fn carry_out<D: Dates, R: Read, W: Write, E: Write>(
         &mut self,
         rt: &HostRuntime,
@@ -140,9 +148,9 @@ impl Task<'_> {
             ServesOn (AnswersOver K.world K.Holds K.Sound K.FAILS) (N.Opened ports.now)
             N.Given.blank N.Given.coming N.Given.written (D.readings dates.old) (D.readings dates.new) port count
             office.old office.new in
-            let placed : List ℕ → ℕ → Type 0 = λ folder moment.
-            PublishesIn (λ k. published (K.world k)) K.Holds F.Given.Puts
-            (F.Opened folders.now folder) office.old office.new moment in
+            let placed : List ℕ → Option OfAuthority → ℕ → Type 0 = λ folder notes moment.
+            PublishesIn (λ k. published (K.world k)) K.Holds F.Given.Tells F.Given.held F.Given.Puts
+            (F.Opened folders.now folder) office.old office.new notes moment in
             Did K.world K.Holds K.Sound K.FAILS office.old office.new io served placed result
             self.now }
         ensures looks { looks_on self.now ≡ true →
@@ -186,9 +194,22 @@ impl Task<'_> {
                 let moment = moment_now(dates);
                 revoke_in(rt.alloc(), office, moment, *choice, console.output)
             }
-            Task::Publish { folder } => {
+            Task::Publish { folder, notes } => {
+                let now = moment_now(dates);
+                publish_in(
+                    rt.alloc(),
+                    folders,
+                    office,
+                    now,
+                    folder,
+                    *notes,
+                    console.output,
+                    console.errors,
+                )
+            }
+            Task::Due { days } => {
                 let moment = moment_now(dates);
-                publish_in(rt.alloc(), folders, office, moment, folder, console.output)
+                print_due(rt.alloc(), office, moment, *days, console.output)
             }
         }
     }

@@ -1,7 +1,10 @@
 pub mod Asked
 pub mod Copying
-pub mod Placing
+pub mod Found
+pub mod Goes
+pub mod Marks
+pub mod Placed
 pub mod ReadPages
-pub mod Sites
 pub mod Steps
-pub mod Told
+pub mod TellsAll
+pub mod ToldTexts

@@ -1,10 +1,11 @@
 //! Folders of a file system.
-ghost use Rattle.std.specs.Prelude.{◌≡◌, IfOk, string_bytes};
+ghost use Rattle.std.specs.Prelude.{◌≡◌, ◌++◌, IfOk, codes, string_bytes};
 ghost use Rattle.reg_publish.specs.Disk.{LeavesIn, PutsIn, names_of};
 ghost use Rattle.reg_publish.specs.Names.{names_by};
 
+use crate::answers::read_up_to;
 use crate::disk::{Disk, SystemDisk};
-use crate::folder::Folder;
+use crate::folder::{Folder, MOST_READ_BYTES};
 use crate::replacement::{Names, put};
 use crate::unpublished::{Unpublished, unwritten};
 use reg_site::files::File;
@@ -56,6 +57,19 @@ impl<D: Disk> Folder for Directory<D> {
 
     ghost Leaves = { λ old new place bytes. (new.path ≡ old.path) × (D.Tells
         → LeavesIn D.done (string_bytes old.path) old.disk new.disk place bytes) };
+
+    ghost Tells = { D.Tells };
+
+    ghost held = { λ directory place.
+        D.found directory.disk (string_bytes directory.path ++ (codes "/" ++ place)) };
+
+    fn read(&self, alloc: Global, file: File) -> Result<Option<Vec<u8>>, Unpublished> {
+        let names = self.names(file)?;
+        match self.disk.find(names.place.as_str())? {
+            Some(mut reader) => Ok(Some(read_up_to(alloc, MOST_READ_BYTES, &mut reader)?)),
+            None => Ok(None),
+        }
+    }
 
     fn publish<P: Portions>(&mut self, file: File, bytes: &mut P) -> Result<(), Unpublished> {
         let names = self.names(file)?;

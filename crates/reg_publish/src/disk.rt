@@ -1,15 +1,15 @@
 //! What keeps files.
-ghost use Rattle.std.specs.Prelude.{◌≡◌, [], ◌∷◌, ◌++◌, Some, IfOk, IfSome, OnOk};
+ghost use Rattle.std.specs.Prelude.{◌≡◌, [], ◌∷◌, ◌++◌, Some, IfOk, IfSome, OnOk, option_map};
 ghost use Rattle.reg_publish.specs.Disk.{Created, Does, Kept, NamesKept, Removed, Renamed};
 
-use crate::unpublished::{Unpublished, unwritten};
+use crate::unpublished::{Unpublished, unread, unwritten};
 use std::fs;
 use std::fs::{File, Files, OpenFile};
-use std::io::{Read, Write};
+use std::io::{ErrorKind, Read, Write};
 
 /// What keeps files under names. A file is made, written, and kept; then it may take another name.
 pub trait Disk {
-    ghost use Rattle.std.specs.Prelude.{ℕ, List, [] as nothing};
+    ghost use Rattle.std.specs.Prelude.{ℕ, List, [] as nothing, Option, None};
     ghost use Rattle.reg_publish.specs.Disk.{DiskStep};
 
     /// A file that is read.
@@ -24,6 +24,9 @@ pub trait Disk {
     /// The bytes of the file that has a name.
     ghost held: { Self → List ℕ → List ℕ } = { λ _ _. nothing };
 
+    /// The bytes of the file that has a name, if a file has it.
+    ghost found: { Self → List ℕ → Option (List ℕ) } = { λ _ _. None };
+
     /// What was done to it, in turn.
     ghost done: { Self → List DiskStep } = { λ _. nothing };
 
@@ -37,6 +40,12 @@ pub trait Disk {
     fn open(&self, name: &str) -> Option<Self::Reader>
         ensures { Tells → IfSome result
             (λ reader. Self.Reader.remaining reader ≡ Some (held self.now name.now)) };
+
+    /// The file that has a name, from its beginning on; none where no file has it. `Read` where it cannot
+    /// be opened.
+    fn find(&self, name: &str) -> Result<Option<Self::Reader>, Unpublished>
+        ensures { Tells → IfOk result (λ reader. option_map Self.Reader.remaining reader
+            ≡ option_map Some (found self.now name.now)) };
 
     /// A new file, where none has this name.
     fn create(&mut self, name: &str) -> Result<Self::Draft, Unpublished>
@@ -81,6 +90,16 @@ impl<H: Files> Disk for SystemDisk<'_, H> {
 
     fn open(&self, name: &str) -> Option<H::File> {
         fs::open(self.rt, name).ok()
+    }
+
+    fn find(&self, name: &str) -> Result<Option<H::File>, Unpublished> {
+        match fs::open(self.rt, name) {
+            Ok(file) => Ok(Some(file)),
+            Err(error) => match error.kind() {
+                ErrorKind::NotFound => Ok(None),
+                _ => Err(unread(error)),
+            },
+        }
     }
 
     fn create(&mut self, name: &str) -> Result<H::File, Unpublished> {

@@ -1,245 +1,176 @@
 //! Publishes all files of a site.
-ghost use Rattle.std.specs.Prelude.{◌≡◌, [], ◌∷◌, ◌++◌, Some, IfOk, OnOk};
-ghost use Rattle.reg_core.specs.declared.told.Told.TheVariants as tells;
-ghost use Rattle.reg_publish.specs.Folder.{Places};
-ghost use Rattle.reg_publish.specs.Publishing.{Publishes, PublishesPage, PublishesRegistries, files_by_blocks, files_by_page, one_file, told_text};
-ghost use Rattle.reg_site.specs.Blocks.{assignments_text};
-ghost use Rattle.reg_site.specs.Site.{site};
-ghost use Rattle.reg_site.specs.declared.files.File.TheVariants as file;
-ghost use Rattle.reg_site.specs.declared.style.TheConstants.{STYLE};
+ghost use Rattle.std.specs.Prelude.{◌≡◌, [], length, IfErr, OnOk};
+ghost use Rattle.std.specs.Option.{option_copied};
+ghost use Rattle.reg_publish.specs.Faults.{IsOfHistory};
+ghost use Rattle.reg_publish.specs.Folder.{Places, PlacesSummed};
+ghost use Rattle.reg_publish.specs.Publishing.{PublishesSite};
+ghost use Rattle.reg_publish.specs.Told.{blocks_of, pages_of, prefixes_of};
+ghost use Rattle.reg_site.specs.Noted.{noted_in};
+ghost use Rattle.reg_site.specs.Site.{files_by, index_files, rows_by, steady_files};
 
+use crate::earlier::{Earlier, read_earlier};
+use crate::faults::PublishFault;
 use crate::folder::Folder;
+use crate::indexes::{publish_changes, publish_indexes, registers, summaries};
+use crate::left_out::{LeftOut, left_out};
+use crate::placing::{put, put_sums};
+use crate::registries::{publish_blocks, publish_pool, publish_registries};
 use crate::source::Source;
+use crate::told::{AllTold, ask_all, blocks_in, page_in, pool_in};
 use crate::unpublished::Unpublished;
-use reg_blocks::pool::Pool;
-use reg_blocks::size::Size;
-use reg_core::command::PublicCommand;
-use reg_core::holding::Listed;
-use reg_core::page::Page;
-use reg_core::reply::Reply;
-use reg_core::text::Name;
-use reg_core::told::Told;
-use reg_print::answer::{Answer, body_of};
-use reg_print::listing::blocks::block_listing;
-use reg_site::blocks::{BlocksPage, assignments};
+use reg_history::chain::Chain;
+use reg_history::change::Record;
+use reg_history::history::Added;
+use reg_notes::notes::Notes;
 use reg_site::files::File;
-use reg_site::index::index_page;
-use reg_site::listing::RegistryListing;
-use reg_site::portions::{Portions, Whole};
-use reg_site::registry::RegistryPage;
-use reg_site::style::style;
-use reg_site::summary::Summary;
-use reg_site::tree::RegistryTree;
-use std::alloc::{AllocError, Global};
+use reg_site::noted::of_authority;
+use reg_site::sums::Sums;
+use std::alloc::Global;
 
 /// How much was published.
-#[derive(Clone, Copy, Debug, PartialEq, Eq)]
+#[derive(Debug, Drop)]
 pub struct Count {
     pub registries: usize,
     pub entries: u64,
     pub blocks: usize,
+    /// Which notes no page shows.
+    pub left_out: LeftOut,
 }
 
-/// Publishes the site of what anybody is told: the files of each registry in turn, by one answer; the
-/// files of the blocks, by one more; the pool and the style; and the index last, with this moment, in
-/// seconds since 1970-01-01T00:00:00Z. After an error each file in the folder is whole, as it was or
-/// as it is now.
+/// Publishes the site of what anybody is told, with these notes, so that the history in the folder goes
+/// on, at a moment in seconds since 1970-01-01T00:00:00Z: the history first; the files of each registry
+/// in turn; those of the blocks, the pool and the style; the last changes; the indexes; and the sums
+/// last. After an error each file in the folder is whole, as it was or as it is now; where the history is
+/// at fault nothing was published.
 pub fn publish<S: Source, F: Folder>(
     alloc: Global,
     source: &mut S,
     folder: &mut F,
+    notes: Option<&Notes>,
     moment: u64,
-) -> Result<Count, Unpublished>
-    ensures { OnOk result (Publishes S.published S.Holds F.Puts source.old source.new folder.old
-        folder.new (λ p. site p moment)) }
+) -> Result<Count, PublishFault>
+    ensures done { OnOk result (PublishesSite S.published S.Holds F.Tells F.held F.Puts source.old source.new
+        folder.old folder.new (option_copied notes.entry) moment) }
+    ensures history { IfErr result (λ why. IsOfHistory why → folder.new ≡ folder.old) }
 {
-    let names = source.ask(moment, &PublicCommand::Registries)?;
-    let registries = publish_registries(alloc, source, folder, moment, names_in(&names)?)?;
-    let blocks = source.ask(moment, &PublicCommand::BlockListing)?;
-    let rows = blocks_in(&blocks)?;
-    publish_blocks(alloc, folder, rows)?;
-    let pool = source.ask(moment, &PublicCommand::PoolList)?;
-    let index = index_page(alloc, &registries, pool_in(&pool)?, rows, moment)?;
-    publish_pool_and_style(alloc, folder, pool)?;
-    put(folder, File::Index, &index)?;
-    Ok(Count {
-        registries: registries.len(),
-        entries: entries_in(&registries),
-        blocks: rows.len(),
-    })
+    let told = ask_all(alloc, source, moment)?;
+    let count = count_of(alloc, notes, &told)?;
+    let Earlier { mut text, history } = read_earlier(alloc, folder)?;
+    let facts = told.facts(alloc)?;
+    let added = history.go_on(alloc, moment, &facts)?;
+    drop(facts);
+    let Added {
+        lines,
+        records,
+        chain,
+    } = added;
+    text.extend_from_slice(lines.as_slice())?;
+    drop(lines);
+    publish_told(
+        alloc,
+        folder,
+        notes,
+        text.as_slice(),
+        records.as_slice(),
+        &chain,
+        &told,
+        moment,
+    )?;
+    Ok(count)
 }
 
-fn put<F: Folder>(folder: &mut F, file: File, bytes: &[u8]) -> Result<(), Unpublished>
-    ensures { OnOk result (Places F.Puts folder.old folder.new
-        (one_file file bytes.now)) }
-{
-    put_portions(folder, file, &mut Whole::of(bytes))
-}
-
-fn put_portions<F: Folder, P: Portions>(
-    folder: &mut F,
-    file: File,
-    bytes: &mut P,
-) -> Result<(), Unpublished>
-    ensures { OnOk result (Places F.Puts folder.old folder.new
-        (one_file file (P.rest bytes.old))) }
-{
-    folder.publish(file, bytes)
-}
-
-// ---- Registries
-
-fn publish_registries<S: Source, F: Folder>(
+// Publishes all files of what was told, by the text of the history, its records and its digests.
+fn publish_told<F: Folder>(
     alloc: Global,
-    source: &mut S,
     folder: &mut F,
+    notes: Option<&Notes>,
+    text: &[u8],
+    records: &[Record],
+    chain: &Chain,
+    told: &AllTold,
     moment: u64,
-    names: &[Name],
-) -> Result<Vec<Summary>, Unpublished>
-    ensures { IfOk result (λ registries. PublishesRegistries S.published S.Holds F.Puts source.old
-        source.new folder.old folder.new moment names.now registries.items) }
-{
-    let mut registries = Vec::new(alloc);
-    for name in names {
-        let told = source.ask(moment, &PublicCommand::Registry(*name))?;
-        registries.push(publish_registry(alloc, folder, *name, &told)?)?;
-    }
-    Ok(registries)
-}
-
-// The files of a registry, which all are of one answer, and its summary.
-fn publish_registry<F: Folder>(
-    alloc: Global,
-    folder: &mut F,
-    name: Name,
-    told: &Told,
-) -> Result<Summary, Unpublished>
-    ensures { IfOk result (PublishesPage F.Puts folder.old folder.new name told.now) }
-{
-    let page = page_in(told)?;
-    publish_page(alloc, folder, name, page)?;
-    Ok(Summary::of(alloc, page)?)
-}
-
-// The page of a registry, its listing and its JSON.
-fn publish_page<F: Folder>(
-    alloc: Global,
-    folder: &mut F,
-    name: Name,
-    page: &Page,
 ) -> Result<(), Unpublished>
-    ensures { OnOk result (Places F.Puts folder.old folder.new
-        (files_by_page name page.now)) }
+    requires { length chain.now.digests.items ≡ length records.now }
+    ensures { OnOk result (Places F.Puts folder.old folder.new (files_by (option_copied notes.entry)
+        text.now records.now chain.now.digests.items (pages_of told.now.pages.items)
+        (prefixes_of told.now.pool) (blocks_of told.now.blocks) moment)) }
 {
-    let mut html = RegistryPage::of(alloc, page)?;
-    put_portions(folder, File::RegistryPage(name), &mut html)?;
-    drop(html);
-    let mut csv = RegistryListing::of(alloc, page)?;
-    put_portions(folder, File::RegistryListing(name), &mut csv)?;
-    drop(csv);
-    let mut tree = RegistryTree::of(page);
-    put_portions(folder, File::RegistryTree(name), &mut tree)
+    let mut sums = Sums::new(alloc);
+    publish_steady(alloc, folder, &mut sums, notes, text, records, chain, told)?;
+    publish_last(
+        alloc, folder, &mut sums, notes, records, chain, told, moment,
+    )?;
+    put_sums(alloc, folder, sums)?;
+    Ok(())
 }
 
-// How many entries they have.
-fn entries_in(registries: &[Summary]) -> u64 {
+// Publishes all files on which the moment does not stand.
+fn publish_steady<F: Folder>(
+    alloc: Global,
+    folder: &mut F,
+    sums: &mut Sums,
+    notes: Option<&Notes>,
+    text: &[u8],
+    records: &[Record],
+    chain: &Chain,
+    told: &AllTold,
+) -> Result<(), Unpublished>
+    requires { length chain.now.digests.items ≡ length records.now }
+    ensures { OnOk result (PlacesSummed F.Puts folder.old folder.new sums.old sums.new
+        (steady_files (option_copied notes.entry) text.now records.now chain.now.digests.items
+        (pages_of told.now.pages.items) (prefixes_of told.now.pool) (blocks_of told.now.blocks))) }
+{
+    let authority = of_authority(notes);
+    put(alloc, folder, sums, File::Changes, text)?;
+    publish_registries(alloc, folder, sums, notes, records, told.pages.as_slice())?;
+    publish_blocks(alloc, folder, sums, authority, blocks_in(&told.blocks)?)?;
+    publish_pool(alloc, folder, sums, pool_in(&told.pool)?)?;
+    publish_changes(alloc, folder, sums, authority, records, chain)?;
+    Ok(())
+}
+
+// Publishes the indexes.
+fn publish_last<F: Folder>(
+    alloc: Global,
+    folder: &mut F,
+    sums: &mut Sums,
+    notes: Option<&Notes>,
+    records: &[Record],
+    chain: &Chain,
+    told: &AllTold,
+    moment: u64,
+) -> Result<(), Unpublished>
+    ensures { OnOk result (PlacesSummed F.Puts folder.old folder.new sums.old sums.new
+        (index_files (noted_in (option_copied notes.entry) []) chain.now.digests.items
+        (rows_by records.now (pages_of told.now.pages.items)) (prefixes_of told.now.pool)
+        (blocks_of told.now.blocks) moment)) }
+{
+    let summaries = summaries(alloc, told.pages.as_slice())?;
+    let registers = registers(alloc, &summaries, records)?;
+    publish_indexes(
+        alloc,
+        folder,
+        sums,
+        of_authority(notes),
+        &registers,
+        chain,
+        pool_in(&told.pool)?,
+        blocks_in(&told.blocks)?,
+        moment,
+    )?;
+    Ok(())
+}
+
+// How much is told.
+fn count_of(alloc: Global, notes: Option<&Notes>, told: &AllTold) -> Result<Count, Unpublished> {
     let mut entries = 0u64;
-    for registry in registries {
-        let some = registry.assigned.saturating_add(registry.temporary);
-        entries = entries.saturating_add(some.saturating_add(registry.expired));
+    for page in &told.pages {
+        entries = entries.saturating_add(page_in(page)?.entries.as_slice().len() as u64);
     }
-    entries
-}
-
-// ---- Blocks and the pool
-
-fn publish_blocks<F: Folder>(
-    alloc: Global,
-    folder: &mut F,
-    blocks: &[Listed],
-) -> Result<(), Unpublished>
-    ensures { OnOk result (Places F.Puts folder.old folder.new
-        (files_by_blocks blocks.now)) }
-{
-    let mut html = BlocksPage::of(blocks);
-    put_portions(folder, File::BlocksPage, &mut html)?;
-    let csv = block_listing(alloc, blocks)?;
-    put(folder, File::BlocksListing, &csv)?;
-    drop(csv);
-    publish_size(alloc, folder, Size::MaL, blocks)?;
-    publish_size(alloc, folder, Size::MaM, blocks)?;
-    publish_size(alloc, folder, Size::MaS, blocks)
-}
-
-fn publish_size<F: Folder>(
-    alloc: Global,
-    folder: &mut F,
-    size: Size,
-    blocks: &[Listed],
-) -> Result<(), Unpublished>
-    ensures { OnOk result (Places F.Puts folder.old folder.new
-        (one_file (file.Assignments size) (assignments_text size blocks.now))) }
-{
-    let csv = assignments(alloc, size, blocks)?;
-    put(folder, File::Assignments(size), &csv)
-}
-
-// What is told of the pool, and how pages look.
-fn publish_pool_and_style<F: Folder>(
-    alloc: Global,
-    folder: &mut F,
-    pool: Told,
-) -> Result<(), Unpublished>
-    ensures { OnOk result (Places F.Puts folder.old folder.new
-        (one_file file.Pool (told_text pool) ++ one_file file.Style STYLE.now)) }
-{
-    let tree = text_of(alloc, pool)?;
-    put(folder, File::Pool, &tree)?;
-    put(folder, File::Style, style().as_bytes())
-}
-
-// ---- What anybody is told
-
-fn names_in(told: &Told) -> Result<&[Name], Unpublished>
-    ensures { IfOk result (λ names. told.now ≡ tells.Names names.now) }
-{
-    match told {
-        Told::Names(names) => Ok(names.as_slice()),
-        _ => Err(Unpublished::Read),
-    }
-}
-
-fn page_in(told: &Told) -> Result<&Page, Unpublished>
-    ensures { IfOk result (λ page. told.now ≡ tells.Page page.now) }
-{
-    match told {
-        Told::Page(page) => Ok(page),
-        _ => Err(Unpublished::Read),
-    }
-}
-
-fn blocks_in(told: &Told) -> Result<&[Listed], Unpublished>
-    ensures { IfOk result (λ rows. told.now ≡ tells.Blocks rows.now) }
-{
-    match told {
-        Told::Blocks(rows) => Ok(rows.as_slice()),
-        _ => Err(Unpublished::Read),
-    }
-}
-
-fn pool_in(told: &Told) -> Result<&Pool, Unpublished>
-    ensures { IfOk result (λ pool. told.now ≡ tells.Pool pool.now) }
-{
-    match told {
-        Told::Pool(pool) => Ok(pool),
-        _ => Err(Unpublished::Read),
-    }
-}
-
-// The body by which an office answers this.
-fn text_of(alloc: Global, told: Told) -> Result<Vec<u8>, AllocError>
-    ensures { IfOk result (λ body. body.items ≡ told_text told) }
-{
-    let (_, body) = body_of(alloc, &Answer::Reply(Reply::Accepted(told)))?;
-    Ok(body)
+    Ok(Count {
+        registries: told.pages.len(),
+        entries,
+        blocks: blocks_in(&told.blocks)?.len(),
+        left_out: left_out(alloc, notes, told.pages.as_slice())?,
+    })
 }

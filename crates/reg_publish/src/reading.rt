@@ -1,7 +1,7 @@
 //! Reads what anybody is told back from the bytes of answers.
 ghost use Rattle.std.specs.Prelude.{◌≡◌, ◌↔◌, IfOk, IsTrue};
 ghost use Rattle.reg_print.specs.Answer.{body_text};
-ghost use Rattle.reg_publish.specs.Publishing.{told_text};
+ghost use Rattle.reg_site.specs.Site.{told_text};
 ghost use Rattle.reg_publish.specs.Reading.{IsToldBy};
 
 use crate::unpublished::Unpublished;

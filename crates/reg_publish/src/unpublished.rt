@@ -15,9 +15,10 @@ pub enum Unpublished {
     Store,
     /// The office refused the command.
     Refused(Refusal),
-    /// An office that is served could not be asked, or its answer is none of an office's.
+    /// An office that is served could not be asked, or its answer is none of an office's; or a file in
+    /// the folder could not be read.
     Read,
-    /// The answer of an office that is served is above the limit.
+    /// The answer of an office that is served, or a file in the folder, is above the limit.
     Large,
     /// A file could not be written.
     Write,

@@ -1,6 +1,9 @@
 pub mod NotesAgree
 pub mod NotEmpty
+pub mod Numbered
+pub mod Mapped
 pub mod Merging
 pub mod Portioned
 pub mod ShortPictures
 pub mod SiteLaws
+pub mod Summed

@@ -1,9 +1,12 @@
 -- Notes that say the same about what is published give the same files.
 use Rattle.std.proofs.Common.{◌≡◌, ℕ, ◌+◌, ◌-◌, Bool, true, false, List, [], ◌∷◌, ◌++◌, map, filter, nat_lt, Option, Some, None, option_map, if◌then◌else◌, refl, ap, ap₂}
 use Rattle.std.specs.List.{AllByRecursion, flat_map}
-use Rattle.reg_core.specs.declared.command.PublicCommand.TheVariants.{Registry}
 use Rattle.reg_core.specs.declared.entry.PageEntry.{PageEntry}
 use Rattle.reg_core.specs.declared.page.Page.{Page}
+use Rattle.reg_core.specs.declared.told.Told.TheVariants as tells
+use Rattle.reg_history.specs.Chain.{chained}
+use Rattle.reg_history.specs.Recorded.{last_changed}
+use Rattle.reg_history.specs.declared.change.Record.{Record}
 use Rattle.reg_notes.specs.Notes.{entry_thing}
 use Rattle.reg_notes.specs.declared.notes.Notes.{Notes}
 use Rattle.reg_print.specs.Listing.{ListedRow, closed_status, entry_row, free_row, free_rows, is_in, page_rows, range_rows, rows_by, rows_from}
@@ -13,7 +16,9 @@ use Rattle.reg_site.specs.Laws.{AgreeOnPage, NotesOnNothingAreHidden}
 use Rattle.reg_site.specs.Noted.{noted_in, note_of_row}
 use Rattle.reg_site.specs.Records as records
 use Rattle.reg_site.specs.Registry as registry
-use Rattle.reg_site.specs.Site.{page_in, told_to_all}
+use Rattle.reg_site.specs.Files.{path_of}
+use Rattle.reg_site.specs.Recent.{day_part}
+use Rattle.reg_site.specs.Site.{block_files, blocks_at, change_files, index_files, one_file, page_files, pages_at, pool_files, prefixes_at, rows_by as registers_by, told_text, with_sums_file}
 use Rattle.reg_site.specs.declared.files.File.TheVariants as file
 
 -- the notes say the same about the entry of a row
@@ -95,8 +100,8 @@ records_same a b name [] h = refl
 records_same a b name (row ∷ rows) h =
     ap₂ (λ x xs. x ∷ xs) (ap (records.record_with row) h.0) (records_same a b name rows h.1)
 
-page_same : (a b : Option Notes) (changed : List ℕ) (page : Page) → noted_in a [] ≡ noted_in b []
-    → AgreeOnPage a b page → registry.noted_page a changed page ≡ registry.noted_page b changed page
+pub page_same : (a b : Option Notes) (changed : List ℕ) (page : Page) → noted_in a [] ≡ noted_in b []
+    → AgreeOnPage a b page → registry.registry_page a changed page ≡ registry.registry_page b changed page
 unfolding registry.page_by
 page_same a b changed page authority h =
     rw (
@@ -116,25 +121,41 @@ file_same a b day page h =
           (ranges_agree a b page.name page.entries page.table.ranges h.entries),
     ) refl
 
-by_page : (told : Option Page) (f g : Page → List ℕ)
-    → ((page : Page) → told ≡ Some page → f page ≡ g page) → option_map f told ≡ option_map g told
-by_page None f g h = refl
-by_page (Some page) f g h = ap Some (h page refl)
+files_same : (a b : Option Notes) (records : List Record) (page : Page)
+    → noted_in a [] ≡ noted_in b [] → AgreeOnPage a b page
+    → page_files a records page ≡ page_files b records page
+files_same a b records page authority h =
+    let changed = last_changed records page.name in
+    ap₂
+    (λ html xml.
+    (path_of (file.RegistryPage page.name), html)
+    ∷ (path_of (file.RegistryListing page.name), told_text (tells.Listing page))
+    ∷ (path_of (file.RegistryTree page.name), told_text (tells.Page page))
+    ∷ (path_of (file.RegistryRecords page.name), xml)
+    ∷ [])
+    (page_same a b changed page authority h)
+    (file_same a b (day_part changed) page h)
+
+all_files_same : (a b : Option Notes) (records : List Record) (pages : List Page)
+    → noted_in a [] ≡ noted_in b [] → AllByRecursion (AgreeOnPage a b) pages
+    → flat_map (page_files a records) pages ≡ flat_map (page_files b records) pages
+all_files_same a b records [] authority h = refl
+all_files_same a b records (page ∷ pages) authority h =
+    ap₂ (λ xs ys. xs ++ ys) (files_same a b records page authority h.0)
+    (all_files_same a b records pages authority h.1)
 
 pub notes_on_nothing_are_hidden : NotesOnNothingAreHidden
-notes_on_nothing_are_hidden a b p moment (file.RegistryPage name) h =
-    by_page (page_in (told_to_all p moment (Registry name))) (registry.noted_page a [])
-    (registry.noted_page b [])
-    (λ page told. page_same a b [] page h.authority (h.pages name page told))
-notes_on_nothing_are_hidden a b p moment (file.RegistryRecords name) h =
-    by_page (page_in (told_to_all p moment (Registry name))) (records.records_text a [])
-    (records.records_text b [])
-    (λ page told. file_same a b [] page (h.pages name page told))
-notes_on_nothing_are_hidden a b p moment (file.RegistryListing name) h = refl
-notes_on_nothing_are_hidden a b p moment (file.RegistryTree name) h = refl
-notes_on_nothing_are_hidden a b p moment file.BlocksPage h = refl
-notes_on_nothing_are_hidden a b p moment file.BlocksListing h = refl
-notes_on_nothing_are_hidden a b p moment (file.Assignments size) h = refl
-notes_on_nothing_are_hidden a b p moment file.Pool h = refl
-notes_on_nothing_are_hidden a b p moment file.Style h = refl
-notes_on_nothing_are_hidden a b p moment file.Index h = refl
+notes_on_nothing_are_hidden a b records p moment h =
+    let digests = (chained records).digests in
+    let pages = pages_at p moment in
+    let rows = blocks_at p moment in
+    let prefixes = prefixes_at p moment in
+    ap₂
+    (λ authority files. with_sums_file
+    ((one_file file.Changes (chained records).text
+    ++ (files
+    ++ (block_files authority rows
+    ++ (pool_files prefixes ++ change_files authority records digests))))
+    ++ index_files authority digests (registers_by records pages) prefixes rows moment))
+    h.authority
+    (all_files_same a b records pages h.authority h.pages)

@@ -154,8 +154,8 @@ block_some row = omega arith
 
 -- the page is what stands above its rows, and then these and what stands below
 pub blocks_parts : (authority : Option Note) (rows : List Listed)
-    → blocks.noted_blocks authority rows ≡ blocks.above_rows authority rows (blocks.rows_left rows)
-unfolding blocks.noted_blocks
+    → blocks.blocks_page authority rows ≡ blocks.above_rows authority rows (blocks.rows_left rows)
+unfolding blocks.blocks_page
 blocks_parts authority rows = refl
 
 -- ---- The JSON of a registry

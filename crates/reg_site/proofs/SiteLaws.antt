@@ -1,78 +1,125 @@
 -- Laws of the published site.
-use Rattle.std.proofs.Common.{◌≡◌, ℕ, true, List, [], ◌∷◌, ◌++◌, codes, refl, ap, inl, inr, option_map, None}
-use Rattle.std.specs.List.{AllByRecursion}
-use Rattle.reg_core.specs.Answer.{public_answer, reply_of}
+use Rattle.std.proofs.Common.{◌≡◌, ◌⊎◌, ℕ, true, List, [], ◌∷◌, ◌++◌, codes, refl, ap, ◌∙◌, inl, inr, Option, Some, None}
+use Rattle.std.specs.FinMap.{get}
+use Rattle.std.specs.List.{AllByRecursion, flat_map}
+use Rattle.reg_blocks.specs.declared.size.Size.TheVariants.{MaL, MaM, MaS}
+use Rattle.reg_core.specs.Allowance.{◌>>=◌, or_refusal}
+use Rattle.reg_core.specs.Answer.{Answer, public_answer, reply_of, unchanged}
 use Rattle.reg_core.specs.Names.{is_name}
-use Rattle.reg_core.specs.declared.command.PublicCommand.TheVariants.{Registry, RegistryListing, PoolList, BlockListing}
-use Rattle.reg_site.specs.Blocks.{assignments_text, blocks_page}
-use Rattle.reg_site.specs.Files.{path_of, other_files}
-use Rattle.reg_site.specs.Laws.{FilesStayInside, MomentsStandOnTheIndex, PrivateHoldersAreHidden, SameRegistersSameSite, SitesAreOfAnswers, StaysInside}
-use Rattle.reg_site.specs.Records.{records_text}
-use Rattle.reg_site.specs.Registry.{registry_page}
-use Rattle.reg_site.specs.Site.{answered, blocks_in, page_in, site}
+use Rattle.reg_core.specs.Page.{page}
+use Rattle.reg_core.specs.View.{Published}
+use Rattle.reg_core.specs.declared.command.PublicCommand.TheVariants.{Registry, RegistryListing}
+use Rattle.reg_core.specs.declared.holding.Listed.{Listed}
+use Rattle.reg_core.specs.declared.page.Page.{Page}
+use Rattle.reg_core.specs.declared.refusal.Refusal.TheVariants as no
+use Rattle.reg_core.specs.declared.reply.Reply.{Reply}
+use Rattle.reg_core.specs.declared.reply.Reply.TheVariants.{Accepted, Refused}
+use Rattle.reg_core.specs.declared.told.Told.TheVariants as tells
+use Rattle.reg_early.specs.Moment.{utc_day}
+use Rattle.reg_history.specs.Chain.{chained}
+use Rattle.reg_history.specs.declared.change.Record.{Record}
+use Rattle.reg_notes.specs.declared.note.Note.{Note}
+use Rattle.reg_notes.specs.declared.notes.Notes.{Notes}
+use Rattle.reg_ranges.specs.Tables.{Table}
+use Rattle.reg_site.specs.Laws.{FilesStayInside, IsNamedInside, ListingsAreOfPages, MomentsStandOnTheIndex, PrivateHoldersAreHidden, SameRegistersSameSite, SitesAreOfAnswers, StaysInside}
+use Rattle.reg_site.specs.IndexTree.{Row}
+use Rattle.reg_site.specs.Noted.{noted_in}
+use Rattle.reg_site.specs.Site.{block_files, change_files, index_files, one_file, page_files, pool_files, rows_by, site, steady_files, summed_files, told_to_all}
+use Rattle.reg_site.specs.Sums.{Files, sums_text}
 use Rattle.reg_site.specs.declared.files.File.TheVariants as file
 
 pub same_registers_same_site : SameRegistersSameSite
-same_registers_same_site w v moment h = ap (λ p. site p moment) h
+same_registers_same_site notes records w v moment h = ap (λ p. site notes records p moment) h
 
 pub sites_are_of_answers : SitesAreOfAnswers
 sites_are_of_answers v moment command h = rw h refl
 
+-- ---- Anybody's commands
+
+module _ (p : Published) (name : List ℕ) (today : ℕ) where
+  -- the answer of a registry, and of its listing, by its table
+  abbrev shown_by : Option Table → Answer
+  shown_by t =
+      or_refusal no.Registry t >>= (λ table. unchanged (tells.Page (page p name table today)))
+
+  abbrev listed_by : Option Table → Answer
+  listed_by t =
+      or_refusal no.Registry t >>= (λ table. unchanged (tells.Listing (page p name table today)))
+
+-- a page that is told, as a listing
+abbrev relisted : Reply → Reply
+relisted (Accepted (tells.Page shown)) = Accepted (tells.Listing shown)
+relisted (Accepted other) = Accepted other
+relisted (Refused refusal) = Refused refusal
+
+relisted_by : (p : Published) (name : List ℕ) (today : ℕ) (t : Option Table)
+    → reply_of (listed_by p name today t) ≡ relisted (reply_of (shown_by p name today t))
+relisted_by p name today None = refl
+relisted_by p name today (Some table) = refl
+
+-- a registry that is told is listed as the same page
+pub listings_are_of_pages : ListingsAreOfPages
+listings_are_of_pages p moment name shown h =
+    relisted_by p name (utc_day moment) (get p.registries name) ∙ ap relisted h
+
+-- ---- Moments
+
 pub moments_stand_on_the_index : MomentsStandOnTheIndex
-moments_stand_on_the_index p m n (file.RegistryPage name) e other =
-    ap
-    (λ day. option_map registry_page (page_in (reply_of (public_answer p day (Registry name)))))
-    e
-moments_stand_on_the_index p m n (file.RegistryListing name) e other =
-    ap (λ day. answered (reply_of (public_answer p day (RegistryListing name)))) e
-moments_stand_on_the_index p m n (file.RegistryTree name) e other =
-    ap (λ day. answered (reply_of (public_answer p day (Registry name)))) e
-moments_stand_on_the_index p m n (file.RegistryRecords name) e other =
-    ap
-    (λ day. option_map (records_text None []) (page_in (reply_of (public_answer p day (Registry name)))))
-    e
-moments_stand_on_the_index p m n file.BlocksPage e other =
-    ap (λ day. option_map blocks_page (blocks_in (reply_of (public_answer p day BlockListing)))) e
-moments_stand_on_the_index p m n file.BlocksListing e other =
-    ap (λ day. answered (reply_of (public_answer p day BlockListing))) e
-moments_stand_on_the_index p m n (file.Assignments size) e other =
-    ap
-    (λ day. option_map (assignments_text size)
-    (blocks_in (reply_of (public_answer p day BlockListing))))
-    e
-moments_stand_on_the_index p m n file.Pool e other =
-    ap (λ day. answered (reply_of (public_answer p day PoolList))) e
-moments_stand_on_the_index p m n file.Style e other = refl
-moments_stand_on_the_index p m n file.Index e other = absurd (other refl)
+moments_stand_on_the_index notes records p m n e = rw e refl
 
 -- ---- Places
 
-in_registries : (name extension : List ℕ) → is_name name ≡ true → is_name extension ≡ true
-    → StaysInside (codes "registries/" ++ (name ++ (codes "." ++ extension)))
-in_registries name extension h typed = record {
-  folder = codes "registries/";
-  stem = name;
-  extension = extension;
-  whole = refl;
-  here = inr refl;
-  named = h;
-  typed = typed;
-}
+abbrev Inside : List ℕ × List ℕ → Type 0
+Inside file = StaysInside file.0
 
-on_top : (stem extension : List ℕ) → is_name stem ≡ true → is_name extension ≡ true
-    → StaysInside (stem ++ (codes "." ++ extension))
-on_top stem extension h typed = record {
-  folder = [];
+abbrev IsFolder : List ℕ → Type 0
+IsFolder folder = (folder ≡ []) ⊎ (folder ≡ codes "registries/")
+
+all-append : {X : Type 0} (P : X → Type 0) (xs ys : List X) → AllByRecursion P xs
+    → AllByRecursion P ys → AllByRecursion P (xs ++ ys)
+all-append P [] ys hx hy = hy
+all-append P (x ∷ xs) ys hx hy = (hx.0, all-append P xs ys hx.1 hy)
+
+named_inside : (folder stem extension : List ℕ) → IsFolder folder → is_name stem ≡ true
+    → is_name extension ≡ true → StaysInside (folder ++ (stem ++ (codes "." ++ extension)))
+named_inside folder stem extension here h typed = inl (record {
+  folder = folder;
   stem = stem;
   extension = extension;
   whole = refl;
-  here = inl refl;
+  here = here;
   named = h;
   typed = typed;
-}
+})
 
-others_stay : AllByRecursion (λ f. StaysInside (path_of f)) other_files
-others_stay = (
+in_registries : (name extension : List ℕ) → is_name name ≡ true → is_name extension ≡ true
+    → StaysInside (codes "registries/" ++ (name ++ (codes "." ++ extension)))
+in_registries name extension h typed =
+    named_inside (codes "registries/") name extension (inr refl) h typed
+
+on_top : (stem extension : List ℕ) → is_name stem ≡ true → is_name extension ≡ true
+    → StaysInside (stem ++ (codes "." ++ extension))
+on_top stem extension h typed = named_inside [] stem extension (inl refl) h typed
+
+pages_inside : (notes : Option Notes) (records : List Record) (pages : List Page)
+    → AllByRecursion (λ page. is_name page.name ≡ true) pages
+    → AllByRecursion Inside (flat_map (page_files notes records) pages)
+pages_inside notes records [] h = tt
+pages_inside notes records (page ∷ pages) h =
+    let name = page.name in (
+      in_registries name (codes "html") h.0 refl,
+      (
+        in_registries name (codes "csv") h.0 refl,
+        (
+          in_registries name (codes "json") h.0 refl,
+          (in_registries name (codes "xml") h.0 refl, pages_inside notes records pages h.1),
+        ),
+      ),
+    )
+
+blocks_inside : (authority : Option Note) (rows : List Listed)
+    → AllByRecursion Inside (block_files authority rows)
+blocks_inside authority rows = (
   on_top (codes "blocks") (codes "html") refl refl,
   (
     on_top (codes "blocks") (codes "csv") refl refl,
@@ -80,30 +127,56 @@ others_stay = (
       on_top (codes "oui") (codes "csv") refl refl,
       (
         on_top (codes "mam") (codes "csv") refl refl,
-        (
-          on_top (codes "oui36") (codes "csv") refl refl,
-          (
-            on_top (codes "pool") (codes "json") refl refl,
-            (
-              on_top (codes "style") (codes "css") refl refl,
-              (on_top (codes "index") (codes "html") refl refl, tt),
-            ),
-          ),
-        ),
+        (on_top (codes "oui36") (codes "csv") refl refl, tt),
       ),
     ),
   ),
 )
 
-pub files_stay_inside : FilesStayInside
-files_stay_inside [] h = others_stay
-files_stay_inside (name ∷ names) h = (
-  in_registries name (codes "html") h.0 refl,
-  (
-    in_registries name (codes "csv") h.0 refl,
-    (in_registries name (codes "json") h.0 refl, files_stay_inside names h.1),
-  ),
+pool_inside : (prefixes : List ℕ) → AllByRecursion Inside (pool_files prefixes)
+pool_inside prefixes = (
+  on_top (codes "pool") (codes "json") refl refl,
+  (on_top (codes "style") (codes "css") refl refl, tt),
 )
+
+changes_inside : (authority : Option Note) (records : List Record) (digests : List (List ℕ))
+    → AllByRecursion Inside (change_files authority records digests)
+changes_inside authority records digests = (
+  on_top (codes "changes") (codes "html") refl refl,
+  (on_top (codes "changes") (codes "atom") refl refl, tt),
+)
+
+index_inside : (authority : Option Note) (digests : List (List ℕ)) (registers : List Row)
+    (prefixes : List ℕ) (rows : List Listed) (moment : ℕ)
+    → AllByRecursion Inside (index_files authority digests registers prefixes rows moment)
+index_inside authority digests registers prefixes rows moment = (
+  on_top (codes "index") (codes "html") refl refl,
+  (on_top (codes "index") (codes "json") refl refl, tt),
+)
+
+pub files_stay_inside : FilesStayInside
+files_stay_inside notes records pages prefixes rows moment h =
+    let authority = noted_in notes [] in
+    let text = (chained records).text in
+    let digests = (chained records).digests in
+    let changed = change_files authority records digests in
+    let pooled = pool_files prefixes ++ changed in
+    let given = block_files authority rows ++ pooled in
+    let told = flat_map (page_files notes records) pages ++ given in
+    let indexed = index_files authority digests (rows_by records pages) prefixes rows moment in
+    all-append Inside
+    (steady_files notes text records digests pages prefixes rows ++ indexed)
+    (one_file file.Sums (sums_text (summed_files notes text records digests pages prefixes rows moment)))
+    (all-append Inside (steady_files notes text records digests pages prefixes rows) indexed (
+      on_top (codes "changes") (codes "csv") refl refl,
+      all-append Inside (flat_map (page_files notes records) pages) given
+          (pages_inside notes records pages h)
+          (all-append Inside (block_files authority rows) pooled (blocks_inside authority rows)
+          (all-append Inside (pool_files prefixes) changed (pool_inside prefixes)
+          (changes_inside authority records digests))),
+    )
+    (index_inside authority digests (rows_by records pages) prefixes rows moment))
+    (inr refl, tt)
 
 pub private_holders_are_hidden : PrivateHoldersAreHidden
 private_holders_are_hidden block h private = rw private refl

@@ -72,12 +72,8 @@ blocks_markup authority rows =
     (block_links ∷ apply_line authority ∷ no_blocks rows ∷ blocks_table rows ∷ []))
 
 -- the bytes of that page, with what is noted about the authority
-unfoldable pub noted_blocks : Option Note → List Listed → List ℕ
-noted_blocks authority rows = document (blocks_markup authority rows)
-
--- the same without it
-abbrev pub blocks_page : List Listed → List ℕ
-blocks_page rows = noted_blocks None rows
+unfoldable pub blocks_page : Option Note → List Listed → List ℕ
+blocks_page authority rows = document (blocks_markup authority rows)
 
 -- ---- The same in portions
 
@@ -99,7 +95,7 @@ authority_of p = option_map (λ n. n.now) p.authority
 
 -- what is left of the page by what is given next
 abbrev pub left_from : BlocksPage → Next → List ℕ
-left_from p next.Above = noted_blocks (authority_of p) p.rows.now
+left_from p next.Above = blocks_page (authority_of p) p.rows.now
 left_from p (next.Row place) = rows_left (drop place p.rows.now)
 left_from p next.Nothing = []
 

@@ -9,17 +9,41 @@ use Rattle.reg_notes.specs.declared.note.Note.{Note}
 use Rattle.reg_site.specs.Noted.{apply_line}
 use Rattle.reg_site.specs.declared.changes.Change.{Change}
 
+-- ---- A change
+
+-- a change of the registers, as texts
+pub record Changed : Type 0 where
+  pub number : ℕ
+  pub moment : List ℕ
+  pub register : List ℕ
+  pub kind : List ℕ
+  pub value : List ℕ
+  pub description : List ℕ
+  pub digest : List ℕ
+
+-- a change that the code has, without where its texts lie in memory
+abbrev pub shown : Change → Changed
+shown c = record {
+  number = c.number;
+  moment = c.moment.now;
+  register = c.register.now;
+  kind = c.kind.now;
+  value = c.value.now;
+  description = c.description.now;
+  digest = c.digest.now;
+}
+
 -- ---- Where a change is
 
 -- where what was changed is shown, from the folder of the site on: an entry or a range on the page of its
 -- register, a block on the page of the blocks, and a prefix on the first page
-abbrev pub place_of : Change → List ℕ
+abbrev pub place_of : Changed → List ℕ
 place_of c =
-    if bytes_eq c.kind.now (codes "range")
-    then codes "registries/" ++ (c.register.now ++ (codes ".html#r" ++ c.value.now))
-    else if bytes_eq c.kind.now (codes "block") then codes "blocks.html#b" ++ c.value.now
-    else if bytes_eq c.kind.now (codes "prefix") then codes "index.html"
-    else codes "registries/" ++ (c.register.now ++ (codes ".html#v" ++ c.value.now))
+    if bytes_eq c.kind (codes "range")
+    then codes "registries/" ++ (c.register ++ (codes ".html#r" ++ c.value))
+    else if bytes_eq c.kind (codes "block") then codes "blocks.html#b" ++ c.value
+    else if bytes_eq c.kind (codes "prefix") then codes "index.html"
+    else codes "registries/" ++ (c.register ++ (codes ".html#v" ++ c.value))
 
 -- ---- The page
 
@@ -32,21 +56,24 @@ row_by name number place moment register kind value description =
     (beside (plain (codes "td") (link place value)) (cell description))))
 
 -- a change as a row, found by c and its number
-abbrev pub change_row : Change → Markup
+abbrev pub change_row : Changed → Markup
 change_row c =
-    row_by (codes "c" ++ decimal c.number) (decimal c.number) (place_of c) c.moment.now c.register.now
-    c.kind.now c.value.now c.description.now
+    row_by (codes "c" ++ decimal c.number) (decimal c.number) (place_of c) c.moment c.register c.kind
+    c.value c.description
 
 abbrev pub change_columns : List (List ℕ)
 change_columns =
     codes "Number" ∷ codes "Moment" ∷ codes "Register" ∷ codes "Change" ∷ codes "Value"
     ∷ codes "Description" ∷ []
 
+abbrev pub changes_table : List Changed → Markup
+changes_table changes =
+    table (codes "The last changes") change_columns (all_of (map change_row changes))
+
 -- changes as a table, or that there are none
-abbrev pub changes_shown : List Change → Markup
+abbrev pub changes_shown : List Changed → Markup
 changes_shown [] = plain (codes "p") (text (codes "Nothing has been changed yet."))
-changes_shown (c ∷ more) =
-    table (codes "The last changes") change_columns (all_of (map change_row (c ∷ more)))
+changes_shown (c ∷ more) = changes_table (c ∷ more)
 
 abbrev pub change_links : Markup
 change_links =
@@ -57,16 +84,17 @@ change_links =
     ∷ link (codes "changes.atom") (codes "Atom") ∷ []))
 
 -- the page of the last 200 changes, with what is noted about the authority
-abbrev pub changes_markup : Option Note → List Change → Markup
+abbrev pub changes_markup : Option Note → List Changed → Markup
 changes_markup authority changes =
     page (codes "style.css") (codes "Changes")
     (all_of (change_links ∷ apply_line authority ∷ changes_shown (take 200 changes) ∷ []))
 
-unfoldable pub changes_page : Option Note → List Change → List ℕ
+unfoldable pub changes_page : Option Note → List Changed → List ℕ
 changes_page authority changes = document (changes_markup authority changes)
 
 -- ---- The feed
 
+-- an id made of a digest
 abbrev pub urn : List ℕ → List ℕ
 urn digest = codes "urn:sha256:" ++ digest
 
@@ -83,18 +111,18 @@ entry_by title id place moment description =
     (text (codes "\n"))
 
 -- the title of a change: its register, what was changed, and the value
-abbrev pub change_title : Change → List ℕ
-change_title c = c.register.now ++ (codes " " ++ (c.kind.now ++ (codes " " ++ c.value.now)))
+abbrev pub change_title : Changed → List ℕ
+change_title c = c.register ++ (codes " " ++ (c.kind ++ (codes " " ++ c.value)))
 
 -- A change as an entry of the feed. Its id is its digest, which no other change has.
-abbrev pub change_entry : Change → Markup
+abbrev pub change_entry : Changed → Markup
 change_entry c =
-    entry_by (change_title c) (urn c.digest.now) (place_of c) c.moment.now c.description.now
+    entry_by (change_title c) (urn c.digest) (place_of c) c.moment c.description
 
 -- when the last change was
-abbrev pub last_moment : List Change → List ℕ
+abbrev pub last_moment : List Changed → List ℕ
 last_moment [] = codes "1970-01-01T00:00:00Z"
-last_moment (c ∷ more) = c.moment.now
+last_moment (c ∷ more) = c.moment
 
 abbrev pub feed_attributes : List Attribute
 feed_attributes = attribute (codes "xmlns") (codes "http://www.w3.org/2005/Atom") ∷ []
@@ -110,7 +138,7 @@ feed_head title id moment =
     ∷ text (codes "\n") ∷ [])
 
 -- the bytes of the feed of the last 100 changes, by its title and its id
-unfoldable pub changes_feed : List ℕ → List ℕ → List Change → List ℕ
+unfoldable pub changes_feed : List ℕ → List ℕ → List Changed → List ℕ
 changes_feed title id changes =
     codes "<?xml version=\"1.0\" encoding=\"UTF-8\"?>\n"
     ++ markup_then

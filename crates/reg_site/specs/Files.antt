@@ -1,10 +1,9 @@
 -- The files of a site, and their places.
-use Rattle.std.specs.Prelude.{ℕ, List, [], ◌∷◌, ◌++◌, codes}
-use Rattle.std.specs.List.{flat_map}
+use Rattle.std.specs.Prelude.{ℕ, List, [], ◌++◌, codes}
 use Rattle.reg_blocks.specs.declared.size.Size.{Size}
 use Rattle.reg_blocks.specs.declared.size.Size.TheVariants.{MaL, MaM, MaS}
 use Rattle.reg_site.specs.declared.files.File.{File}
-use Rattle.reg_site.specs.declared.files.File.TheVariants.{RegistryPage, RegistryListing, RegistryTree, RegistryRecords, BlocksPage, BlocksListing, Assignments, Pool, Style, Index}
+use Rattle.reg_site.specs.declared.files.File.TheVariants.{RegistryPage, RegistryListing, RegistryTree, RegistryRecords, BlocksPage, BlocksListing, Assignments, Pool, Style, Changes, ChangesPage, ChangesFeed, Index, IndexTree, Sums}
 
 -- the folder of a file, with the slash after it; none is nothing
 abbrev pub folder_of : File → List ℕ
@@ -17,7 +16,12 @@ folder_of BlocksListing = []
 folder_of (Assignments size) = []
 folder_of Pool = []
 folder_of Style = []
+folder_of Changes = []
+folder_of ChangesPage = []
+folder_of ChangesFeed = []
 folder_of Index = []
+folder_of IndexTree = []
+folder_of Sums = []
 
 -- IEEE's names of its files
 abbrev pub assignments_name : Size → List ℕ
@@ -36,34 +40,31 @@ stem_of BlocksListing = codes "blocks"
 stem_of (Assignments size) = assignments_name size
 stem_of Pool = codes "pool"
 stem_of Style = codes "style"
+stem_of Changes = codes "changes"
+stem_of ChangesPage = codes "changes"
+stem_of ChangesFeed = codes "changes"
 stem_of Index = codes "index"
+stem_of IndexTree = codes "index"
+stem_of Sums = codes "SHA256SUMS"
 
--- the name of a file after its dot
-abbrev pub extension_of : File → List ℕ
-extension_of (RegistryPage name) = codes "html"
-extension_of (RegistryListing name) = codes "csv"
-extension_of (RegistryTree name) = codes "json"
-extension_of (RegistryRecords name) = codes "xml"
-extension_of BlocksPage = codes "html"
-extension_of BlocksListing = codes "csv"
-extension_of (Assignments size) = codes "csv"
-extension_of Pool = codes "json"
-extension_of Style = codes "css"
-extension_of Index = codes "html"
+-- the name of a file from its dot on; the sums have none
+abbrev pub suffix_of : File → List ℕ
+suffix_of (RegistryPage name) = codes ".html"
+suffix_of (RegistryListing name) = codes ".csv"
+suffix_of (RegistryTree name) = codes ".json"
+suffix_of (RegistryRecords name) = codes ".xml"
+suffix_of BlocksPage = codes ".html"
+suffix_of BlocksListing = codes ".csv"
+suffix_of (Assignments size) = codes ".csv"
+suffix_of Pool = codes ".json"
+suffix_of Style = codes ".css"
+suffix_of Changes = codes ".csv"
+suffix_of ChangesPage = codes ".html"
+suffix_of ChangesFeed = codes ".atom"
+suffix_of Index = codes ".html"
+suffix_of IndexTree = codes ".json"
+suffix_of Sums = []
 
 -- the place of a file, from the folder of the site on
 abbrev pub path_of : File → List ℕ
-path_of file = folder_of file ++ (stem_of file ++ (codes "." ++ extension_of file))
-
-abbrev pub registry_files : List ℕ → List File
-registry_files name = RegistryPage name ∷ RegistryListing name ∷ RegistryTree name ∷ []
-
--- the files of no one registry, of which the index is the last
-abbrev pub other_files : List File
-other_files =
-    BlocksPage ∷ BlocksListing ∷ Assignments MaL ∷ Assignments MaM ∷ Assignments MaS ∷ Pool ∷ Style
-    ∷ Index ∷ []
-
--- all files of a site, by the names of its registries
-abbrev pub site_files : List (List ℕ) → List File
-site_files names = flat_map registry_files names ++ other_files
+path_of file = folder_of file ++ (stem_of file ++ suffix_of file)

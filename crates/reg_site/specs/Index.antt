@@ -1,5 +1,5 @@
 -- The first page of the site.
-use Rattle.std.specs.Prelude.{ℕ, List, [], ◌∷◌, ◌++◌, map, length, codes, Bool, true, false, Option, Some, None}
+use Rattle.std.specs.Prelude.{ℕ, List, [], ◌∷◌, ◌++◌, map, length, codes, Option, Some, None}
 use Rattle.std.specs.Fmt.{decimal}
 use Rattle.reg_blocks.specs.Digits.{prefix_text}
 use Rattle.reg_blocks.specs.Size.{word_of}
@@ -10,13 +10,13 @@ use Rattle.reg_print.specs.Listing.{run_text}
 use Rattle.reg_site.specs.Blocks.{rows_of}
 use Rattle.reg_html.specs.Document.{attribute, document, link, page, plain}
 use Rattle.reg_html.specs.Markup.{Markup, nothing, text, element, beside, all_of}
-use Rattle.reg_site.specs.Moment.{moment_text}
+use Rattle.reg_history.specs.Moment.{moment_text}
 use Rattle.reg_site.specs.Policy.{treatment_name}
 use Rattle.reg_html.specs.Table.{head_of, row_of, table}
 use Rattle.reg_notes.specs.declared.note.Note.{Note}
 use Rattle.reg_site.specs.Noted.{apply_line}
 use Rattle.reg_site.specs.Records.{title_of}
-use Rattle.reg_site.specs.declared.index_tree.Register.{Register}
+use Rattle.reg_site.specs.IndexTree.{Row}
 use Rattle.reg_site.specs.declared.summary.Share.{Share}
 use Rattle.reg_site.specs.declared.summary.Summary.{Summary}
 
@@ -62,8 +62,8 @@ registry_row changed s =
     ∷ number_cell s.assigned ∷ number_cell s.temporary ∷ number_cell s.expired
     ∷ number_cell s.free ∷ []))
 
-abbrev pub register_row : Register → Markup
-register_row r = registry_row r.changed.now r.summary.now
+abbrev pub register_row : Row → Markup
+register_row r = registry_row r.1 r.0
 
 abbrev pub registry_columns : List (List ℕ)
 registry_columns =
@@ -135,38 +135,31 @@ abbrev pub authority_said : Option Note → Markup
 authority_said None = nothing
 authority_said (Some n) = said n.note
 
--- links to the last changes, and to the index for programs, where there are these
-abbrev pub more_links : Bool → Markup
-more_links false = nothing
-more_links true =
+-- links to the last changes, and to the index for programs
+abbrev pub more_links : Markup
+more_links =
     plain (codes "p")
     (all_of
     (link (codes "changes.html") (codes "Changes") ∷ text (codes " ")
     ∷ link (codes "index.json") (codes "JSON") ∷ []))
 
 -- what stands above the registries: what the authority says, where to apply, and links
-abbrev pub front : Bool → Option Note → Markup
-front linked authority =
-    beside (authority_said authority) (beside (apply_line authority) (more_links linked))
+abbrev pub front : Option Note → Markup
+front authority = beside (authority_said authority) (beside (apply_line authority) more_links)
 
 -- the first page by its title: the moment, the registries as rows, the pool and the blocks
-abbrev pub index_markup : Bool → Option Note → List Markup → List ℕ → List Listed → ℕ → Markup
-index_markup linked authority rows prefixes blocks moment =
+abbrev pub index_markup : Option Note → List Markup → List ℕ → List Listed → ℕ → Markup
+index_markup authority rows prefixes blocks moment =
     page (codes "style.css") (title_of authority (codes "Registries"))
     (all_of
-    (as_of moment ∷ front linked authority ∷ registries_shown rows ∷ pool_list prefixes
+    (as_of moment ∷ front authority ∷ registries_shown rows ∷ pool_list prefixes
     ∷ block_counts blocks ∷ []))
 
-unfoldable pub index_by_rows : Bool → Option Note → List Markup → List ℕ → List Listed → ℕ → List ℕ
-index_by_rows linked authority rows prefixes blocks moment =
-    document (index_markup linked authority rows prefixes blocks moment)
-
--- the bytes of the first page, without notes and changes
-abbrev pub index_page : List Summary → List ℕ → List Listed → ℕ → List ℕ
-index_page registries prefixes blocks moment =
-    index_by_rows false None (map (registry_row []) registries) prefixes blocks moment
+unfoldable pub index_by_rows : Option Note → List Markup → List ℕ → List Listed → ℕ → List ℕ
+index_by_rows authority rows prefixes blocks moment =
+    document (index_markup authority rows prefixes blocks moment)
 
 -- the bytes of the first page, with what is noted about the authority, and the last changes
-abbrev pub noted_index : Option Note → List Register → List ℕ → List Listed → ℕ → List ℕ
-noted_index authority registers prefixes blocks moment =
-    index_by_rows true authority (map register_row registers) prefixes blocks moment
+abbrev pub index_page : Option Note → List Row → List ℕ → List Listed → ℕ → List ℕ
+index_page authority rows prefixes blocks moment =
+    index_by_rows authority (map register_row rows) prefixes blocks moment

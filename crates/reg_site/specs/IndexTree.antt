@@ -31,27 +31,33 @@ counts_text s =
     ++ (codes ",\"set_aside\":" ++ (decimal s.set_aside ++ (codes ",\"reserved\":"
     ++ decimal s.reserved))))))))))
 
+-- a register beside others: its counts, and the moment of its last change
+abbrev pub Row : Type 0
+Row = Summary × List ℕ
+
+-- the same as the code has it, without where it lies in memory
+abbrev pub row_of : Register → Row
+row_of r = (r.summary.now, r.changed.now)
+
 -- a register: its name, its files, its counts, and the moment of its last change
 abbrev pub register_text : List ℕ → List ℕ → List ℕ → List ℕ → List ℕ
 register_text name files counts changed =
     codes "{\"name\":\"" ++ (name ++ (codes "\",\"files\":[" ++ (files ++ (codes "]," ++ (counts
     ++ (codes ",\"changed\":\"" ++ (changed ++ codes "\"}")))))))
 
-abbrev pub register : Register → List ℕ
-register r =
-    register_text r.summary.now.name (files_text r.summary.now.name) (counts_text r.summary.now)
-    r.changed.now
+abbrev pub register : Row → List ℕ
+register r = register_text r.0.name (files_text r.0.name) (counts_text r.0) r.1
 
 -- each of these registers after a comma and a line feed, and then the rest
-abbrev pub next_then : Register → List ℕ → List ℕ
+abbrev pub next_then : Row → List ℕ → List ℕ
 next_then r rest = codes ",\n" ++ (register r ++ rest)
 
-abbrev pub more_then : List Register → List ℕ → List ℕ
+abbrev pub more_then : List Row → List ℕ → List ℕ
 more_then [] rest = rest
 more_then (r ∷ more) rest = next_then r (more_then more rest)
 
 -- registers with a comma and a line feed between them, and then the rest
-abbrev pub registers_then : List Register → List ℕ → List ℕ
+abbrev pub registers_then : List Row → List ℕ → List ℕ
 registers_then [] rest = rest
 registers_then (r ∷ more) rest = register r ++ more_then more rest
 
@@ -65,7 +71,7 @@ front_rest moment changes digest =
 
 -- the bytes of the index for programs: the title, the moment, how many changes there are, the digest of the
 -- last one, and the registers
-unfoldable pub index_tree : List ℕ → List ℕ → ℕ → List ℕ → List Register → List ℕ
+unfoldable pub index_tree : List ℕ → List ℕ → ℕ → List ℕ → List Row → List ℕ
 index_tree title moment changes digest rows =
     codes "{\"title\":\""
     ++ (json_text title

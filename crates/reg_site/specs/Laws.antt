@@ -1,5 +1,5 @@
 -- The laws of the published site.
-use Rattle.std.specs.Prelude.{◌≡◌, ◌≢◌, ◌⊎◌, ℕ, true, List, [], ◌++◌, codes, Option, Some}
+use Rattle.std.specs.Prelude.{◌≡◌, ◌⊎◌, ℕ, true, List, [], ◌++◌, codes, Option}
 use Rattle.std.specs.List.{AllByRecursion}
 use Rattle.reg_blocks.specs.Block.{SizedPrefix}
 use Rattle.reg_blocks.specs.Digits.{block_text}
@@ -12,26 +12,29 @@ use Rattle.reg_core.specs.View.{Published, View, published}
 use Rattle.reg_core.specs.World.{World}
 use Rattle.reg_core.specs.declared.command.Command.TheVariants.{Public}
 use Rattle.reg_core.specs.declared.command.PublicCommand.{PublicCommand}
+use Rattle.reg_core.specs.declared.command.PublicCommand.TheVariants.{Registry, RegistryListing}
 use Rattle.reg_core.specs.declared.holding.Holder.{Holder}
-use Rattle.reg_core.specs.declared.command.PublicCommand.TheVariants.{Registry}
+use Rattle.reg_core.specs.declared.holding.Listed.{Listed}
 use Rattle.reg_core.specs.declared.page.Page.{Page}
+use Rattle.reg_core.specs.declared.reply.Reply.TheVariants.{Accepted}
+use Rattle.reg_core.specs.declared.told.Told.TheVariants as tells
+use Rattle.reg_history.specs.Chain.{chained}
+use Rattle.reg_history.specs.declared.change.Record.{Record}
 use Rattle.reg_notes.specs.Notes.{entry_thing}
 use Rattle.reg_notes.specs.declared.notes.Notes.{Notes}
 use Rattle.reg_site.specs.Blocks.{block_row, row_by}
 use Rattle.reg_site.specs.Noted.{noted_in}
-use Rattle.reg_site.specs.Files.{path_of, site_files}
-use Rattle.reg_site.specs.Site.{bytes_of, noted_bytes_of, page_in, site, told_to_all}
-use Rattle.reg_site.specs.declared.files.File.{File}
-use Rattle.reg_site.specs.declared.files.File.TheVariants.{Index}
+use Rattle.reg_site.specs.Site.{blocks_at, pages_at, prefixes_at, site, site_files, steady_files, told_to_all}
 
 -- ---- The same registers, the same bytes
 
--- two offices that publish the same registers publish the same site at a moment, whatever else they
--- hold
+-- two offices that publish the same registers publish the same site at a moment, with the same notes and
+-- the same history, whatever else they hold
 abbrev pub SameRegistersSameSite : Type 0
 SameRegistersSameSite =
-    (w v : World) (moment : ℕ) → published w ≡ published v
-    → site (published w) moment ≡ site (published v) moment
+    (notes : Option Notes) (records : List Record) (w v : World) (moment : ℕ)
+    → published w ≡ published v
+    → site notes records (published w) moment ≡ site notes records (published v) moment
 
 -- what a site is made of is what each caller is told, whoever it is
 abbrev pub SitesAreOfAnswers : Type 0
@@ -39,17 +42,28 @@ SitesAreOfAnswers =
     (v : View) (moment : ℕ) (command : PublicCommand) → is_in_clock moment ≡ true
     → told_to_all v.published moment command ≡ told v moment (Public command)
 
--- at two moments of a day each file but the index is the same
+-- a registry that is told is listed as the same page
+abbrev pub ListingsAreOfPages : Type 0
+ListingsAreOfPages =
+    (p : Published) (moment : ℕ) (name : List ℕ) (page : Page)
+    → told_to_all p moment (Registry name) ≡ Accepted (tells.Page page)
+    → told_to_all p moment (RegistryListing name) ≡ Accepted (tells.Listing page)
+
+-- At two moments of a day all files are the same but the first page, the index for programs, and the
+-- sums, where the history is the same.
 abbrev pub MomentsStandOnTheIndex : Type 0
 MomentsStandOnTheIndex =
-    (p : Published) (m n : ℕ) (file : File) → utc_day m ≡ utc_day n → file ≢ Index
-    → bytes_of p m file ≡ bytes_of p n file
+    (notes : Option Notes) (records : List Record) (p : Published) (m n : ℕ) → utc_day m ≡ utc_day n
+    → steady_files notes (chained records).text records (chained records).digests (pages_at p m)
+    (prefixes_at p m) (blocks_at p m)
+    ≡ steady_files notes (chained records).text records (chained records).digests (pages_at p n)
+    (prefixes_at p n) (blocks_at p n)
 
 -- ---- Places
 
 -- A place in the folder of a site, or in `registries` there: a name of letters, digits and dashes, a
 -- dot, and such a name.
-pub record StaysInside (path : List ℕ) : Type 0 where
+pub record IsNamedInside (path : List ℕ) : Type 0 where
   pub folder : List ℕ
   pub stem : List ℕ
   pub extension : List ℕ
@@ -58,11 +72,17 @@ pub record StaysInside (path : List ℕ) : Type 0 where
   pub named : is_name stem ≡ true
   pub typed : is_name extension ≡ true
 
+-- that, or the one name without a dot
+abbrev pub StaysInside : List ℕ → Type 0
+StaysInside path = IsNamedInside path ⊎ (path ≡ codes "SHA256SUMS")
+
 -- no file leaves the folder of the site, where the registries have names of their form
 abbrev pub FilesStayInside : Type 0
 FilesStayInside =
-    (names : List (List ℕ)) → AllByRecursion (λ name. is_name name ≡ true) names
-    → AllByRecursion (λ file. StaysInside (path_of file)) (site_files names)
+    (notes : Option Notes) (records : List Record) (pages : List Page) (prefixes : List ℕ)
+    (rows : List Listed) (moment : ℕ) → AllByRecursion (λ page. is_name page.name ≡ true) pages
+    → AllByRecursion (λ file. StaysInside file.0)
+    (site_files notes records pages prefixes rows moment)
 
 -- ---- Private holders
 
@@ -86,12 +106,11 @@ pub record AgreeOnPage (a b : Option Notes) (page : Page) : Type 0 where
 -- they say the same about the authority, and about each registry that is published and its entries
 pub record AgreeOnPublished (a b : Option Notes) (p : Published) (moment : ℕ) : Type 0 where
   pub authority : noted_in a [] ≡ noted_in b []
-  pub pages : (name : List ℕ) (page : Page)
-      → page_in (told_to_all p moment (Registry name)) ≡ Some page → AgreeOnPage a b page
+  pub pages : AllByRecursion (AgreeOnPage a b) (pages_at p moment)
 
 -- A note on a value without an entry has no effect on any byte of any file: notes that say the same about
--- the authority, the registries and the entries that are published give the same files.
+-- the authority, the registries and the entries that are published give the same site.
 abbrev pub NotesOnNothingAreHidden : Type 0
 NotesOnNothingAreHidden =
-    (a b : Option Notes) (p : Published) (moment : ℕ) (file : File) → AgreeOnPublished a b p moment
-    → noted_bytes_of a p moment file ≡ noted_bytes_of b p moment file
+    (a b : Option Notes) (records : List Record) (p : Published) (moment : ℕ)
+    → AgreeOnPublished a b p moment → site a records p moment ≡ site b records p moment

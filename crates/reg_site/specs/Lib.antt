@@ -13,7 +13,7 @@ pub mod Records
 pub mod Changes
 pub mod Sums
 pub mod IndexTree
-pub mod Moment
+pub mod Recent
 pub mod Index
 pub mod Files
 pub mod Site

@@ -74,15 +74,16 @@ entries_table notes name rows =
 -- ---- The page
 
 -- links to the first page, and to the same registry in these files
-abbrev pub forms : List ℕ → List ℕ → Markup
-forms listing tree =
+abbrev pub forms : List ℕ → List ℕ → List ℕ → Markup
+forms listing tree records =
     plain (codes "p")
     (all_of
     (link (codes "../index.html") (codes "All registries") ∷ text (codes " ")
-    ∷ link listing (codes "CSV") ∷ text (codes " ") ∷ link tree (codes "JSON") ∷ []))
+    ∷ link listing (codes "CSV") ∷ text (codes " ") ∷ link tree (codes "JSON") ∷ text (codes " ")
+    ∷ link records (codes "XML") ∷ []))
 
 abbrev pub links : List ℕ → Markup
-links name = forms (name ++ codes ".csv") (name ++ codes ".json")
+links name = forms (name ++ codes ".csv") (name ++ codes ".json") (name ++ codes ".xml")
 
 -- when a registry was last changed; nothing where it is not known
 abbrev pub last_changed : List ℕ → Markup
@@ -113,13 +114,9 @@ page_by notes changed name counts entries ranges rows =
     document (registry_markup notes changed name counts entries ranges rows)
 
 -- the bytes of a registry's page, with these notes and the moment of its last change
-abbrev pub noted_page : Option Notes → List ℕ → Page → List ℕ
-noted_page notes changed p =
+abbrev pub registry_page : Option Notes → List ℕ → Page → List ℕ
+registry_page notes changed p =
     page_by notes changed p.name (summary p) p.entries p.table.ranges (page_rows p)
-
--- the same without them
-abbrev pub registry_page : Page → List ℕ
-registry_page p = noted_page None [] p
 
 -- ---- The same in portions
 

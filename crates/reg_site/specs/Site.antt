@@ -1,28 +1,40 @@
--- A site: the bytes of each of its files, by what is published at a moment.
-use Rattle.std.specs.Prelude.{ℕ, List, [], map, filter_map, Option, Some, None, option_map, option_and_then}
+-- A site: its files with their bytes, by what anybody is told at a moment, by notes, and by a history.
+use Rattle.std.specs.Prelude.{ℕ, List, [], ◌∷◌, ◌++◌, map, filter_map, length, codes, unwrap_or, Option, Some, None}
+use Rattle.std.specs.List.{flat_map}
 use Rattle.reg_early.specs.Moment.{utc_day}
+use Rattle.reg_blocks.specs.declared.size.Size.TheVariants.{MaL, MaM, MaS}
 use Rattle.reg_core.specs.Answer.{public_answer, reply_of}
 use Rattle.reg_core.specs.View.{Published}
 use Rattle.reg_core.specs.declared.command.PublicCommand.{PublicCommand}
 use Rattle.reg_core.specs.declared.command.PublicCommand.TheVariants.{Registries, Registry, RegistryListing, PoolList, BlockListing}
+use Rattle.reg_core.specs.declared.told.Told.{Told}
 use Rattle.reg_core.specs.declared.told.Told.TheVariants as tells
 use Rattle.reg_core.specs.declared.holding.Listed.{Listed}
 use Rattle.reg_core.specs.declared.page.Page.{Page}
 use Rattle.reg_core.specs.declared.reply.Reply.{Reply}
 use Rattle.reg_core.specs.declared.reply.Reply.TheVariants.{Accepted, Refused}
+use Rattle.reg_history.specs.Chain.{chained, last_digest}
+use Rattle.reg_history.specs.Moment.{moment_text}
+use Rattle.reg_history.specs.Recorded.{last_changed}
+use Rattle.reg_history.specs.declared.change.Record.{Record}
+use Rattle.reg_notes.specs.declared.note.Note.{Note}
+use Rattle.reg_notes.specs.declared.notes.Notes.{Notes}
 use Rattle.reg_print.specs.Answer.{body_text}
 use Rattle.reg_print.specs.declared.answer.Answer.TheVariants as answer
 use Rattle.reg_site.specs.Blocks.{assignments_text, blocks_page}
-use Rattle.reg_site.specs.Files.{path_of, site_files}
+use Rattle.reg_site.specs.Changes.{changes_feed, changes_page}
+use Rattle.reg_site.specs.Files.{path_of}
 use Rattle.reg_site.specs.Index.{index_page}
-use Rattle.reg_notes.specs.declared.notes.Notes.{Notes}
-use Rattle.reg_site.specs.Records.{records_text}
-use Rattle.reg_site.specs.Registry.{noted_page, registry_page}
+use Rattle.reg_site.specs.IndexTree.{Row, index_tree}
+use Rattle.reg_site.specs.Noted.{noted_in}
+use Rattle.reg_site.specs.Recent.{day_part, feed_id, first_digest, last_changes, text_of}
+use Rattle.reg_site.specs.Records.{records_text, title_of}
+use Rattle.reg_site.specs.Registry.{registry_page}
 use Rattle.reg_site.specs.Summary.{summary}
-use Rattle.reg_site.specs.declared.summary.Summary.{Summary}
+use Rattle.reg_site.specs.Sums.{Files, sums_text}
 use Rattle.reg_site.specs.declared.style.TheConstants.{STYLE}
 use Rattle.reg_site.specs.declared.files.File.{File}
-use Rattle.reg_site.specs.declared.files.File.TheVariants.{RegistryPage, RegistryListing as RegistryListingFile, RegistryTree, RegistryRecords, BlocksPage, BlocksListing as BlocksListingFile, Assignments, Pool, Style, Index}
+use Rattle.reg_site.specs.declared.files.File.TheVariants as file
 
 -- ---- What an office answers anybody
 
@@ -54,63 +66,120 @@ names_in (Accepted (tells.Names names)) = names
 names_in (Accepted _) = []
 names_in (Refused refusal) = []
 
--- ---- The bytes of files
-
--- the summaries of all registries
-abbrev pub summaries : Published → ℕ → List Summary
-summaries p moment =
-    filter_map
-    (λ name. option_map summary (page_in (told_to_all p moment (Registry name))))
+-- all registries that are told, by name
+abbrev pub pages_at : Published → ℕ → List Page
+pages_at p moment =
+    filter_map (λ name. page_in (told_to_all p moment (Registry name)))
     (names_in (told_to_all p moment Registries))
 
--- the bytes of the first page, where blocks and pool are told
-abbrev pub index_by : List Summary → Option (List ℕ) → Option (List Listed) → ℕ → Option (List ℕ)
-index_by registries prefixes rows moment =
-    option_and_then
-    (λ ps. option_map (λ rs. index_page registries ps rs moment) rows)
-    prefixes
+-- the prefixes of the pool, and the blocks
+abbrev pub prefixes_at : Published → ℕ → List ℕ
+prefixes_at p moment = unwrap_or (pool_in (told_to_all p moment PoolList)) []
 
--- the very bytes of an answer
-abbrev pub answered : Reply → Option (List ℕ)
-answered reply = Some (body_text (answer.Reply reply))
+abbrev pub blocks_at : Published → ℕ → List Listed
+blocks_at p moment = unwrap_or (blocks_in (told_to_all p moment BlockListing)) []
 
--- the bytes of a file at a moment
-abbrev pub bytes_of : Published → ℕ → File → Option (List ℕ)
-bytes_of p moment (RegistryPage name) =
-    option_map registry_page (page_in (told_to_all p moment (Registry name)))
-bytes_of p moment (RegistryListingFile name) = answered (told_to_all p moment (RegistryListing name))
-bytes_of p moment (RegistryTree name) = answered (told_to_all p moment (Registry name))
-bytes_of p moment (RegistryRecords name) =
-    option_map (records_text None []) (page_in (told_to_all p moment (Registry name)))
-bytes_of p moment BlocksPage = option_map blocks_page (blocks_in (told_to_all p moment BlockListing))
-bytes_of p moment BlocksListingFile = answered (told_to_all p moment BlockListing)
-bytes_of p moment (Assignments size) =
-    option_map (assignments_text size) (blocks_in (told_to_all p moment BlockListing))
-bytes_of p moment Pool = answered (told_to_all p moment PoolList)
-bytes_of p moment Style = Some STYLE.now
-bytes_of p moment Index =
-    index_by (summaries p moment) (pool_in (told_to_all p moment PoolList))
-    (blocks_in (told_to_all p moment BlockListing)) moment
+-- ---- The files
 
--- the files of a site: the place of each, and its bytes
-abbrev pub site : Published → ℕ → List (List ℕ × Option (List ℕ))
-site p moment =
-    map (λ file. (path_of file, bytes_of p moment file))
-    (site_files (names_in (told_to_all p moment Registries)))
+-- a file with its bytes
+abbrev pub one_file : File → List ℕ → Files
+one_file f bytes = (path_of f, bytes) ∷ []
 
--- ---- With notes
+-- the very bytes of an accepted answer
+abbrev pub told_text : Told → List ℕ
+told_text told = body_text (answer.Reply (Accepted told))
 
--- the bytes of a file at a moment, with these notes
-abbrev pub noted_bytes_of : Option Notes → Published → ℕ → File → Option (List ℕ)
-noted_bytes_of notes p moment (RegistryPage name) =
-    option_map (noted_page notes []) (page_in (told_to_all p moment (Registry name)))
-noted_bytes_of notes p moment (RegistryRecords name) =
-    option_map (records_text notes []) (page_in (told_to_all p moment (Registry name)))
-noted_bytes_of notes p moment (RegistryListingFile name) = bytes_of p moment (RegistryListingFile name)
-noted_bytes_of notes p moment (RegistryTree name) = bytes_of p moment (RegistryTree name)
-noted_bytes_of notes p moment BlocksPage = bytes_of p moment BlocksPage
-noted_bytes_of notes p moment BlocksListingFile = bytes_of p moment BlocksListingFile
-noted_bytes_of notes p moment (Assignments size) = bytes_of p moment (Assignments size)
-noted_bytes_of notes p moment Pool = bytes_of p moment Pool
-noted_bytes_of notes p moment Style = bytes_of p moment Style
-noted_bytes_of notes p moment Index = bytes_of p moment Index
+-- the title of a site, by what is noted about the authority
+abbrev pub site_title : Option Note → List ℕ
+site_title authority = title_of authority (codes "Registries")
+
+-- the files of a registry: its page, its listing and its JSON as an office answers them, and its XML
+abbrev pub page_files : Option Notes → List Record → Page → Files
+page_files notes records page =
+    (path_of (file.RegistryPage page.name), registry_page notes (last_changed records page.name) page)
+    ∷ (path_of (file.RegistryListing page.name), told_text (tells.Listing page))
+    ∷ (path_of (file.RegistryTree page.name), told_text (tells.Page page))
+    ∷ (
+      path_of (file.RegistryRecords page.name),
+      records_text notes (day_part (last_changed records page.name)) page,
+    )
+    ∷ []
+
+-- the files of the blocks
+abbrev pub block_files : Option Note → List Listed → Files
+block_files authority rows =
+    (path_of file.BlocksPage, blocks_page authority rows)
+    ∷ (path_of file.BlocksListing, told_text (tells.Blocks rows))
+    ∷ (path_of (file.Assignments MaL), assignments_text MaL rows)
+    ∷ (path_of (file.Assignments MaM), assignments_text MaM rows)
+    ∷ (path_of (file.Assignments MaS), assignments_text MaS rows)
+    ∷ []
+
+-- the pool, and how pages look
+abbrev pub pool_files : List ℕ → Files
+pool_files prefixes =
+    (path_of file.Pool, told_text (tells.Pool prefixes)) ∷ (path_of file.Style, STYLE.now) ∷ []
+
+-- the last changes of a history whose records have these digests
+abbrev pub change_files : Option Note → List Record → List (List ℕ) → Files
+change_files authority records digests =
+    (path_of file.ChangesPage, changes_page authority (last_changes records digests))
+    ∷ (
+      path_of file.ChangesFeed,
+      changes_feed (site_title authority) (feed_id (first_digest digests)) (last_changes records digests),
+    )
+    ∷ []
+
+-- registries beside others, each with the moment of its last change
+abbrev pub rows_by : List Record → List Page → List Row
+rows_by records pages = map (λ page. (summary page, last_changed records page.name)) pages
+
+-- the first page, and the index for programs
+abbrev pub index_files : Option Note → List (List ℕ) → List Row → List ℕ → List Listed → ℕ → Files
+index_files authority digests registers prefixes rows moment =
+    (path_of file.Index, index_page authority registers prefixes rows moment)
+    ∷ (
+      path_of file.IndexTree,
+      index_tree (site_title authority) (moment_text moment) (length digests)
+          (text_of (last_digest digests)) registers,
+    )
+    ∷ []
+
+-- ---- The site
+
+-- the files on which no moment stands but those of the changes: the history first, and then those that
+-- show what is published
+abbrev pub steady_files : Option Notes → List ℕ → List Record → List (List ℕ) → List Page → List ℕ
+    → List Listed → Files
+steady_files notes text records digests pages prefixes rows =
+    one_file file.Changes text
+    ++ (flat_map (page_files notes records) pages
+    ++ (block_files (noted_in notes []) rows
+    ++ (pool_files prefixes ++ change_files (noted_in notes []) records digests)))
+
+-- all files but the sums
+abbrev pub summed_files : Option Notes → List ℕ → List Record → List (List ℕ) → List Page → List ℕ
+    → List Listed → ℕ → Files
+summed_files notes text records digests pages prefixes rows moment =
+    steady_files notes text records digests pages prefixes rows
+    ++ index_files (noted_in notes []) digests (rows_by records pages) prefixes rows moment
+
+-- these files, and then their sums
+abbrev pub with_sums_file : Files → Files
+with_sums_file files = files ++ one_file file.Sums (sums_text files)
+
+-- all files of a site, in the order in which they are published, by the text and the digests of a history
+abbrev pub files_by : Option Notes → List ℕ → List Record → List (List ℕ) → List Page → List ℕ
+    → List Listed → ℕ → Files
+files_by notes text records digests pages prefixes rows moment =
+    with_sums_file (summed_files notes text records digests pages prefixes rows moment)
+
+-- the same by its records alone, which tell both
+abbrev pub site_files : Option Notes → List Record → List Page → List ℕ → List Listed → ℕ → Files
+site_files notes records pages prefixes rows moment =
+    files_by notes (chained records).text records (chained records).digests pages prefixes rows moment
+
+-- the site of what is published, with these notes and this history
+abbrev pub site : Option Notes → List Record → Published → ℕ → Files
+site notes records p moment =
+    site_files notes records (pages_at p moment) (prefixes_at p moment) (blocks_at p moment) moment

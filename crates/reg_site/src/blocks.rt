@@ -3,7 +3,7 @@ ghost use Rattle.std.specs.Prelude.{◌≡◌, ◌++◌, codes, length, string_b
 ghost use Rattle.std.specs.Option.{option_copied};
 ghost use Rattle.reg_html.specs.Appended.{Appended, Shown};
 ghost use Rattle.reg_html.specs.Table.{table_start};
-ghost use Rattle.reg_site.specs.Blocks.{above_rows, assignments_text, block_links, block_row, blocks_page, no_blocks, noted_blocks, page_left, row_by, rows_of, same_size};
+ghost use Rattle.reg_site.specs.Blocks.{above_rows, assignments_text, block_links, block_row, blocks_page, no_blocks, page_left, row_by, rows_of, same_size};
 ghost use Rattle.reg_print.specs.BlockListing.{block_header};
 
 use crate::noted::push_apply;
@@ -69,17 +69,10 @@ pub struct BlocksPage<'a> {
 }
 
 impl<'a> BlocksPage<'a> {
-    /// All of the page of these blocks is to be given, without notes.
-    pub fn of(rows: &'a [Listed]) -> Self
-        ensures { page_left result ≡ blocks_page rows.now }
-    {
-        BlocksPage::noted(rows, None)
-    }
-
     /// All of the page of these blocks is to be given, with a line that says where to apply, if this note
     /// says so.
-    pub fn noted(rows: &'a [Listed], authority: Option<&'a Note>) -> Self
-        ensures { page_left result ≡ noted_blocks (option_copied authority.entry) rows.now }
+    pub fn of(rows: &'a [Listed], authority: Option<&'a Note>) -> Self
+        ensures { page_left result ≡ blocks_page (option_copied authority.entry) rows.now }
     {
         BlocksPage {
             rows,

@@ -4,8 +4,7 @@ ghost use Rattle.std.specs.Option.{option_copied};
 ghost use Rattle.reg_html.specs.Appended.{Appended, Shown};
 ghost use Rattle.reg_html.specs.Escape.{escaped};
 ghost use Rattle.reg_html.specs.Markup.{all_of, opening_then};
-ghost use Rattle.reg_html.specs.Table.{table};
-ghost use Rattle.reg_site.specs.Changes.{change_columns, change_entry, change_links, change_row, change_title, changes_feed, changes_page, changes_shown, entry_by, feed_attributes, feed_head, last_moment, place_of, row_by, urn};
+ghost use Rattle.reg_site.specs.Changes.{change_entry, change_links, change_row, change_title, changes_feed, changes_page, changes_shown, changes_table, entry_by, feed_attributes, feed_head, last_moment, place_of, row_by, shown, urn};
 
 use crate::noted::push_apply;
 use reg_html::document::{push_end, push_start};
@@ -48,7 +47,7 @@ pub fn changes_page(
     authority: Option<&Note>,
     changes: &[Change<'_>],
 ) -> Result<Vec<u8>, AllocError>
-    ensures { IfOk result (λ v. v.items ≡ changes_page (option_copied authority.entry) changes.now) }
+    ensures { IfOk result (λ v. v.items ≡ changes_page (option_copied authority.entry) (map shown changes.now)) }
 {
     let mut out = Vec::new(alloc);
     push_start(&mut out, "style.css", "Changes")?;
@@ -88,7 +87,7 @@ fn push_links(out: &mut Vec<u8>) -> Result<(), AllocError>
 }
 
 fn push_changes(out: &mut Vec<u8>, changes: &[Change<'_>]) -> Result<(), AllocError>
-    ensures { OnOk result (Shown out.old.items out.new.items (changes_shown changes.now)) }
+    ensures { OnOk result (Shown out.old.items out.new.items (changes_shown (map shown changes.now))) }
 {
     match changes.first() {
         None => push(out, "<p>Nothing has been changed yet.</p>"),
@@ -98,8 +97,7 @@ fn push_changes(out: &mut Vec<u8>, changes: &[Change<'_>]) -> Result<(), AllocEr
 
 fn push_table(out: &mut Vec<u8>, changes: &[Change<'_>]) -> Result<(), AllocError>
     ensures { OnOk result
-        (Shown out.old.items out.new.items
-        (table (codes "The last changes") change_columns (all_of (map change_row changes.now)))) }
+        (Shown out.old.items out.new.items (changes_table (map shown changes.now))) }
 {
     let columns = [
         "Number",
@@ -117,7 +115,7 @@ fn push_table(out: &mut Vec<u8>, changes: &[Change<'_>]) -> Result<(), AllocErro
 
 fn push_rows(out: &mut Vec<u8>, changes: &[Change<'_>]) -> Result<(), AllocError>
     ensures { OnOk result
-        (Shown out.old.items out.new.items (all_of (map change_row changes.now))) }
+        (Shown out.old.items out.new.items (all_of (map change_row (map shown changes.now)))) }
 {
     for change in changes {
         push_row(out, change)?;
@@ -126,7 +124,7 @@ fn push_rows(out: &mut Vec<u8>, changes: &[Change<'_>]) -> Result<(), AllocError
 }
 
 fn push_row(out: &mut Vec<u8>, change: &Change<'_>) -> Result<(), AllocError>
-    ensures { OnOk result (Shown out.old.items out.new.items (change_row change.now)) }
+    ensures { OnOk result (Shown out.old.items out.new.items (change_row (shown change.now))) }
 {
     let alloc = *out.allocator();
     let number = format!(in alloc; "{}", change.number)?;
@@ -172,7 +170,7 @@ fn push_row_texts<'a>(
 
 // Where what was changed is shown.
 fn place_of(alloc: Global, change: &Change<'_>) -> Result<String, AllocError>
-    ensures { IfOk result (λ place. string_bytes place ≡ place_of change.now) }
+    ensures { IfOk result (λ place. string_bytes place ≡ place_of (shown change.now)) }
 {
     let register = change.register;
     let value = change.value;
@@ -198,7 +196,7 @@ pub fn changes_feed(
     id: &str,
     changes: &[Change<'_>],
 ) -> Result<Vec<u8>, AllocError>
-    ensures { IfOk result (λ v. v.items ≡ changes_feed title.now id.now changes.now) }
+    ensures { IfOk result (λ v. v.items ≡ changes_feed title.now id.now (map shown changes.now)) }
 {
     let mut out = Vec::new(alloc);
     push_feed_start(&mut out)?;
@@ -223,7 +221,7 @@ fn push_feed_start(out: &mut Vec<u8>) -> Result<(), AllocError>
 
 // When the last change was.
 fn last_moment<'a>(changes: &[Change<'a>]) -> &'a str
-    ensures { result.now ≡ last_moment changes.now }
+    ensures { result.now ≡ last_moment (map shown changes.now) }
 {
     match changes.first() {
         Some(change) => change.moment,
@@ -257,7 +255,7 @@ fn push_said<'a>(
 
 fn push_entries(out: &mut Vec<u8>, changes: &[Change<'_>]) -> Result<(), AllocError>
     ensures { OnOk result
-        (Shown out.old.items out.new.items (all_of (map change_entry changes.now))) }
+        (Shown out.old.items out.new.items (all_of (map change_entry (map shown changes.now)))) }
 {
     for change in changes {
         push_entry(out, change)?;
@@ -266,7 +264,7 @@ fn push_entries(out: &mut Vec<u8>, changes: &[Change<'_>]) -> Result<(), AllocEr
 }
 
 fn push_entry(out: &mut Vec<u8>, change: &Change<'_>) -> Result<(), AllocError>
-    ensures { OnOk result (Shown out.old.items out.new.items (change_entry change.now)) }
+    ensures { OnOk result (Shown out.old.items out.new.items (change_entry (shown change.now))) }
 {
     let alloc = *out.allocator();
     let title = change_title(alloc, change)?;
@@ -283,7 +281,7 @@ fn push_entry(out: &mut Vec<u8>, change: &Change<'_>) -> Result<(), AllocError>
 }
 
 fn change_title(alloc: Global, change: &Change<'_>) -> Result<String, AllocError>
-    ensures { IfOk result (λ title. string_bytes title ≡ change_title change.now) }
+    ensures { IfOk result (λ title. string_bytes title ≡ change_title (shown change.now)) }
 {
     format!(in alloc; "{} {} {}", change.register, change.kind, change.value)
 }

@@ -1,6 +1,6 @@
 //! The files of a site, and their places.
-ghost use Rattle.std.specs.Prelude.{◌≡◌, ◌++◌, string_bytes, IfOk, OnOk};
-ghost use Rattle.reg_site.specs.Files.{extension_of, folder_of, path_of, registry_files, site_files, stem_of};
+ghost use Rattle.std.specs.Prelude.{◌≡◌, string_bytes, IfOk};
+ghost use Rattle.reg_site.specs.Files.{folder_of, path_of, stem_of, suffix_of};
 
 use reg_blocks::size::Size;
 use reg_core::text::Name;
@@ -27,8 +27,18 @@ pub enum File {
     Pool,
     /// How pages look (CSS).
     Style,
-    /// The first page. The moment stands on it alone.
+    /// The history of the registers, as `reg_history` has it (CSV).
+    Changes,
+    /// The page of the last changes.
+    ChangesPage,
+    /// The feed of the last changes (Atom, RFC 4287).
+    ChangesFeed,
+    /// The first page. The moment of the publication stands on it and in the next one alone.
     Index,
+    /// The index for programs (JSON).
+    IndexTree,
+    /// The SHA-256 of each other file, as `sha256sum -c` reads it.
+    Sums,
 }
 
 impl File {
@@ -38,8 +48,7 @@ impl File {
     {
         let mut path = String::from_str(alloc, self.folder())?;
         path.push_str(self.stem())?;
-        path.push_str(".")?;
-        path.push_str(self.extension())?;
+        path.push_str(self.suffix())?;
         Ok(path)
     }
 
@@ -57,7 +66,12 @@ impl File {
             | File::Assignments(_)
             | File::Pool
             | File::Style
-            | File::Index => "",
+            | File::Changes
+            | File::ChangesPage
+            | File::ChangesFeed
+            | File::Index
+            | File::IndexTree
+            | File::Sums => "",
         }
     }
 
@@ -75,52 +89,25 @@ impl File {
             File::Assignments(Size::MaS) => "oui36",
             File::Pool => "pool",
             File::Style => "style",
-            File::Index => "index",
+            File::Changes | File::ChangesPage | File::ChangesFeed => "changes",
+            File::Index | File::IndexTree => "index",
+            File::Sums => "SHA256SUMS",
         }
     }
 
-    fn extension(&self) -> &'static str
-        ensures { result.now ≡ extension_of self.now }
+    // What follows, from the dot on; the sums have none.
+    fn suffix(&self) -> &'static str
+        ensures { result.now ≡ suffix_of self.now }
     {
         match self {
-            File::RegistryPage(_) | File::BlocksPage | File::Index => "html",
-            File::RegistryListing(_) | File::BlocksListing | File::Assignments(_) => "csv",
-            File::RegistryTree(_) | File::Pool => "json",
-            File::RegistryRecords(_) => "xml",
-            File::Style => "css",
+            File::RegistryPage(_) | File::BlocksPage | File::ChangesPage | File::Index => ".html",
+            File::RegistryListing(_) | File::BlocksListing | File::Assignments(_) | File::Changes =>
+                ".csv",
+            File::RegistryTree(_) | File::Pool | File::IndexTree => ".json",
+            File::RegistryRecords(_) => ".xml",
+            File::ChangesFeed => ".atom",
+            File::Style => ".css",
+            File::Sums => "",
         }
     }
-}
-
-/// All files of a site, by the names of its registries: those of each registry in turn, and the index
-/// last. Only want of memory is an error.
-pub fn site_files(alloc: Global, names: &[Name]) -> Result<Vec<File>, AllocError>
-    ensures { IfOk result (λ v. v.items ≡ site_files names.now) }
-{
-    let mut files = Vec::new(alloc);
-    for name in names {
-        push_registry(&mut files, *name)?;
-    }
-    files.extend_from_slice(&[
-        File::BlocksPage,
-        File::BlocksListing,
-        File::Assignments(Size::MaL),
-        File::Assignments(Size::MaM),
-        File::Assignments(Size::MaS),
-        File::Pool,
-        File::Style,
-        File::Index,
-    ])?;
-    Ok(files)
-}
-
-// The files of a registry.
-fn push_registry(files: &mut Vec<File>, name: Name) -> Result<(), AllocError>
-    ensures { OnOk result (files.new.items ≡ files.old.items ++ registry_files name) }
-{
-    files.extend_from_slice(&[
-        File::RegistryPage(name),
-        File::RegistryListing(name),
-        File::RegistryTree(name),
-    ])
 }

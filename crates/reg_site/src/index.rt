@@ -4,11 +4,11 @@ ghost use Rattle.std.specs.Option.{option_copied};
 ghost use Rattle.reg_html.specs.Appended.{Shown};
 ghost use Rattle.reg_html.specs.Document.{plain};
 ghost use Rattle.reg_html.specs.Markup.{all_of};
-ghost use Rattle.reg_site.specs.Index.{as_of, as_of_text, authority_said, block_counts, changed_part, counted_file, front, index_by_rows, index_page, item, linked_cell, more_links, name_cell, noted_index, number_cell, page_place, pool_list, prefix_item, prefix_list, register_row, registries_shown, registries_table, registry_row, said, share_item, share_texts, size_item};
+ghost use Rattle.reg_site.specs.IndexTree.{row_of};
+ghost use Rattle.reg_site.specs.Index.{as_of, as_of_text, authority_said, block_counts, changed_part, counted_file, front, index_page, item, linked_cell, more_links, name_cell, number_cell, page_place, pool_list, prefix_item, prefix_list, register_row, registries_shown, registries_table, registry_row, said, share_item, share_texts, size_item};
 
 use crate::blocks::count_of;
 use crate::index_tree::Register;
-use crate::moment::moment_text;
 use crate::noted::push_apply;
 use crate::policy::treatment_name;
 use crate::records::title_of;
@@ -18,6 +18,7 @@ use reg_blocks::prefix;
 use reg_blocks::size::Size;
 use reg_core::holding::Listed;
 use reg_core::text::Name;
+use reg_history::moment::moment_text;
 use reg_html::document::{push_end, push_start};
 use reg_html::markup::Piece::{Link, Markup, Number, Text};
 use reg_html::markup::{push, push_all};
@@ -25,26 +26,11 @@ use reg_html::table;
 use reg_notes::note::Note;
 use std::alloc::{AllocError, Global};
 
-/// The first page: the moment, in seconds since 1970-01-01T00:00:00Z; the registries with the policies
-/// of their ranges and their counts; the prefixes of the pool; and how many blocks were given. Only
-/// want of memory is an error.
+/// The first page: the moment, in seconds since 1970-01-01T00:00:00Z; what is noted about the authority,
+/// which is its title, where to apply, and what else it says; the registries with the policies of their
+/// ranges, their counts and the moments of their last changes; the prefixes of the pool; and how many
+/// blocks were given. Only want of memory is an error.
 pub fn index_page(
-    alloc: Global,
-    registries: &[Summary],
-    pool: &Pool,
-    blocks: &[Listed],
-    moment: u64,
-) -> Result<Vec<u8>, AllocError>
-    ensures { IfOk result (λ v. v.items ≡ index_page registries.now pool.now blocks.now moment) }
-{
-    let rows = rows_of_summaries(alloc, registries)?;
-    page_of(alloc, false, None, &rows, pool.prefixes(), blocks, moment)
-}
-
-/// The same with the moments of the last changes, links to them and to the index for programs, and what
-/// is noted about the authority: its title, which is the title of the page, where to apply, and what else
-/// it says. Only want of memory is an error.
-pub fn noted_index(
     alloc: Global,
     authority: Option<&Note>,
     registers: &[Register<'_>],
@@ -54,40 +40,14 @@ pub fn noted_index(
 ) -> Result<Vec<u8>, AllocError>
     ensures { IfOk result
         (λ v. v.items
-        ≡ noted_index (option_copied authority.entry) registers.now pool.now blocks.now moment) }
+        ≡ index_page (option_copied authority.entry) (map row_of registers.now) pool.now blocks.now
+        moment) }
 {
-    page_of(
-        alloc,
-        true,
-        authority,
-        registers,
-        pool.prefixes(),
-        blocks,
-        moment,
-    )
-}
-
-// Registries of which no last change is known.
-fn rows_of_summaries<'a>(
-    alloc: Global,
-    registries: &'a [Summary],
-) -> Result<Vec<Register<'a>>, AllocError>
-    ensures { IfOk result
-        (λ v. map register_row v.items ≡ map (registry_row []) registries.now) }
-{
-    let mut rows = Vec::new(alloc);
-    for summary in registries {
-        rows.push(Register {
-            summary,
-            changed: "",
-        })?;
-    }
-    Ok(rows)
+    page_of(alloc, authority, registers, pool.prefixes(), blocks, moment)
 }
 
 fn page_of(
     alloc: Global,
-    linked: bool,
     authority: Option<&Note>,
     registers: &[Register<'_>],
     prefixes: &[u32],
@@ -96,13 +56,13 @@ fn page_of(
 ) -> Result<Vec<u8>, AllocError>
     ensures { IfOk result
         (λ v. v.items
-        ≡ index_by_rows linked (option_copied authority.entry) (map register_row registers.now)
+        ≡ index_page (option_copied authority.entry) (map row_of registers.now)
         prefixes.now blocks.now moment) }
 {
     let mut out = Vec::new(alloc);
     push_start(&mut out, "style.css", title_of(authority, "Registries"))?;
     push_as_of(&mut out, alloc, moment)?;
-    push_front(&mut out, linked, authority)?;
+    push_front(&mut out, authority)?;
     push_registries(&mut out, alloc, registers)?;
     push_pool(&mut out, alloc, prefixes)?;
     push_blocks(&mut out, blocks)?;
@@ -111,13 +71,13 @@ fn page_of(
 }
 
 // What stands above the registries.
-fn push_front(out: &mut Vec<u8>, linked: bool, authority: Option<&Note>) -> Result<(), AllocError>
+fn push_front(out: &mut Vec<u8>, authority: Option<&Note>) -> Result<(), AllocError>
     ensures { OnOk result
-        (Shown out.old.items out.new.items (front linked (option_copied authority.entry))) }
+        (Shown out.old.items out.new.items (front (option_copied authority.entry))) }
 {
     push_authority(out, authority)?;
     push_apply(out, authority)?;
-    push_more_links(out, linked)?;
+    push_more_links(out)?;
     Ok(())
 }
 
@@ -140,12 +100,9 @@ fn push_said(out: &mut Vec<u8>, words: &str) -> Result<(), AllocError>
     push_all(out, &[Markup("<p>"), Text(words), Markup("</p>")])
 }
 
-fn push_more_links(out: &mut Vec<u8>, linked: bool) -> Result<(), AllocError>
-    ensures { OnOk result (Shown out.old.items out.new.items (more_links linked)) }
+fn push_more_links(out: &mut Vec<u8>) -> Result<(), AllocError>
+    ensures { OnOk result (Shown out.old.items out.new.items more_links) }
 {
-    if !linked {
-        return Ok(());
-    }
     push_all(
         out,
         &[
@@ -180,7 +137,7 @@ fn push_registries(
     registers: &[Register<'_>],
 ) -> Result<(), AllocError>
     ensures { OnOk result
-        (Shown out.old.items out.new.items (registries_shown (map register_row registers.now))) }
+        (Shown out.old.items out.new.items (registries_shown (map register_row (map row_of registers.now)))) }
 {
     match registers.first() {
         None => push(out, "<p>There are no registries yet.</p>"),
@@ -194,7 +151,7 @@ fn push_table(
     registers: &[Register<'_>],
 ) -> Result<(), AllocError>
     ensures { OnOk result
-        (Shown out.old.items out.new.items (registries_table (map register_row registers.now))) }
+        (Shown out.old.items out.new.items (registries_table (map register_row (map row_of registers.now)))) }
 {
     let columns = [
         "Registry",
@@ -216,7 +173,7 @@ fn push_registry_rows(
     registers: &[Register<'_>],
 ) -> Result<(), AllocError>
     ensures { OnOk result
-        (Shown out.old.items out.new.items (all_of (map register_row registers.now))) }
+        (Shown out.old.items out.new.items (all_of (map register_row (map row_of registers.now)))) }
 {
     for register in registers {
         push_registry(out, alloc, register.changed, register.summary)?;

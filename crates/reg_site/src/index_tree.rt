@@ -1,7 +1,7 @@
 //! The index of a site for programs (JSON, RFC 8259).
-ghost use Rattle.std.specs.Prelude.{◌≡◌, ◌++◌, string_bytes, IfOk, OnOk};
+ghost use Rattle.std.specs.Prelude.{◌≡◌, ◌++◌, map, string_bytes, IfOk, OnOk};
 ghost use Rattle.reg_html.specs.Appended.{Appended};
-ghost use Rattle.reg_site.specs.IndexTree.{counts_text, files_text, front_rest, index_tree, json_byte, json_text, more_then, next_then, register, register_text, registers_then};
+ghost use Rattle.reg_site.specs.IndexTree.{counts_text, files_text, front_rest, index_tree, json_byte, json_text, more_then, next_then, register, register_text, registers_then, row_of};
 
 use crate::summary::Summary;
 use reg_html::markup::push;
@@ -27,7 +27,7 @@ pub fn index_tree(
     rows: &[Register<'_>],
 ) -> Result<Vec<u8>, AllocError>
     ensures { IfOk result
-        (λ v. v.items ≡ index_tree title.now moment.now changes digest.now rows.now) }
+        (λ v. v.items ≡ index_tree title.now moment.now changes digest.now (map row_of rows.now)) }
 {
     let between = front_rest(alloc, moment, changes, digest)?;
     let mut out = Vec::new(alloc);
@@ -69,7 +69,7 @@ fn front_rest(alloc: Global, moment: &str, changes: u64, digest: &str) -> Result
 }
 
 fn push_registers(out: &mut Vec<u8>, rows: &[Register<'_>]) -> Result<(), AllocError>
-    ensures { OnOk result (Appended out.old.items out.new.items (registers_then rows.now)) }
+    ensures { OnOk result (Appended out.old.items out.new.items (registers_then (map row_of rows.now))) }
 {
     match rows.split_first() {
         Some((first, more)) => push_all(out, first, more),
@@ -83,7 +83,7 @@ fn push_all<'a>(
     more: &[Register<'a>],
 ) -> Result<(), AllocError>
     ensures { OnOk result (Appended out.old.items out.new.items
-        (λ rest. register first.now ++ more_then more.now rest)) }
+        (λ rest. register (row_of first.now) ++ more_then (map row_of more.now) rest)) }
 {
     push_register(out, first)?;
     push_more(out, more)?;
@@ -91,7 +91,7 @@ fn push_all<'a>(
 }
 
 fn push_more(out: &mut Vec<u8>, rows: &[Register<'_>]) -> Result<(), AllocError>
-    ensures { OnOk result (Appended out.old.items out.new.items (more_then rows.now)) }
+    ensures { OnOk result (Appended out.old.items out.new.items (more_then (map row_of rows.now))) }
 {
     for row in rows {
         push_next(out, row)?;
@@ -100,7 +100,7 @@ fn push_more(out: &mut Vec<u8>, rows: &[Register<'_>]) -> Result<(), AllocError>
 }
 
 fn push_next(out: &mut Vec<u8>, row: &Register<'_>) -> Result<(), AllocError>
-    ensures { OnOk result (Appended out.old.items out.new.items (next_then row.now)) }
+    ensures { OnOk result (Appended out.old.items out.new.items (next_then (row_of row.now))) }
 {
     push(out, ",\n")?;
     push_register(out, row)?;
@@ -108,7 +108,7 @@ fn push_next(out: &mut Vec<u8>, row: &Register<'_>) -> Result<(), AllocError>
 }
 
 fn push_register(out: &mut Vec<u8>, row: &Register<'_>) -> Result<(), AllocError>
-    ensures { OnOk result (Appended out.old.items out.new.items (λ rest. register row.now ++ rest)) }
+    ensures { OnOk result (Appended out.old.items out.new.items (λ rest. register (row_of row.now) ++ rest)) }
 {
     let text = text_of(*out.allocator(), row.summary, row.changed)?;
     push(out, text.as_str())

@@ -1,8 +1,9 @@
 //! Laws of the published site, as the contracts of functions that do nothing.
 ghost use Rattle.reg_site.specs.Bar.{PicturesAreShort};
-ghost use Rattle.reg_site.specs.Laws.{FilesStayInside, MomentsStandOnTheIndex, NotesOnNothingAreHidden, PrivateHoldersAreHidden, SameRegistersSameSite, SitesAreOfAnswers};
+ghost use Rattle.reg_site.specs.Laws.{FilesStayInside, ListingsAreOfPages, MomentsStandOnTheIndex, NotesOnNothingAreHidden, PrivateHoldersAreHidden, SameRegistersSameSite, SitesAreOfAnswers};
 
-/// Two offices that publish the same registers publish the same bytes, whatever else they hold.
+/// Two offices that publish the same registers publish the same bytes, with the same notes and the same
+/// history, whatever else they hold.
 pub fn same_registers_same_site()
     ensures { SameRegistersSameSite }
 {}
@@ -12,7 +13,13 @@ pub fn sites_are_of_answers()
     ensures { SitesAreOfAnswers }
 {}
 
-/// The moment stands on the index alone: at two moments of a day each other file is the same.
+/// A registry that is told is listed as the same page, so its listing is the very answer of an office.
+pub fn listings_are_of_pages()
+    ensures { ListingsAreOfPages }
+{}
+
+/// The moment stands on the first page and in the index for programs alone: at two moments of a day each
+/// other file is the same but the sums, where nothing is recorded.
 pub fn moments_stand_on_the_index()
     ensures { MomentsStandOnTheIndex }
 {}

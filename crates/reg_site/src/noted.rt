@@ -18,7 +18,7 @@ use std::alloc::{AllocError, Global};
 // ---- Looked up
 
 /// The note on the authority, where there are notes.
-pub(crate) fn of_authority<'a>(notes: Option<&'a Notes>) -> Option<&'a Note>
+pub fn of_authority<'a>(notes: Option<&'a Notes>) -> Option<&'a Note>
     ensures { option_copied result ≡ noted_in (option_copied notes.entry) [] }
 {
     match notes {

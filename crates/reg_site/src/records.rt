@@ -109,7 +109,7 @@ fn push_above_of(
 }
 
 /// The title that is noted, or else the name.
-pub(crate) fn title_of<'a>(note: Option<&'a Note>, name: &'a str) -> &'a str
+pub fn title_of<'a>(note: Option<&'a Note>, name: &'a str) -> &'a str
     ensures { result.now ≡ title_of (option_copied note.entry) name.now }
 {
     match note {

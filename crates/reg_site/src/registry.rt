@@ -5,7 +5,7 @@ ghost use Rattle.reg_print.specs.Listing.{row_view};
 ghost use Rattle.reg_html.specs.Appended.{Appended, Shown};
 ghost use Rattle.reg_html.specs.Markup.{all_of, beside};
 ghost use Rattle.reg_html.specs.Table.{cell, head_cell, row, row_of, table_start};
-ghost use Rattle.reg_site.specs.Registry.{above_rows, description_cell, entry_columns, forms, intro, last_changed, links, name_of, noted_page, noted_row, page_left, range_row, ranges_table, registry_page};
+ghost use Rattle.reg_site.specs.Registry.{above_rows, description_cell, entry_columns, forms, intro, last_changed, links, name_of, registry_page, noted_row, page_left, range_row, ranges_table};
 ghost use Rattle.reg_site.specs.Summary.{summary};
 
 use crate::bar::push_bar;
@@ -42,23 +42,16 @@ pub struct RegistryPage<'a> {
 }
 
 impl<'a> RegistryPage<'a> {
-    /// All of the page is to be given, without notes. Only want of memory is an error.
-    pub fn of(alloc: Global, page: &'a Page) -> Result<Self, AllocError>
-        ensures { IfOk result (λ html. page_left html ≡ registry_page page.now) }
-    {
-        RegistryPage::noted(alloc, page, None, "")
-    }
-
     /// All of the page is to be given, with what is noted, and the moment of its last change, which is
     /// empty where it is not known. Only want of memory is an error.
-    pub fn noted(
+    pub fn of(
         alloc: Global,
         page: &'a Page,
         notes: Option<&'a Notes>,
         changed: &'a str,
     ) -> Result<Self, AllocError>
         ensures { IfOk result
-            (λ html. page_left html ≡ noted_page (option_copied notes.entry) changed.now page.now) }
+            (λ html. page_left html ≡ registry_page (option_copied notes.entry) changed.now page.now) }
     {
         Ok(RegistryPage {
             page,
@@ -173,11 +166,18 @@ fn push_links(out: &mut Vec<u8>, alloc: Global, name: &str) -> Result<(), AllocE
 {
     let listing = format!(in alloc; "{name}.csv")?;
     let tree = format!(in alloc; "{name}.json")?;
-    push_forms(out, listing.as_str(), tree.as_str())
+    let records = format!(in alloc; "{name}.xml")?;
+    push_forms(out, listing.as_str(), tree.as_str(), records.as_str())
 }
 
-fn push_forms<'a>(out: &mut Vec<u8>, listing: &'a str, tree: &'a str) -> Result<(), AllocError>
-    ensures { OnOk result (Shown out.old.items out.new.items (forms listing.now tree.now)) }
+fn push_forms<'a>(
+    out: &mut Vec<u8>,
+    listing: &'a str,
+    tree: &'a str,
+    records: &'a str,
+) -> Result<(), AllocError>
+    ensures { OnOk result
+        (Shown out.old.items out.new.items (forms listing.now tree.now records.now)) }
 {
     push_all(
         out,
@@ -188,6 +188,8 @@ fn push_forms<'a>(out: &mut Vec<u8>, listing: &'a str, tree: &'a str) -> Result<
             Link(listing, "CSV"),
             Markup(" "),
             Link(tree, "JSON"),
+            Markup(" "),
+            Link(records, "XML"),
             Markup("</p>"),
         ],
     )

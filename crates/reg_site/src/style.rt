@@ -20,6 +20,8 @@ td{overflow-wrap:anywhere}
 td:nth-child(3):nth-last-child(5),td:nth-child(5):nth-last-child(3),td:nth-child(6):nth-last-child(2){\
 white-space:nowrap}
 td:nth-child(4):nth-last-child(4){min-width:8rem}
+th:has([href^=\"#c\"])~td{white-space:nowrap}
+th:has([href^=\"#c\"])~td:last-child{white-space:normal;width:100%}
 tr:target{background:var(--soft)}
 td ul{list-style:none;margin:0;padding:0}
 .note{font-size:.9rem;font-weight:400;white-space:normal}
@@ -43,10 +45,10 @@ tr{display:flex;flex-wrap:wrap;gap:0 .8rem;padding:.3rem 0;border-bottom:1px sol
 th,td{padding:0;border:0}td:empty{display:none}td:nth-child(2):nth-last-child(6){flex-basis:100%}
 td:nth-child(5):nth-last-child(3)::before{content:'Since '}
 td:nth-child(6):nth-last-child(2)::before{content:'Expires '}
-td:nth-child(3):nth-last-child(4)::before{content:'Assigned '}
-td:nth-child(4):nth-last-child(3)::before{content:'Temporary '}
-td:nth-child(5):nth-last-child(2)::before{content:'Expired '}
-td:nth-child(6):nth-last-child(1)::before{content:'Free '}}
+th:has([href^=registries])~td:nth-child(3)::before{content:'Assigned '}
+th:has([href^=registries])~td:nth-child(4)::before{content:'Temporary '}
+th:has([href^=registries])~td:nth-child(5)::before{content:'Expired '}
+th:has([href^=registries])~td:nth-child(6)::before{content:'Free '}}
 @media print{body{font-size:10pt}a{color:inherit;text-decoration:none}tr{break-inside:avoid}}
 ";
 

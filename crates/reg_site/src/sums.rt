@@ -1,39 +1,71 @@
 //! The sums of all files, as `sha256sum` reads them.
-ghost use Rattle.std.specs.Prelude.{◌≡◌, ◌++◌, string_bytes, IfOk, OnOk};
-ghost use Rattle.reg_site.specs.Sums.{sum_line, sums_text};
+ghost use Rattle.std.specs.Prelude.{◌≡◌, ◌++◌, [], string_bytes, IfOk, List, OnOk, ℕ};
+ghost use Rattle.reg_site.specs.Sums.{digest as digest_by, entries_of, lines_of, sum_line, with_sum};
 
+use crate::portions::Portions;
+use reg_history::field::Field;
+use sha2::{Digest, Sha256};
 use std::alloc::{AllocError, Global};
+use std::collections::BTreeMap;
 
-/// A file of a site with the SHA-256 of its bytes.
-#[derive(Clone, Copy)]
-pub struct Sum<'a> {
-    /// In lower-case hexadecimal.
-    pub digest: &'a str,
-    /// Its place, from the folder of the site on.
-    pub path: &'a str,
+/// The digests of files, by the places of these.
+#[derive(Drop)]
+pub struct Sums {
+    digests: BTreeMap<Field, Field>,
 }
 
-/// A line for each of these files, in their order, as `sha256sum -c` reads it. Only want of memory is an
-/// error.
-pub fn sums(alloc: Global, files: &[Sum<'_>]) -> Result<Vec<u8>, AllocError>
-    ensures { IfOk result (λ v. v.items ≡ sums_text files.now) }
-{
-    let mut out = Vec::new(alloc);
-    for file in files {
-        push_sum(&mut out, file)?;
+impl Sums {
+    /// Those of no file.
+    pub fn new(alloc: Global) -> Self
+        ensures { entries_of result ≡ [] }
+    {
+        Sums {
+            digests: BTreeMap::new(alloc),
+        }
     }
-    Ok(out)
+
+    /// Adds the digest of the file at a place, from the folder of the site on. Only want of memory is an
+    /// error.
+    pub fn add(&mut self, alloc: Global, path: &str, digest: Field) -> Result<(), AllocError>
+        ensures { OnOk result ((bytes : List ℕ) → digest ≡ digest_by bytes
+            → entries_of self.new ≡ with_sum (entries_of self.old) path.now bytes) }
+    {
+        let path = Field::new(alloc, path)?;
+        self.digests.insert(path, digest)?;
+        Ok(())
+    }
+
+    /// A line for each file, by name, as `sha256sum -c` reads it. Only want of memory is an error.
+    pub fn text(mut self, alloc: Global) -> Result<Vec<u8>, AllocError>
+        ensures { IfOk result (λ v. v.items ≡ lines_of (entries_of self)) }
+    {
+        let mut out = Vec::new(alloc);
+        while let Some((path, digest)) = self.digests.pop_first() {
+            let line = sum_line(alloc, path.as_str(), digest.as_str())?;
+            out.extend_from_slice(line.as_bytes())?;
+        }
+        Ok(out)
+    }
 }
 
-fn push_sum(out: &mut Vec<u8>, file: &Sum<'_>) -> Result<(), AllocError>
-    ensures { OnOk result (out.new.items ≡ out.old.items ++ sum_line file.now) }
+fn sum_line(alloc: Global, path: &str, digest: &str) -> Result<String, AllocError>
+    ensures { IfOk result (λ line. string_bytes line ≡ sum_line path.now digest.now) }
 {
-    let line = sum_line(*out.allocator(), file)?;
-    out.extend_from_slice(line.as_bytes())
+    format!(in alloc; "{digest}  {path}\n")
 }
 
-fn sum_line(alloc: Global, file: &Sum<'_>) -> Result<String, AllocError>
-    ensures { IfOk result (λ line. string_bytes line ≡ sum_line file.now) }
+/// The SHA-256 of all bytes that are still to be given, in lower-case hexadecimal. Only want of memory
+/// is an error.
+pub fn digest_of<P: Portions>(alloc: Global, bytes: &mut P) -> Result<Field, AllocError>
+    ensures { IfOk result (λ digits. digits ≡ digest_by (P.rest bytes.old)) }
 {
-    format!(in alloc; "{}  {}\n", file.digest, file.path)
+    let mut hasher = Sha256::new();
+    let mut portion = Vec::new(alloc);
+    while bytes.push_next(&mut portion)? {
+        hasher.update(portion.as_slice());
+        portion.clear();
+    }
+    let hash: [u8; 32] = hasher.finalize();
+    let digits = hex::encode(alloc, hash.as_slice())?;
+    Field::new(alloc, digits.as_str())
 }

@@ -1,8 +1,10 @@
 use Rattle.std.proofs.Common.{◌≡◌, refl, subst, sym}
+use Rattle.std.specs.Prelude.{option_map, string_bytes}
 use Rattle.reg_jobs.specs.declared.jobs.Job.{Job}
 use Rattle.reg_program.specs.Performing.{DoesJob, Tries}
 use Rattle.reg_program.specs.Tasks.{streams}
 use Rattle.reg_program.proofs.Imported.{tries_import}
+use Rattle.reg_program.proofs.Verified.{tries_verify}
 use Rattle.reg_program.proofs.performing.attempt.Goals as goal
 
 pub returns-in-Publish : goal.returns-in-Publish
@@ -37,3 +39,35 @@ returns-in-Import g c =
     (g.O.Offices.Checked c.args.offices.now c.args.offices.now) Same io job) done)
     (sym c.in-Import.is)
     (tries_import Same c.in-Import.order io done refl c.import_now.ensures)
+
+pub returns-in-Due : goal.returns-in-Due
+returns-in-Due g c =
+    let done = c.due_at.result in
+    let io = streams c.args.console.now.is_watched
+    (g.R.Read.remaining c.args.console.now.input.now)
+    (g.R.Read.remaining c.due_at.new.console.input.now)
+    (g.W.Write.contents c.args.console.now.output.now)
+    (g.W.Write.contents c.due_at.new.console.output.now)
+    (g.D.Dates.readings c.args.dates.now) (g.D.Dates.readings c.due_at.new.dates) in
+    let Same = c.due_at.new.offices ≡ c.args.offices.now in
+    subst (λ (job : Job). Tries Same
+    (DoesJob (g.O.Offices.Carried c.args.offices.now c.due_at.new.offices)
+    (g.O.Offices.Checked c.args.offices.now c.due_at.new.offices) Same io job) done)
+    (sym c.in-Due.is)
+    (rw (c.as_str-in-Due.ensures.value) at c.due_at.ensures)
+
+pub returns-in-Verify : goal.returns-in-Verify
+returns-in-Verify g c =
+    let done = c.verify_at.result in
+    let io = streams c.args.console.now.is_watched
+    (g.R.Read.remaining c.args.console.now.input.now)
+    (g.R.Read.remaining c.verify_at.new.console.input.now)
+    (g.W.Write.contents c.args.console.now.output.now)
+    (g.W.Write.contents c.verify_at.new.console.output.now)
+    (g.D.Dates.readings c.args.dates.now) (g.D.Dates.readings c.args.dates.now) in
+    let Same = c.args.offices.now ≡ c.args.offices.now in
+    subst (λ (job : Job). Tries Same
+    (DoesJob (g.O.Offices.Carried c.args.offices.now c.args.offices.now)
+    (g.O.Offices.Checked c.args.offices.now c.args.offices.now) Same io job) done)
+    (sym c.in-Verify.is)
+    (tries_verify Same (option_map string_bytes c.in-Verify.digest) io done refl c.verify_at.ensures)

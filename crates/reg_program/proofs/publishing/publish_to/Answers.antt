@@ -4,10 +4,10 @@ use Rattle.reg_program.proofs.publishing.publish_to.Goals as goal
 pub returns : goal.returns
 returns g c =
     ok_as c.publish-count.result
-    (λ publishes. record {
+    (λ site. record {
       first = _;
       last = _;
       opened = c.in_ok-given.ensures;
-      publishes = publishes;
+      site = site;
     })
-    c.publish-count.ensures
+    c.publish-count.ensures.done

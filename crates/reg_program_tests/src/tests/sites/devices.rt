@@ -8,7 +8,7 @@ use reg_core::command::PublicCommand;
 use reg_core::told::Told;
 use reg_keeper::keeper::Keeper;
 use reg_office::Office;
-use reg_publish::folder::Folder;
+use reg_publish::folder::{Folder, MOST_READ_BYTES};
 use reg_publish::source::Source;
 use reg_publish::unpublished::Unpublished;
 use reg_site::files::File;
@@ -24,7 +24,8 @@ pub struct Placed {
     pub bytes: Vec<u8>,
 }
 
-/// A folder in memory: it keeps what is published, in turn, and fails when it has room for no more.
+/// A folder in memory: it keeps what is published, in the order of its first publication, and fails when
+/// it has room for no more.
 #[derive(Drop)]
 pub struct Kept {
     alloc: Global,
@@ -42,14 +43,41 @@ impl Kept {
         }
     }
 
+    /// The same files, with room for so many more.
+    pub fn copy(&self, room: usize) -> Result<Kept, Fail> {
+        let mut copied = Kept::new(self.alloc, room);
+        for file in &self.files {
+            copied.files.push(Placed {
+                path: String::from_str(self.alloc, file.path.as_str())?,
+                bytes: file.bytes.as_slice().to_vec(self.alloc)?,
+            })?;
+        }
+        Ok(copied)
+    }
+
+    // Where the file at a path is among the files.
+    fn place_of(&self, path: &str) -> Option<usize> {
+        self.files
+            .iter()
+            .position(|file| file.path.as_str() == path)
+    }
+
     /// The bytes of the file at a path.
     pub fn bytes(&self, path: &str) -> Result<&[u8], Fail> {
+        match self.bytes_at(path) {
+            Some(bytes) => Ok(bytes),
+            None => Err(path.into()),
+        }
+    }
+
+    // The bytes of the file at a path, if it is there.
+    fn bytes_at(&self, path: &str) -> Option<&[u8]> {
         for file in &self.files {
             if file.path.as_str() == path {
-                return Ok(file.bytes.as_slice());
+                return Some(file.bytes.as_slice());
             }
         }
-        Err(path.into())
+        None
     }
 
     /// The test fails, unless just the first files of a site were published, in their order.
@@ -71,6 +99,17 @@ impl Kept {
 }
 
 impl Folder for Kept {
+    fn read(&self, alloc: Global, file: File) -> Result<Option<Vec<u8>>, Unpublished> {
+        let path = file.path(alloc)?;
+        let Some(bytes) = self.bytes_at(path.as_str()) else {
+            return Ok(None);
+        };
+        if bytes.len() > MOST_READ_BYTES {
+            return Err(Unpublished::Large);
+        }
+        Ok(Some(bytes.to_vec(alloc)?))
+    }
+
     fn publish<P: Portions>(&mut self, file: File, bytes: &mut P) -> Result<(), Unpublished> {
         if self.room == 0 {
             return Err(Unpublished::Write);
@@ -78,7 +117,10 @@ impl Folder for Kept {
         self.room -= 1;
         let path = file.path(self.alloc)?;
         let bytes = whole(self.alloc, bytes)?;
-        self.files.push(Placed { path, bytes })?;
+        match self.place_of(path.as_str()) {
+            Some(place) if place < self.files.len() => self.files[place].bytes = bytes,
+            _ => self.files.push(Placed { path, bytes })?,
+        }
         Ok(())
     }
 }

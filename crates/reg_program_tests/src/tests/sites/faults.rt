@@ -8,6 +8,7 @@ use reg_core::refusal::Refusal;
 use reg_keeper::keeper::Keeper;
 use reg_program::faults::{JobFailure, Undone};
 use reg_program::publishing::{Directories, publish_in};
+use reg_publish::faults::PublishFault;
 use reg_publish::publishing::publish;
 use reg_publish::source::Source;
 use reg_publish::unpublished::Unpublished;
@@ -26,15 +27,18 @@ fn assert_stopped<S: Source>(
     count: usize,
 ) -> Result<(), Fail> {
     let mut kept = Kept::new(rt.alloc(), room);
-    let done = publish(rt.alloc(), source, &mut kept, MOMENT);
-    ensure(done == Err(why), "why no more was published")?;
+    let Err(PublishFault::Unpublished(given)) = publish(rt.alloc(), source, &mut kept, None, MOMENT)
+    else {
+        return Err("all was published".into());
+    };
+    ensure(given == why, "why no more was published")?;
     kept.assert_first(count)?;
     kept.assert_begins(whole)
 }
 
-// After so many answers so many files are published: the three of a registry by one answer, the five
-// of the blocks by one, and the last three by that on the pool.
-const PUBLISHED: [(usize, usize); 6] = [(0, 0), (1, 0), (2, 3), (3, 6), (4, 9), (5, 14)];
+// How often a source is asked: for the names, for each registry, for the blocks and for the pool. Nothing
+// is published before all of this is told.
+const ASKS: usize = 6;
 
 // Why a source fails, or tells what was not asked for; and why no more is published then.
 const REASONS: [(Option<Unpublished>, Unpublished); 5] = [
@@ -51,9 +55,9 @@ fn assert_each_ask<K: Keeper>(
     whole: &Kept,
     wanted: Unpublished,
 ) -> Result<(), Fail> {
-    for (asks, count) in PUBLISHED {
+    for asks in 0..ASKS {
         source.asks = asks;
-        assert_stopped(rt, source, FILES.len(), wanted, whole, count)?;
+        assert_stopped(rt, source, FILES.len(), wanted, whole, 0)?;
     }
     Ok(())
 }
@@ -118,13 +122,16 @@ fn published<S: Source>(
     folder: &str,
 ) -> Result<Vec<u8>, Undone> {
     let mut output = Vec::new(rt.alloc());
+    let mut errors = Vec::new(rt.alloc());
     publish_in(
         rt.alloc(),
         &Directories { rt },
         source,
         moment,
         folder,
+        None,
         &mut output,
+        &mut errors,
     )?;
     Ok(output)
 }

@@ -8,7 +8,8 @@ use reg_core::reply::Reply;
 use reg_keeper::keeper::Keeper;
 use reg_office::Office;
 use reg_print::answer::{Answer, body_of};
-use reg_publish::publishing::{Count, publish};
+use reg_publish::faults::PublishFault;
+use reg_publish::publishing::publish;
 use reg_publish::unpublished::Unpublished;
 use reg_testing::facts::ensure;
 use std::str;
@@ -21,15 +22,24 @@ pub fn site<K: Keeper>(
     moment: u64,
 ) -> Result<Kept, Fail> {
     let mut kept = Kept::new(rt.alloc(), FILES.len());
-    let done = publish(rt.alloc(), office, &mut kept, moment);
-    let count = Count {
-        registries: 3,
-        entries: 3,
-        blocks: 3,
-    };
-    ensure(done == Ok(count), "how much was published")?;
-    kept.assert_first(FILES.len())?;
+    publish_there(rt, office, moment, &mut kept)?;
     Ok(kept)
+}
+
+// Publishes the site of an office at a moment in a folder in memory.
+fn publish_there<K: Keeper>(
+    rt: &HostRuntime,
+    office: &mut Office<K>,
+    moment: u64,
+    kept: &mut Kept,
+) -> Result<(), Fail> {
+    let Ok(count) = publish(rt.alloc(), office, kept, None, moment) else {
+        return Err("not published".into());
+    };
+    let counts = (count.registries, count.entries, count.blocks);
+    ensure(counts == (3, 3, 3), "how much was published")?;
+    ensure(count.left_out.count == 0, "no notes")?;
+    kept.assert_first(FILES.len())
 }
 
 // What an office answers anybody.
@@ -56,13 +66,16 @@ pub fn answer<K: Keeper>(
     Ok(body)
 }
 
-// The files that are others on a later day: of the registry whose value has expired meanwhile, and
-// the index.
-const CHANGED: [&str; 4] = [
+// The files that are others on a later day: of the registry whose value has expired meanwhile, the
+// indexes, and the sums.
+const CHANGED: [&str; 7] = [
     "registries/bits.html",
     "registries/bits.csv",
     "registries/bits.json",
+    "registries/bits.xml",
     "index.html",
+    "index.json",
+    "SHA256SUMS",
 ];
 
 fn assert_changed(kept: &Kept, later: &Kept) -> Result<(), Fail> {
@@ -115,7 +128,8 @@ impl Exercise for Days {
     fn done<K: Keeper + Drop>(self, rt: &HostRuntime, keeper: K) -> Result<(), Fail> {
         let mut office = opened(rt, keeper)?;
         let kept = site(rt, &mut office, MOMENT)?;
-        let later = site(rt, &mut office, LATER)?;
+        let mut later = kept.copy(FILES.len())?;
+        publish_there(rt, &mut office, LATER, &mut later)?;
         assert_parts(&kept, &BEFORE)?;
         assert_parts(&later, &AFTER)?;
         assert_changed(&kept, &later)
@@ -137,9 +151,16 @@ impl Exercise for Clockless {
     fn done<K: Keeper + Drop>(self, rt: &HostRuntime, keeper: K) -> Result<(), Fail> {
         let mut office = opened(rt, keeper)?;
         let mut kept = Kept::new(rt.alloc(), FILES.len());
-        let done = publish(rt.alloc(), &mut office, &mut kept, 0);
-        let why = Unpublished::Refused(Refusal::Clock);
-        ensure(done == Err(why), "a refusal")?;
+        let Err(PublishFault::Unpublished(given)) = publish(
+            rt.alloc(),
+            &mut office,
+            &mut kept,
+            None,
+            0,
+        ) else {
+            return Err("no refusal".into());
+        };
+        ensure(given == Unpublished::Refused(Refusal::Clock), "a refusal")?;
         kept.assert_first(0)
     }
 }

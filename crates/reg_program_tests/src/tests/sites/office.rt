@@ -15,16 +15,20 @@ pub const MOMENT: u64 = 1_740_000_000;
 pub const LATER: u64 = 1_754_006_400;
 
 /// The files of its site, in the order in which they are published.
-pub const FILES: [&str; 17] = [
+pub const FILES: [&str; 25] = [
+    "changes.csv",
     "registries/bits.html",
     "registries/bits.csv",
     "registries/bits.json",
+    "registries/bits.xml",
     "registries/codes.html",
     "registries/codes.csv",
     "registries/codes.json",
+    "registries/codes.xml",
     "registries/none.html",
     "registries/none.csv",
     "registries/none.json",
+    "registries/none.xml",
     "blocks.html",
     "blocks.csv",
     "oui.csv",
@@ -32,7 +36,11 @@ pub const FILES: [&str; 17] = [
     "oui36.csv",
     "pool.json",
     "style.css",
+    "changes.html",
+    "changes.atom",
     "index.html",
+    "index.json",
+    "SHA256SUMS",
 ];
 
 /// Three registries: of values for a year, of a value whose texts look like markup, and of none; a

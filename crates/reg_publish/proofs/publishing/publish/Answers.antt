@@ -1,57 +1,74 @@
-use Rattle.std.proofs.Common.{◌≡◌, ◌++◌, ap, ◌∙◌}
-use Rattle.reg_core.specs.declared.command.PublicCommand.TheVariants.{BlockListing, PoolList, Registries}
-use Rattle.reg_core.specs.declared.told.Told.TheVariants as tells
-use Rattle.reg_core.specs.declared.reply.Reply.TheVariants.{Accepted}
-use Rattle.reg_site.specs.Index.{index_page}
-use Rattle.reg_site.specs.Site.{told_to_all}
-use Rattle.reg_site.specs.declared.files.File.TheVariants as file
-use Rattle.reg_site.specs.declared.style.TheConstants.{STYLE}
-use Rattle.reg_publish.specs.Publishing.{one_file, told_text}
-use Rattle.reg_publish.proofs.Placing.{asks_as, places_as}
-use Rattle.reg_publish.proofs.Sites.{publishes_site}
+use Rattle.std.proofs.Common.{◌≡◌, List, ◌++◌, length, sym, ap, ◌∙◌, subst}
+use Rattle.std.specs.Option.{option_copied}
+use Rattle.reg_core.specs.View.{Published}
+use Rattle.reg_history.specs.Chain.{chained}
+use Rattle.reg_history.specs.History.{Continues, news}
+use Rattle.reg_history.specs.declared.change.Fact.{Fact}
+use Rattle.reg_history.specs.declared.change.Record.{Record}
+use Rattle.reg_site.specs.Site.{files_by, site}
+use Rattle.reg_publish.specs.Earlier.{IsTied}
+use Rattle.reg_publish.specs.Told.{IsTold, blocks_of, facts_at, facts_told, pages_of, prefixes_of}
+use Rattle.reg_publish.proofs.Placed.{publishes_told}
+use Rattle.reg_publish.proofs.TellsAll.{facts_are_told}
+use Rattle.reg_publish.proofs.Goes.{digests_counted, files_go_on}
 use Rattle.reg_publish.proofs.publishing.publish.Goals as goal
 
-pub returns : goal.returns
-returns g c =
+pub publish_told-requires : goal.publish_told-requires
+publish_told-requires g c =
+    let goes_on = c.in_ok-added.ensures in
+    let history = c.in_ok-text.ensures.history in
+    digests_counted history.0 c.in_ok-added.added.records.items c.args.moment _ _
+    c.in_ok-added.added.chain.digests.items (goes_on.continues history.0 history.2)
+    (goes_on.records history.0 history.2)
+    ∙ ap length (sym c.as_slice-3.ensures.value)
+
+pub returns-clause-done : goal.returns-clause-done
+returns-clause-done g c =
     let published = g.S.Source.published in
     let Holds = g.S.Source.Holds in
     let Puts = g.F.Folder.Puts in
+    let notes = option_copied c.args.notes in
     let moment = c.args.moment in
-    let s = c.args.source.now in
-    let s1 = c.ask.new.self in
-    let s2 = c.publish_registries.new.source in
-    let s3 = c.ask-2.new.self in
-    let s4 = c.ask-3.new.self in
-    let f = c.args.folder.now in
-    let f1 = c.publish_registries.new.folder in
-    let f2 = c.publish_blocks.new.folder in
-    let f3 = c.publish_pool_and_style.new.folder in
-    let f4 = c.put.new.folder in
-    let names = c.in_ok-names_in.field-0.now in
-    let rows = c.in_ok-rows.rows.now in
-    let prefixes = c.in_ok-pool_in.field-0.now in
-    let registries = c.in_ok-registries.registries.items in
-    let named = asks_as published Holds s s1
-    (λ p. told_to_all p moment Registries ≡ Accepted c.in_ok-names.names)
-    (λ p. told_to_all p moment Registries ≡ Accepted (tells.Names names))
-    c.in_ok-names.ensures (λ p h. h ∙ ap Accepted c.in_ok-names_in.ensures) in
-    let given = asks_as published Holds s2 s3
-    (λ p. told_to_all p moment BlockListing ≡ Accepted c.in_ok-blocks.blocks)
-    (λ p. told_to_all p moment BlockListing ≡ Accepted (tells.Blocks rows))
-    c.in_ok-blocks.ensures (λ p h. h ∙ ap Accepted c.in_ok-rows.ensures) in
-    let pooled = asks_as published Holds s3 s4
-    (λ p. told_to_all p moment PoolList ≡ Accepted c.in_ok-pool.pool)
-    (λ p. told_to_all p moment PoolList ≡ Accepted (tells.Pool prefixes))
-    c.in_ok-pool.ensures (λ p h. h ∙ ap Accepted c.in_ok-pool_in.ensures) in
-    let pool = places_as Puts f2 f3
-    (one_file file.Pool (told_text c.in_ok-pool.pool) ++ one_file file.Style STYLE.now)
-    (one_file file.Pool (told_text (tells.Pool prefixes)) ++ one_file file.Style STYLE.now)
-    (λ i. one_file file.Pool (told_text (c.in_ok-pool_in.ensures i)) ++ one_file file.Style STYLE.now)
-    c.in_ok-publish_pool_and_style.ensures in
-    let bytes = c.deref-2.ensures.value ∙ c.in_ok-index.ensures
-    ∙ ap (λ rs. index_page rs prefixes rows moment) c.deref.ensures.value in
-    let index = places_as Puts f3 f4 (one_file file.Index c.deref-2.result.now)
-    (one_file file.Index (index_page registries prefixes rows moment))
-    (λ i. one_file file.Index (bytes i)) c.in_ok-put.ensures in
-    publishes_site published Holds Puts moment s s1 s2 s3 s4 f f1 f2 f3 f4 names registries rows
-    prefixes named c.in_ok-registries.ensures given c.in_ok-publish_blocks.ensures pooled pool index
+    let told = c.in_ok-told.told in
+    let history = c.in_ok-text.ensures.history in
+    let records : List Record = history.0 in
+    let facts = c.deref.result.now in
+    let by : facts ≡ facts_told told = c.deref.ensures.value ∙ c.in_ok-facts.ensures in
+    let added = c.in_ok-added.added in
+    let goes = c.in_ok-added.ensures.continues records history.2 in
+    let all = c.in_ok-added.ensures.records records history.2 in
+    let text = c.in_ok-text.field-0.text.items in
+    let lines = added.lines.items in
+    let digests = added.chain.digests.items in
+    let pages = pages_of told.pages.items in
+    let prefixes = prefixes_of told.pool in
+    let rows = blocks_of told.blocks in
+    let text_is : c.as_slice-2.result.now ≡ text ++ lines =
+    c.as_slice-2.ensures.value ∙ c.in_ok-extend_from_slice.ensures.items
+    ∙ ap (λ more. text ++ more) c.as_slice.ensures.value in
+    record {
+      records = records;
+      earlier = λ tells. record {
+        text = history.1 ∙ c.in_ok-text.ensures.there tells;
+        tied = subst (IsTied _) history.2.digests (c.in_ok-text.ensures.tied tells);
+      };
+      more = added.lines.items;
+      digests = added.chain.digests.items;
+      continues = λ holds.
+          subst (λ fs. Continues records moment fs added.lines.items added.chain.digests.items)
+          (by ∙ facts_are_told (published c.args.source.now) moment told (c.in_ok-told.ensures.told holds))
+          goes;
+      publishes = publishes_told published Holds Puts c.args.source.now c.ask_all.new.source
+          c.args.folder.now c.publish_told.new.folder (λ p. IsTold p moment told)
+          (files_by notes c.as_slice-2.result.now c.as_slice-3.result.now digests pages prefixes rows
+          moment)
+          (λ p. site notes (records ++ news records moment (facts_at p moment)) p moment)
+          c.in_ok-told.ensures
+          (λ p here.
+          ap (λ t. files_by notes t c.as_slice-3.result.now digests pages prefixes rows moment) text_is
+          ∙ ap (λ rs. files_by notes (text ++ lines) rs digests pages prefixes rows moment)
+          c.as_slice-3.ensures.value
+          ∙ files_go_on notes records added.records.items moment facts text lines digests told p
+          history.1 goes all by here)
+          c.in_ok-publish_told.ensures;
+    }

@@ -1,7 +1,8 @@
-use Rattle.std.proofs.Common.{ℕ, List, Result}
+use Rattle.std.proofs.Common.{ℕ, List, Option, Result}
 use Rattle.std.specs.Prelude.{⊤}
 use Rattle.reg_core.specs.View.{published}
 use Rattle.reg_http.specs.Serving.{AnswersOver}
+use Rattle.reg_notes.specs.declared.notes.Notes.{Notes}
 use Rattle.reg_program.specs.Publishing.{PublishesIn}
 use Rattle.reg_program.specs.Serving.{ServesOn}
 use Rattle.reg_program.specs.Tasks.{Did, begins, streams}
@@ -26,9 +27,9 @@ returns g c =
     ServesOn (AnswersOver K.world K.Holds K.Sound K.FAILS) (g.N.Ports.Opened old.ports)
     g.N.Given.Peers.blank g.N.Given.Peers.coming g.N.Given.Peers.written io.readings io.later port
     count first last in
-    let placed : Kept → Kept → List ℕ → ℕ → Type 0 = λ first last folder moment.
-    PublishesIn (λ k. published (K.world k)) K.Holds g.F.Given.Folder.Puts
-    (g.F.Folders.Opened old.folders folder) first last moment in
+    let placed : Kept → Kept → List ℕ → Option Notes → ℕ → Type 0 = λ first last folder notes moment.
+    PublishesIn (λ k. published (K.world k)) K.Holds g.F.Given.Folder.Tells g.F.Given.Folder.held
+    g.F.Given.Folder.Puts (g.F.Folders.Opened old.folders folder) first last notes moment in
     let Done : Result ⊤ Undone → Kept → Kept → Type 0 = λ result first last.
     Did K.world K.Holds K.Sound K.FAILS first last io (served first last) (placed first last) result
     task in

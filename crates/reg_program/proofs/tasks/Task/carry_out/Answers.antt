@@ -1,3 +1,4 @@
+use Rattle.reg_program.proofs.Results.{ok_as}
 use Rattle.reg_program.proofs.tasks.Task.carry_out.Goals as goal
 
 pub returns-in-Ask-clause-did : goal.returns-in-Ask-clause-did
@@ -11,3 +12,9 @@ returns-in-Revoke-clause-did g c =
       c.moment_now-moment-in-Revoke.ensures,
       c.revoke_in.ensures.does,
     )
+
+pub returns-in-Publish-clause-did : goal.returns-in-Publish-clause-did
+returns-in-Publish-clause-did g c =
+    rw c.in-Publish.is
+    (ok_as c.publish_in.result
+    (λ placed. (c.moment_now-now.result, c.moment_now-now.ensures, placed)) c.publish_in.ensures)

@@ -1,0 +1,10 @@
+use Rattle.std.proofs.Common.{ap}
+use Rattle.reg_site.specs.Site.{one_file}
+use Rattle.reg_publish.proofs.Placed.{summed_if}
+use Rattle.reg_publish.proofs.placing.put.Goals as goal
+
+pub returns : goal.returns
+returns g c =
+    summed_if g.F.Folder.Puts c.put_portions.result c.args.folder.now c.put_portions.new.folder
+    c.args.sums.now c.put_portions.new.sums _ _ (ap (one_file c.args.file) c.of-2.ensures)
+    c.put_portions.ensures

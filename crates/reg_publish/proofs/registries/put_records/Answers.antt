@@ -1,0 +1,11 @@
+use Rattle.std.proofs.Common.{ap}
+use Rattle.reg_site.specs.Site.{one_file}
+use Rattle.reg_site.specs.declared.files.File.TheVariants.{RegistryRecords}
+use Rattle.reg_publish.proofs.Placed.{summed_if}
+use Rattle.reg_publish.proofs.registries.put_records.Goals as goal
+
+pub returns : goal.returns
+returns g c =
+    summed_if g.F.Folder.Puts c.put_portions.result c.args.folder.now c.put_portions.new.folder
+    c.args.sums.now c.put_portions.new.sums _ _
+    (ap (one_file (RegistryRecords c.args.page.now.name)) c.in_ok-xml.ensures) c.put_portions.ensures

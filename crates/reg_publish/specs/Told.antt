@@ -1,0 +1,46 @@
+-- All that anybody is told by an office.
+use Rattle.std.specs.Prelude.{◌≡◌, ℕ, List, [], map, filter_map, unwrap_or}
+use Rattle.reg_core.specs.View.{Published}
+use Rattle.reg_core.specs.declared.command.PublicCommand.TheVariants.{Registries, Registry, PoolList, BlockListing}
+use Rattle.reg_core.specs.declared.holding.Listed.{Listed}
+use Rattle.reg_core.specs.declared.page.Page.{Page}
+use Rattle.reg_core.specs.declared.reply.Reply.TheVariants.{Accepted}
+use Rattle.reg_core.specs.declared.told.Told.{Told}
+use Rattle.reg_core.specs.declared.told.Told.TheVariants as tells
+use Rattle.reg_history.specs.Published.{published_facts}
+use Rattle.reg_history.specs.declared.change.Fact.{Fact}
+use Rattle.reg_publish.specs.declared.told.AllTold.{AllTold}
+use Rattle.reg_site.specs.Site.{blocks_at, blocks_in, page_in, pages_at, pool_in, prefixes_at, told_to_all}
+
+-- the registries among what is told
+abbrev pub pages_of : List Told → List Page
+pages_of tolds = filter_map (λ told. page_in (Accepted told)) tolds
+
+-- the prefixes that are told, and the blocks
+abbrev pub prefixes_of : Told → List ℕ
+prefixes_of told = unwrap_or (pool_in (Accepted told)) []
+
+abbrev pub blocks_of : Told → List Listed
+blocks_of told = unwrap_or (blocks_in (Accepted told)) []
+
+-- what is told as facts
+abbrev pub facts_told : AllTold → List Fact
+facts_told all =
+    published_facts (pages_of all.pages.items) (prefixes_of all.pool) (blocks_of all.blocks)
+
+-- what is published, as the facts of a history
+abbrev pub facts_at : Published → ℕ → List Fact
+facts_at p moment = published_facts (pages_at p moment) (prefixes_at p moment) (blocks_at p moment)
+
+-- these are told of registries by these names
+abbrev pub AreTold : Published → ℕ → List (List ℕ) → List Told → Type 0
+AreTold p moment names tolds =
+    map (λ name. told_to_all p moment (Registry name)) names ≡ map Accepted tolds
+
+-- all this is told to all: each registry by its name, the pool and the blocks
+pub record IsTold (p : Published) (moment : ℕ) (all : AllTold) : Type 0 where
+  pub names : List (List ℕ)
+  pub named : told_to_all p moment Registries ≡ Accepted (tells.Names names)
+  pub shown : AreTold p moment names all.pages.items
+  pub pooled : told_to_all p moment PoolList ≡ Accepted all.pool
+  pub given : told_to_all p moment BlockListing ≡ Accepted all.blocks

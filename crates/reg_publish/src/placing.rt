@@ -1,0 +1,61 @@
+//! Files that are put into a folder, with their sums.
+ghost use Rattle.std.specs.Prelude.{◌≡◌, OnOk};
+ghost use Rattle.reg_publish.specs.Folder.{Places, PlacesSummed};
+ghost use Rattle.reg_site.specs.Site.{one_file};
+ghost use Rattle.reg_site.specs.Sums.{digest as digest_by, entries_of, lines_of};
+ghost use Rattle.reg_site.specs.declared.files.File.TheVariants as file;
+
+use crate::folder::Folder;
+use crate::unpublished::Unpublished;
+use reg_history::field::Field;
+use reg_site::files::File;
+use reg_site::portions::{Portions, Whole};
+use reg_site::sums::{Sums, digest_of};
+use std::alloc::Global;
+
+/// Puts a file with these bytes into a folder, and adds its sum.
+pub(crate) fn put<F: Folder>(
+    alloc: Global,
+    folder: &mut F,
+    sums: &mut Sums,
+    file: File,
+    bytes: &[u8],
+) -> Result<(), Unpublished>
+    ensures { OnOk result (PlacesSummed F.Puts folder.old folder.new sums.old sums.new
+        (one_file file bytes.now)) }
+{
+    let digest = digest_of(alloc, &mut Whole::of(bytes))?;
+    put_portions(alloc, folder, sums, file, digest, &mut Whole::of(bytes))
+}
+
+/// Puts a file with the bytes that are given into a folder, and adds its sum, which is this one.
+pub(crate) fn put_portions<F: Folder, P: Portions>(
+    alloc: Global,
+    folder: &mut F,
+    sums: &mut Sums,
+    file: File,
+    digest: Field,
+    bytes: &mut P,
+) -> Result<(), Unpublished>
+    requires { digest ≡ digest_by (P.rest bytes.old) }
+    ensures { OnOk result (PlacesSummed F.Puts folder.old folder.new sums.old sums.new
+        (one_file file (P.rest bytes.old))) }
+{
+    folder.publish(file, bytes)?;
+    let path = file.path(alloc)?;
+    sums.add(alloc, path.as_str(), digest)?;
+    Ok(())
+}
+
+/// Puts the sums of all files into a folder.
+pub(crate) fn put_sums<F: Folder>(
+    alloc: Global,
+    folder: &mut F,
+    sums: Sums,
+) -> Result<(), Unpublished>
+    ensures { OnOk result (Places F.Puts folder.old folder.new
+        (one_file file.Sums (lines_of (entries_of sums)))) }
+{
+    let text = sums.text(alloc)?;
+    folder.publish(File::Sums, &mut Whole::of(text.as_slice()))
+}

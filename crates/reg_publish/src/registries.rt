@@ -1,0 +1,247 @@
+//! Publishes the files of registries, of blocks and of the pool.
+ghost use Rattle.std.specs.Prelude.{◌≡◌, ◌++◌, OnOk, IfOk};
+ghost use Rattle.std.specs.List.{flat_map};
+ghost use Rattle.std.specs.Option.{option_copied};
+ghost use Rattle.reg_core.specs.declared.told.Told.TheVariants as tells;
+ghost use Rattle.reg_publish.specs.Folder.{PlacesSummed};
+ghost use Rattle.reg_publish.specs.Told.{pages_of};
+ghost use Rattle.reg_site.specs.Blocks.{assignments_text, blocks_page};
+ghost use Rattle.reg_site.specs.Records.{records_text};
+ghost use Rattle.reg_site.specs.Registry.{registry_page};
+ghost use Rattle.reg_site.specs.Site.{block_files, one_file, page_files, pool_files, told_text};
+ghost use Rattle.reg_site.specs.declared.files.File.TheVariants as file;
+
+use crate::folder::Folder;
+use crate::placing::{put, put_portions};
+use crate::told::page_in;
+use crate::unpublished::Unpublished;
+use reg_blocks::pool::Pool;
+use reg_blocks::size::Size;
+use reg_core::holding::Listed;
+use reg_core::page::Page;
+use reg_core::reply::Reply;
+use reg_core::told::Told;
+use reg_history::change::Record;
+use reg_history::recorded::last_changed;
+use reg_notes::note::Note;
+use reg_notes::notes::Notes;
+use reg_print::answer::{Answer, body_of};
+use reg_print::listing::blocks::block_listing;
+use reg_site::blocks::{BlocksPage, assignments};
+use reg_site::files::File;
+use reg_site::listing::RegistryListing;
+use reg_site::recent::day_part;
+use reg_site::records::RegistryRecords;
+use reg_site::registry::RegistryPage;
+use reg_site::style::style;
+use reg_site::sums::{Sums, digest_of};
+use reg_site::tree::RegistryTree;
+use std::alloc::{AllocError, Global};
+
+/// Publishes the files of each registry that was told, in turn.
+pub(crate) fn publish_registries<F: Folder>(
+    alloc: Global,
+    folder: &mut F,
+    sums: &mut Sums,
+    notes: Option<&Notes>,
+    records: &[Record],
+    pages: &[Told],
+) -> Result<(), Unpublished>
+    ensures { OnOk result (PlacesSummed F.Puts folder.old folder.new sums.old sums.new
+        (flat_map (page_files (option_copied notes.entry) records.now) (pages_of pages.now))) }
+{
+    for told in pages {
+        publish_registry(alloc, folder, sums, notes, records, page_in(told)?)?;
+    }
+    Ok(())
+}
+
+// The page of a registry, its listing, its JSON and its XML.
+fn publish_registry<F: Folder>(
+    alloc: Global,
+    folder: &mut F,
+    sums: &mut Sums,
+    notes: Option<&Notes>,
+    records: &[Record],
+    page: &Page,
+) -> Result<(), Unpublished>
+    ensures { OnOk result (PlacesSummed F.Puts folder.old folder.new sums.old sums.new
+        (page_files (option_copied notes.entry) records.now page.now)) }
+{
+    let changed = last_changed(records, page.name.as_str());
+    put_page(alloc, folder, sums, notes, changed, page)?;
+    put_listing(alloc, folder, sums, page)?;
+    put_tree(alloc, folder, sums, page)?;
+    put_records(alloc, folder, sums, notes, day_part(changed), page)?;
+    Ok(())
+}
+
+fn put_page<F: Folder>(
+    alloc: Global,
+    folder: &mut F,
+    sums: &mut Sums,
+    notes: Option<&Notes>,
+    changed: &str,
+    page: &Page,
+) -> Result<(), Unpublished>
+    ensures { OnOk result (PlacesSummed F.Puts folder.old folder.new sums.old sums.new
+        (one_file (file.RegistryPage page.now.name)
+        (registry_page (option_copied notes.entry) changed.now page.now))) }
+{
+    let mut first = RegistryPage::of(alloc, page, notes, changed)?;
+    let digest = digest_of(alloc, &mut first)?;
+    drop(first);
+    let mut html = RegistryPage::of(alloc, page, notes, changed)?;
+    put_portions(
+        alloc,
+        folder,
+        sums,
+        File::RegistryPage(page.name),
+        digest,
+        &mut html,
+    )
+}
+
+fn put_listing<F: Folder>(
+    alloc: Global,
+    folder: &mut F,
+    sums: &mut Sums,
+    page: &Page,
+) -> Result<(), Unpublished>
+    ensures { OnOk result (PlacesSummed F.Puts folder.old folder.new sums.old sums.new
+        (one_file (file.RegistryListing page.now.name) (told_text (tells.Listing page.now)))) }
+{
+    let mut first = RegistryListing::of(alloc, page)?;
+    let digest = digest_of(alloc, &mut first)?;
+    drop(first);
+    let mut csv = RegistryListing::of(alloc, page)?;
+    put_portions(
+        alloc,
+        folder,
+        sums,
+        File::RegistryListing(page.name),
+        digest,
+        &mut csv,
+    )
+}
+
+fn put_tree<F: Folder>(
+    alloc: Global,
+    folder: &mut F,
+    sums: &mut Sums,
+    page: &Page,
+) -> Result<(), Unpublished>
+    ensures { OnOk result (PlacesSummed F.Puts folder.old folder.new sums.old sums.new
+        (one_file (file.RegistryTree page.now.name) (told_text (tells.Page page.now)))) }
+{
+    let digest = digest_of(alloc, &mut RegistryTree::of(page))?;
+    let mut tree = RegistryTree::of(page);
+    put_portions(
+        alloc,
+        folder,
+        sums,
+        File::RegistryTree(page.name),
+        digest,
+        &mut tree,
+    )
+}
+
+fn put_records<F: Folder>(
+    alloc: Global,
+    folder: &mut F,
+    sums: &mut Sums,
+    notes: Option<&Notes>,
+    day: &str,
+    page: &Page,
+) -> Result<(), Unpublished>
+    ensures { OnOk result (PlacesSummed F.Puts folder.old folder.new sums.old sums.new
+        (one_file (file.RegistryRecords page.now.name)
+        (records_text (option_copied notes.entry) day.now page.now))) }
+{
+    let mut first = RegistryRecords::of(alloc, page, notes, day)?;
+    let digest = digest_of(alloc, &mut first)?;
+    drop(first);
+    let mut xml = RegistryRecords::of(alloc, page, notes, day)?;
+    put_portions(
+        alloc,
+        folder,
+        sums,
+        File::RegistryRecords(page.name),
+        digest,
+        &mut xml,
+    )
+}
+
+// ---- Blocks and the pool
+
+/// Publishes the page of the blocks, their listing, and a file for each size.
+pub(crate) fn publish_blocks<F: Folder>(
+    alloc: Global,
+    folder: &mut F,
+    sums: &mut Sums,
+    authority: Option<&Note>,
+    blocks: &[Listed],
+) -> Result<(), Unpublished>
+    ensures { OnOk result (PlacesSummed F.Puts folder.old folder.new sums.old sums.new
+        (block_files (option_copied authority.entry) blocks.now)) }
+{
+    let digest = digest_of(alloc, &mut BlocksPage::of(blocks, authority))?;
+    let mut html = BlocksPage::of(blocks, authority);
+    put_portions(alloc, folder, sums, File::BlocksPage, digest, &mut html)?;
+    put_block_listing(alloc, folder, sums, blocks)?;
+    put_size(alloc, folder, sums, Size::MaL, blocks)?;
+    put_size(alloc, folder, sums, Size::MaM, blocks)?;
+    put_size(alloc, folder, sums, Size::MaS, blocks)?;
+    Ok(())
+}
+
+fn put_block_listing<F: Folder>(
+    alloc: Global,
+    folder: &mut F,
+    sums: &mut Sums,
+    blocks: &[Listed],
+) -> Result<(), Unpublished>
+    ensures { OnOk result (PlacesSummed F.Puts folder.old folder.new sums.old sums.new
+        (one_file file.BlocksListing (told_text (tells.Blocks blocks.now)))) }
+{
+    let csv = block_listing(alloc, blocks)?;
+    put(alloc, folder, sums, File::BlocksListing, &csv)
+}
+
+fn put_size<F: Folder>(
+    alloc: Global,
+    folder: &mut F,
+    sums: &mut Sums,
+    size: Size,
+    blocks: &[Listed],
+) -> Result<(), Unpublished>
+    ensures { OnOk result (PlacesSummed F.Puts folder.old folder.new sums.old sums.new
+        (one_file (file.Assignments size) (assignments_text size blocks.now))) }
+{
+    let csv = assignments(alloc, size, blocks)?;
+    put(alloc, folder, sums, File::Assignments(size), &csv)
+}
+
+/// Publishes what is told of the pool, and how pages look.
+pub(crate) fn publish_pool<F: Folder>(
+    alloc: Global,
+    folder: &mut F,
+    sums: &mut Sums,
+    pool: &Pool,
+) -> Result<(), Unpublished>
+    ensures { OnOk result (PlacesSummed F.Puts folder.old folder.new sums.old sums.new
+        (pool_files pool.now)) }
+{
+    let tree = text_of(alloc, Told::Pool(pool.copy()?))?;
+    put(alloc, folder, sums, File::Pool, &tree)?;
+    put(alloc, folder, sums, File::Style, style().as_bytes())?;
+    Ok(())
+}
+
+// The body by which an office answers this.
+fn text_of(alloc: Global, told: Told) -> Result<Vec<u8>, AllocError>
+    ensures { IfOk result (λ body. body.items ≡ told_text told) }
+{
+    let (_, body) = body_of(alloc, &Answer::Reply(Reply::Accepted(told)))?;
+    Ok(body)
+}

@@ -1,0 +1,52 @@
+-- The last changes that a history has.
+use Rattle.std.specs.Prelude.{ℕ, ◌+◌, ◌-◌, List, [], ◌∷◌, ◌++◌, codes, drop, length, reverse, slice_get, unwrap_or, take}
+use Rattle.std.specs.Str.{is_utf8}
+use Rattle.reg_history.specs.Chain.{chained}
+use Rattle.reg_history.specs.Recorded.{change_word, description_of, registry_of, value_of}
+use Rattle.reg_history.specs.declared.change.Record.{Record}
+use Rattle.reg_ranges.specs.Texts.{read_text}
+use Rattle.reg_site.specs.Changes.{Changed, urn}
+
+-- bytes as a text; none where they are not UTF-8, as no digest is
+abbrev pub text_of : List ℕ → List ℕ
+text_of bytes = unwrap_or (read_text is_utf8 bytes) []
+
+-- a record as texts, by its number and its digest
+abbrev pub changed : ℕ → Record → List ℕ → Changed
+changed number r digest = record {
+  number = number;
+  moment = r.moment;
+  register = registry_of r.change;
+  kind = change_word r.change;
+  value = value_of r.change;
+  description = description_of r.change;
+  digest = text_of digest;
+}
+
+-- records that have numbers from this one on, with their digests
+abbrev pub numbered : ℕ → List Record → List (List ℕ) → List Changed
+numbered number [] digests = []
+numbered number (r ∷ records) [] = []
+numbered number (r ∷ records) (digest ∷ digests) =
+    changed number r digest ∷ numbered (number + 1) records digests
+
+-- the last 200 records with these digests, of which the last one comes first
+abbrev pub last_changes : List Record → List (List ℕ) → List Changed
+last_changes records digests =
+    let before = length records - 200 in
+    reverse (numbered (before + 1) (drop before records) (drop before digests))
+
+-- the same of a history
+abbrev pub recent : List Record → List Changed
+recent records = last_changes records (chained records).digests
+
+-- The id of a feed, by the digest of the first record: it is the same for good.
+abbrev pub feed_id : List ℕ → List ℕ
+feed_id digest = urn (text_of digest ++ codes "#changes")
+
+abbrev pub first_digest : List (List ℕ) → List ℕ
+first_digest digests = unwrap_or (slice_get digests 0) []
+
+-- the day of a moment, as YYYY-MM-DD
+abbrev pub day_part : List ℕ → List ℕ
+day_part moment = text_of (take 10 moment)

@@ -1,0 +1,4 @@
+mod Flaws
+mod Folders
+mod Named
+mod Portioned

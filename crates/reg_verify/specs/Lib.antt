@@ -1,0 +1,4 @@
+pub mod Flaws
+pub mod Index
+pub mod Parts
+pub mod Verifying

@@ -1,0 +1,181 @@
+//! Why a published folder is not verified.
+ghost use Rattle.std.specs.Prelude.{◌≡◌, IfOk, string_bytes};
+ghost use Rattle.std.specs.List.{list_all};
+ghost use Rattle.reg_verify.specs.Flaws.{flaw_text, is_printable, listing_flaw, missing_text, misspelt_text, plain, subject_file, subject_text, unread_as, unreadable_as};
+ghost use Rattle.reg_verify.specs.declared.flaw.Unverified.TheVariants as un;
+
+use crate::folder::Unread;
+use crate::part::Part;
+use reg_core::text::Name;
+use reg_history::change::{Class, Subject};
+use reg_history::history::Unreadable;
+use std::alloc::{AllocError, Global};
+
+/// Why a published folder is not verified.
+#[derive(Drop)]
+pub enum Unverified {
+    /// There was no memory.
+    Memory,
+    /// A file could not be read.
+    Read,
+    /// A file has more than 268,435,456 bytes.
+    Large,
+    /// This is wrong in it.
+    Flawed(Flaw),
+}
+
+/// What is wrong in a published folder.
+#[derive(Drop)]
+pub enum Flaw {
+    /// This file is not there.
+    Missing(Part),
+    /// The history does not begin with the record of its columns.
+    Header,
+    /// The record of this number of the history is not as it has to be after those before it.
+    Record(u64),
+    /// The history has a registry whose name is none.
+    Name,
+    /// The index names a record that the history does not have.
+    Index,
+    /// The index names no record.
+    Unnamed,
+    /// This file is not spelled as an office spells its answer.
+    Misspelt(Part),
+    /// The listing of this registry is not that of its JSON.
+    Listing(Name),
+    /// This subject is published otherwise than the history says, or is in one of the two alone.
+    Subject(Subject),
+    /// The digest that was noted is given by fewer than 16 digits.
+    Short,
+    /// No digest of the history begins with the digits that were noted.
+    Digest,
+}
+
+impl Flaw {
+    /// What is said of it to people. Only want of memory is an error.
+    pub fn text(&self, alloc: Global) -> Result<String, AllocError>
+        ensures { IfOk result (λ text. string_bytes text ≡ flaw_text self.now) }
+    {
+        match self {
+            Flaw::Missing(file) => missing_text(alloc, *file),
+            Flaw::Header => {
+                String::from_str(
+                    alloc,
+                    "changes.csv does not begin with the record of its columns",
+                )
+            }
+            Flaw::Record(number) => format!(in alloc; "record {number} of changes.csv is wrong"),
+            Flaw::Name => String::from_str(alloc, "changes.csv has a registry whose name is none"),
+            Flaw::Index => {
+                String::from_str(
+                    alloc,
+                    "index.json names a record that changes.csv does not have",
+                )
+            }
+            Flaw::Misspelt(file) => misspelt_text(alloc, *file),
+            Flaw::Unnamed => String::from_str(alloc, "index.json names no record"),
+            Flaw::Listing(name) => listing_text(alloc, *name),
+            Flaw::Subject(subject) => subject_text(alloc, subject),
+            Flaw::Short => String::from_str(alloc, "of a digest at least 16 digits are needed"),
+            Flaw::Digest => {
+                String::from_str(alloc, "no digest of changes.csv begins with these digits")
+            }
+        }
+    }
+}
+
+impl From<AllocError> for Unverified {
+    ghost from_gives = { λ _ why. why ≡ un.Memory };
+
+    fn from(_error: AllocError) -> Unverified {
+        Unverified::Memory
+    }
+}
+
+impl From<Flaw> for Unverified {
+    ghost from_gives = { λ flaw why. why ≡ un.Flawed flaw };
+
+    fn from(flaw: Flaw) -> Unverified {
+        Unverified::Flawed(flaw)
+    }
+}
+
+impl From<Unreadable> for Unverified {
+    ghost from_gives = { λ fault why. why ≡ unreadable_as fault };
+
+    fn from(fault: Unreadable) -> Unverified {
+        match fault {
+            Unreadable::Memory => Unverified::Memory,
+            Unreadable::Header => Unverified::Flawed(Flaw::Header),
+            Unreadable::Wrong(number) => Unverified::Flawed(Flaw::Record(number)),
+        }
+    }
+}
+
+impl From<Unread> for Unverified {
+    ghost from_gives = { λ unread why. why ≡ unread_as unread };
+
+    fn from(why: Unread) -> Unverified {
+        match why {
+            Unread::Memory => Unverified::Memory,
+            Unread::Read => Unverified::Read,
+            Unread::Large => Unverified::Large,
+        }
+    }
+}
+
+fn missing_text(alloc: Global, file: Part) -> Result<String, AllocError>
+    ensures { IfOk result (λ text. string_bytes text ≡ missing_text file) }
+{
+    let place = file.place(alloc)?;
+    format!(in alloc; "{place} is not there")
+}
+
+fn misspelt_text(alloc: Global, file: Part) -> Result<String, AllocError>
+    ensures { IfOk result (λ text. string_bytes text ≡ misspelt_text file) }
+{
+    let place = file.place(alloc)?;
+    format!(in alloc; "{place} is not as publish writes it")
+}
+
+fn listing_text(alloc: Global, name: Name) -> Result<String, AllocError>
+    ensures { IfOk result (λ text. string_bytes text ≡ listing_flaw name) }
+{
+    let name = name.as_str();
+    format!(in alloc; "registries/{name}.csv is not the listing of registries/{name}.json")
+}
+
+fn subject_text(alloc: Global, subject: &Subject) -> Result<String, AllocError>
+    ensures { IfOk result (λ text. string_bytes text ≡ subject_text subject.now) }
+{
+    let file = subject_file(alloc, subject)?;
+    let value = plain(subject.value.as_str());
+    format!(in alloc; "{file} differs from the history at {value}")
+}
+
+// The file that a subject is in.
+fn subject_file(alloc: Global, subject: &Subject) -> Result<String, AllocError>
+    ensures { IfOk result (λ text. string_bytes text ≡ subject_file subject.now) }
+{
+    match subject.class {
+        Class::Range | Class::Entry => {
+            let registry = plain(subject.registry.as_str());
+            format!(in alloc; "registries/{registry}.json")
+        }
+        Class::Prefix => String::from_str(alloc, "pool.json"),
+        Class::Block => String::from_str(alloc, "blocks.csv"),
+    }
+}
+
+// A text of printable ASCII as it is; a question mark for any other, since a terminal might obey it.
+fn plain(text: &str) -> &str
+    ensures { result.now ≡ plain text.now }
+{
+    if is_plain(text) { text } else { "?" }
+}
+
+fn is_plain(text: &str) -> bool
+    ensures { result ≡ list_all is_printable text.now }
+{
+    text.as_bytes().iter().all(|b| 32 <= *b && *b < 127)
+}

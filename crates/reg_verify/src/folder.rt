@@ -1,0 +1,82 @@
+//! Published folders that are read.
+ghost use Rattle.std.specs.Prelude.{◌≡◌, IfOk, option_map};
+
+use reg_publish::answers::read_up_to;
+use reg_publish::unpublished::Unpublished;
+use std::alloc::{AllocError, Global};
+use std::fs::{Files, open};
+use std::io::ErrorKind;
+
+/// How many bytes a file has at most.
+const MOST_BYTES: usize = 268_435_456;
+
+/// Why a file was not read.
+#[derive(Clone, Copy, Debug, PartialEq, Eq)]
+pub enum Unread {
+    /// There was no memory.
+    Memory,
+    /// It cannot be read.
+    Read,
+    /// It has more than 268,435,456 bytes.
+    Large,
+}
+
+impl From<AllocError> for Unread {
+    fn from(_error: AllocError) -> Unread {
+        Unread::Memory
+    }
+}
+
+/// A folder whose files are read.
+pub trait Reads {
+    ghost use Rattle.std.specs.Prelude.{ℕ, List, Option, None};
+
+    /// Whether it is known which files are in it.
+    ghost Tells: { Type 0 } = { ⊥ };
+
+    /// The bytes of the file at a place in it, if there is one.
+    ghost held: { Self → List ℕ → Option (List ℕ) } = { λ _ _. None };
+
+    /// The bytes of the file at a place in it; none where there is no file.
+    fn read(&self, alloc: Global, place: &str) -> Result<Option<Vec<u8>>, Unread>
+        ensures { Tells → IfOk result
+            (λ found. option_map (λ v. v.items) found ≡ held self.now place.now) };
+}
+
+/// A folder of the file system. Nothing is known of it: no contract can say what a disk holds. Where there
+/// is no such folder, no file is in it.
+#[derive(Drop)]
+pub struct SystemFolder<'a, H> {
+    /// Its runtime.
+    pub rt: &'a H,
+    /// Its path.
+    pub path: &'a str,
+}
+
+impl<H: Files> Reads for SystemFolder<'_, H> {
+    fn read(&self, alloc: Global, place: &str) -> Result<Option<Vec<u8>>, Unread> {
+        let folder = self.path;
+        let path = format!(in alloc; "{folder}/{place}")?;
+        match open(self.rt, path.as_str()) {
+            Ok(mut file) => {
+                let bytes = read_up_to(alloc, MOST_BYTES, &mut file);
+                drop(file);
+                Ok(Some(bytes.map_err(reading_failed)?))
+            }
+            Err(error) => match error.kind() {
+                ErrorKind::NotFound => Ok(None),
+                ErrorKind::OutOfMemory => Err(Unread::Memory),
+                _ => Err(Unread::Read),
+            },
+        }
+    }
+}
+
+// Why reading failed.
+fn reading_failed(why: Unpublished) -> Unread {
+    match why {
+        Unpublished::Memory => Unread::Memory,
+        Unpublished::Large => Unread::Large,
+        _ => Unread::Read,
+    }
+}

@@ -1,0 +1,11 @@
+//! Verifies a published folder: that its history is whole, and that its files say what it says.
+#![tactic(auto)]
+
+mod files;
+pub mod flaw;
+pub mod folder;
+mod index;
+mod listing;
+pub mod part;
+mod registries;
+pub mod verifying;

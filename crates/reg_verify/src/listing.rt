@@ -1,0 +1,43 @@
+//! Bytes that are compared with those that a printer gives.
+ghost use Rattle.std.specs.Prelude.{◌≡◌, ◌↔◌, [], IfOk, IsTrue};
+ghost use Rattle.reg_print.specs.Comparing.{Leaves};
+ghost use Rattle.reg_site.specs.Portions.{Gives};
+
+use reg_site::portions::Portions;
+use std::alloc::{AllocError, Global};
+
+/// Whether a printer gives just these bytes, which are compared a portion at a time. Only want of memory
+/// is an error.
+pub(crate) fn gives_just<P: Portions>(
+    alloc: Global,
+    printer: &mut P,
+    bytes: &[u8],
+) -> Result<bool, AllocError>
+    ensures { IfOk result (λ same. IsTrue same ↔ (bytes.now ≡ P.rest printer.old)) }
+{
+    let mut portion = Vec::new(alloc);
+    let mut rest = bytes;
+    while next_portion(printer, &mut portion)? {
+        let Some(more) = behind(portion.as_slice(), rest) else {
+            return Ok(false);
+        };
+        rest = more;
+    }
+    Ok(rest.is_empty())
+}
+
+// The portion that comes next; whether there is one.
+fn next_portion<P: Portions>(printer: &mut P, portion: &mut Vec<u8>) -> Result<bool, AllocError>
+    ensures { IfOk result
+        (λ more. Gives more [] portion.new.items (P.rest printer.old) (P.rest printer.new)) }
+{
+    portion.clear();
+    printer.push_next(portion)
+}
+
+// What is left of a text behind this front, where it begins with it.
+fn behind<'a>(front: &[u8], text: &'a [u8]) -> Option<&'a [u8]>
+    ensures { Leaves front.now text.now result }
+{
+    text.strip_prefix(front)
+}
