@@ -6,7 +6,7 @@ use Rattle.reg_history.specs.Recorded.{changed_after, registry_of}
 use Rattle.reg_history.specs.declared.change.Record.{Record}
 
 -- by these records and one more
-changed_last : (name known : List ℕ) (records : List Record) (r : Record)
+pub changed_last : (name known : List ℕ) (records : List Record) (r : Record)
     → (if bytes_eq (registry_of r.change) name then r.moment else changed_after name known records)
     ≡ changed_after name known (records ++ r ∷ [])
 changed_last name known [] r = refl

@@ -1,5 +1,5 @@
 -- How histories grow, record by record.
-use Rattle.std.proofs.Common.{◌≡◌, ℕ, ◌+◌, ◌<◌, List, [], ◌∷◌, ◌++◌, length, map, take, get_or, true, refl, sym, ap, ◌∙◌, subst, append_assoc, append-nil, inl, inr, ◌==◌, arith, zero, suc, zero-add}
+use Rattle.std.proofs.Common.{◌≡◌, ℕ, ◌+◌, ◌<◌, List, [], ◌∷◌, ◌++◌, length, map, get_or, true, refl, sym, ap, ◌∙◌, subst, append_assoc, append-nil, inl, inr, ◌==◌, arith, zero, suc, zero-add}
 use Rattle.std.specs.Prelude.{Some, None, slice_get}
 use Rattle.std.specs.Cmp.{tied_itself}
 use Rattle.std.specs.Cmp.Lexicographic.{nat_list_cmp_total}
@@ -7,13 +7,13 @@ use Rattle.std.specs.Ordering.{is_le}
 use Rattle.std.proofs.lemmas.Grind.{common_steps}
 use Rattle.std.proofs.lemmas.Bool.{and_from, cases_Bool, eqb-true}
 use Rattle.reg_maps.specs.Maps.{text_cmp}
-use Rattle.reg_print.proofs.PrintedTokens.{one_more}
-use Rattle.reg_history.specs.Chain.{AddsLines, Chained, at, begun, chain_from, chained, next_digest, next_line, record_of, says, with_record}
+use Rattle.reg_history.specs.Chain.{Chained, at, begun, chain_from, chained, next_digest, next_line, record_of, says, with_record}
 use Rattle.reg_history.specs.declared.change.Record.{Record}
-use Rattle.reg_history.specs.History.{AddsRecord, Continues, IsHistory, IsHistoryOf, SaysJust, IsWrongAfter, TakesRecord, TellsWrong, later, news}
-use Rattle.reg_history.specs.Moment.{moment_text}
-use Rattle.reg_history.specs.Replay.{NothingIsLost, Said, SaysAfter, after, changes_to, nothing, replay}
+use Rattle.reg_history.specs.History.{AddsRecord, IsHistory, IsHistoryOf, SaysJust, IsWrongAfter, TakesRecord, TellsWrong, later}
+use Rattle.reg_history.specs.Overview.{Adds}
+use Rattle.reg_history.specs.Replay.{Said, SaysAfter, after, nothing, replay}
 use Rattle.reg_history.specs.Said.{Says, TellsLoss, said_by}
+use Rattle.reg_history.specs.declared.chain.Line.{Line}
 use Rattle.reg_history.specs.declared.change.Change.{Change}
 use Rattle.reg_history.specs.declared.change.Fact.{Fact}
 use Rattle.reg_history.specs.declared.history.History.{History}
@@ -29,51 +29,27 @@ pub chain_from-append : (c : Chained) (xs ys : List Record)
 chain_from-append c [] ys = refl
 chain_from-append c (x ∷ xs) ys = chain_from-append (with_record c x) xs ys
 
-map-more : {X Y : Type 0} (f : X → Y) (xs : List X) (x : X)
-    → map f xs ++ f x ∷ [] ≡ map f (xs ++ x ∷ [])
-map-more f [] x = refl
-map-more f (y ∷ xs) x = ap (λ ys. f y ∷ ys) (map-more f xs x)
-
 pub map-append : {X Y : Type 0} (f : X → Y) (xs ys : List X)
     → map f (xs ++ ys) ≡ map f xs ++ map f ys
 map-append f [] ys = refl
 map-append f (x ∷ xs) ys = ap (λ t. f x ∷ t) (map-append f xs ys)
 
--- one change more of those that are published at a moment
-pub at-more : (c : Chained) (moment : List ℕ) (changes : List Change) (i : ℕ) (change : Change)
-    → i < length changes → change ≡ get_or changes i change
-    → chain_from c (at moment (take (i + 1) changes))
-    ≡ with_record (chain_from c (at moment (take i changes))) (record_of moment change)
-at-more c moment changes i change h is =
-    ap (λ cs. chain_from c (at moment cs)) (one_more changes i change h is)
-    ∙ ap (chain_from c) (sym (map-more (record_of moment) (take i changes) change))
-    ∙ chain_from-append c (at moment (take i changes)) (record_of moment change ∷ [])
-
-pub lines-more : (c : Chained) (moment : List ℕ) (changes : List Change) (i : ℕ) (change : Change)
-    (digests digests' : List (List ℕ)) (text text' bytes : List ℕ)
-    → i < length changes → change ≡ get_or changes i change
-    → AddsLines c moment (take i changes) digests text
-    → bytes ≡ next_line digests (record_of moment change)
-    → digests' ≡ digests ++ next_digest digests (record_of moment change) ∷ []
-    → text' ≡ text ++ bytes → AddsLines c moment (take (i + 1) changes) digests' text'
-lines-more c moment changes i change digests digests' text text' bytes h is l line digest e =
-    let Here : Chained = chain_from c (at moment (take i changes)) in
-    let r : Record = record_of moment change in
-    let grown = at-more c moment changes i change h is in
-    record {
-      tied =
-          digest ∙ ap (λ ds. ds ++ next_digest ds r ∷ []) l.tied
-          ∙ ap (λ (k : Chained). k.digests) (sym grown);
-      stands =
-          ap (λ (k : Chained). k.text) grown
-          ∙ ap (λ ds. Here.text ++ next_line ds r) (sym l.tied)
-          ∙ ap (λ b. Here.text ++ b) (sym line)
-          ∙ ap (λ t. t ++ bytes) l.stands
-          ∙ append_assoc c.text text bytes
-          ∙ ap (λ t. c.text ++ t) (sym e);
-    }
+-- more records only add to the text
+pub grows : (c : Chained) (records : List Record)
+    → (more : List ℕ) × ((chain_from c records).text ≡ c.text ++ more)
+grows c [] = ([], sym (append-nil c.text))
+grows c (r ∷ records) =
+    let rest = grows (with_record c r) records in
+    (next_line c.digests r ++ rest.0, rest.1 ∙ append_assoc c.text (next_line c.digests r) rest.0)
 
 -- ---- Records that are added
+
+pub text-more : (records : List Record) (r : Record) (l : Line)
+    → l.bytes.items ≡ next_line (chained records).digests r
+    → (chained (records ++ r ∷ [])).text ≡ (chained records).text ++ l.bytes.items
+text-more records r l line =
+    ap (λ (k : Chained). k.text) (chain_from-append begun records (r ∷ []))
+    ∙ ap (λ b. (chained records).text ++ b) (sym line)
 
 pub says-more : (records : List Record) (r : Record)
     → says (records ++ r ∷ []) ≡ after (says records) r.change
@@ -82,14 +58,13 @@ says-more records r =
     ∙ replay-append nothing (map (λ (x : Record). x.change) records) (r.change ∷ [])
 
 -- a history with one record more
-pub history-more : (h h' : History) (records : List Record) (moment : List ℕ) (change : Change)
+pub history-more : (h h' : History) (records : List Record) (moment : List ℕ) (change : Change) (l : Line)
     → IsHistory h records → is_le (text_cmp h.moment moment) ≡ true
-    → h'.records.items ≡ h.records.items ++ record_of moment change ∷ []
     → Says h'.said (after (said_by h.said) change)
-    → h'.chain.digests.items
-    ≡ h.chain.digests.items ++ next_digest h.chain.digests.items (record_of moment change) ∷ []
+    → Adds h'.overview records (record_of moment change) l
+    → h'.chain.digests.items ≡ h.chain.digests.items ++ l.digest ∷ []
     → h'.moment ≡ moment → IsHistory h' (records ++ record_of moment change ∷ [])
-history-more h h' records moment change is ordered pushed said digests now =
+history-more h h' records moment change l is ordered said adds digests now =
     let r : Record = record_of moment change in
     let grown = chain_from-append begun records (r ∷ []) in
     let was : said_by h.said ≡ says records = λ i s. is.said s i in
@@ -98,32 +73,28 @@ history-more h h' records moment change is ordered pushed said digests now =
     is.in_order
     (ap (λ m. is_le (text_cmp m moment)) (sym is.moment) ∙ ordered) in
     record {
-      kept = pushed ∙ ap (λ rs. rs ++ r ∷ []) is.kept;
       said = λ s. said s ∙ ap (λ (f : Said). after f change s) was
           ∙ ap (λ (f : Said). f s) (sym (says-more records r));
       digests =
-          digests ∙ ap (λ ds. ds ++ next_digest ds r ∷ []) is.digests
+          digests ∙ ap (λ ds. ds ++ l.digest ∷ []) is.digests
+          ∙ ap (λ d. (chained records).digests ++ d ∷ []) adds.digest
           ∙ ap (λ (k : Chained). k.digests) (sym grown);
+      shown = adds.grown;
       moment = now ∙ ap (λ (k : Chained). k.moment) (sym grown);
       in_order = ap (λ (k : Chained). k.in_order) grown ∙ order;
     }
 
-pub adds_record : (h h' : History) (records : List Record) (moment : List ℕ) (change : Change)
-    (bytes : List ℕ) → IsHistory h records → is_le (text_cmp h.moment moment) ≡ true
-    → h'.records.items ≡ h.records.items ++ record_of moment change ∷ []
+pub adds_record : (h h' : History) (records : List Record) (moment : List ℕ) (change : Change) (l : Line)
+    → IsHistory h records → is_le (text_cmp h.moment moment) ≡ true
     → Says h'.said (after (said_by h.said) change)
-    → h'.chain.digests.items
-    ≡ h.chain.digests.items ++ next_digest h.chain.digests.items (record_of moment change) ∷ []
-    → h'.moment ≡ moment → bytes ≡ next_line h.chain.digests.items (record_of moment change)
-    → AddsRecord h' records (record_of moment change) bytes
-adds_record h h' records moment change bytes is ordered pushed said digests now line =
+    → Adds h'.overview records (record_of moment change) l
+    → h'.chain.digests.items ≡ h.chain.digests.items ++ l.digest ∷ []
+    → h'.moment ≡ moment → AddsRecord h' records (record_of moment change) l.bytes.items
+adds_record h h' records moment change l is ordered said adds digests now =
     let r : Record = record_of moment change in
     record {
-      grown = history-more h h' records moment change is ordered pushed said digests now;
-      text =
-          ap (λ (k : Chained). k.text) (chain_from-append begun records (r ∷ []))
-          ∙ ap (λ ds. (chained records).text ++ next_line ds r) (sym is.digests)
-          ∙ ap (λ b. (chained records).text ++ b) (sym line);
+      grown = history-more h h' records moment change l is ordered said adds digests now;
+      text = text-more records r l adds.line;
     }
 
 -- a text that begins with the bytes of the record is that much shorter
@@ -158,7 +129,7 @@ text-le-itself : (m : List ℕ) → is_le (text_cmp m m) ≡ true
 text-le-itself m = ap is_le (tied_itself nat_list_cmp_total m)
 
 -- the later of two moments is not earlier than the first
-later-le : (last now : List ℕ) → is_le (text_cmp last (later last now)) ≡ true
+pub later-le : (last now : List ℕ) → is_le (text_cmp last (later last now)) ≡ true
 later-le last now = elim (cases_Bool (is_le (text_cmp last now))) [
   | inl le ↦ rw le le
   | inr gt ↦ rw gt (text-le-itself last)
@@ -173,61 +144,10 @@ in_order-at c moment (x ∷ xs) h le =
     in_order-at (with_record c (record_of moment x)) moment xs
     (and_from c.in_order (is_le (text_cmp c.moment moment)) h le) (text-le-itself moment)
 
-changes-at : (moment : List ℕ) (changes : List Change)
+pub changes-at : (moment : List ℕ) (changes : List Change)
     → map (λ (x : Record). x.change) (at moment changes) ≡ changes
 changes-at moment [] = refl
 changes-at moment (x ∷ xs) = ap (λ t. x ∷ t) (changes-at moment xs)
-
-pub continues : (h : History) (records : List Record) (moment : ℕ) (facts : List Fact)
-    (changes : List Change) (more : List ℕ) (digests : List (List ℕ)) → IsHistory h records
-    → changes ≡ changes_to (said_by h.said) facts → NothingIsLost (said_by h.said) facts
-    → SaysAfter (said_by h.said) facts changes
-    → AddsLines (chained records) (later h.moment (moment_text moment)) changes digests more
-    → Continues records moment facts more digests
-continues h records moment facts changes more digests is made kept says_after lines =
-    let was : said_by h.said ≡ says records = λ i s. is.said s i in
-    let now = later (chained records).moment (moment_text moment) in
-    let new = changes_to (says records) facts in
-    let are : changes ≡ new = made ∙ ap (λ (f : Said). changes_to f facts) was in
-    let grown = chain_from-append begun records (at now new) in
-    let changed : map (λ (x : Record). x.change) (records ++ at now new)
-    ≡ map (λ (x : Record). x.change) records ++ changes =
-    map-append (λ (x : Record). x.change) records (at now new)
-    ∙ ap (λ t. map (λ (x : Record). x.change) records ++ t) (changes-at now new ∙ sym are) in
-    record {
-      text =
-          ap (λ (k : Chained). k.text) grown
-          ∙ ap (λ cs. (chain_from (chained records) (at now cs)).text) (sym are)
-          ∙ ap (λ m. (chain_from (chained records) (at (later m (moment_text moment)) changes)).text)
-          (sym is.moment)
-          ∙ lines.stands;
-      tied =
-          lines.tied
-          ∙ ap (λ m. (chain_from (chained records) (at (later m (moment_text moment)) changes)).digests)
-          is.moment
-          ∙ ap (λ cs. (chain_from (chained records) (at now cs)).digests) are
-          ∙ ap (λ (k : Chained). k.digests) (sym grown);
-      in_order =
-          ap (λ (k : Chained). k.in_order) grown
-          ∙ in_order-at (chained records) now new is.in_order
-          (later-le (chained records).moment (moment_text moment));
-      kept = subst (λ (f : Said). NothingIsLost f facts) was kept;
-      replayed = λ s. ap (λ cs. replay nothing cs s) changed
-          ∙ says_after (map (λ (x : Record). x.change) records) is.said s;
-    }
-
--- all records of a history that goes on
-pub records_on : (h : History) (records : List Record) (moment : ℕ) (facts : List Fact)
-    (changes : List Change) (all : List Record) → IsHistory h records
-    → changes ≡ changes_to (said_by h.said) facts
-    → all ≡ h.records.items ++ at (later h.moment (moment_text moment)) changes
-    → all ≡ records ++ news records moment facts
-records_on h records moment facts changes all is made kept =
-    let was : said_by h.said ≡ says records = λ i s. is.said s i in
-    kept ∙ ap (λ rs. rs ++ at (later h.moment (moment_text moment)) changes) is.kept
-    ∙ ap (λ m. records ++ at (later m (moment_text moment)) changes) is.moment
-    ∙ ap (λ cs. records ++ at (later (chained records).moment (moment_text moment)) cs)
-    (made ∙ ap (λ (f : Said). changes_to f facts) was)
 
 -- where nothing would be recorded, and nothing is lost, the records say just what the facts say
 pub says_just : (h : History) (records : List Record) (facts : List Fact) (changes : List Change)

@@ -9,7 +9,8 @@ use Rattle.std.proofs.lemmas.Bool.{cases_Bool}
 use Rattle.std.proofs.lemmas.Slice.Eq.{bytes_eq-Decides}
 use Rattle.reg_maps.specs.Maps.{same_text}
 use Rattle.reg_history.specs.Subjects.{same_subject, subject_cmp, is_entry, entry_at}
-use Rattle.reg_history.specs.Replay.{Said, SaysAfter, SomeFact, IsAbout, IsLost, StandsBy, NothingIsLost, StandsIf, after, changes_to, facts_say, nothing, recorded, replay, same_given, same_standing, stands, with_standing, with_standing_at, without}
+use Rattle.reg_history.specs.Replay.{Said, SaysAfter, SomeFact, IsAbout, IsLost, NothingIsLost, StandsIf, after, changes_to, facts_say, nothing, recorded, replay, same_given, same_standing, stands, with_standing, with_standing_at, without}
+use Rattle.reg_history.specs.Recording.{AllStand, IsPart, KeepsUp, without_all}
 use Rattle.reg_history.specs.Said.{DoesNotStand, TellsLoss, said_by}
 use Rattle.reg_history.specs.declared.change.Change.{Change}
 use Rattle.reg_history.specs.declared.change.Change.TheVariants.{Made, Term}
@@ -22,21 +23,6 @@ use Rattle.reg_history.specs.declared.change.Subject.{Subject}
 use Rattle.reg_history.specs.declared.said.Unrecorded.{Unrecorded}
 use Rattle.reg_history.specs.declared.said.Unrecorded.TheVariants.{Memory, Lost}
 use Rattle.reg_history.proofs.SameSubjects.{same_subject-exact, same_subject-refl}
-
--- all that was said about the subjects of facts stands by the first of them
-abbrev pub AllStand : Said → List Fact → Type 0
-AllStand said [] = Unit {0}
-AllStand said (fact ∷ facts) =
-    StandsIf (said fact.subject) fact × AllStand (without fact.subject said) facts
-
--- what is left of what was said without the subjects of facts
-abbrev pub without_all : Said → List Fact → Said
-without_all said [] = said
-without_all said (fact ∷ facts) = without_all (without fact.subject said) facts
-
--- a part of what is said: of each subject the same, or nothing
-abbrev pub IsPart : Said → Said → Type 0
-IsPart part said = (s : Subject) → (part s ≡ None) ⊎ (part s ≡ said s)
 
 -- replaying goes on where it was
 pub replay-append : (said : Said) (xs ys : List Change)
@@ -232,17 +218,6 @@ left_over (fact ∷ facts) said s before e =
     ]
 
 -- ---- Facts that are compared in turn
-
--- What is so of all facts follows from what is so of those that are left: what is recorded of them,
--- that what was said stands by them, and what of it is left.
-pub record KeepsUp (whole : Said) (facts : List Fact) (said : Said) (rest : List Fact)
-    (changes : List Change) : Type 0 where
-  pub made : changes_to whole facts ≡ changes ++ changes_to said rest
-  pub stood : AllStand said rest → AllStand whole facts
-  pub left : without_all whole facts ≡ without_all said rest
-  pub part : IsPart said whole
-  pub later : (s : Subject) (before : Details) → SomeFact (StandsBy false s before) rest
-      → SomeFact (StandsBy false s before) facts
 
 pub keeps_up-start : (whole : Said) (facts : List Fact) → KeepsUp whole facts whole facts []
 keeps_up-start whole facts = record {

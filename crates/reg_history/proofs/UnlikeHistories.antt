@@ -1,6 +1,6 @@
 -- Why histories do not say just what is published, and where a digest is.
 use Rattle.std.proofs.Common.{◌≡◌, ℕ, ◌<◌, List, [], ◌∷◌, length, get_or, sym, ap, ◌∙◌, inl, inr}
-use Rattle.std.specs.Prelude.{Option, Some, None, slice_get, unwrap_or}
+use Rattle.std.specs.Prelude.{Option, Some, slice_get, unwrap_or}
 use Rattle.reg_history.specs.Chain.{says}
 use Rattle.reg_history.specs.declared.change.Record.{Record}
 use Rattle.reg_history.specs.History.{IsHistory}

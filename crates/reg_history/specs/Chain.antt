@@ -104,12 +104,6 @@ chained records = chain_from begun records
 abbrev pub says : List Record → Said
 says records = replay nothing (map (λ r. r.change) records)
 
--- After the lines of these changes were added, these are the digests, and these bytes came to the text.
-pub record AddsLines (c : Chained) (moment : List ℕ) (changes : List Change)
-    (digests : List (List ℕ)) (bytes : List ℕ) : Type 0 where
-  pub tied : digests ≡ (chain_from c (at moment changes)).digests
-  pub stands : (chain_from c (at moment changes)).text ≡ c.text ++ bytes
-
 -- the record of this number has this digest
 abbrev pub HasDigest : List (List ℕ) → ℕ → List ℕ → Type 0
 HasDigest digests number digest =

@@ -5,6 +5,7 @@ use Rattle.reg_maps.specs.Maps.{text_cmp}
 use Rattle.reg_history.specs.Chain.{at, chained, header_line, says}
 use Rattle.reg_history.specs.declared.change.Record.{Record}
 use Rattle.reg_history.specs.Moment.{moment_text}
+use Rattle.reg_history.specs.Overview.{IsOverview}
 use Rattle.reg_history.specs.Replay.{NothingIsLost, changes_to, facts_say, nothing}
 use Rattle.reg_history.specs.Said.{Says}
 use Rattle.reg_history.specs.declared.change.Fact.{Fact}
@@ -15,9 +16,9 @@ use Rattle.reg_history.specs.declared.history.Unreadable.TheVariants.{Memory, He
 
 -- it is the history of these records, of which none is earlier than the one before it
 pub record IsHistory (h : History) (records : List Record) : Type 0 where
-  pub kept : h.records.items ≡ records
   pub said : Says h.said (says records)
   pub digests : h.chain.digests.items ≡ (chained records).digests
+  pub shown : IsOverview h.overview records
   pub moment : h.moment ≡ (chained records).moment
   pub in_order : (chained records).in_order ≡ true
 

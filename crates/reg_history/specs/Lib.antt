@@ -3,11 +3,13 @@ pub mod History
 pub mod Laws
 pub mod Moment
 pub mod Noted
+pub mod Overview
 pub mod Published
+pub mod Recorded
+pub mod Recording
 pub mod Replay
 pub mod Said
 pub mod Subjects
 pub mod Texts
 pub mod Unlike
 pub mod Words
-pub mod Recorded

@@ -3,7 +3,7 @@ ghost use Rattle.std.specs.Prelude.{◌≡◌, ◌↔◌, ◌<◌, ◌++◌, ◌
 ghost use Rattle.hex.specs.Hex.{encode_lower};
 ghost use Rattle.sha2.specs.Sha256.{sha256};
 ghost use Rattle.csv.specs.Writing.{default_writer, row_body};
-ghost use Rattle.reg_history.specs.Chain.{AddsLines, Chained, HasDigest, last_digest, next_digest, next_line, record_of};
+ghost use Rattle.reg_history.specs.Chain.{HasDigest, digest, last_digest, line, record_of};
 ghost use Rattle.reg_history.specs.Noted.{some_begins};
 ghost use Rattle.reg_history.specs.Texts.{texts_of};
 
@@ -16,6 +16,38 @@ use std::alloc::{AllocError, Global};
 
 /// How many digits a digest has.
 pub const DIGITS: usize = 64;
+
+/// The bytes of a record, and its digest in lower-case hexadecimal.
+#[derive(Drop)]
+pub struct Line {
+    pub bytes: Vec<u8>,
+    pub digest: [u8; DIGITS],
+}
+
+impl Line {
+    /// The record of this number, by the digits of the digest before it, by which a change was published
+    /// at a moment. Only want of memory is an error.
+    pub fn of(
+        alloc: Global,
+        number: u64,
+        before: &[u8],
+        moment: &Field,
+        change: &Change,
+    ) -> Result<Self, AllocError>
+        ensures bytes { IfOk result (λ l. l.bytes.items
+            ≡ line before.now number (record_of moment.now change.now)) }
+        ensures digest { IfOk result (λ l. l.digest
+            ≡ digest before.now number (record_of moment.now change.now)) }
+    {
+        let number = format!(in alloc; "{number}")?;
+        let texts = Texts::of(number.as_str(), moment.as_str(), change);
+        let mut bytes = front(alloc, texts)?;
+        let digest = digest_of(before, bytes.as_slice());
+        bytes.extend_from_slice(&digest)?;
+        bytes.push(b'\n')?;
+        Ok(Line { bytes, digest })
+    }
+}
 
 /// The digests of records, each in lower-case hexadecimal.
 #[derive(Drop)]
@@ -33,47 +65,12 @@ impl Chain {
         }
     }
 
-    /// Adds the digest of the next record, and gives the bytes of that record. Only want of memory is an
-    /// error.
-    pub fn add(
-        &mut self,
-        alloc: Global,
-        moment: &Field,
-        change: &Change,
-    ) -> Result<Vec<u8>, AllocError>
-        ensures line { IfOk result (λ v. v.items
-            ≡ next_line self.old.digests.items (record_of moment.now change.now)) }
-        ensures digests { OnOk result (self.new.digests.items
-            ≡ self.old.digests.items
-            ++ next_digest self.old.digests.items (record_of moment.now change.now) ∷ []) }
+    /// Adds the digest of the record that comes next. Only want of memory is an error.
+    pub fn push(&mut self, digest: [u8; DIGITS]) -> Result<(), AllocError>
+        ensures { OnOk result (self.new.digests.items ≡ self.old.digests.items ++ digest ∷ []) }
     {
-        let number = format!(in alloc; "{}", self.digests.len() + 1)?;
-        let texts = Texts::of(number.as_str(), moment.as_str(), change);
-        let mut text = front(alloc, texts)?;
-        let digest = digest_of(self.last_digest(), text.as_slice());
-        text.extend_from_slice(&digest)?;
-        text.push(b'\n')?;
         self.digests.push(digest)?;
-        Ok(text)
-    }
-
-    /// Adds the digests of the records by which these changes are published at a moment, and gives the
-    /// bytes of these records. Only want of memory is an error.
-    pub fn add_all(
-        &mut self,
-        alloc: Global,
-        moment: &Field,
-        changes: &[Change],
-    ) -> Result<Vec<u8>, AllocError>
-        ensures { IfOk result (λ v. (c : Chained) → self.old.digests.items ≡ c.digests
-            → AddsLines c moment.now changes.now self.new.digests.items v.items) }
-    {
-        let mut lines = Vec::new(alloc);
-        for change in changes {
-            let line = self.add(alloc, moment, change)?;
-            lines.extend_from_slice(line.as_slice())?;
-        }
-        Ok(lines)
+        Ok(())
     }
 
     /// How many records there are.

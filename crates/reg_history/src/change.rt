@@ -193,12 +193,12 @@ impl Change {
     }
 
     /// The name of the registry that it is about; empty where it is of none.
-    pub fn registry(&self) -> &str
+    pub fn registry(&self) -> &Field
         ensures { result.now ≡ registry_of self.now }
     {
         match self {
-            Change::Made(fact) => fact.subject.registry.as_str(),
-            Change::Term(registry, _, _) => registry.as_str(),
+            Change::Made(fact) => &fact.subject.registry,
+            Change::Term(registry, _, _) => registry,
         }
     }
 

@@ -1,11 +1,11 @@
 //! Histories, as they are read and go on.
-ghost use Rattle.std.specs.Prelude.{◌≡◌, ◌++◌, ◌∷◌, ◌+◌, [], length, true, List, IfOk, IfErr, OnOk};
+ghost use Rattle.std.specs.Prelude.{◌≡◌, ◌++◌, ◌+◌, [], length, true, List, IfOk, IfErr, OnOk};
 ghost use Rattle.std.specs.Ordering.{is_le};
 ghost use Rattle.reg_maps.specs.Maps.{text_cmp};
 ghost use Rattle.reg_print.specs.Comparing.{Leaves};
-ghost use Rattle.reg_history.specs.Chain.{at, chained, record_of, says};
-ghost use Rattle.reg_history.specs.History.{AddsRecord, Continues, IsHistory, IsHistoryOf, IsWrongAfter, SaysJust, TakesRecord, TellsWrong, later, news};
-ghost use Rattle.reg_history.specs.Said.{TellsLoss};
+ghost use Rattle.reg_history.specs.Chain.{chained, record_of, says};
+ghost use Rattle.reg_history.specs.History.{AddsRecord, IsHistory, IsHistoryOf, IsWrongAfter, SaysJust, TakesRecord, TellsWrong, later};
+ghost use Rattle.reg_history.specs.Recording.{Aim, Awaits, IsBegun};
 ghost use Rattle.reg_history.specs.Unlike.{TellsUnlike, unlike_of};
 ghost use Rattle.reg_history.specs.declared.history.Unlike.TheVariants as unlike;
 ghost use Rattle.reg_history.specs.declared.history.Unreadable.TheVariants as un;
@@ -14,7 +14,9 @@ use crate::chain::Chain;
 use crate::change::{Change, Fact, Record, Subject};
 use crate::field::Field;
 use crate::moment::moment_text;
+use crate::overview::Overview;
 use crate::reading::Records;
+use crate::recorder::{Recorded, Recorder};
 use crate::said::{Said, Unrecorded, apply, changes_to};
 use std::alloc::{AllocError, Global};
 use std::collections::BTreeMap;
@@ -23,22 +25,14 @@ use std::collections::BTreeMap;
 pub const HEADER: &[u8] =
     b"Number,Moment,Register,Change,Value,Description,Policy,First,Expires,Held,Assignee,Digest\n";
 
-/// A history: its records, what they say, the digest of each, and the moment of the last. What they say
-/// shares its texts with them.
+/// A history: what its records say, the digest of each, what is shown of them, and the moment of the last.
+/// It does not keep the records themselves.
 #[derive(Drop)]
 pub struct History {
-    pub records: Vec<Record>,
     pub said: Said,
     pub chain: Chain,
+    pub overview: Overview,
     pub moment: Field,
-}
-
-/// What was added to a history: the bytes of the new records; and all records, with their digests.
-#[derive(Drop)]
-pub struct Added {
-    pub lines: Vec<u8>,
-    pub records: Vec<Record>,
-    pub chain: Chain,
 }
 
 /// Why a history does not say just what is published.
@@ -108,9 +102,9 @@ impl History {
         ensures { IfOk result (λ history. IsHistory history []) }
     {
         Ok(History {
-            records: Vec::new(alloc),
             said: BTreeMap::new(alloc),
             chain: Chain::new(alloc),
+            overview: Overview::new(alloc),
             moment: Field::new(alloc, "")?,
         })
     }
@@ -174,43 +168,32 @@ impl History {
             → is_le (text_cmp self.old.moment moment) ≡ true
             → AddsRecord self.new records (record_of moment change) v.items) }
     {
-        let line = self.chain.add(alloc, &moment, &change)?;
-        self.records.push(Record {
-            moment: moment.copy()?,
-            change: change.copy()?,
-        })?;
+        let line = self.overview.add(alloc, &moment, &change)?;
+        self.chain.push(line.digest)?;
         apply(&mut self.said, change)?;
         self.moment = moment;
-        Ok(line)
+        Ok(line.bytes)
     }
 
-    /// What is added to a history at a moment, in seconds since 1970-01-01T00:00:00Z, so that it says these
-    /// facts; or what was lost.
-    pub fn go_on(self, alloc: Global, moment: u64, facts: &[Fact]) -> Result<Added, Unrecorded>
-        ensures continues { IfOk result (λ added. (records : List Record)
-            → IsHistory self records
-            → Continues records moment facts.now added.lines.items added.chain.digests.items) }
-        ensures records { IfOk result (λ added. (records : List Record)
-            → IsHistory self records
-            → added.records.items ≡ records ++ news records moment facts.now) }
-        ensures lost { IfErr result (λ why. (records : List Record)
-            → IsHistory self records → TellsLoss (says records) facts.now why) }
+    /// The history goes on at a moment, in seconds since 1970-01-01T00:00:00Z, behind these bytes, which are
+    /// its own. Its records are in the recorder, their digests no more. Only want of memory is an error.
+    pub fn go_on(self, alloc: Global, text: Vec<u8>, moment: u64) -> Result<Recorder, AllocError>
+        ensures { IfOk result (λ recorder. (aim : Aim) → IsBegun aim self text.items moment
+            → Awaits aim recorder aim.facts) }
     {
         let History {
-            records,
             said,
-            mut chain,
+            chain,
+            overview,
             moment: last,
         } = self;
-        let changes = changes_to(alloc, said, facts)?;
+        drop(chain);
         let now = moment_text(alloc, moment)?;
-        let moment = later(last, Field::new(alloc, now.as_str())?);
-        let lines = chain.add_all(alloc, &moment, changes.as_slice())?;
-        let records = with_changes(records, &moment, changes.as_slice())?;
-        Ok(Added {
-            lines,
-            records,
-            chain,
+        Ok(Recorder {
+            whole: Recorded { text, overview },
+            said,
+            moment: later(last, Field::new(alloc, now.as_str())?),
+            lost: None,
         })
     }
 
@@ -223,9 +206,9 @@ impl History {
             → IsHistory self records → TellsUnlike (says records) facts.now why) }
     {
         let History {
-            records: _,
             said,
             chain,
+            overview: _,
             moment: _,
         } = self;
         let changes = changes_to(alloc, said, facts)?;
@@ -234,23 +217,6 @@ impl History {
             Some(change) => Err(Unlike::Subject(change.subject()?)),
         }
     }
-}
-
-// Records, and those of these changes, which are published at a moment.
-fn with_changes(
-    mut records: Vec<Record>,
-    moment: &Field,
-    changes: &[Change],
-) -> Result<Vec<Record>, AllocError>
-    ensures { IfOk result (λ v. v.items ≡ records.items ++ at moment.now changes.now) }
-{
-    for change in changes {
-        records.push(Record {
-            moment: moment.copy()?,
-            change: change.copy()?,
-        })?;
-    }
-    Ok(records)
 }
 
 // Whether a moment is not earlier than the last.

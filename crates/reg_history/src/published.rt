@@ -1,11 +1,12 @@
 //! What is published, as facts.
 ghost use Rattle.std.specs.Prelude.{◌≡◌, ◌++◌, [], map, IfOk, OnOk};
-ghost use Rattle.std.specs.List.{flat_map};
 ghost use Rattle.reg_early.specs.DayText.{text_of_day};
-ghost use Rattle.reg_history.specs.Published.{block_fact, entry_fact, no_details, page_facts, prefix_fact, published_facts, range_fact, standing_of};
+ghost use Rattle.reg_history.specs.Published.{block_fact, entry_fact, no_details, page_facts, prefix_fact, range_fact, standing_of};
+ghost use Rattle.reg_history.specs.Recording.{Took};
 
 use crate::change::{Class, Details, Fact, Standing, Subject};
 use crate::field::Field;
+use crate::recorder::Takes;
 use reg_blocks::block::Block;
 use reg_blocks::prefix;
 use reg_core::entry::PageEntry;
@@ -18,33 +19,12 @@ use reg_print::note::note_text;
 use reg_ranges::range::Range;
 use std::alloc::{AllocError, Global};
 
-/// All that is published: the registries, of which each has its ranges and then its entries by value;
-/// then the prefixes of the pool, and then the blocks. Only want of memory is an error.
-pub fn facts_of(
-    alloc: Global,
-    pages: &[Page],
-    prefixes: &[u32],
-    rows: &[Listed],
-) -> Result<Vec<Fact>, AllocError>
-    ensures { IfOk result
-        (λ v. v.items ≡ published_facts pages.now prefixes.now rows.now) }
-{
-    let mut facts = Vec::new(alloc);
-    let none = Field::new(alloc, "")?;
-    for page in pages {
-        push_page(alloc, &mut facts, &none, page)?;
-    }
-    push_prefixes(alloc, &mut facts, &none, prefixes)?;
-    push_blocks(alloc, &mut facts, &none, rows)?;
-    Ok(facts)
-}
-
 /// Adds the facts of a registry to others. Only want of memory is an error.
 pub fn add_page(alloc: Global, facts: &mut Vec<Fact>, page: &Page) -> Result<(), AllocError>
     ensures { OnOk result (facts.new.items ≡ facts.old.items ++ page_facts page.now) }
 {
-    let none = Field::new(alloc, "")?;
-    push_page(alloc, facts, &none, page)
+    take_page(alloc, facts, page)?;
+    Ok(())
 }
 
 /// Adds the facts of the prefixes of a pool to others. Only want of memory is an error.
@@ -56,8 +36,8 @@ pub fn add_prefixes(
     ensures { OnOk result
         (facts.new.items ≡ facts.old.items ++ map prefix_fact prefixes.now) }
 {
-    let none = Field::new(alloc, "")?;
-    push_prefixes(alloc, facts, &none, prefixes)
+    take_prefixes(alloc, facts, prefixes)?;
+    Ok(())
 }
 
 /// Adds the facts of blocks to others. Only want of memory is an error.
@@ -65,87 +45,85 @@ pub fn add_blocks(alloc: Global, facts: &mut Vec<Fact>, rows: &[Listed]) -> Resu
     ensures { OnOk result
         (facts.new.items ≡ facts.old.items ++ map (λ row. block_fact row.block) rows.now) }
 {
-    let none = Field::new(alloc, "")?;
-    push_blocks(alloc, facts, &none, rows)
+    take_blocks(alloc, facts, rows)?;
+    Ok(())
 }
 
-// Adds the facts of a registry. `none` is the empty field.
-fn push_page(
-    alloc: Global,
-    facts: &mut Vec<Fact>,
-    none: &Field,
-    page: &Page,
-) -> Result<(), AllocError>
-    requires { none.now ≡ [] }
-    ensures { OnOk result (facts.new.items ≡ facts.old.items ++ page_facts page.now) }
+/// Has the facts of a registry taken: its ranges, and then its entries by value. Only want of memory is an
+/// error.
+pub fn take_page<T: Takes>(alloc: Global, taker: &mut T, page: &Page) -> Result<(), AllocError>
+    ensures { OnOk result (Took T.Awaits taker.old taker.new (page_facts page.now)) }
 {
+    let none = Field::new(alloc, "")?;
     let registry = Field::new(alloc, page.name.as_str())?;
-    push_ranges(alloc, facts, none, &registry, page.table.ranges())?;
-    push_entries(alloc, facts, none, &registry, page.entries.as_slice())
+    take_ranges(alloc, taker, &none, &registry, page.table.ranges())?;
+    take_entries(alloc, taker, &none, &registry, page.entries.as_slice())?;
+    Ok(())
 }
 
-fn push_ranges(
+// Has the facts of ranges taken. `none` is the empty field.
+fn take_ranges<T: Takes>(
     alloc: Global,
-    facts: &mut Vec<Fact>,
+    taker: &mut T,
     none: &Field,
     registry: &Field,
     ranges: &[Range],
 ) -> Result<(), AllocError>
     requires { none.now ≡ [] }
     ensures { OnOk result
-        (facts.new.items ≡ facts.old.items ++ map (range_fact registry.now) ranges.now) }
+        (Took T.Awaits taker.old taker.new (map (range_fact registry.now) ranges.now)) }
 {
     for range in ranges {
-        facts.push(range_fact(alloc, none, registry, range)?)?;
+        taker.take(alloc, range_fact(alloc, none, registry, range)?)?;
     }
     Ok(())
 }
 
-fn push_entries(
+fn take_entries<T: Takes>(
     alloc: Global,
-    facts: &mut Vec<Fact>,
+    taker: &mut T,
     none: &Field,
     registry: &Field,
     entries: &[PageEntry],
 ) -> Result<(), AllocError>
     requires { none.now ≡ [] }
     ensures { OnOk result
-        (facts.new.items ≡ facts.old.items ++ map (entry_fact registry.now) entries.now) }
+        (Took T.Awaits taker.old taker.new (map (entry_fact registry.now) entries.now)) }
 {
     for entry in entries {
-        facts.push(entry_fact(alloc, none, registry, entry)?)?;
+        taker.take(alloc, entry_fact(alloc, none, registry, entry)?)?;
     }
     Ok(())
 }
 
-fn push_prefixes(
+/// Has the facts of the prefixes of a pool taken. Only want of memory is an error.
+pub fn take_prefixes<T: Takes>(
     alloc: Global,
-    facts: &mut Vec<Fact>,
-    none: &Field,
+    taker: &mut T,
     prefixes: &[u32],
 ) -> Result<(), AllocError>
-    requires { none.now ≡ [] }
     ensures { OnOk result
-        (facts.new.items ≡ facts.old.items ++ map prefix_fact prefixes.now) }
+        (Took T.Awaits taker.old taker.new (map prefix_fact prefixes.now)) }
 {
+    let none = Field::new(alloc, "")?;
     for prefix in prefixes {
-        facts.push(prefix_fact(alloc, none, *prefix)?)?;
+        taker.take(alloc, prefix_fact(alloc, &none, *prefix)?)?;
     }
     Ok(())
 }
 
-fn push_blocks(
+/// Has the facts of blocks taken. Only want of memory is an error.
+pub fn take_blocks<T: Takes>(
     alloc: Global,
-    facts: &mut Vec<Fact>,
-    none: &Field,
+    taker: &mut T,
     rows: &[Listed],
 ) -> Result<(), AllocError>
-    requires { none.now ≡ [] }
     ensures { OnOk result
-        (facts.new.items ≡ facts.old.items ++ map (λ row. block_fact row.block) rows.now) }
+        (Took T.Awaits taker.old taker.new (map (λ row. block_fact row.block) rows.now)) }
 {
+    let none = Field::new(alloc, "")?;
     for row in rows {
-        facts.push(block_fact(alloc, none, &row.block)?)?;
+        taker.take(alloc, block_fact(alloc, &none, &row.block)?)?;
     }
     Ok(())
 }

@@ -4,23 +4,21 @@ use crate::field::Field;
 use crate::texts::Texts;
 use csv::{ByteRecord, ErrorKind, Reader, ReaderBuilder};
 use std::alloc::{AllocError, Global};
+use std::collections::BTreeSet;
 
 /// The records of a text, one after the other.
 #[derive(Drop)]
 pub(crate) struct Records<'a> {
-    alloc: Global,
-    // The empty field, which all that are empty share.
-    none: Field,
     reader: Reader<&'a [u8]>,
     row: ByteRecord,
+    fields: Fields,
 }
 
 impl<'a> Records<'a> {
     /// Those of a text without the record of its columns. Only want of memory is an error.
     pub fn of(alloc: Global, text: &'a [u8]) -> Result<Self, AllocError> {
         Ok(Records {
-            alloc,
-            none: Field::new(alloc, "")?,
+            fields: Fields::new(alloc)?,
             reader: ReaderBuilder::new()
                 .has_headers(false)
                 .from_reader(alloc, text),
@@ -32,7 +30,10 @@ impl<'a> Records<'a> {
     /// is an error.
     pub fn next(&mut self) -> Result<Option<Record>, AllocError> {
         match self.reader.read_byte_record(&mut self.row) {
-            Ok(true) => self.record(),
+            Ok(true) => match texts_of(&self.row) {
+                Some(texts) => self.fields.record(&texts),
+                None => Ok(None),
+            },
             Ok(false) => Ok(None),
             Err(error) => match error.into_kind() {
                 ErrorKind::OutOfMemory => Err(AllocError),
@@ -40,22 +41,37 @@ impl<'a> Records<'a> {
             },
         }
     }
+}
 
-    // The record of the row.
-    fn record(&self) -> Result<Option<Record>, AllocError> {
-        let Some(texts) = texts_of(&self.row) else {
-            return Ok(None);
-        };
-        let Some(change) = self.change(&texts)? else {
+// The fields of records. Equal fields of columns with few texts share them.
+#[derive(Drop)]
+struct Fields {
+    alloc: Global,
+    none: Field,
+    known: BTreeSet<Field>,
+}
+
+impl Fields {
+    fn new(alloc: Global) -> Result<Self, AllocError> {
+        Ok(Fields {
+            alloc,
+            none: Field::new(alloc, "")?,
+            known: BTreeSet::new(alloc),
+        })
+    }
+
+    // The record of these texts, if they are of one.
+    fn record(&mut self, texts: &Texts<'_>) -> Result<Option<Record>, AllocError> {
+        let Some(change) = self.change(texts)? else {
             return Ok(None);
         };
         Ok(Some(Record {
-            moment: self.field(texts.moment)?,
+            moment: self.shared(texts.moment)?,
             change,
         }))
     }
 
-    fn change(&self, texts: &Texts<'_>) -> Result<Option<Change>, AllocError> {
+    fn change(&mut self, texts: &Texts<'_>) -> Result<Option<Change>, AllocError> {
         if texts.change == "term" {
             return Ok(Some(self.term(texts)?));
         }
@@ -65,44 +81,55 @@ impl<'a> Records<'a> {
         }
     }
 
-    fn term(&self, texts: &Texts<'_>) -> Result<Change, AllocError> {
+    fn term(&mut self, texts: &Texts<'_>) -> Result<Change, AllocError> {
         Ok(Change::Term(
-            self.field(texts.registry)?,
-            self.field(texts.value)?,
+            self.shared(texts.registry)?,
+            self.own(texts.value)?,
             self.standing(texts)?,
         ))
     }
 
-    fn fact(&self, class: Class, texts: &Texts<'_>) -> Result<Fact, AllocError> {
+    fn fact(&mut self, class: Class, texts: &Texts<'_>) -> Result<Fact, AllocError> {
         Ok(Fact {
             subject: Subject {
-                registry: self.field(texts.registry)?,
+                registry: self.shared(texts.registry)?,
                 class,
-                value: self.field(texts.value)?,
+                value: self.own(texts.value)?,
             },
             details: Details {
-                description: self.field(texts.description)?,
-                policy: self.field(texts.policy)?,
-                first: self.field(texts.first)?,
+                description: self.own(texts.description)?,
+                policy: self.shared(texts.policy)?,
+                first: self.shared(texts.first)?,
                 standing: self.standing(texts)?,
-                assignee: self.field(texts.assignee)?,
+                assignee: self.shared(texts.assignee)?,
             },
         })
     }
 
-    fn standing(&self, texts: &Texts<'_>) -> Result<Standing, AllocError> {
+    fn standing(&mut self, texts: &Texts<'_>) -> Result<Standing, AllocError> {
         Ok(Standing {
-            expires: self.field(texts.expires)?,
-            held: self.field(texts.held)?,
+            expires: self.shared(texts.expires)?,
+            held: self.shared(texts.held)?,
         })
     }
 
-    fn field(&self, text: &str) -> Result<Field, AllocError> {
+    // A field with a text that few others have.
+    fn own(&self, text: &str) -> Result<Field, AllocError> {
         if text.is_empty() {
             self.none.copy()
         } else {
             Field::new(self.alloc, text)
         }
+    }
+
+    // A field with a text that many have.
+    fn shared(&mut self, text: &str) -> Result<Field, AllocError> {
+        let field = self.own(text)?;
+        if let Some(known) = self.known.get(&field) {
+            return known.copy();
+        }
+        self.known.insert(field.copy()?)?;
+        Ok(field)
     }
 }
 

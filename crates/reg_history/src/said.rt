@@ -1,5 +1,5 @@
 //! What a history says of each subject, and what has to be recorded of facts.
-ghost use Rattle.std.specs.Prelude.{◌≡◌, ◌++◌, true, IfOk, IfErr, OnOk, OnErr};
+ghost use Rattle.std.specs.Prelude.{◌≡◌, ◌++◌, true, IfOk, IfErr, OnOk, OnErr, option_to_list};
 ghost use Rattle.reg_history.specs.Replay.{NothingIsLost, StandsIf, after, changes_to, facts_say, is_no_earlier, nothing, recorded, replay, same_given, same_standing, stands, with_standing_at, SaysAfter};
 ghost use Rattle.reg_history.specs.Subjects.{is_entry};
 ghost use Rattle.reg_history.specs.Said.{Says, said_by, DoesNotStand, TellsLoss};
@@ -50,7 +50,8 @@ pub fn changes_to(alloc: Global, mut said: Said, facts: &[Fact]) -> Result<Vec<C
     let mut changes = Vec::new(alloc);
     for fact in facts {
         let before = said.remove(&fact.subject);
-        record(&mut changes, before, fact)?;
+        let change = change_to(before, fact)?;
+        push_if(&mut changes, change)?;
     }
     match said.pop_first() {
         None => Ok(changes),
@@ -58,24 +59,33 @@ pub fn changes_to(alloc: Global, mut said: Said, facts: &[Fact]) -> Result<Vec<C
     }
 }
 
-// Adds what is recorded of a fact, by what was said of its subject.
-fn record(changes: &mut Vec<Change>, before: Option<Details>, fact: &Fact) -> Result<(), Unrecorded>
-    ensures changes { OnOk result
-        (changes.new.items ≡ changes.old.items ++ recorded before fact.now) }
+// Adds a change, if there is one.
+fn push_if(changes: &mut Vec<Change>, change: Option<Change>) -> Result<(), AllocError>
+    ensures { OnOk result (changes.new.items ≡ changes.old.items ++ option_to_list change) }
+{
+    if let Some(change) = change {
+        changes.push(change)?;
+    }
+    Ok(())
+}
+
+/// What has to be recorded of a fact, if anything has to be, by what was said of its subject; or what was
+/// lost.
+pub(crate) fn change_to(before: Option<Details>, fact: &Fact) -> Result<Option<Change>, Unrecorded>
+    ensures change { IfOk result (λ change. option_to_list change ≡ recorded before fact.now) }
     ensures stands { OnOk result (StandsIf before fact.now) }
     ensures lost { IfErr result (DoesNotStand before fact.now) }
 {
     let Some(before) = before else {
-        changes.push(Change::Made(fact.copy()?))?;
-        return Ok(());
+        return Ok(Some(Change::Made(fact.copy()?)));
     };
     if !stands(&before, fact) {
         return Err(Unrecorded::Lost(fact.subject.copy()?));
     }
-    if !same_standing(&before.standing, &fact.details.standing) {
-        changes.push(term_of(fact)?)?;
+    if same_standing(&before.standing, &fact.details.standing) {
+        return Ok(None);
     }
-    Ok(())
+    Ok(Some(term_of(fact)?))
 }
 
 // The change by which the entry of a fact has its standing.

@@ -1,7 +1,6 @@
 pub mod Asked
 pub mod Copying
 pub mod Found
-pub mod Goes
 pub mod Marks
 pub mod Placed
 pub mod ReadPages

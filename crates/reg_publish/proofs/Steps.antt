@@ -1,6 +1,6 @@
 -- What was done to a disk, one step after the other.
-use Rattle.std.proofs.Common.{◌≡◌, ◌⊎◌, ℕ, List, [], ◌∷◌, ◌++◌, inl, inr, refl, sym, ap, ◌∙◌, append_assoc, append-nil}
-use Rattle.reg_publish.specs.Disk.{DiskStep, Removed, Created, Kept, Renamed, NamesKept, FileNames, begins, takes_place, replaces, IsBeside, AreBeside, StaysBeside, IsStopped, IsLeft}
+use Rattle.std.proofs.Common.{◌≡◌, ℕ, List, [], ◌∷◌, ◌++◌, inl, inr, refl, sym, ap, ◌∙◌, append_assoc, append-nil}
+use Rattle.reg_publish.specs.Disk.{DiskStep, Removed, Kept, Renamed, NamesKept, FileNames, begins, takes_place, replaces, IsBeside, AreBeside, StaysBeside, IsStopped, IsLeft}
 
 -- ---- Beside a place
 

@@ -1,6 +1,6 @@
 -- Bytes that are compared and copied.
-use Rattle.std.specs.Prelude.{◌≡◌, ℕ, List, [], ◌++◌, take, length, IfSome, Option, Some, None}
-use Rattle.std.specs.Io.KnownBytes.{Consumes, IsAtEnd}
+use Rattle.std.specs.Prelude.{◌≡◌, ℕ, List, ◌++◌, take, length, IfSome, Option, Some, None}
+use Rattle.std.specs.Io.KnownBytes.{Consumes}
 
 -- Bytes that were to be given next were compared with those that a reader gives. The reader gives them
 -- all and no other; or, where so many are the same, the others were gathered or are still to be given.

@@ -1,5 +1,5 @@
 -- What a folder has of earlier publications.
-use Rattle.std.specs.Prelude.{◌≡◌, ◌⊎◌, ⊤, ℕ, List, [], ◌∷◌, ◌++◌, codes, Option, Some, None}
+use Rattle.std.specs.Prelude.{◌≡◌, ◌⊎◌, ⊤, ℕ, List, [], ◌++◌, codes, Option, Some, None}
 use Rattle.reg_history.specs.Chain.{HasDigest, chained, header_line}
 use Rattle.reg_history.specs.declared.change.Record.{Record}
 use Rattle.reg_ranges.specs.Numbers.{read_number}

@@ -1,9 +1,10 @@
 //! Publishes the last changes and the indexes.
-ghost use Rattle.std.specs.Prelude.{◌≡◌, length, map, IfOk, OnOk};
+ghost use Rattle.std.specs.Prelude.{◌≡◌, List, map, IfOk, OnOk};
 ghost use Rattle.std.specs.Option.{option_copied};
 ghost use Rattle.reg_publish.specs.Folder.{PlacesSummed};
 ghost use Rattle.reg_publish.specs.Told.{pages_of};
-ghost use Rattle.reg_history.specs.Recorded.{last_changed as changed_by};
+ghost use Rattle.reg_history.specs.Chain.{chained};
+ghost use Rattle.reg_history.specs.Overview.{IsOverview, moment_by};
 ghost use Rattle.reg_site.specs.IndexTree.{row_of};
 ghost use Rattle.reg_site.specs.Site.{change_files, index_files, site_title as title_by};
 ghost use Rattle.reg_site.specs.Summary.{summary};
@@ -15,16 +16,15 @@ use crate::unpublished::Unpublished;
 use reg_blocks::pool::Pool;
 use reg_core::holding::Listed;
 use reg_core::told::Told;
-use reg_history::chain::Chain;
 use reg_history::change::Record;
 use reg_history::moment::moment_text;
-use reg_history::recorded::last_changed;
+use reg_history::overview::Overview;
 use reg_notes::note::Note;
 use reg_site::changes::{changes_feed, changes_page};
 use reg_site::files::File;
 use reg_site::index::index_page;
 use reg_site::index_tree::{Register, index_tree};
-use reg_site::recent::{feed_id, first_digest, last_changes, text_of};
+use reg_site::recent::{feed_id, last_changes, text_of};
 use reg_site::records::title_of;
 use reg_site::summary::Summary;
 use reg_site::sums::Sums;
@@ -36,19 +36,17 @@ pub(crate) fn publish_changes<F: Folder>(
     folder: &mut F,
     sums: &mut Sums,
     authority: Option<&Note>,
-    records: &[Record],
-    chain: &Chain,
+    overview: &Overview,
 ) -> Result<(), Unpublished>
-    requires { length chain.now.digests.items ≡ length records.now }
-    ensures { OnOk result (PlacesSummed F.Puts folder.old folder.new sums.old sums.new
-        (change_files (option_copied authority.entry) records.now chain.now.digests.items)) }
+    ensures { OnOk result ((records : List Record) → IsOverview overview.now records
+        → PlacesSummed F.Puts folder.old folder.new sums.old sums.new
+        (change_files (option_copied authority.entry) records (chained records).digests)) }
 {
-    let digests = chain.digests.as_slice();
-    let changes = last_changes(alloc, records, digests)?;
+    let changes = last_changes(alloc, overview)?;
     let html = changes_page(alloc, authority, changes.as_slice())?;
     put(alloc, folder, sums, File::ChangesPage, &html)?;
     drop(html);
-    let id = feed_id(alloc, first_digest(digests))?;
+    let id = feed_id(alloc, overview.first_digest())?;
     let feed = changes_feed(
         alloc,
         site_title(authority),
@@ -67,13 +65,14 @@ pub(crate) fn publish_indexes<F: Folder>(
     sums: &mut Sums,
     authority: Option<&Note>,
     registers: &[Register<'_>],
-    chain: &Chain,
+    overview: &Overview,
     pool: &Pool,
     blocks: &[Listed],
     moment: u64,
 ) -> Result<(), Unpublished>
-    ensures { OnOk result (PlacesSummed F.Puts folder.old folder.new sums.old sums.new
-        (index_files (option_copied authority.entry) chain.now.digests.items (map row_of registers.now)
+    ensures { OnOk result ((records : List Record) → IsOverview overview.now records
+        → PlacesSummed F.Puts folder.old folder.new sums.old sums.new
+        (index_files (option_copied authority.entry) (chained records).digests (map row_of registers.now)
         pool.now blocks.now moment)) }
 {
     let html = index_page(alloc, authority, registers, pool, blocks, moment)?;
@@ -84,8 +83,8 @@ pub(crate) fn publish_indexes<F: Folder>(
         alloc,
         site_title(authority),
         now.as_str(),
-        chain.count(),
-        text_of(chain.last_digest()),
+        overview.count,
+        text_of(overview.last_digest()),
         registers,
     )?;
     put(alloc, folder, sums, File::IndexTree, &tree)?;
@@ -110,21 +109,21 @@ pub(crate) fn summaries(alloc: Global, pages: &[Told]) -> Result<Vec<Summary>, U
     Ok(summaries)
 }
 
-/// Registries beside others, each with the moment of its last change by these records. Only want of
-/// memory is an error.
+/// Registries beside others, each with the moment of its last change by a history. Only want of memory is
+/// an error.
 pub(crate) fn registers<'a>(
     alloc: Global,
     summaries: &'a [Summary],
-    records: &'a [Record],
+    overview: &'a Overview,
 ) -> Result<Vec<Register<'a>>, AllocError>
     ensures { IfOk result (λ v. map row_of v.items
-        ≡ map (λ s. (s, changed_by records.now s.name)) summaries.now) }
+        ≡ map (λ s. (s, moment_by overview.now.changed s.name)) summaries.now) }
 {
     let mut registers = Vec::new(alloc);
     for summary in summaries {
         registers.push(Register {
             summary,
-            changed: last_changed(records, summary.name.as_str()),
+            changed: overview.last_changed(alloc, summary.name.as_str())?,
         })?;
     }
     Ok(registers)

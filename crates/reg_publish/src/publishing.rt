@@ -1,12 +1,16 @@
 //! Publishes all files of a site.
-ghost use Rattle.std.specs.Prelude.{◌≡◌, [], length, IfErr, OnOk};
+ghost use Rattle.std.specs.Prelude.{◌≡◌, [], List, IfErr, IfOk, OnOk};
 ghost use Rattle.std.specs.Option.{option_copied};
+ghost use Rattle.reg_history.specs.Chain.{chained};
+ghost use Rattle.reg_history.specs.History.{IsHistory};
+ghost use Rattle.reg_history.specs.Overview.{IsOverview};
+ghost use Rattle.reg_history.specs.Recording.{Ends, IsRecorded};
 ghost use Rattle.reg_publish.specs.Faults.{IsOfHistory};
 ghost use Rattle.reg_publish.specs.Folder.{Places, PlacesSummed};
 ghost use Rattle.reg_publish.specs.Publishing.{PublishesSite};
-ghost use Rattle.reg_publish.specs.Told.{blocks_of, pages_of, prefixes_of};
+ghost use Rattle.reg_publish.specs.Told.{blocks_of, facts_told, pages_of, prefixes_of};
 ghost use Rattle.reg_site.specs.Noted.{noted_in};
-ghost use Rattle.reg_site.specs.Site.{files_by, index_files, rows_by, steady_files};
+ghost use Rattle.reg_site.specs.Site.{index_files, rows_by, site_files, steady_files};
 
 use crate::earlier::{Earlier, read_earlier};
 use crate::faults::PublishFault;
@@ -18,14 +22,19 @@ use crate::registries::{publish_blocks, publish_pool, publish_registries};
 use crate::source::Source;
 use crate::told::{AllTold, ask_all, blocks_in, page_in, pool_in};
 use crate::unpublished::Unpublished;
-use reg_history::chain::Chain;
 use reg_history::change::Record;
-use reg_history::history::Added;
+use reg_history::history::History;
+use reg_history::overview::Overview;
+use reg_history::recorder::Recorded;
 use reg_notes::notes::Notes;
 use reg_site::files::File;
 use reg_site::noted::of_authority;
 use reg_site::sums::Sums;
 use std::alloc::Global;
+
+/// How many bytes are set aside for each new record, so that a long history grows where it is. What is not
+/// used is given no memory.
+const RECORD_BYTES: usize = 256;
 
 /// How much was published.
 #[derive(Debug, Drop)]
@@ -55,50 +64,54 @@ pub fn publish<S: Source, F: Folder>(
 {
     let told = ask_all(alloc, source, moment)?;
     let count = count_of(alloc, notes, &told)?;
-    let Earlier { mut text, history } = read_earlier(alloc, folder)?;
-    let facts = told.facts(alloc)?;
-    let added = history.go_on(alloc, moment, &facts)?;
-    drop(facts);
-    let Added {
-        lines,
-        records,
-        chain,
-    } = added;
-    text.extend_from_slice(lines.as_slice())?;
-    drop(lines);
-    publish_told(
-        alloc,
-        folder,
-        notes,
-        text.as_slice(),
-        records.as_slice(),
-        &chain,
-        &told,
-        moment,
-    )?;
+    let Earlier { text, history } = read_earlier(alloc, folder)?;
+    let recorded = go_on(alloc, history, text, moment, &told)?;
+    publish_told(alloc, folder, notes, &recorded, &told, moment)?;
     Ok(count)
 }
 
-// Publishes all files of what was told, by the text of the history, its records and its digests.
+// The history goes on behind its bytes by what was told.
+fn go_on(
+    alloc: Global,
+    history: History,
+    mut text: Vec<u8>,
+    moment: u64,
+    told: &AllTold,
+) -> Result<Recorded, PublishFault>
+    ensures { IfOk result (λ recorded. (records : List Record) → IsHistory history records
+        → (chained records).text ≡ text.items
+        → Ends (record { records = records; moment = moment; facts = facts_told told.now }) recorded) }
+{
+    let new = told.count()?.saturating_sub(history.said.len());
+    text.reserve(new.saturating_mul(RECORD_BYTES))?;
+    let mut recorder = history.go_on(alloc, text, moment)?;
+    told.tell(alloc, &mut recorder)?;
+    Ok(recorder.end()?)
+}
+
+// Publishes all files of what was told, with this history.
 fn publish_told<F: Folder>(
     alloc: Global,
     folder: &mut F,
     notes: Option<&Notes>,
-    text: &[u8],
-    records: &[Record],
-    chain: &Chain,
+    recorded: &Recorded,
     told: &AllTold,
     moment: u64,
 ) -> Result<(), Unpublished>
-    requires { length chain.now.digests.items ≡ length records.now }
-    ensures { OnOk result (Places F.Puts folder.old folder.new (files_by (option_copied notes.entry)
-        text.now records.now chain.now.digests.items (pages_of told.now.pages.items)
-        (prefixes_of told.now.pool) (blocks_of told.now.blocks) moment)) }
+    ensures { OnOk result ((records : List Record) → IsRecorded recorded.now records
+        → Places F.Puts folder.old folder.new (site_files (option_copied notes.entry) records
+        (pages_of told.now.pages.items) (prefixes_of told.now.pool) (blocks_of told.now.blocks) moment)) }
 {
     let mut sums = Sums::new(alloc);
-    publish_steady(alloc, folder, &mut sums, notes, text, records, chain, told)?;
+    publish_steady(alloc, folder, &mut sums, notes, recorded, told)?;
     publish_last(
-        alloc, folder, &mut sums, notes, records, chain, told, moment,
+        alloc,
+        folder,
+        &mut sums,
+        notes,
+        &recorded.overview,
+        told,
+        moment,
     )?;
     put_sums(alloc, folder, sums)?;
     Ok(())
@@ -110,22 +123,21 @@ fn publish_steady<F: Folder>(
     folder: &mut F,
     sums: &mut Sums,
     notes: Option<&Notes>,
-    text: &[u8],
-    records: &[Record],
-    chain: &Chain,
+    recorded: &Recorded,
     told: &AllTold,
 ) -> Result<(), Unpublished>
-    requires { length chain.now.digests.items ≡ length records.now }
-    ensures { OnOk result (PlacesSummed F.Puts folder.old folder.new sums.old sums.new
-        (steady_files (option_copied notes.entry) text.now records.now chain.now.digests.items
+    ensures { OnOk result ((records : List Record) → IsRecorded recorded.now records
+        → PlacesSummed F.Puts folder.old folder.new sums.old sums.new
+        (steady_files (option_copied notes.entry) (chained records).text records (chained records).digests
         (pages_of told.now.pages.items) (prefixes_of told.now.pool) (blocks_of told.now.blocks))) }
 {
     let authority = of_authority(notes);
-    put(alloc, folder, sums, File::Changes, text)?;
-    publish_registries(alloc, folder, sums, notes, records, told.pages.as_slice())?;
+    let overview = &recorded.overview;
+    put(alloc, folder, sums, File::Changes, recorded.text.as_slice())?;
+    publish_registries(alloc, folder, sums, notes, overview, told.pages.as_slice())?;
     publish_blocks(alloc, folder, sums, authority, blocks_in(&told.blocks)?)?;
     publish_pool(alloc, folder, sums, pool_in(&told.pool)?)?;
-    publish_changes(alloc, folder, sums, authority, records, chain)?;
+    publish_changes(alloc, folder, sums, authority, overview)?;
     Ok(())
 }
 
@@ -135,25 +147,25 @@ fn publish_last<F: Folder>(
     folder: &mut F,
     sums: &mut Sums,
     notes: Option<&Notes>,
-    records: &[Record],
-    chain: &Chain,
+    overview: &Overview,
     told: &AllTold,
     moment: u64,
 ) -> Result<(), Unpublished>
-    ensures { OnOk result (PlacesSummed F.Puts folder.old folder.new sums.old sums.new
-        (index_files (noted_in (option_copied notes.entry) []) chain.now.digests.items
-        (rows_by records.now (pages_of told.now.pages.items)) (prefixes_of told.now.pool)
+    ensures { OnOk result ((records : List Record) → IsOverview overview.now records
+        → PlacesSummed F.Puts folder.old folder.new sums.old sums.new
+        (index_files (noted_in (option_copied notes.entry) []) (chained records).digests
+        (rows_by records (pages_of told.now.pages.items)) (prefixes_of told.now.pool)
         (blocks_of told.now.blocks) moment)) }
 {
     let summaries = summaries(alloc, told.pages.as_slice())?;
-    let registers = registers(alloc, &summaries, records)?;
+    let registers = registers(alloc, &summaries, overview)?;
     publish_indexes(
         alloc,
         folder,
         sums,
         of_authority(notes),
         &registers,
-        chain,
+        overview,
         pool_in(&told.pool)?,
         blocks_in(&told.blocks)?,
         moment,

@@ -1,8 +1,9 @@
 //! Publishes the files of registries, of blocks and of the pool.
-ghost use Rattle.std.specs.Prelude.{◌≡◌, ◌++◌, OnOk, IfOk};
+ghost use Rattle.std.specs.Prelude.{◌≡◌, ◌++◌, List, OnOk, IfOk};
 ghost use Rattle.std.specs.List.{flat_map};
 ghost use Rattle.std.specs.Option.{option_copied};
 ghost use Rattle.reg_core.specs.declared.told.Told.TheVariants as tells;
+ghost use Rattle.reg_history.specs.Overview.{IsOverview};
 ghost use Rattle.reg_publish.specs.Folder.{PlacesSummed};
 ghost use Rattle.reg_publish.specs.Told.{pages_of};
 ghost use Rattle.reg_site.specs.Blocks.{assignments_text, blocks_page};
@@ -22,7 +23,7 @@ use reg_core::page::Page;
 use reg_core::reply::Reply;
 use reg_core::told::Told;
 use reg_history::change::Record;
-use reg_history::recorded::last_changed;
+use reg_history::overview::Overview;
 use reg_notes::note::Note;
 use reg_notes::notes::Notes;
 use reg_print::answer::{Answer, body_of};
@@ -44,14 +45,15 @@ pub(crate) fn publish_registries<F: Folder>(
     folder: &mut F,
     sums: &mut Sums,
     notes: Option<&Notes>,
-    records: &[Record],
+    overview: &Overview,
     pages: &[Told],
 ) -> Result<(), Unpublished>
-    ensures { OnOk result (PlacesSummed F.Puts folder.old folder.new sums.old sums.new
-        (flat_map (page_files (option_copied notes.entry) records.now) (pages_of pages.now))) }
+    ensures { OnOk result ((records : List Record) → IsOverview overview.now records
+        → PlacesSummed F.Puts folder.old folder.new sums.old sums.new
+        (flat_map (page_files (option_copied notes.entry) records) (pages_of pages.now))) }
 {
     for told in pages {
-        publish_registry(alloc, folder, sums, notes, records, page_in(told)?)?;
+        publish_registry(alloc, folder, sums, notes, overview, page_in(told)?)?;
     }
     Ok(())
 }
@@ -62,13 +64,14 @@ fn publish_registry<F: Folder>(
     folder: &mut F,
     sums: &mut Sums,
     notes: Option<&Notes>,
-    records: &[Record],
+    overview: &Overview,
     page: &Page,
 ) -> Result<(), Unpublished>
-    ensures { OnOk result (PlacesSummed F.Puts folder.old folder.new sums.old sums.new
-        (page_files (option_copied notes.entry) records.now page.now)) }
+    ensures { OnOk result ((records : List Record) → IsOverview overview.now records
+        → PlacesSummed F.Puts folder.old folder.new sums.old sums.new
+        (page_files (option_copied notes.entry) records page.now)) }
 {
-    let changed = last_changed(records, page.name.as_str());
+    let changed = overview.last_changed(alloc, page.name.as_str())?;
     put_page(alloc, folder, sums, notes, changed, page)?;
     put_listing(alloc, folder, sums, page)?;
     put_tree(alloc, folder, sums, page)?;

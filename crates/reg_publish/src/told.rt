@@ -1,8 +1,9 @@
 //! All that anybody is told by an office.
-ghost use Rattle.std.specs.Prelude.{◌≡◌, IfOk};
+ghost use Rattle.std.specs.Prelude.{◌≡◌, IfOk, OnOk};
 ghost use Rattle.std.specs.List.{flat_map};
 ghost use Rattle.reg_core.specs.declared.told.Told.TheVariants as tells;
 ghost use Rattle.reg_history.specs.Published.{page_facts};
+ghost use Rattle.reg_history.specs.Recording.{Took};
 ghost use Rattle.reg_publish.specs.Publishing.{Asks};
 ghost use Rattle.reg_publish.specs.Told.{AreTold, IsTold, facts_told, pages_of};
 
@@ -14,8 +15,8 @@ use reg_core::holding::Listed;
 use reg_core::page::Page;
 use reg_core::text::Name;
 use reg_core::told::Told;
-use reg_history::change::Fact;
-use reg_history::published::{add_blocks, add_page, add_prefixes};
+use reg_history::published::{take_blocks, take_page, take_prefixes};
+use reg_history::recorder::Takes;
 use std::alloc::Global;
 
 /// All that anybody is told by an office: each registry by name, the pool and the blocks.
@@ -64,25 +65,36 @@ fn ask_pages<S: Source>(
 }
 
 impl AllTold {
-    /// What is told, as the facts of a history. `Read` where something else is told.
-    pub fn facts(&self, alloc: Global) -> Result<Vec<Fact>, Unpublished>
-        ensures { IfOk result (λ facts. facts.items ≡ facts_told self.now) }
+    /// How many entries, prefixes and blocks are told. `Read` where something else is told.
+    pub fn count(&self) -> Result<usize, Unpublished> {
+        let mut count = pool_in(&self.pool)?.prefixes().len();
+        count = count.saturating_add(blocks_in(&self.blocks)?.len());
+        for told in &self.pages {
+            count = count.saturating_add(page_in(told)?.entries.as_slice().len());
+        }
+        Ok(count)
+    }
+
+    /// Has what is told taken as the facts of a history, one after the other. `Read` where something else is
+    /// told.
+    pub fn tell<T: Takes>(&self, alloc: Global, taker: &mut T) -> Result<(), Unpublished>
+        ensures { OnOk result (Took T.Awaits taker.old taker.new (facts_told self.now)) }
     {
-        let mut facts = facts_of_pages(alloc, self.pages.as_slice())?;
-        add_prefixes(alloc, &mut facts, pool_in(&self.pool)?.prefixes())?;
-        add_blocks(alloc, &mut facts, blocks_in(&self.blocks)?)?;
-        Ok(facts)
+        tell_pages(alloc, taker, self.pages.as_slice())?;
+        take_prefixes(alloc, taker, pool_in(&self.pool)?.prefixes())?;
+        take_blocks(alloc, taker, blocks_in(&self.blocks)?)?;
+        Ok(())
     }
 }
 
-fn facts_of_pages(alloc: Global, pages: &[Told]) -> Result<Vec<Fact>, Unpublished>
-    ensures { IfOk result (λ facts. facts.items ≡ flat_map page_facts (pages_of pages.now)) }
+fn tell_pages<T: Takes>(alloc: Global, taker: &mut T, pages: &[Told]) -> Result<(), Unpublished>
+    ensures { OnOk result
+        (Took T.Awaits taker.old taker.new (flat_map page_facts (pages_of pages.now))) }
 {
-    let mut facts = Vec::new(alloc);
     for told in pages {
-        add_page(alloc, &mut facts, page_in(told)?)?;
+        take_page(alloc, taker, page_in(told)?)?;
     }
-    Ok(facts)
+    Ok(())
 }
 
 // ---- What was told

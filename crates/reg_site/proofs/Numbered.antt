@@ -1,9 +1,13 @@
 -- Records with their numbers and their digests.
-use Rattle.std.proofs.Common.{◌≡◌, ℕ, ◌+◌, ◌<◌, List, [], ◌∷◌, ◌++◌, length, take, get_or, refl, sym, ap, ◌∙◌, arith}
-use Rattle.std.proofs.lemmas.List.{take_more}
+use Rattle.std.proofs.Common.{◌≡◌, ℕ, ◌+◌, ◌-◌, ◌<◌, List, [], ◌∷◌, ◌++◌, drop, length, map, reverse, take, get_or, refl, sym, ap, ◌∙◌, arith, length-drop}
+use Rattle.std.proofs.lemmas.List.{length-map, take_more}
+use Rattle.reg_history.specs.Chain.{chained}
+use Rattle.reg_history.specs.Overview.{IsOverview}
 use Rattle.reg_history.specs.declared.change.Record.{Record}
-use Rattle.reg_site.specs.Changes.{Changed}
-use Rattle.reg_site.specs.Recent.{changed, numbered}
+use Rattle.reg_history.specs.declared.overview.Overview.{Overview}
+use Rattle.reg_history.specs.declared.overview.Tied.{Tied}
+use Rattle.reg_history.proofs.Histories.{counted}
+use Rattle.reg_site.specs.Recent.{changed, last_changes, numbered}
 
 numbered_last : (n i : ℕ) (rs : List Record) (ds : List (List ℕ)) (r : Record) (d : List ℕ)
     → length rs ≡ i → length ds ≡ i
@@ -33,3 +37,23 @@ numbered_more n i rs ds r d h k is also first second =
     numbered_last n i (take i rs) (take i ds) r d first second
     ∙ ap (λ xs. numbered n xs (take i ds ++ d ∷ [])) (one_more rs i r h is)
     ∙ ap (λ ys. numbered n (take (i + 1) rs) ys) (one_more ds i d k also)
+
+-- the recent records of a history are its last changes
+pub recent_numbered : (o : Overview) (records : List Record) (before : ℕ) → IsOverview o records
+    → before ≡ o.count - length o.recent.items
+    → reverse (numbered (before + 1) (map (λ t. t.row) o.recent.items)
+    (map (λ t. t.digest) o.recent.items))
+    ≡ last_changes records (chained records).digests
+recent_numbered o records before is counts =
+    let ds = (chained records).digests in
+    let n : ℕ = length records - 200 in
+    let digests : length ds ≡ length records = counted records in
+    let few : length o.recent.items ≡ length records - n =
+    sym (length-map o.recent.items (λ (t : Tied). t.row)) ∙ ap length is.rows
+    ∙ length-drop n records in
+    let here : before ≡ n = omega (arith, counts, is.counted, digests, few) in
+    ap (λ m. reverse (numbered (m + 1) (map (λ (t : Tied). t.row) o.recent.items)
+    (map (λ (t : Tied). t.digest) o.recent.items))) here
+    ∙ ap (λ rs. reverse (numbered (n + 1) rs (map (λ (t : Tied). t.digest) o.recent.items))) is.rows
+    ∙ ap (λ xs. reverse (numbered (n + 1) (drop n records) xs)) is.digests
+    ∙ ap (λ m. reverse (numbered (n + 1) (drop n records) (drop (m - 200) ds))) digests

@@ -2,13 +2,11 @@
 use Rattle.std.proofs.Common.{◌≡◌, ◌⊎◌, ℕ, true, List, [], ◌∷◌, ◌++◌, codes, refl, ap, ◌∙◌, inl, inr, Option, Some, None}
 use Rattle.std.specs.FinMap.{get}
 use Rattle.std.specs.List.{AllByRecursion, flat_map}
-use Rattle.reg_blocks.specs.declared.size.Size.TheVariants.{MaL, MaM, MaS}
 use Rattle.reg_core.specs.Allowance.{◌>>=◌, or_refusal}
-use Rattle.reg_core.specs.Answer.{Answer, public_answer, reply_of, unchanged}
+use Rattle.reg_core.specs.Answer.{Answer, reply_of, unchanged}
 use Rattle.reg_core.specs.Names.{is_name}
 use Rattle.reg_core.specs.Page.{page}
 use Rattle.reg_core.specs.View.{Published}
-use Rattle.reg_core.specs.declared.command.PublicCommand.TheVariants.{Registry, RegistryListing}
 use Rattle.reg_core.specs.declared.holding.Listed.{Listed}
 use Rattle.reg_core.specs.declared.page.Page.{Page}
 use Rattle.reg_core.specs.declared.refusal.Refusal.TheVariants as no
@@ -21,11 +19,11 @@ use Rattle.reg_history.specs.declared.change.Record.{Record}
 use Rattle.reg_notes.specs.declared.note.Note.{Note}
 use Rattle.reg_notes.specs.declared.notes.Notes.{Notes}
 use Rattle.reg_ranges.specs.Tables.{Table}
-use Rattle.reg_site.specs.Laws.{FilesStayInside, IsNamedInside, ListingsAreOfPages, MomentsStandOnTheIndex, PrivateHoldersAreHidden, SameRegistersSameSite, SitesAreOfAnswers, StaysInside}
+use Rattle.reg_site.specs.Laws.{FilesStayInside, ListingsAreOfPages, MomentsStandOnTheIndex, PrivateHoldersAreHidden, SameRegistersSameSite, SitesAreOfAnswers, StaysInside}
 use Rattle.reg_site.specs.IndexTree.{Row}
 use Rattle.reg_site.specs.Noted.{noted_in}
-use Rattle.reg_site.specs.Site.{block_files, change_files, index_files, one_file, page_files, pool_files, rows_by, site, steady_files, summed_files, told_to_all}
-use Rattle.reg_site.specs.Sums.{Files, sums_text}
+use Rattle.reg_site.specs.Site.{block_files, change_files, index_files, one_file, page_files, pool_files, rows_by, site, steady_files, summed_files}
+use Rattle.reg_site.specs.Sums.{sums_text}
 use Rattle.reg_site.specs.declared.files.File.TheVariants as file
 
 pub same_registers_same_site : SameRegistersSameSite

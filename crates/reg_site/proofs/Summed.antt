@@ -1,8 +1,7 @@
 -- Bytes that are hashed in portions.
-use Rattle.std.proofs.Common.{◌≡◌, ℕ, List, [], ◌∷◌, ◌++◌, refl, sym, ap, ◌∙◌, append_assoc, append-nil, subst}
+use Rattle.std.proofs.Common.{◌≡◌, ℕ, List, ◌++◌}
 use Rattle.sha2.specs.Hashers.{Holds256}
 use Rattle.sha2.specs.declared.Sha256.{Sha256}
-use Rattle.reg_site.specs.Portions.{Gives, GivesPortion, GivesNothing}
 
 -- what a hasher holds, and what is left, are all bytes
 pub record IsHashed (hasher : Sha256) (all rest : List ℕ) : Type 0 where

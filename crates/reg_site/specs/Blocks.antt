@@ -1,5 +1,5 @@
 -- The page of the blocks that were given, and IEEE's files of them.
-use Rattle.std.specs.Prelude.{ℕ, Bool, true, false, List, [], ◌∷◌, ◌++◌, drop, map, filter, unwrap_or, Option, Some, None, option_map, codes}
+use Rattle.std.specs.Prelude.{ℕ, Bool, true, false, List, [], ◌∷◌, ◌++◌, drop, map, filter, unwrap_or, Option, Some, option_map, codes}
 use Rattle.reg_blocks.specs.Digits.{block_text}
 use Rattle.reg_blocks.specs.Size.{word_of}
 use Rattle.reg_blocks.specs.declared.size.Size.{Size}

@@ -1,5 +1,5 @@
 -- The page of a registry.
-use Rattle.std.specs.Prelude.{ℕ, List, [], ◌∷◌, ◌++◌, drop, map, unwrap_or, codes, Option, Some, None, option_map}
+use Rattle.std.specs.Prelude.{ℕ, List, [], ◌∷◌, ◌++◌, drop, map, unwrap_or, codes, Option, Some, option_map}
 use Rattle.reg_ranges.specs.declared.range.Range.{Range}
 use Rattle.reg_core.specs.declared.entry.PageEntry.{PageEntry}
 use Rattle.reg_core.specs.declared.page.Page.{Page}

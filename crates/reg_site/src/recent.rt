@@ -1,57 +1,59 @@
 //! The last changes that a history has.
-ghost use Rattle.std.specs.Prelude.{◌≡◌, ◌+◌, ◌<◌, ◌≤◌, ◌^◌, length, map, string_bytes, IfOk};
+ghost use Rattle.std.specs.Prelude.{◌≡◌, ◌+◌, List, map, string_bytes, IfOk};
+ghost use Rattle.reg_history.specs.Chain.{chained};
+ghost use Rattle.reg_history.specs.Overview.{IsOverview};
 ghost use Rattle.reg_site.specs.Changes.{shown};
-ghost use Rattle.reg_site.specs.Recent.{changed, day_part, feed_id, first_digest, last_changes, numbered, text_of};
+ghost use Rattle.reg_site.specs.Recent.{changed, day_part, feed_id, last_changes, numbered, text_of};
 
 use crate::changes::Change;
 use reg_history::change::Record;
+use reg_history::overview::{Overview, Tied};
 use reg_notes::words::as_text;
 use std::alloc::{AllocError, Global};
-
-/// How many changes are recent.
-const RECENT: usize = 200;
+use std::collections::VecDeque;
 
 /// How many bytes the day of a moment has.
 const DAY_BYTES: usize = 10;
 
-/// The last 200 of these records with their digests, of which the last one comes first. Only want of
+/// The last 200 records of a history with their digests, of which the last one comes first. Only want of
 /// memory is an error.
 pub fn last_changes<'a>(
     alloc: Global,
-    records: &'a [Record],
-    digests: &'a [[u8; 64]],
+    overview: &'a Overview,
 ) -> Result<Vec<Change<'a>>, AllocError>
-    requires { length digests.now ≡ length records.now }
-    ensures { IfOk result (λ v. map shown v.items ≡ last_changes records.now digests.now) }
+    ensures { IfOk result (λ v. (records : List Record) → IsOverview overview.now records
+        → map shown v.items ≡ last_changes records (chained records).digests) }
 {
-    let before = records.len().saturating_sub(RECENT);
-    let mut changes = numbered(
-        alloc,
-        before as u64 + 1,
-        &records[before..],
-        &digests[before..],
-    )?;
+    let before = overview.count.saturating_sub(overview.recent.len() as u64);
+    let mut changes = numbered(alloc, before, &overview.recent)?;
     changes.reverse();
     Ok(changes)
 }
 
-// Records that have numbers from this one on, with their digests.
+// Records with their digests, which have numbers from the one after this on. An error comes only where
+// there is no memory, or a number is too large.
 fn numbered<'a>(
     alloc: Global,
-    number: u64,
-    records: &'a [Record],
-    digests: &'a [[u8; 64]],
+    before: u64,
+    recent: &'a VecDeque<Tied>,
 ) -> Result<Vec<Change<'a>>, AllocError>
-    requires long { length digests.now ≡ length records.now }
-    requires fits { number + length records.now < 2 ^ 64 }
-    ensures { IfOk result (λ v. map shown v.items ≡ numbered number records.now digests.now) }
+    ensures { IfOk result (λ v. map shown v.items
+        ≡ numbered (before + 1) (map (λ t. t.row) recent.now.items) (map (λ t. t.digest) recent.now.items)) }
 {
     let mut changes = Vec::new(alloc);
-    for record in records {
-        let place = changes.len();
-        changes.push(changed(number + place as u64, record, &digests[place]))?;
+    let mut number = before;
+    for place in 0..recent.len() {
+        let tied = &recent[place];
+        number = next_number(number)?;
+        changes.push(changed(number, &tied.row, &tied.digest))?;
     }
     Ok(changes)
+}
+
+fn next_number(number: u64) -> Result<u64, AllocError>
+    ensures { IfOk result (λ next. next ≡ number + 1) }
+{
+    number.checked_add(1).ok_or(AllocError)
 }
 
 fn changed<'a>(number: u64, row: &'a Record, digest: &'a [u8]) -> Change<'a>
@@ -60,7 +62,7 @@ fn changed<'a>(number: u64, row: &'a Record, digest: &'a [u8]) -> Change<'a>
     Change {
         number,
         moment: row.moment.as_str(),
-        register: row.change.registry(),
+        register: row.change.registry().as_str(),
         kind: row.change.word(),
         value: row.change.value(),
         description: row.change.description(),
@@ -74,16 +76,6 @@ pub fn feed_id(alloc: Global, digest: &[u8]) -> Result<String, AllocError>
     ensures { IfOk result (λ id. string_bytes id ≡ feed_id digest.now) }
 {
     format!(in alloc; "urn:sha256:{}#changes", text_of(digest))
-}
-
-/// The digits of the first of these digests; none where there is none.
-pub fn first_digest(digests: &[[u8; 64]]) -> &[u8]
-    ensures { result.now ≡ first_digest digests.now }
-{
-    match digests.first() {
-        Some(digest) => digest.as_slice(),
-        None => &[],
-    }
 }
 
 /// The day of a moment, as `YYYY-MM-DD`.

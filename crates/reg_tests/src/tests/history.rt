@@ -3,8 +3,11 @@ use crate::tests::expecting::{expect_text, expect_true};
 use reg_history::change::{Class, Details, Fact, Standing, Subject};
 use reg_history::field::Field;
 use reg_history::history::{HEADER, History, Unreadable, read};
+use reg_history::overview::Tied;
+use reg_history::recorder::{Recorded, Takes};
 use reg_history::said::Unrecorded;
 use std::alloc::{AllocError, Global};
+use std::process::Abort;
 use std::test::Fail;
 
 // 2026-11-28T08:00:00Z
@@ -114,20 +117,57 @@ fn history_of(alloc: Global, records: &[&str]) -> Result<Vec<u8>, AllocError> {
     Ok(text)
 }
 
+// What is published after a history with these bytes, at a moment, or what was lost.
+fn goes_on(
+    alloc: Global,
+    history: History,
+    text: Vec<u8>,
+    moment: u64,
+    facts: &[Fact],
+) -> Result<Recorded, Unrecorded> {
+    let mut recorder = history.go_on(alloc, text, moment)?;
+    for fact in facts {
+        recorder.take(alloc, fact.copy()?)?;
+    }
+    recorder.end()
+}
+
+// That a history goes on, has these bytes then, and so many records.
+fn expect_recorded(
+    rt: &impl Abort,
+    given: Result<Recorded, Unrecorded>,
+    wanted: &[u8],
+    count: u64,
+) {
+    let Ok(recorded) = given else {
+        expect_true(rt, false, "a history goes on");
+        return;
+    };
+    expect_text(
+        rt,
+        str::from_utf8(&recorded.text).unwrap_or(""),
+        str::from_utf8(wanted).unwrap_or("none"),
+        "the text of a history",
+    );
+    expect_true(
+        rt,
+        recorded.overview.count == count,
+        "the number of its records",
+    );
+}
+
 #[test]
 fn records_are_those_of_python(rt: HostRuntime) -> Result<(), Fail> {
     let alloc = rt.alloc();
     let first = facts(alloc, "2027-11-01", "")?;
-    let lines = match History::new(alloc)?.go_on(alloc, MOMENT, first.as_slice()) {
-        Ok(added) => added.lines,
-        Err(_) => return Err("a history begins".into()),
-    };
-    expect_text(
-        &rt,
-        str::from_utf8(&lines).unwrap_or(""),
-        FIRST,
-        "first publication",
+    let given = goes_on(
+        alloc,
+        History::new(alloc)?,
+        history_of(alloc, &[])?,
+        MOMENT,
+        first.as_slice(),
     );
+    expect_recorded(&rt, given, &history_of(alloc, &[FIRST])?, 4);
     Ok(())
 }
 
@@ -139,39 +179,97 @@ fn a_history_goes_on(rt: HostRuntime) -> Result<(), Fail> {
         return Err("a history reads".into());
     };
     let second = facts(alloc, "2028-11-01", "held")?;
-    let Ok(added) = history.go_on(alloc, MOMENT + 1, second.as_slice()) else {
-        return Err("a history goes on".into());
-    };
-    expect_text(
-        &rt,
-        str::from_utf8(&added.lines).unwrap_or(""),
-        SECOND,
-        "another term",
-    );
-    let text = history_of(alloc, &[FIRST, SECOND])?;
-    let Ok(history) = read(alloc, text.as_slice()) else {
+    let both = history_of(alloc, &[FIRST, SECOND])?;
+    let given = goes_on(alloc, history, text, MOMENT + 1, second.as_slice());
+    expect_recorded(&rt, given, &both, 5);
+    let Ok(history) = read(alloc, both.as_slice()) else {
         return Err("what was added reads".into());
     };
-    let Ok(added) = history.go_on(alloc, MOMENT, second.as_slice()) else {
-        return Err("a history stays".into());
+    let again = facts(alloc, "2028-11-01", "held")?;
+    let given = goes_on(
+        alloc,
+        history,
+        history_of(alloc, &[FIRST, SECOND])?,
+        MOMENT,
+        again.as_slice(),
+    );
+    expect_recorded(&rt, given, &both, 5);
+    Ok(())
+}
+
+// How many records the history has in which these are shown.
+const MANY: u32 = 250;
+
+// A history of so many entries of one registry.
+fn many(alloc: Global) -> Result<Recorded, Unrecorded> {
+    let mut recorder = History::new(alloc)?.go_on(alloc, history_of(alloc, &[])?, MOMENT)?;
+    for value in 0..MANY {
+        let digits = format!(in alloc; "{value}")?;
+        let fact = Fact {
+            subject: subject(alloc, "ports", Class::Entry, digits.as_str())?,
+            details: details(alloc, "", "")?,
+        };
+        recorder.take(alloc, fact)?;
+    }
+    recorder.end()
+}
+
+// Whether this is a record about this value.
+fn is_about(tied: Option<&Tied>, value: &str) -> bool {
+    match tied {
+        Some(tied) => tied.row.change.value() == value,
+        None => false,
+    }
+}
+
+// Whether the last record of a text ends with this digest.
+fn ends_with(text: &[u8], digest: &[u8]) -> bool {
+    match text.strip_suffix(b"\n".as_slice()) {
+        Some(records) => records.ends_with(digest),
+        None => false,
+    }
+}
+
+#[test]
+fn the_last_records_are_shown(rt: HostRuntime) -> Result<(), Fail> {
+    let alloc = rt.alloc();
+    let Ok(recorded) = many(alloc) else {
+        return Err("a history begins".into());
     };
+    let overview = &recorded.overview;
+    expect_true(&rt, overview.count == u64::from(MANY), "all are counted");
+    expect_true(&rt, overview.recent.len() == 200, "200 are recent");
+    expect_true(
+        &rt,
+        is_about(overview.recent.front(), "50"),
+        "the first recent record",
+    );
+    expect_true(
+        &rt,
+        is_about(overview.recent.back(), "249"),
+        "the last record",
+    );
+    let last = ends_with(recorded.text.as_slice(), overview.last_digest());
+    expect_true(&rt, last, "the last digest");
+    let ports = overview.last_changed(alloc, "ports")?;
     expect_text(
         &rt,
-        str::from_utf8(&added.lines).unwrap_or(""),
-        "",
-        "no change",
+        ports,
+        "2026-11-28T08:00:00Z",
+        "the last change of a registry",
     );
+    expect_text(&rt, overview.last_changed(alloc, "flags")?, "", "of none");
     Ok(())
 }
 
 // Whether an office that publishes these facts after that history has lost this value.
-fn loses(alloc: Global, text: &[u8], facts: &[Fact], value: &str) -> Result<bool, AllocError> {
-    let Ok(history) = read(alloc, text) else {
-        return Ok(false);
+fn loses(alloc: Global, text: Vec<u8>, facts: &[Fact], value: &str) -> bool {
+    let Ok(history) = read(alloc, text.as_slice()) else {
+        return false;
     };
-    match history.go_on(alloc, MOMENT, facts) {
-        Err(Unrecorded::Lost(subject)) => Ok(subject.value.as_str() == value),
-        Ok(_) | Err(Unrecorded::Memory) => Ok(false),
+    match goes_on(alloc, history, text, MOMENT, facts) {
+        Err(Unrecorded::Lost(subject)) => subject.value.as_str() == value,
+        Ok(_) | Err(Unrecorded::Memory) => false,
     }
 }
 
@@ -180,12 +278,13 @@ fn what_was_lost_is_named(rt: HostRuntime) -> Result<(), Fail> {
     let alloc = rt.alloc();
     let text = history_of(alloc, &[FIRST, SECOND])?;
     let back = facts(alloc, "2027-11-01", "held")?;
-    expect_true(&rt, loses(alloc, &text, &back, "4")?, "an earlier expiry");
+    expect_true(&rt, loses(alloc, text, &back, "4"), "an earlier expiry");
+    let text = history_of(alloc, &[FIRST, SECOND])?;
     let mut fewer = facts(alloc, "2028-11-01", "held")?;
     let _ = fewer.pop();
     expect_true(
         &rt,
-        loses(alloc, &text, &fewer, "0050C2123")?,
+        loses(alloc, text, &fewer, "0050C2123"),
         "a block that is gone",
     );
     Ok(())

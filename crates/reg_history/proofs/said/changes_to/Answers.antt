@@ -4,7 +4,8 @@ use Rattle.reg_history.specs.Replay.{StandsIf, recorded}
 use Rattle.reg_history.specs.Said.{TellsLoss, said_by}
 use Rattle.reg_history.specs.declared.change.Details.{Details}
 use Rattle.reg_history.specs.declared.change.Fact.{Fact}
-use Rattle.reg_history.proofs.Replayed.{KeepsUp, drop-end, drop-item, handed_on, keeps_up-kept, keeps_up-left, keeps_up-next, keeps_up-says, says_nothing, tells_loss}
+use Rattle.reg_history.specs.Recording.{KeepsUp}
+use Rattle.reg_history.proofs.Replayed.{drop-end, drop-item, handed_on, keeps_up-kept, keeps_up-left, keeps_up-next, keeps_up-says, says_nothing, tells_loss}
 use Rattle.reg_history.proofs.said.changes_to.Goals as goal
 
 pub loop-fact-preserved : goal.loop-fact-preserved
@@ -19,13 +20,14 @@ loop-fact-preserved c =
     let Stands : Option Details → Type 0 = λ o. StandsIf o fact in
     keeps_up-next (said_by c.args.said) facts (said_by c.loop-fact.said)
     (said_by c.remove-before.new.self) fact (drop (c.loop-fact.fact-index + 1) facts)
-    c.loop-fact.changes.items c.record.new.changes.items now c.remove-before.ensures.updates.0
-    (subst Stands c.remove-before.ensures.value c.in_ok-record.ensures.stands)
-    (c.in_ok-record.ensures.changes
-    ∙ ap (λ o. c.loop-fact.changes.items ++ recorded o fact) c.remove-before.ensures.value)
+    c.loop-fact.changes.items c.push_if.new.changes.items now c.remove-before.ensures.updates.0
+    (subst Stands c.remove-before.ensures.value c.in_ok-change.ensures.stands)
+    (c.in_ok-push_if.ensures
+    ∙ ap (λ cs. c.loop-fact.changes.items ++ cs)
+    (c.in_ok-change.ensures.change ∙ ap (λ o. recorded o fact) c.remove-before.ensures.value))
 
-pub returns-in_err-record-clause-lost : goal.returns-in_err-record-clause-lost
-returns-in_err-record-clause-lost c =
+pub returns-in_err-change-clause-lost : goal.returns-in_err-change-clause-lost
+returns-in_err-change-clause-lost c =
     let facts = c.args.facts.now in
     let fact = c.fact-item.result in
     let inside : c.loop-fact.fact-index < length facts = omega (arith, c.loop-fact-test.true) in
@@ -34,10 +36,10 @@ returns-in_err-record-clause-lost c =
     let now = subst Up (drop-item facts c.loop-fact.fact-index fact inside c.fact-item.is)
     c.loop-fact.invariant in
     handed_on (TellsLoss (said_by c.args.said) facts) c.from_residual.result
-    c.in_err-record.field-0.0 c.from_residual.ensures.1
+    c.in_err-change.field-0.0 c.from_residual.ensures.1
     (tells_loss (said_by c.args.said) facts (said_by c.loop-fact.said) fact
     (drop (c.loop-fact.fact-index + 1) facts) c.loop-fact.changes.items c.remove-before.result
-    c.in_err-record.field-0.0 now c.remove-before.ensures.value c.in_err-record.ensures.lost)
+    c.in_err-change.field-0.0 now c.remove-before.ensures.value c.in_err-change.ensures.lost)
 
 pub returns-in-None-clause-kept : goal.returns-in-None-clause-kept
 returns-in-None-clause-kept c =

@@ -1,6 +1,6 @@
 use Rattle.std.proofs.Common.{drop}
 use Rattle.reg_history.specs.Said.{said_by}
-use Rattle.reg_history.proofs.Replayed.{KeepsUp}
+use Rattle.reg_history.specs.Recording.{KeepsUp}
 use Rattle.reg_history.proofs.said.changes_to.Given as goal
 
 abbrev pub invariant-loop-fact : goal.invariant-loop-fact

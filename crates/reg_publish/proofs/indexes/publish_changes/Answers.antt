@@ -1,14 +1,15 @@
-use Rattle.std.proofs.Common.{◌++◌, map, ap, ◌∙◌}
+use Rattle.std.proofs.Common.{ℕ, List, [], ◌++◌, map, ap, ◌∙◌}
+use Rattle.std.specs.Prelude.{Option, unwrap_or}
 use Rattle.std.specs.Option.{option_copied}
 use Rattle.reg_site.specs.Changes.{changes_feed, changes_page, shown}
-use Rattle.reg_site.specs.Recent.{feed_id, first_digest, last_changes}
+use Rattle.reg_site.specs.Recent.{feed_id}
 use Rattle.reg_site.specs.Site.{one_file}
 use Rattle.reg_site.specs.declared.files.File.TheVariants.{ChangesPage, ChangesFeed}
 use Rattle.reg_publish.proofs.Placed.{summed_as, summed_both}
 use Rattle.reg_publish.proofs.indexes.publish_changes.Goals as goal
 
 pub returns : goal.returns
-returns g c =
+returns g c = λ records is.
     let Puts = g.F.Folder.Puts in
     let authority = option_copied c.args.authority in
     let f = c.args.folder.now in
@@ -17,12 +18,12 @@ returns g c =
     let s = c.args.sums.now in
     let s1 = c.put.new.sums in
     let s2 = c.put-2.new.sums in
-    let digests = c.as_slice-digests.ensures.value in
-    let changes = c.in_ok-changes.ensures ∙ ap (last_changes c.args.records.now) digests in
+    let changes = c.in_ok-changes.ensures records is in
     let page = c.deref.ensures.value ∙ c.in_ok-html.ensures
     ∙ ap (changes_page authority) (ap (map shown) c.as_slice.ensures.value ∙ changes) in
     let id = c.as_str.ensures.value ∙ c.in_ok-id.ensures
-    ∙ ap feed_id (c.first_digest.ensures ∙ ap first_digest digests) in
+    ∙ ap feed_id (c.first_digest.ensures
+    ∙ ap (λ (o : Option (List ℕ)). unwrap_or o []) is.first) in
     let of_feed = ap (map shown) c.as_slice-2.ensures.value ∙ changes in
     let feed = c.deref-2.ensures.value ∙ c.in_ok-feed.ensures
     ∙ (λ i. changes_feed (c.site_title.ensures i) (id i) (of_feed i)) in

@@ -1,4 +1,5 @@
-use Rattle.std.proofs.Common.{◌++◌, map, ap, ◌∙◌}
+use Rattle.std.proofs.Common.{ℕ, List, [], ◌++◌, map, ap, ◌∙◌}
+use Rattle.std.specs.Prelude.{Option, unwrap_or}
 use Rattle.reg_site.specs.IndexTree.{index_tree, row_of}
 use Rattle.reg_site.specs.Recent.{text_of}
 use Rattle.reg_site.specs.Site.{one_file}
@@ -7,7 +8,7 @@ use Rattle.reg_publish.proofs.Placed.{summed_as, summed_both}
 use Rattle.reg_publish.proofs.indexes.publish_indexes.Goals as goal
 
 pub returns : goal.returns
-returns g c =
+returns g c = λ records is.
     let Puts = g.F.Folder.Puts in
     let f = c.args.folder.now in
     let f1 = c.put.new.folder in
@@ -17,9 +18,10 @@ returns g c =
     let s2 = c.put-2.new.sums in
     let page = c.deref.ensures.value ∙ c.in_ok-html.ensures in
     let now = c.as_str.ensures.value ∙ c.in_ok-now.ensures in
-    let last = c.text_of.ensures ∙ ap text_of c.last_digest.ensures in
+    let last = c.text_of.ensures
+    ∙ ap text_of (c.last_digest.ensures ∙ ap (λ (o : Option (List ℕ)). unwrap_or o []) is.last) in
     let tree = c.deref-2.ensures.value ∙ c.in_ok-tree.ensures
-    ∙ (λ i. index_tree (c.site_title.ensures i) (now i) (c.count.ensures i) (last i)
+    ∙ (λ i. index_tree (c.site_title.ensures i) (now i) (is.counted i) (last i)
     (map row_of c.args.registers.now)) in
     let html = one_file Index c.deref.result.now in
     let json = one_file IndexTree c.deref-2.result.now in

@@ -1,5 +1,6 @@
-use Rattle.std.proofs.Common.{[], map, sym, ap, ◌∙◌}
-use Rattle.std.specs.Option.{option_copied}
+use Rattle.std.proofs.Common.{◌≡◌, map, sym, ap, ◌∙◌}
+use Rattle.reg_history.specs.Chain.{chained}
+use Rattle.reg_history.specs.Overview.{moment_by}
 use Rattle.reg_history.specs.Recorded.{last_changed}
 use Rattle.reg_site.specs.IndexTree.{Row, row_of}
 use Rattle.reg_site.specs.Site.{index_files}
@@ -11,18 +12,20 @@ use Rattle.reg_publish.proofs.Placed.{summed_as}
 use Rattle.reg_publish.proofs.publishing.publish_last.Goals as goal
 
 pub returns : goal.returns
-returns g c =
-    let records = c.args.records.now in
+returns g c = λ records is.
+    let changed = c.args.overview.now.changed in
     let beside : Summary → Row = λ s. (s, last_changed records s.name) in
+    let known : Summary → Row = λ s. (s, moment_by changed s.name) in
+    let same : known ≡ beside = λ i s. (s, is.changed s.name i) in
     let pages = pages_of c.args.told.now.pages.items in
     let summed = c.deref.ensures.value ∙ c.in_ok-summaries.ensures
     ∙ ap (λ tolds. map summary (pages_of tolds)) c.as_slice.ensures.value in
     let rows = ap (map row_of) c.deref-2.ensures.value ∙ c.in_ok-registers.ensures
-    ∙ ap (map beside) summed ∙ map-map summary beside pages in
+    ∙ ap (map known) summed ∙ ap (λ (f : Summary → Row). map f (map summary pages)) same ∙ map-map summary beside pages in
     let pool = sym (ap prefixes_of c.in_ok-pool_in.ensures) in
     let given = sym (ap blocks_of c.in_ok-blocks_in.ensures) in
     summed_as g.F.Folder.Puts c.args.folder.now c.publish_indexes.new.folder c.args.sums.now
     c.publish_indexes.new.sums _ _
-    (λ i. index_files (c.of_authority.ensures i) c.args.chain.now.digests.items (rows i) (pool i)
+    (λ i. index_files (c.of_authority.ensures i) (chained records).digests (rows i) (pool i)
     (given i) c.args.moment)
-    c.in_ok-publish_indexes.ensures
+    (c.in_ok-publish_indexes.ensures records is)

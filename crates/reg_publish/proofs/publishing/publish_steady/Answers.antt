@@ -1,6 +1,7 @@
-use Rattle.std.proofs.Common.{[], ◌++◌, sym, ap}
+use Rattle.std.proofs.Common.{◌++◌, sym, ap, ◌∙◌}
 use Rattle.std.specs.List.{flat_map}
 use Rattle.std.specs.Option.{option_copied}
+use Rattle.reg_history.specs.Chain.{chained}
 use Rattle.reg_site.specs.Site.{block_files, change_files, one_file, page_files, pool_files}
 use Rattle.reg_site.specs.declared.files.File.TheVariants.{Changes}
 use Rattle.reg_publish.specs.Told.{blocks_of, pages_of, prefixes_of}
@@ -8,11 +9,10 @@ use Rattle.reg_publish.proofs.Placed.{summed_as, summed_both}
 use Rattle.reg_publish.proofs.publishing.publish_steady.Goals as goal
 
 pub returns : goal.returns
-returns g c =
+returns g c = λ records is.
     let Puts = g.F.Folder.Puts in
     let notes = option_copied c.args.notes in
-    let records = c.args.records.now in
-    let digests = c.args.chain.now.digests.items in
+    let digests = (chained records).digests in
     let f = c.args.folder.now in
     let f1 = c.put.new.folder in
     let f2 = c.publish_registries.new.folder in
@@ -28,24 +28,25 @@ returns g c =
     let authority = option_copied c.of_authority-authority.result in
     let rows = c.in_ok-blocks_in.field-0.now in
     let prefixes = c.in_ok-pool_in.field-0.now in
-    let told = flat_map (page_files notes records) (pages_of c.as_slice.result.now) in
+    let told = flat_map (page_files notes records) (pages_of c.as_slice-2.result.now) in
     let given = block_files authority rows in
     let pooled = pool_files prefixes in
     let changed = change_files authority records digests in
-    let first = one_file Changes c.args.text.now in
+    let first = one_file Changes c.as_slice.result.now in
+    let by_text = c.as_slice.ensures.value ∙ is.text in
     let by_authority = c.of_authority-authority.ensures in
-    let by_pages = c.as_slice.ensures.value in
+    let by_pages = c.as_slice-2.ensures.value in
     let by_rows = sym (ap blocks_of c.in_ok-blocks_in.ensures) in
     let by_pool = sym (ap prefixes_of c.in_ok-pool_in.ensures) in
     summed_as Puts f f5 s s5 (first ++ (told ++ (given ++ (pooled ++ changed)))) _
-    (λ i. first
+    (λ i. one_file Changes (by_text i)
     ++ (flat_map (page_files notes records) (pages_of (by_pages i))
     ++ (block_files (by_authority i) (by_rows i)
     ++ (pool_files (by_pool i) ++ change_files (by_authority i) records digests))))
     (summed_both Puts f f1 f5 s s1 s5 first (told ++ (given ++ (pooled ++ changed)))
     c.in_ok-put.ensures
     (summed_both Puts f1 f2 f5 s1 s2 s5 told (given ++ (pooled ++ changed))
-    c.in_ok-publish_registries.ensures
+    (c.in_ok-publish_registries.ensures records is.shown)
     (summed_both Puts f2 f3 f5 s2 s3 s5 given (pooled ++ changed) c.in_ok-publish_blocks.ensures
     (summed_both Puts f3 f4 f5 s3 s4 s5 pooled changed c.in_ok-publish_pool.ensures
-    c.in_ok-publish_changes.ensures))))
+    (c.in_ok-publish_changes.ensures records is.shown)))))

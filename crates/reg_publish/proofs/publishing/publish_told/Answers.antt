@@ -1,5 +1,6 @@
 use Rattle.std.proofs.Common.{[], ◌++◌, ap, ◌∙◌}
 use Rattle.std.specs.Option.{option_copied}
+use Rattle.reg_history.specs.Chain.{chained}
 use Rattle.reg_site.specs.Noted.{noted_in}
 use Rattle.reg_site.specs.Site.{index_files, one_file, rows_by, steady_files}
 use Rattle.reg_site.specs.Sums.{entries_of, lines_of, with_sums}
@@ -9,11 +10,10 @@ use Rattle.reg_publish.proofs.Placed.{places_as, places_both, places_summed, sum
 use Rattle.reg_publish.proofs.publishing.publish_told.Goals as goal
 
 pub returns : goal.returns
-returns g c =
+returns g c = λ records is.
     let Puts = g.F.Folder.Puts in
     let notes = option_copied c.args.notes in
-    let records = c.args.records.now in
-    let digests = c.args.chain.now.digests.items in
+    let digests = (chained records).digests in
     let pages = pages_of c.args.told.now.pages.items in
     let prefixes = prefixes_of c.args.told.now.pool in
     let rows = blocks_of c.args.told.now.blocks in
@@ -24,13 +24,13 @@ returns g c =
     let s = c.new-sums.result in
     let s1 = c.publish_steady.new.sums in
     let s2 = c.publish_last.new.sums in
-    let steady = steady_files notes c.args.text.now records digests pages prefixes rows in
+    let steady = steady_files notes (chained records).text records digests pages prefixes rows in
     let indexes = index_files (noted_in notes []) digests (rows_by records pages) prefixes rows
     c.args.moment in
     let files = steady ++ indexes in
     let summed = places_summed Puts (f, entries_of s) (f2, entries_of s2) files
-    (summed_both Puts f f1 f2 s s1 s2 steady indexes c.in_ok-publish_steady.ensures
-    c.in_ok-publish_last.ensures).placed in
+    (summed_both Puts f f1 f2 s s1 s2 steady indexes (c.in_ok-publish_steady.ensures records is)
+    (c.in_ok-publish_last.ensures records is.shown)).placed in
     let sums = summed.1 ∙ ap (λ es. with_sums es files) c.new-sums.ensures in
     places_as Puts f f3 (files ++ one_file Sums (lines_of (entries_of s2))) _
     (λ i. files ++ one_file Sums (lines_of (sums i)))

@@ -1,7 +1,7 @@
 use Rattle.std.proofs.Common.{[], ◌∷◌, ◌++◌, ap, ◌∙◌}
 use Rattle.std.specs.Option.{option_copied}
 use Rattle.reg_core.specs.declared.told.Told.TheVariants as tells
-use Rattle.reg_history.specs.Recorded.{last_changed}
+use Rattle.reg_history.specs.Overview.{moment_by}
 use Rattle.reg_site.specs.Files.{path_of}
 use Rattle.reg_site.specs.Recent.{day_part}
 use Rattle.reg_site.specs.Records.{records_text}
@@ -12,13 +12,13 @@ use Rattle.reg_publish.proofs.Placed.{summed_as, summed_both}
 use Rattle.reg_publish.proofs.registries.publish_registry.Goals as goal
 
 pub returns : goal.returns
-returns g c =
+returns g c = λ records is.
     let Puts = g.F.Folder.Puts in
     let notes = option_copied c.args.notes in
-    let records = c.args.records.now in
     let page = c.args.page.now in
     let name = page.name in
-    let changed = c.last_changed-changed.ensures ∙ ap (last_changed records) c.as_str.ensures.text in
+    let changed = c.in_ok-changed.ensures
+    ∙ ap (moment_by c.args.overview.now.changed) c.as_str.ensures.text ∙ is.changed name in
     let day = c.day_part.ensures ∙ ap day_part changed in
     let f = c.args.folder.now in
     let f1 = c.put_page.new.folder in
@@ -31,7 +31,7 @@ returns g c =
     let s3 = c.put_tree.new.sums in
     let s4 = c.put_records.new.sums in
     let html = one_file (RegistryPage name)
-    (registry_page notes c.last_changed-changed.result.now page) in
+    (registry_page notes c.in_ok-changed.changed.now page) in
     let csv = one_file (RegistryListing name) (told_text (tells.Listing page)) in
     let tree = one_file (RegistryTree name) (told_text (tells.Page page)) in
     let xml = one_file (RegistryRecords name) (records_text notes c.day_part.result.now page) in

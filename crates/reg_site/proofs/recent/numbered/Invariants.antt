@@ -1,12 +1,12 @@
-use Rattle.std.proofs.Common.{◌≡◌, map, take}
-use Rattle.std.specs.Vec.{vec_len}
+use Rattle.std.proofs.Common.{◌≡◌, ◌+◌, map, take}
 use Rattle.reg_site.specs.Changes.{shown}
 use Rattle.reg_site.specs.Recent.{numbered}
 use Rattle.reg_site.proofs.recent.numbered.Given as goal
 
-abbrev pub invariant-loop-record : goal.invariant-loop-record
-invariant-loop-record l = record {
-  counted : vec_len l.changes ≡ l.record-index;
+abbrev pub invariant-loop-place : goal.invariant-loop-place
+invariant-loop-place l = record {
+  counted : l.number ≡ l.fn.before + l.place;
   shown : map shown l.changes.items
-      ≡ numbered l.fn.number (take l.record-index l.fn.records) (take l.record-index l.fn.digests);
+      ≡ numbered (l.fn.before + 1) (take l.place (map (λ t. t.row) l.recent.items))
+      (take l.place (map (λ t. t.digest) l.recent.items));
 }

@@ -1,0 +1,99 @@
+-- Facts that are taken one after the other, and a history that goes on by them.
+use Rattle.std.specs.Prelude.{◌≡◌, ◌⊎◌, ℕ, true, false, List, [], ◌∷◌, ◌++◌, None, MatchOption}
+use Rattle.reg_history.specs.Chain.{at, chained, says}
+use Rattle.reg_history.specs.History.{Continues, IsHistory, later, news}
+use Rattle.reg_history.specs.Moment.{moment_text}
+use Rattle.reg_history.specs.Overview.{IsOverview}
+use Rattle.reg_history.specs.Replay.{IsLost, Said, SomeFact, StandsBy, StandsIf, changes_to, without}
+use Rattle.reg_history.specs.Said.{said_by}
+use Rattle.reg_history.specs.declared.change.Change.{Change}
+use Rattle.reg_history.specs.declared.change.Details.{Details}
+use Rattle.reg_history.specs.declared.change.Fact.{Fact}
+use Rattle.reg_history.specs.declared.change.Record.{Record}
+use Rattle.reg_history.specs.declared.change.Subject.{Subject}
+use Rattle.reg_history.specs.declared.history.History.{History}
+use Rattle.reg_history.specs.declared.recorder.Recorded.{Recorded}
+use Rattle.reg_history.specs.declared.recorder.Recorder.{Recorder}
+
+-- ---- Facts
+
+-- what facts are for: to be recorded at a moment after these records
+pub record Aim : Type 0 where
+  pub records : List Record
+  pub moment : ℕ
+  pub facts : List Fact
+
+-- These facts were taken: whatever aim it was on its way to with them and with others to come, it still
+-- is with the others.
+pub record Took {T : Type 0} (Awaits : Aim → T → List Fact → Type 0) (t t' : T) (facts : List Fact)
+    : Type 0 where
+  pub goes_on : (aim : Aim) (rest : List Fact) → Awaits aim t (facts ++ rest) → Awaits aim t' rest
+
+-- a list is on its way to all facts
+abbrev pub Lists : Aim → List Fact → List Fact → Type 0
+Lists aim listed rest = listed ++ rest ≡ aim.facts
+
+-- ---- What was said
+
+-- all that was said about the subjects of facts stands by the first of them
+abbrev pub AllStand : Said → List Fact → Type 0
+AllStand said [] = Unit {0}
+AllStand said (fact ∷ facts) =
+    StandsIf (said fact.subject) fact × AllStand (without fact.subject said) facts
+
+-- what is left of what was said without the subjects of facts
+abbrev pub without_all : Said → List Fact → Said
+without_all said [] = said
+without_all said (fact ∷ facts) = without_all (without fact.subject said) facts
+
+-- a part of what is said: of each subject the same, or nothing
+abbrev pub IsPart : Said → Said → Type 0
+IsPart part said = (s : Subject) → (part s ≡ None) ⊎ (part s ≡ said s)
+
+-- What is so of all facts follows from what is so of those that are left: what is recorded of them,
+-- that what was said stands by them, and what of it is left.
+pub record KeepsUp (whole : Said) (facts : List Fact) (said : Said) (rest : List Fact)
+    (changes : List Change) : Type 0 where
+  pub made : changes_to whole facts ≡ changes ++ changes_to said rest
+  pub stood : AllStand said rest → AllStand whole facts
+  pub left : without_all whole facts ≡ without_all said rest
+  pub part : IsPart said whole
+  pub later : (s : Subject) (before : Details) → SomeFact (StandsBy false s before) rest
+      → SomeFact (StandsBy false s before) facts
+
+-- ---- A history that goes on
+
+-- these are the bytes of a history with these records, and what is shown of it
+pub record IsRecorded (w : Recorded) (records : List Record) : Type 0 where
+  pub text : w.text.items ≡ (chained records).text
+  pub shown : IsOverview w.overview records
+
+-- the moment of what is recorded
+abbrev pub moment_of : Aim → List ℕ
+moment_of aim = later (chained aim.records).moment (moment_text aim.moment)
+
+-- what has to be recorded of the facts so far is recorded
+pub record Records (aim : Aim) (r : Recorder) (rest : List Fact) : Type 0 where
+  pub changes : List Change
+  pub up : KeepsUp (says aim.records) aim.facts (said_by r.said) rest changes
+  pub whole : IsRecorded r.whole (aim.records ++ at (moment_of aim) changes)
+  pub moment : r.moment ≡ moment_of aim
+  pub in_order : (chained aim.records).in_order ≡ true
+
+-- a recorder is on its way: nothing was lost so far, or this was
+abbrev pub Awaits : Aim → Recorder → List Fact → Type 0
+Awaits aim r rest =
+    MatchOption r.lost (Records aim r rest) (λ subject. IsLost (says aim.records) aim.facts subject)
+
+-- it begins with the history of its records, whose bytes these are
+pub record IsBegun (aim : Aim) (h : History) (bytes : List ℕ) (now : ℕ) : Type 0 where
+  pub history : IsHistory h aim.records
+  pub text : (chained aim.records).text ≡ bytes
+  pub moment : now ≡ aim.moment
+
+-- the history went on to its aim: it says just what the facts say, and nothing was lost
+pub record Ends (aim : Aim) (w : Recorded) : Type 0 where
+  pub more : List ℕ
+  pub continues : Continues aim.records aim.moment aim.facts more
+      (chained (aim.records ++ news aim.records aim.moment aim.facts)).digests
+  pub whole : IsRecorded w (aim.records ++ news aim.records aim.moment aim.facts)
