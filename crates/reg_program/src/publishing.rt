@@ -183,14 +183,16 @@ fn tell<W: Write, E: Write>(
 
 fn left_out_line(alloc: Global, left: &LeftOut) -> Result<String, AllocError> {
     let count = left.count;
+    let begin = match count {
+        1 => format!(in alloc; "1 note was left out, on")?,
+        _ => format!(in alloc; "{count} notes were left out, the first on")?,
+    };
+    let begin = begin.as_str();
     match left.first.split_once(',') {
-        Some((registry, value)) => format!(in alloc;
-            "{count} notes were left out, the first on value {value} of {registry}, which has no entry\n"
-        ),
-        None => format!(in alloc;
-            "{count} notes were left out, the first on {}, which is no registry\n",
-            left.first.as_str()
-        ),
+        Some((registry, value)) => {
+            format!(in alloc; "{begin} value {value} of {registry}, which has no entry\n")
+        }
+        None => { format!(in alloc; "{begin} {}, which is no registry\n", left.first.as_str()) }
     }
 }
 

@@ -52,7 +52,7 @@ listing_flaw name =
 -- what is said of it
 abbrev pub flaw_text : Flaw → List ℕ
 flaw_text (flaw.Missing file) = missing_text file
-flaw_text flaw.Header = codes "changes.csv does not begin with the record of its columns"
+flaw_text flaw.Header = codes "changes.csv does not begin with the header of a history"
 flaw_text (flaw.Record number) =
     codes "record " ++ (decimal number ++ codes " of changes.csv is wrong")
 flaw_text flaw.Name = codes "changes.csv has a registry whose name is none"
@@ -61,7 +61,7 @@ flaw_text (flaw.Misspelt file) = misspelt_text file
 flaw_text flaw.Unnamed = codes "index.json names no record"
 flaw_text (flaw.Listing name) = listing_flaw name
 flaw_text (flaw.Subject subject) = subject_text subject
-flaw_text flaw.Short = codes "of a digest at least 16 digits are needed"
+flaw_text flaw.Short = codes "give at least 16 digits of the digest"
 flaw_text flaw.Digest = codes "no digest of changes.csv begins with these digits"
 
 -- ---- Where it comes from

@@ -29,7 +29,7 @@ pub enum Unverified {
 pub enum Flaw {
     /// This file is not there.
     Missing(Part),
-    /// The history does not begin with the record of its columns.
+    /// The history does not begin with its header.
     Header,
     /// The record of this number of the history is not as it has to be after those before it.
     Record(u64),
@@ -61,7 +61,7 @@ impl Flaw {
             Flaw::Header => {
                 String::from_str(
                     alloc,
-                    "changes.csv does not begin with the record of its columns",
+                    "changes.csv does not begin with the header of a history",
                 )
             }
             Flaw::Record(number) => format!(in alloc; "record {number} of changes.csv is wrong"),
@@ -76,7 +76,7 @@ impl Flaw {
             Flaw::Unnamed => String::from_str(alloc, "index.json names no record"),
             Flaw::Listing(name) => listing_text(alloc, *name),
             Flaw::Subject(subject) => subject_text(alloc, subject),
-            Flaw::Short => String::from_str(alloc, "of a digest at least 16 digits are needed"),
+            Flaw::Short => String::from_str(alloc, "give at least 16 digits of the digest"),
             Flaw::Digest => {
                 String::from_str(alloc, "no digest of changes.csv begins with these digits")
             }
