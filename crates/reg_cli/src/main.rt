@@ -2,6 +2,7 @@
 #![tactic(auto)]
 
 use reg_files::Files;
+use reg_files::copies::FileCopies;
 use reg_http::dates::ClockDates;
 use reg_jobs::command_line::job;
 use reg_jobs::jobs::{Job, JobFault};
@@ -37,7 +38,7 @@ fn carried_out<R: Read, W: Write, E: Write>(
     console: &mut Console<'_, R, W, E>,
 ) -> u8 {
     let mut dates = ClockDates { clock: rt };
-    perform(rt, &mut dates, &mut Files, job, console)
+    perform(rt, &mut dates, &mut Files, &FileCopies, job, console)
 }
 
 // The job that the program's arguments ask for.

@@ -11,21 +11,26 @@ const OWNER_ALONE: u32 = 0o600;
 /// Others than the owner read a file.
 const READ_BY_OTHERS: u32 = 0o044;
 
-/// Makes the file at a path, empty, for its owner alone, where there is none; what is there stays as
-/// it is. Its log is then made with the same mode by what opens the file. There is no moment at
-/// which others may read it, whatever the umask of the process is.
-pub fn make_private<H: Files>(rt: &H, path: &str) -> io::Result<()> {
-    let made = OpenOptions::new()
+/// A new file at a path, for its owner alone. There is no moment at which others may read it, whatever
+/// the umask of the process is.
+pub fn create_private<H: Files>(rt: &H, path: &str) -> io::Result<H::File> {
+    let file = OpenOptions::new()
         .write(true)
         .create_new(true)
         .mode(OWNER_ALONE)
-        .open(rt, path);
-    match made {
-        // A umask may have taken the owner's own rights away.
+        .open(rt, path)?;
+    // A umask may have taken the owner's own rights away.
+    fs::OpenFile::set_permissions(&file, Permissions::from_mode(OWNER_ALONE))?;
+    Ok(file)
+}
+
+/// Makes the file at a path, empty, for its owner alone, where there is none; what is there stays as
+/// it is. Its log is then made with the same mode by what opens the file.
+pub fn make_private<H: Files>(rt: &H, path: &str) -> io::Result<()> {
+    match create_private(rt, path) {
         Ok(file) => {
-            let given = fs::OpenFile::set_permissions(&file, Permissions::from_mode(OWNER_ALONE));
             drop(file);
-            given
+            Ok(())
         }
         Err(error) if error.kind() == io::ErrorKind::AlreadyExists => Ok(()),
         Err(error) => Err(error),

@@ -2,7 +2,10 @@
 #![tactic(auto)]
 
 mod access;
+pub mod copies;
 pub mod laws;
+mod private_disk;
+mod targets;
 
 use crate::access::{make_private, warn_of_readers};
 use reg_http::dates::Dates;
@@ -166,6 +169,7 @@ fn refused<S: Alter + Drop, L: Drop>(fault: OpenFault, left: Left<S, L>) -> Undo
     Undone::Fault(failure(fault))
 }
 
+// Why a job finds no office, with the reason for people.
 fn explained(alloc: Global, trouble: Trouble) -> Result<Undone, AllocError> {
     let why = format!(in alloc; "{trouble}")?;
     Ok(Undone::Explained(failure(trouble.fault()), why))

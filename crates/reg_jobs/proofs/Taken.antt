@@ -19,7 +19,7 @@ use Rattle.clap.specs.declared.builder.action.ArgAction.TheVariants.{Set}
 use Rattle.clap.specs.declared.builder.value_parser.Reading.TheVariants.{WithoutMinus}
 use Rattle.clap.specs.declared.builder.value_parser.ValueParser.TheVariants.{Signed}
 use Rattle.reg_jobs.specs.Asking.{HasJob, HasNumber, HasText, MayHaveNumber}
-use Rattle.reg_jobs.specs.CommandLine.{check_app, clerk_rule, connections_rule, define_app, due_app, expert_rule, flag_rule, import_app, init_app, last_place_rule, listing_app, office_app, option_rule, place_rule, port_rule, publish_app, request_app, revoke_app, script_app, serve_app, tokens_app, verify_app, within_rule}
+use Rattle.reg_jobs.specs.CommandLine.{check_app, clerk_rule, connections_rule, copy_app, define_app, due_app, expert_rule, flag_rule, import_app, init_app, last_place_rule, listing_app, office_app, option_rule, place_rule, port_rule, publish_app, request_app, revoke_app, script_app, serve_app, tokens_app, verify_app, within_rule}
 use Rattle.reg_jobs.proofs.Walks.{Each, Keeps, KeepsDefault, found_holds, leaf_holds, no_faults, none_keeps}
 use Rattle.reg_jobs.proofs.Uses.{default_row_with, flag_keeps, help_keeps, row_with, set_keeps, value_keeps}
 use Rattle.reg_jobs.proofs.Stops.{StopsElsewhere, walk_stops}
@@ -329,6 +329,14 @@ check_gives words none =
     let held = leaf_rows (sub_of check_app) (file_keeps, (help_flag_keeps, tt)) refl words none in
     text_given _ _ held.0 (held.1.0 refl)
 
+copy_gives : GivesJob (sub_of copy_app)
+copy_gives words none =
+    let held = leaf_rows (sub_of copy_app) (
+      file_keeps,
+      (place_keeps 2 (codes "FOLDER") refl refl refl, (help_flag_keeps, tt)),
+    ) refl words none in
+    (text_given _ _ held.0 (held.1.0 refl), text_given _ _ held.0 (held.1.1.0 refl))
+
 tokens_gives : GivesJob (sub_of tokens_app)
 tokens_gives words none =
     let held = leaf_rows (sub_of tokens_app) (file_keeps, (help_flag_keeps, tt)) refl words none in
@@ -380,10 +388,13 @@ each_gives = (
                     (
                       (λ p answers elsewhere none. check_gives p.1 none),
                       (
-                        (λ p answers elsewhere none. tokens_gives p.1 none),
+                        (λ p answers elsewhere none. copy_gives p.1 none),
                         (
-                          (λ p answers elsewhere none. revoke_gives p.1 none),
-                          (help_not_entered, tt),
+                          (λ p answers elsewhere none. tokens_gives p.1 none),
+                          (
+                            (λ p answers elsewhere none. revoke_gives p.1 none),
+                            (help_not_entered, tt),
+                          ),
                         ),
                       ),
                     ),

@@ -11,7 +11,7 @@ use Rattle.clap.specs.declared.error.kind.ErrorKind.TheVariants.{DisplayHelp, Di
 use Rattle.reg_jobs.specs.CommandLine.{office_app}
 use Rattle.reg_jobs.specs.declared.jobs.Job.{Job}
 use Rattle.reg_jobs.specs.declared.jobs.Job.TheVariants.{Script, Import, Init, Serve, Request, Define}
-use Rattle.reg_jobs.specs.declared.jobs.Job.TheVariants.{Listing, Due, Publish, Verify, Check, Tokens, Revoke}
+use Rattle.reg_jobs.specs.declared.jobs.Job.TheVariants.{Listing, Due, Publish, Verify, Check, Copy, Tokens, Revoke}
 use Rattle.reg_jobs.specs.declared.jobs.Job.TheVariants.{Version, Help}
 use Rattle.reg_jobs.specs.declared.jobs.Which.{Which}
 use Rattle.reg_jobs.specs.declared.jobs.Which.TheVariants.{Digest, Account}
@@ -62,11 +62,11 @@ IsJobOf name rows (Import order) =
 IsJobOf name rows (Init file clerk) =
     (name ≡ codes "init") × IsTextOf (codes "FILE") rows (string_bytes file)
     × IsTextOf (codes "clerk") rows (string_bytes clerk)
-IsJobOf name rows (Serve file port connections log) =
-    (name ≡ codes "serve") × IsTextOf (codes "FILE") rows (string_bytes file)
-    × IsNumberOf (codes "port") rows port
-    × IsCountOf rows connections
-    × (log ≡ is_used (codes "log") rows)
+IsJobOf name rows (Serve service) =
+    (name ≡ codes "serve") × IsTextOf (codes "FILE") rows (string_bytes service.file)
+    × IsNumberOf (codes "port") rows service.port
+    × IsCountOf rows service.connections
+    × (service.log ≡ is_used (codes "log") rows)
 IsJobOf name rows (Request request) =
     (name ≡ codes "request") × IsTextOf (codes "FILE") rows (string_bytes request.file)
     × IsTextOf (codes "METHOD") rows (string_bytes request.method)
@@ -82,10 +82,10 @@ IsJobOf name rows (Define order) =
 IsJobOf name rows (Listing file registry) =
     (name ≡ codes "listing") × IsTextOf (codes "FILE") rows (string_bytes file)
     × (first_of (codes "registry") rows ≡ option_map string_bytes registry)
-IsJobOf name rows (Publish source folder notes) =
-    (name ≡ codes "publish") × IsTextOf (codes "SOURCE") rows (string_bytes source)
-    × IsTextOf (codes "FOLDER") rows (string_bytes folder)
-    × (first_of (codes "notes") rows ≡ option_map string_bytes notes)
+IsJobOf name rows (Publish order) =
+    (name ≡ codes "publish") × IsTextOf (codes "SOURCE") rows (string_bytes order.source)
+    × IsTextOf (codes "FOLDER") rows (string_bytes order.folder)
+    × (first_of (codes "notes") rows ≡ option_map string_bytes order.notes)
 IsJobOf name rows (Verify folder digest) =
     (name ≡ codes "verify") × IsTextOf (codes "FOLDER") rows (string_bytes folder)
     × (first_of (codes "digest") rows ≡ option_map string_bytes digest)
@@ -94,6 +94,9 @@ IsJobOf name rows (Due source within) =
     × IsNumberOf (codes "within") rows within
 IsJobOf name rows (Check file) =
     (name ≡ codes "check") × IsTextOf (codes "FILE") rows (string_bytes file)
+IsJobOf name rows (Copy file folder) =
+    (name ≡ codes "copy") × IsTextOf (codes "FILE") rows (string_bytes file)
+    × IsTextOf (codes "FOLDER") rows (string_bytes folder)
 IsJobOf name rows (Tokens file) =
     (name ≡ codes "tokens") × IsTextOf (codes "FILE") rows (string_bytes file)
 IsJobOf name rows (Revoke file which) =
@@ -117,8 +120,8 @@ IsFromOneTo most number = (1 ≤ number) × (number ≤ most)
 
 -- the port, the count of connections and the days are in their ranges
 abbrev pub IsInRange : Job → Type 0
-IsInRange (Serve file port connections log) =
-    IsFromOneTo 65535 port × IsFromOneTo 1000000 connections
+IsInRange (Serve service) =
+    IsFromOneTo 65535 service.port × IsFromOneTo 1000000 service.connections
 IsInRange (Due source within) = within ≤ 36500
 IsInRange _ = ⊤
 
@@ -145,8 +148,10 @@ Where false P Q = Q
 abbrev pub HasKeepingJob : Text → List Row → Type 0
 HasKeepingJob name rows =
     Where (bytes_eq name (codes "check")) (HasText (codes "FILE") rows)
+    (Where (bytes_eq name (codes "copy"))
+    (HasText (codes "FILE") rows × HasText (codes "FOLDER") rows)
     (Where (bytes_eq name (codes "tokens")) (HasText (codes "FILE") rows)
-    (Where (bytes_eq name (codes "revoke")) (HasText (codes "FILE") rows) ⊥))
+    (Where (bytes_eq name (codes "revoke")) (HasText (codes "FILE") rows) ⊥)))
 
 -- there is a job of this name among those that tell others what is published or look after an
 -- office, and the values that it needs are there

@@ -96,6 +96,9 @@ request_app =
 abbrev pub check_app : App
 check_app = file_app (codes "check")
 
+abbrev pub copy_app : App
+copy_app = with_rule (file_app (codes "copy")) (place_rule (codes "FOLDER"))
+
 abbrev pub tokens_app : App
 tokens_app = file_app (codes "tokens")
 
@@ -143,5 +146,5 @@ telling_app =
 
 abbrev pub office_app : App
 office_app =
-    with_subcommand (with_subcommand (with_subcommand telling_app
-    check_app.top) tokens_app.top) revoke_app.top
+    with_subcommand (with_subcommand (with_subcommand (with_subcommand telling_app
+    check_app.top) copy_app.top) tokens_app.top) revoke_app.top

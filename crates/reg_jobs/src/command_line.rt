@@ -7,7 +7,7 @@ ghost use Rattle.reg_jobs.specs.Asking.{HasJob, HasNumber, HasText, IsAsked, IsA
 ghost use Rattle.reg_jobs.specs.declared.jobs.JobFault.TheVariants.{Line, Memory};
 
 use crate::definition::{MOST_CONNECTIONS, office};
-use crate::jobs::{Definition, Importation, Job, JobFault, Request, Which};
+use crate::jobs::{Definition, Importation, Job, JobFault, Publication, Request, Service, Which};
 use clap::error::ErrorKind;
 use clap::{ArgMatches, Error};
 use std::alloc::{AllocError, Global};
@@ -68,6 +68,7 @@ fn job_of(alloc: Global, matches: &ArgMatches) -> Result<Job, JobFault>
         "publish" => publish_of(alloc, inner),
         "verify" => verify_of(alloc, inner),
         "check" => check_of(alloc, inner),
+        "copy" => copy_of(alloc, inner),
         "tokens" => tokens_of(alloc, inner),
         "revoke" => revoke_of(alloc, inner),
         _ => Err(JobFault::Line),
@@ -120,12 +121,12 @@ fn serve_of(alloc: Global, matches: &ArgMatches) -> Result<Job, JobFault>
         → MayHaveNumber (codes "connections") 1 1000000 (rows_of (found_of matches.now))
         → MatchResult result IsInRange (λ fault. fault ≡ Memory) }
 {
-    Ok(Job::Serve {
+    Ok(Job::Serve(Service {
         file: text(alloc, matches, "FILE")?,
         port: port(matches)?,
         connections: connections(matches)?,
         log: is_flagged(matches, "log"),
-    })
+    }))
 }
 
 fn port(matches: &ArgMatches) -> Result<u16, JobFault>
@@ -207,11 +208,11 @@ fn publish_of(alloc: Global, matches: &ArgMatches) -> Result<Job, JobFault>
         → HasText (codes "FOLDER") (rows_of (found_of matches.now))
         → MatchResult result IsInRange (λ fault. fault ≡ Memory) }
 {
-    Ok(Job::Publish {
+    Ok(Job::Publish(Publication {
         source: text(alloc, matches, "SOURCE")?,
         folder: text(alloc, matches, "FOLDER")?,
         notes: optional_text(alloc, matches, "notes")?,
-    })
+    }))
 }
 
 fn verify_of(alloc: Global, matches: &ArgMatches) -> Result<Job, JobFault>
@@ -252,6 +253,18 @@ fn check_of(alloc: Global, matches: &ArgMatches) -> Result<Job, JobFault>
 {
     Ok(Job::Check {
         file: text(alloc, matches, "FILE")?,
+    })
+}
+
+fn copy_of(alloc: Global, matches: &ArgMatches) -> Result<Job, JobFault>
+    ensures said { IfOk result (IsJobOf (codes "copy") (rows_of (found_of matches.now))) }
+    ensures given { HasText (codes "FILE") (rows_of (found_of matches.now))
+        → HasText (codes "FOLDER") (rows_of (found_of matches.now))
+        → MatchResult result IsInRange (λ fault. fault ≡ Memory) }
+{
+    Ok(Job::Copy {
+        file: text(alloc, matches, "FILE")?,
+        folder: text(alloc, matches, "FOLDER")?,
     })
 }
 

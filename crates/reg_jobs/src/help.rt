@@ -130,6 +130,16 @@ prints first
   well kept
 and then a count for each kind of row, as: entries 340";
 
+pub const COPY_ABOUT: &str =
+    "Copies the office in FILE into FOLDER, also while it is served, and changes nothing in it";
+
+pub const COPY_EXAMPLE: &str =
+    "The copy is the office as it was at one moment. It is checked, and then gets the name
+of FILE. An earlier copy of that name is replaced. Example:
+  reg_cli copy office.db /backup/2026-11-28
+prints
+  copied version 3, 401 requests";
+
 pub const TOKENS_ABOUT: &str =
     "Prints all tokens of the office in FILE as CSV, each by the first 12 digits of its digest";
 

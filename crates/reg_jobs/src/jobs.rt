@@ -25,16 +25,7 @@ pub enum Job {
         clerk: String,
     },
     /// Serves the office in a file over HTTP on loopback, one connection after the other.
-    Serve {
-        /// The path of the office's file.
-        file: String,
-        /// The port, from 1.
-        port: u16,
-        /// How many connections are served, from 1 to 1,000,000.
-        connections: u32,
-        /// Whether a line on standard error tells of each connection.
-        log: bool,
-    },
+    Serve(Service),
     /// Has the office in a file answer one request.
     Request(Request),
     /// Defines a registry from a range file, in the office in a file.
@@ -47,14 +38,7 @@ pub enum Job {
         registry: Option<String>,
     },
     /// Writes what is published of an office as files that people read.
-    Publish {
-        /// The path of the office's file, or the address at which it is served.
-        source: String,
-        /// The path of the folder in which the files are.
-        folder: String,
-        /// The path of the notes that the pages show; without one, they show none.
-        notes: Option<String>,
-    },
+    Publish(Publication),
     /// Checks the history of what is published in a folder, and the files there against it.
     Verify {
         /// The path of the folder.
@@ -73,6 +57,13 @@ pub enum Job {
     Check {
         /// The path of the office's file.
         file: String,
+    },
+    /// Copies the office in a file, as it stood at one moment.
+    Copy {
+        /// The path of the office's file.
+        file: String,
+        /// The path of the folder in which the copy is put.
+        folder: String,
     },
     /// Prints the capabilities of the office in a file.
     Tokens {
@@ -106,6 +97,30 @@ pub struct Importation {
     pub clerk: String,
     /// The account of the expert who advises on them.
     pub expert: String,
+}
+
+/// How an office is served.
+#[derive(Drop)]
+pub struct Service {
+    /// The path of the office's file.
+    pub file: String,
+    /// The port, from 1.
+    pub port: u16,
+    /// How many connections are served, from 1 to 1,000,000.
+    pub connections: u32,
+    /// Whether a line on standard error tells of each connection.
+    pub log: bool,
+}
+
+/// How an office is published.
+#[derive(Drop)]
+pub struct Publication {
+    /// The path of the office's file, or the address at which it is served.
+    pub source: String,
+    /// The path of the folder in which the files are.
+    pub folder: String,
+    /// The path of the notes that the pages show; without one, they show none.
+    pub notes: Option<String>,
 }
 
 /// One request of an office.

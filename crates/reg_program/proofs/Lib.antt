@@ -2,6 +2,7 @@ pub mod Asked
 pub mod Carried
 pub mod Checked
 pub mod Closed
+pub mod Copied
 pub mod Did
 pub mod Founded
 pub mod Gotten

@@ -1,6 +1,7 @@
 pub mod Asking
 pub mod Carrying
 pub mod Checking
+pub mod Copying
 pub mod Doing
 pub mod Expiring
 pub mod Founding

@@ -1,5 +1,5 @@
 -- What becomes of a job: which task is carried out, with the office in which file.
-use Rattle.std.specs.Prelude.{◌≡◌, ◌⊎◌, ⊤, ℕ, Bool, false, is_some, [], List, Option, Some, None, Result, Ok, Err, OnOk, codes, option_map}
+use Rattle.std.specs.Prelude.{◌≡◌, ◌⊎◌, ⊤, ℕ, ℤ, Bool, false, is_some, [], List, Option, Some, None, Result, Ok, Err, OnOk, codes, option_map}
 use Rattle.std.specs.Io.KnownBytes.{Appends}
 use Rattle.std.specs.Option.{option_copied}
 use Rattle.std.specs.String.{string_bytes}
@@ -17,6 +17,7 @@ use Rattle.reg_store.specs.Lists.{world_in}
 use Rattle.reg_store.specs.declared.lists.ListKeeper.{ListKeeper}
 use Rattle.reg_core.specs.World.{empty_world}
 use Rattle.reg_program.specs.Asking.{definition_at, listing_at}
+use Rattle.reg_program.specs.Copying.{PrintsCopied}
 use Rattle.reg_program.specs.Expiring.{PrintsTable}
 use Rattle.reg_program.specs.Founding.{RunsAll, told_beside}
 use Rattle.reg_program.specs.Importing.{IsImported}
@@ -109,7 +110,7 @@ pub record RunsInMemory (word : List ℕ) (io : Streams) : Type 0 where
   pub runs : RunsAll world_in (λ _. ⊤) (λ _. ⊤) false first last token io.unread io.left
       (told_beside io.is_watched io.had) (told_beside io.is_watched io.has)
 
--- What a job does with the offices in files. Of a task that was carried out with the one in a file
+-- What some jobs do with the offices in files. Of a task that was carried out with the one in a file
 -- `Carried` tells, of one that was looked at `Checked`; and `Untouched` says that nothing was done
 -- with any of them.
 module _ (Carried : List ℕ → Task → Streams → Result ⊤ Undone → Type 0)
@@ -135,33 +136,43 @@ module _ (Carried : List ℕ → Task → Streams → Result ⊤ Undone → Type
   abbrev pub PrintsVersion : Streams → Result ⊤ Undone → Type 0
   PrintsVersion io done = Untouched × OnOk done (Appends io.had io.has version_line)
 
+-- The same of each job. Of a copy `Copied` tells.
+module _ (Carried : List ℕ → Task → Streams → Result ⊤ Undone → Type 0)
+    (Checked : List ℕ → Streams → Result ⊤ Undone → Type 0)
+    (Copied : List ℕ → List ℕ → ℤ → ℕ → Type 0) (Untouched : Type 0) where
   -- What a job does, with this result, by what is known of standard input and output and of the
   -- clock. Of what a served office publishes and of help nothing else is said here.
   abbrev pub DoesJob : Streams → Job → Result ⊤ Undone → Type 0
   DoesJob io (job.Script clerk file) done =
-      RunsIn (option_map string_bytes file) (string_bytes clerk) io done
+      RunsIn Carried Checked Untouched (option_map string_bytes file) (string_bytes clerk) io done
   DoesJob io (job.Import order) done = Untouched × IsImported order io done
   DoesJob io (job.Init file clerk) done =
       Carries Carried (string_bytes file) (IsFounding (string_bytes clerk)) io done
-  DoesJob io (job.Serve file port connections log) done =
-      Carries Carried (string_bytes file) (λ task. task ≡ Serve port connections log) io done
+  DoesJob io (job.Serve service) done =
+      Carries Carried (string_bytes service.file)
+      (λ task. task ≡ Serve service.port service.connections service.log) io done
   DoesJob io (job.Request order) done =
       CarriesThen Carried (string_bytes order.file) (IsRequestedBy order io.unread) io done
   DoesJob io (job.Define order) done =
       Carries Carried (string_bytes order.file) (IsDefinedBy order) io done
   DoesJob io (job.Listing file registry) done =
       Carries Carried (string_bytes file) (IsListedBy (option_map string_bytes registry)) io done
-  DoesJob io (job.Publish source folder notes) done =
-      PublishesFrom (string_bytes source) (string_bytes folder) (is_some notes) io done
+  DoesJob io (job.Publish order) done =
+      PublishesFrom Carried Checked Untouched (string_bytes order.source)
+      (string_bytes order.folder) (is_some order.notes) io done
   DoesJob io (job.Verify folder digest) done =
       Untouched × IsVerifiedBy (option_map string_bytes digest) io.had io.has done
-  DoesJob io (job.Due source within) done = TellsDue (string_bytes source) within io done
+  DoesJob io (job.Due source within) done =
+      TellsDue Carried Checked Untouched (string_bytes source) within io done
   DoesJob io (job.Check file) done = Checked (string_bytes file) io done
+  DoesJob io (job.Copy file folder) done =
+      Untouched
+      × OnOk done (PrintsCopied (Copied (string_bytes file) (string_bytes folder)) io.had io.has)
   DoesJob io (job.Tokens file) done =
       Carries Carried (string_bytes file) (λ task. task ≡ Tokens) io done
   DoesJob io (job.Revoke file chosen) done =
       Carries Carried (string_bytes file) (IsTakenBy chosen) io done
-  DoesJob io job.Version done = PrintsVersion io done
+  DoesJob io job.Version done = PrintsVersion Carried Checked Untouched io done
   DoesJob io (job.Help text) done = Untouched
 
 -- Either this was done; or it was not, and then nothing was, or it itself failed.

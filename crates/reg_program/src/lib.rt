@@ -4,6 +4,7 @@
 pub mod asking;
 pub mod checking;
 pub mod console;
+pub mod copying;
 pub mod expiring;
 pub mod faults;
 pub mod importing;

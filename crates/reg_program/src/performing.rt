@@ -1,6 +1,7 @@
 //! Doing the jobs of the program.
 ghost use Rattle.std.specs.Prelude.{◌≡◌, ◌⊎◌, IfOk, OnOk, is_some, option_map};
 ghost use Rattle.std.specs.String.{string_bytes};
+ghost use Rattle.reg_program.specs.Copying.{PrintsCopied};
 ghost use Rattle.reg_program.specs.Founding.{RunsAll, told_beside};
 ghost use Rattle.reg_program.specs.Importing.{IsImported};
 ghost use Rattle.reg_program.specs.Inputs.{AreKnown, body_in};
@@ -11,6 +12,7 @@ ghost use Rattle.reg_program.specs.Verifying.{IsVerifiedBy};
 
 use crate::asking::{Form, definition, listing, print, requested};
 use crate::console::Console;
+use crate::copying::Copies;
 use crate::expiring::print_due_served;
 use crate::faults::Undone;
 use crate::importing::import;
@@ -23,7 +25,9 @@ use crate::tokens::account_of;
 use crate::verifying::verify;
 use crate::version::print_version;
 use reg_http::dates::{Dates, moment_now};
-use reg_jobs::jobs::{Definition, Importation, Job, JobFault, Request, Which};
+use reg_jobs::jobs::{
+    Definition, Importation, Job, JobFault, Publication, Request, Service, Which,
+};
 use reg_keeper::keeper::Keeper;
 use reg_notes::notes::Notes;
 use reg_office::{Choice, Office};
@@ -31,13 +35,14 @@ use reg_store::lists::ListKeeper;
 use std::alloc::Global;
 use std::io::{Read, Write};
 
-/// Does a job over the given standard input, output and error, these dates, and the offices in files,
-/// and gives the exit status: 0, or 1 with one line on standard error that says why. The line is the
+/// Does a job over the given standard input, output and error, these dates, and the offices in files
+/// and their copies, and gives the exit status: 0, or 1 with one line on standard error that says why. The line is the
 /// status and the body of the answer where a command was refused, and else begins `fault: `.
-pub fn perform<D: Dates, O: Offices, R: Read, W: Write, E: Write>(
+pub fn perform<D: Dates, O: Offices, C: Copies, R: Read, W: Write, E: Write>(
     rt: &HostRuntime,
     dates: &mut D,
     offices: &mut O,
+    copies: &C,
     job: Job,
     console: &mut Console<'_, R, W, E>,
 ) -> u8
@@ -47,9 +52,10 @@ pub fn perform<D: Dates, O: Offices, R: Read, W: Write, E: Write>(
         (W.contents console.old.output.now) (W.contents console.new.output.now)
         (D.readings dates.old) (D.readings dates.new) in
         EndsBy (offices.new ≡ offices.old) (DoesJob (O.Carried offices.old offices.new)
-        (O.Checked offices.old offices.new) (offices.new ≡ offices.old) io job) result }
+        (O.Checked offices.old offices.new) (C.Copied copies.now) (offices.new ≡ offices.old) io job)
+        result }
 {
-    match attempt(rt, dates, offices, &job, console) {
+    match attempt(rt, dates, offices, copies, &job, console) {
         Ok(()) => 0,
         Err(undone) => {
             report(&undone, console.errors);
@@ -93,10 +99,11 @@ fn report<E: Write>(undone: &Undone, errors: &mut E) {
     }
 }
 
-fn attempt<D: Dates, O: Offices, R: Read, W: Write, E: Write>(
+fn attempt<D: Dates, O: Offices, C: Copies, R: Read, W: Write, E: Write>(
     rt: &HostRuntime,
     dates: &mut D,
     offices: &mut O,
+    copies: &C,
     job: &Job,
     console: &mut Console<'_, R, W, E>,
 ) -> Result<(), Undone>
@@ -105,7 +112,8 @@ fn attempt<D: Dates, O: Offices, R: Read, W: Write, E: Write>(
         (W.contents console.old.output.now) (W.contents console.new.output.now)
         (D.readings dates.old) (D.readings dates.new) in
         Tries (offices.new ≡ offices.old) (DoesJob (O.Carried offices.old offices.new)
-        (O.Checked offices.old offices.new) (offices.new ≡ offices.old) io job.now) result }
+        (O.Checked offices.old offices.new) (C.Copied copies.now) (offices.new ≡ offices.old) io
+        job.now) result }
 {
     match job {
         Job::Script { clerk, file } => script(rt, dates, offices, clerk.as_str(), file, console),
@@ -118,19 +126,7 @@ fn attempt<D: Dates, O: Offices, R: Read, W: Write, E: Write>(
             clerk.as_str(),
             console,
         ),
-        Job::Serve {
-            file,
-            port,
-            connections,
-            log,
-        } => {
-            let task = Task::Serve {
-                port: *port,
-                connections: *connections,
-                log: *log,
-            };
-            carry_out(rt, dates, offices, file.as_str(), task, console)
-        }
+        Job::Serve(order) => serve(rt, dates, offices, order, console),
         Job::Request(order) => request(rt, dates, offices, order, console),
         Job::Define(order) => define(rt, dates, offices, order, console),
         Job::Listing { file, registry } => list(
@@ -141,26 +137,15 @@ fn attempt<D: Dates, O: Offices, R: Read, W: Write, E: Write>(
             registry,
             console,
         ),
-        Job::Publish {
-            source,
-            folder,
-            notes,
-        } => {
-            publish_at(
-                rt,
-                dates,
-                offices,
-                source.as_str(),
-                folder.as_str(),
-                notes,
-                console,
-            )
-        }
+        Job::Publish(order) => publish_at(rt, dates, offices, order, console),
         Job::Verify { folder, digest } => verify_at(rt, folder.as_str(), digest, console),
         Job::Due { source, within } => {
             due_at(rt, dates, offices, source.as_str(), *within, console)
         }
         Job::Check { file } => offices.check(rt, dates, file.as_str(), console),
+        Job::Copy { file, folder } => {
+            copies.copy(rt, file.as_str(), folder.as_str(), console.output)
+        }
         Job::Tokens { file } => carry_out(rt, dates, offices, file.as_str(), Task::Tokens, console),
         Job::Revoke { file, which } => revoke(rt, dates, offices, file.as_str(), which, console),
         Job::Version => print_version(rt.alloc(), console.output),
@@ -272,6 +257,28 @@ fn init<D: Dates, O: Offices, R: Read, W: Write, E: Write>(
     carry_out(rt, dates, offices, file, Task::Found { clerk }, console)
 }
 
+fn serve<D: Dates, O: Offices, R: Read, W: Write, E: Write>(
+    rt: &HostRuntime,
+    dates: &mut D,
+    offices: &mut O,
+    order: &Service,
+    console: &mut Console<'_, R, W, E>,
+) -> Result<(), Undone>
+    ensures { let io = streams console.old.is_watched
+        (R.remaining console.old.input.now) (R.remaining console.new.input.now)
+        (W.contents console.old.output.now) (W.contents console.new.output.now)
+        (D.readings dates.old) (D.readings dates.new) in
+        O.Carried offices.old offices.new (string_bytes order.now.file)
+        (Task.Serve order.now.port order.now.connections order.now.log) io result }
+{
+    let task = Task::Serve {
+        port: order.port,
+        connections: order.connections,
+        log: order.log,
+    };
+    carry_out(rt, dates, offices, order.file.as_str(), task, console)
+}
+
 fn request<D: Dates, O: Offices, R: Read, W: Write, E: Write>(
     rt: &HostRuntime,
     dates: &mut D,
@@ -366,9 +373,7 @@ fn publish_at<D: Dates, O: Offices, R: Read, W: Write, E: Write>(
     rt: &HostRuntime,
     dates: &mut D,
     offices: &mut O,
-    source: &str,
-    folder: &str,
-    notes: &Option<String>,
+    order: &Publication,
     console: &mut Console<'_, R, W, E>,
 ) -> Result<(), Undone>
     ensures { let io = streams console.old.is_watched
@@ -376,12 +381,14 @@ fn publish_at<D: Dates, O: Offices, R: Read, W: Write, E: Write>(
         (W.contents console.old.output.now) (W.contents console.new.output.now)
         (D.readings dates.old) (D.readings dates.new) in
         Tries (offices.new ≡ offices.old) (PublishesFrom (O.Carried offices.old offices.new)
-        (O.Checked offices.old offices.new) (offices.new ≡ offices.old) source.now folder.now
-        (is_some notes.now) io)
+        (O.Checked offices.old offices.new) (offices.new ≡ offices.old)
+        (string_bytes order.now.source) (string_bytes order.now.folder) (is_some order.now.notes) io)
         result }
 {
+    let source = order.source.as_str();
+    let folder = order.folder.as_str();
     let port = port_of(source)?;
-    let read = notes_at(rt, rt.alloc(), notes)?;
+    let read = notes_at(rt, rt.alloc(), &order.notes)?;
     match port {
         Some(port) => {
             publish_served(

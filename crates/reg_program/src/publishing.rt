@@ -92,8 +92,9 @@ impl Folder for LockedDirectory<'_> {
     }
 }
 
-// Locks a folder, until what is given is dropped.
-fn locked(rt: &HostRuntime, folder: &str) -> Result<fs::File, Unpublished> {
+/// Locks a folder, until what is given is dropped. `Write` where it cannot be opened, or another job has
+/// locked it.
+pub fn locked(rt: &HostRuntime, folder: &str) -> Result<fs::File, Unpublished> {
     let Ok(file) = fs::open(rt, folder) else {
         return Err(Unpublished::Write);
     };

@@ -156,48 +156,31 @@ impl Task<'_> {
         ensures looks { looks_on self.now ≡ true →
             K.Holds office.new → K.world office.new ≡ K.world office.old }
     {
+        let alloc = rt.alloc();
         match self {
             Task::Found { clerk } => found_in(office, clerk, console.output),
             Task::Run { clerk } => run_in(rt, office, clerk, console),
             Task::Serve {
                 port,
-                connections,
+                connections: count,
                 log,
-            } => serve_in(
-                rt.alloc(),
-                ports,
-                dates,
-                office,
-                *port,
-                *connections,
-                *log,
-                console,
-            ),
+            } => serve_in(alloc, ports, dates, office, *port, *count, *log, console),
             Task::Ask {
                 token,
                 command,
                 form,
             } => {
-                let moment = moment_now(dates);
-                ask_in(
-                    rt.alloc(),
-                    office,
-                    moment,
-                    *token,
-                    command,
-                    *form,
-                    console.output,
-                )
+                let now = moment_now(dates);
+                ask_in(alloc, office, now, *token, command, *form, console.output)
             }
-            Task::Tokens => tokens_in(rt.alloc(), office, console.output),
+            Task::Tokens => tokens_in(alloc, office, console.output),
             Task::Revoke { choice } => {
-                let moment = moment_now(dates);
-                revoke_in(rt.alloc(), office, moment, *choice, console.output)
+                revoke_in(alloc, office, moment_now(dates), *choice, console.output)
             }
             Task::Publish { folder, notes } => {
                 let now = moment_now(dates);
                 publish_in(
-                    rt.alloc(),
+                    alloc,
                     folders,
                     office,
                     now,
@@ -208,8 +191,7 @@ impl Task<'_> {
                 )
             }
             Task::Due { days } => {
-                let moment = moment_now(dates);
-                print_due(rt.alloc(), office, moment, *days, console.output)
+                print_due(alloc, office, moment_now(dates), *days, console.output)
             }
         }
     }

@@ -39,6 +39,14 @@ names_of path file = record {
   folder = path ++ (codes "/" ++ folder_of file);
 }
 
+-- those of a file of this name, in a folder at this path
+abbrev pub names_within : List ℕ → List ℕ → FileNames
+names_within folder name = record {
+  place = folder ++ (codes "/" ++ name);
+  beside = folder ++ (codes "/." ++ (name ++ codes ".new"));
+  folder = folder;
+}
+
 -- a new file beside the place
 abbrev pub begins : FileNames → List DiskStep
 begins names = Removed names.beside ∷ Created names.beside ∷ []

@@ -15,7 +15,7 @@ mod placing;
 pub mod publishing;
 pub mod reading;
 mod registries;
-mod replacement;
+pub mod replacement;
 pub mod source;
 mod timed;
 pub mod told;

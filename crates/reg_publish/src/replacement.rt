@@ -3,7 +3,7 @@ ghost use Rattle.std.specs.Prelude.{◌≡◌, ◌≤◌, ◌++◌, [], length, 
 ghost use Rattle.std.specs.Io.KnownBytes.{Consumes, IsAtEnd};
 ghost use Rattle.reg_site.specs.Portions.{Gives};
 ghost use Rattle.reg_publish.specs.Copied.{IsCompared, IsCopied};
-ghost use Rattle.reg_publish.specs.Disk.{IsPut, IsStopped, StaysBeside, begins, names_of, replaces};
+ghost use Rattle.reg_publish.specs.Disk.{IsLeft, IsPut, IsStopped, StaysBeside, begins, names_of, names_within, replaces};
 ghost use Rattle.reg_publish.specs.Names.{names_by};
 
 use crate::disk::Disk;
@@ -21,7 +21,7 @@ const COMPARED_BYTES: usize = 16_384;
 
 /// The names of a file that is to take a place.
 #[derive(Drop)]
-pub(crate) struct Names {
+pub struct Names {
     /// Where it is to be.
     pub place: String,
     /// Where it is made.
@@ -31,6 +31,20 @@ pub(crate) struct Names {
 }
 
 impl Names {
+    /// Those of a file of this name, in a folder at a path. Only want of memory is an error.
+    pub fn within(alloc: Global, folder: &str, name: &str) -> Result<Self, AllocError>
+        ensures { IfOk result (λ names. names_by names ≡ names_within folder.now name.now) }
+    {
+        let place = format!(in alloc; "{folder}/{name}")?;
+        let beside = format!(in alloc; "{folder}/.{name}.new")?;
+        let folder = String::from_str(alloc, folder)?;
+        Ok(Names {
+            place,
+            beside,
+            folder,
+        })
+    }
+
     /// Those of a file of a site, in a folder at a path. Only want of memory is an error.
     pub(crate) fn of(alloc: Global, path: &str, file: File) -> Result<Self, AllocError>
         ensures { IfOk result (λ names. names_by names ≡ names_of path.now file) }
@@ -45,6 +59,28 @@ impl Names {
             beside,
             folder,
         })
+    }
+}
+
+/// Lets these bytes take a place, in a file of their own, whatever is there. Where that fails, what is
+/// beside the place is removed.
+pub fn replace<D: Disk, P: Portions>(
+    disk: &mut D,
+    alloc: Global,
+    names: &Names,
+    bytes: &mut P,
+) -> Result<(), Unpublished>
+    ensures done { D.Tells → OnOk result (D.done disk.new
+        ≡ D.done disk.old ++ replaces (names_by names.now) (P.rest bytes.old)) }
+    ensures failed { D.Tells → OnErr result (IsLeft (names_by names.now) (P.rest bytes.old)
+        (D.done disk.old) (D.done disk.new)) }
+{
+    match write(disk, names, 0, &mut Vec::new(alloc), bytes) {
+        Ok(()) => Ok(()),
+        Err(why) => {
+            disk.remove(names.beside.as_str());
+            Err(why)
+        }
     }
 }
 

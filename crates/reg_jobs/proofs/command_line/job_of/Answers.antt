@@ -184,6 +184,18 @@ returns-in-check c =
           (λ h. only_memory c.check_of.result (codes "check", rows) (c.check_of.ensures.given h));
     }
 
+pub returns-in-copy : goal.returns-in-copy
+returns-in-copy c =
+    let name = c.in-Some.name.now in
+    let rows = rows_of (found_of c.in-Some.inner.now) in
+    let here = met_at c.args.matches.now name rows c.in-Some.ensures.name c.in-Some.ensures.rows in
+    let o = subcommand_rows_of c.args.matches.now in
+    record {
+      said = said_at o name (codes "copy") rows c.copy_of.result here c.in-copy.is c.copy_of.ensures.said;
+      given = given_at o name (codes "copy") rows c.copy_of.result here c.in-copy.is
+          (λ h. only_memory c.copy_of.result (codes "copy", rows) (c.copy_of.ensures.given h.0 h.1));
+    }
+
 pub returns-in-tokens : goal.returns-in-tokens
 returns-in-tokens c =
     let name = c.in-Some.name.now in

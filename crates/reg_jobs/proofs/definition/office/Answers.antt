@@ -1,4 +1,4 @@
-use Rattle.reg_jobs.specs.CommandLine.{check_app, revoke_app, telling_app, tokens_app}
+use Rattle.reg_jobs.specs.CommandLine.{check_app, copy_app, revoke_app, telling_app, tokens_app}
 use Rattle.reg_jobs.proofs.Adding.{job_added}
 use Rattle.reg_jobs.proofs.definition.office.Goals as goal
 
@@ -6,7 +6,9 @@ pub returns : goal.returns
 returns c =
     let one = job_added c.telling.result c.check.result c.with_job-program.result telling_app check_app c.with_job-program.ensures c.telling.ensures
     c.check.ensures.shape c.check.ensures.local in
-    let two = job_added c.with_job-program.result c.tokens.result c.with_job-program-2.result _ tokens_app c.with_job-program-2.ensures one
+    let two = job_added c.with_job-program.result c.copy.result c.with_job-program-2.result _ copy_app c.with_job-program-2.ensures one
+    c.copy.ensures.shape c.copy.ensures.local in
+    let three = job_added c.with_job-program-2.result c.tokens.result c.with_job-program-3.result _ tokens_app c.with_job-program-3.ensures two
     c.tokens.ensures.shape c.tokens.ensures.local in
-    job_added c.with_job-program-2.result c.revoke.result c.with_job.result _ revoke_app c.with_job.ensures two
+    job_added c.with_job-program-3.result c.revoke.result c.with_job.result _ revoke_app c.with_job.ensures three
     c.revoke.ensures.shape c.revoke.ensures.local

@@ -3,6 +3,7 @@ use Rattle.std.specs.Prelude.{option_map, string_bytes}
 use Rattle.reg_jobs.specs.declared.jobs.Job.{Job}
 use Rattle.reg_program.specs.Performing.{DoesJob, Tries}
 use Rattle.reg_program.specs.Tasks.{streams}
+use Rattle.reg_program.proofs.Copied.{tries_copy}
 use Rattle.reg_program.proofs.Imported.{tries_import}
 use Rattle.reg_program.proofs.Verified.{tries_verify}
 use Rattle.reg_program.proofs.performing.attempt.Goals as goal
@@ -19,10 +20,10 @@ returns-in-Publish g c =
     let Same = c.publish_at.new.offices ≡ c.args.offices.now in
     subst (λ (job : Job). Tries Same
     (DoesJob (g.O.Offices.Carried c.args.offices.now c.publish_at.new.offices)
-    (g.O.Offices.Checked c.args.offices.now c.publish_at.new.offices) Same io job) done)
+    (g.O.Offices.Checked c.args.offices.now c.publish_at.new.offices) (g.C.Copies.Copied c.args.copies.now)
+    Same io job) done)
     (sym c.in-Publish.is)
-    (rw (c.as_str-in-Publish.ensures.value, c.as_str-in-Publish-2.ensures.value)
-    at c.publish_at.ensures)
+    c.publish_at.ensures
 
 pub returns-in-Import : goal.returns-in-Import
 returns-in-Import g c =
@@ -36,9 +37,28 @@ returns-in-Import g c =
     let Same = c.args.offices.now ≡ c.args.offices.now in
     subst (λ (job : Job). Tries Same
     (DoesJob (g.O.Offices.Carried c.args.offices.now c.args.offices.now)
-    (g.O.Offices.Checked c.args.offices.now c.args.offices.now) Same io job) done)
+    (g.O.Offices.Checked c.args.offices.now c.args.offices.now) (g.C.Copies.Copied c.args.copies.now)
+    Same io job) done)
     (sym c.in-Import.is)
     (tries_import Same c.in-Import.order io done refl c.import_now.ensures)
+
+pub returns-in-Copy : goal.returns-in-Copy
+returns-in-Copy g c =
+    let done = c.copy.result in
+    let io = streams c.args.console.now.is_watched
+    (g.R.Read.remaining c.args.console.now.input.now)
+    (g.R.Read.remaining c.args.console.now.input.now)
+    (g.W.Write.contents c.args.console.now.output.now)
+    (g.W.Write.contents c.copy.new.output)
+    (g.D.Dates.readings c.args.dates.now) (g.D.Dates.readings c.args.dates.now) in
+    let Same = c.args.offices.now ≡ c.args.offices.now in
+    let Copied = g.C.Copies.Copied c.args.copies.now in
+    subst (λ (job : Job). Tries Same
+    (DoesJob (g.O.Offices.Carried c.args.offices.now c.args.offices.now)
+    (g.O.Offices.Checked c.args.offices.now c.args.offices.now) Copied Same io job) done)
+    (sym c.in-Copy.is)
+    (tries_copy Same (Copied (string_bytes c.in-Copy.file) (string_bytes c.in-Copy.folder)) io done refl
+    (rw (c.as_str-in-Copy.ensures.value, c.as_str-in-Copy-2.ensures.value) at c.copy.ensures))
 
 pub returns-in-Due : goal.returns-in-Due
 returns-in-Due g c =
@@ -52,7 +72,8 @@ returns-in-Due g c =
     let Same = c.due_at.new.offices ≡ c.args.offices.now in
     subst (λ (job : Job). Tries Same
     (DoesJob (g.O.Offices.Carried c.args.offices.now c.due_at.new.offices)
-    (g.O.Offices.Checked c.args.offices.now c.due_at.new.offices) Same io job) done)
+    (g.O.Offices.Checked c.args.offices.now c.due_at.new.offices) (g.C.Copies.Copied c.args.copies.now)
+    Same io job) done)
     (sym c.in-Due.is)
     (rw (c.as_str-in-Due.ensures.value) at c.due_at.ensures)
 
@@ -68,6 +89,7 @@ returns-in-Verify g c =
     let Same = c.args.offices.now ≡ c.args.offices.now in
     subst (λ (job : Job). Tries Same
     (DoesJob (g.O.Offices.Carried c.args.offices.now c.args.offices.now)
-    (g.O.Offices.Checked c.args.offices.now c.args.offices.now) Same io job) done)
+    (g.O.Offices.Checked c.args.offices.now c.args.offices.now) (g.C.Copies.Copied c.args.copies.now)
+    Same io job) done)
     (sym c.in-Verify.is)
     (tries_verify Same (option_map string_bytes c.in-Verify.digest) io done refl c.verify_at.ensures)

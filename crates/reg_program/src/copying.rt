@@ -1,0 +1,92 @@
+//! The job that copies an office.
+ghost use Rattle.std.specs.Prelude.{◌≡◌, ◌++◌, ℕ, IfErr, IfOk, OnErr, OnOk};
+ghost use Rattle.std.specs.String.{string_bytes};
+ghost use Rattle.reg_publish.specs.Disk.{IsLeft, replaces};
+ghost use Rattle.reg_publish.specs.Names.{names_by};
+ghost use Rattle.reg_program.specs.Copying.{IsUncopied, PrintsCopied, copied_line, requests_in};
+
+use crate::asking::print;
+use crate::faults::Undone;
+use crate::publishing::undone;
+use reg_keeper::keeper::Keeper;
+use reg_publish::disk::Disk;
+use reg_publish::replacement::{Names, replace};
+use reg_site::portions::Whole;
+use std::alloc::Global;
+use std::io::Write;
+
+/// What copies the offices in files.
+pub trait Copies {
+    ghost use Rattle.std.specs.Prelude.{ℕ, ℤ, List};
+
+    /// What is known of a copy of the office in the file at a path, in a folder: it is of this version,
+    /// and has so many requests.
+    ghost Copied: { Self → List ℕ → List ℕ → ℤ → ℕ → Type 0 } = { λ _ _ _ _ _. Unit {0} };
+
+    /// Puts a copy of the office in the file at a path, as it stood at one moment, into a folder, whole
+    /// and under the name of the file, and prints its version and how many requests it has. The office
+    /// may be served meanwhile, and its files stay as they are. `Explained` where there is no office, or
+    /// one that is not well kept; with `Busy` where it was changed each time that it was read. `Write`
+    /// where the copy cannot be put there.
+    fn copy<W: Write>(
+        &self,
+        rt: &HostRuntime,
+        path: &str,
+        folder: &str,
+        output: &mut W,
+    ) -> Result<(), Undone>
+        ensures { OnOk result (PrintsCopied (Copied self.now path.now folder.now)
+            (W.contents output.old) (W.contents output.new)) };
+}
+
+/// Lets the bytes of a copy of this version take their place on a disk, and prints the version and how many
+/// requests the office has that was seen in them.
+pub fn copy_in<K: Keeper, D: Disk, W: Write>(
+    alloc: Global,
+    keeper: &mut K,
+    version: i64,
+    disk: &mut D,
+    names: &Names,
+    bytes: &[u8],
+    output: &mut W,
+) -> Result<(), Undone>
+    ensures printed { OnOk result (PrintsCopied (λ told requests. (told ≡ version)
+        × (K.Holds keeper.new → requests ≡ requests_in (K.world keeper.old)))
+        (W.contents output.old) (W.contents output.new)) }
+    ensures put { D.Tells → OnOk result (D.done disk.new
+        ≡ D.done disk.old ++ replaces (names_by names.now) bytes.now) }
+    ensures failed { D.Tells → IfErr result (IsUncopied (names_by names.now) bytes.now
+        (D.done disk.old) (D.done disk.new)) }
+    ensures same { K.Holds keeper.new → K.world keeper.new ≡ K.world keeper.old }
+    ensures premise { K.Holds keeper.new → K.Holds keeper.old }
+{
+    let line = line_of(alloc, keeper, version)?;
+    place(alloc, disk, names, bytes)?;
+    print(output, line.as_bytes())
+}
+
+// The line of a copy of this version.
+fn line_of<K: Keeper>(alloc: Global, keeper: &mut K, version: i64) -> Result<String, Undone>
+    ensures line { IfOk result (λ line. (requests : ℕ)
+        × (K.Holds keeper.new → requests ≡ requests_in (K.world keeper.old))
+        × (string_bytes line ≡ copied_line version requests)) }
+    ensures same { K.Holds keeper.new → K.world keeper.new ≡ K.world keeper.old }
+    ensures premise { K.Holds keeper.new → K.Holds keeper.old }
+{
+    let requests = keeper.all()?;
+    let count = requests.as_slice().len();
+    Ok(format!(in alloc; "copied version {version}, {count} requests\n")?)
+}
+
+// Lets these bytes take their place.
+fn place<D: Disk>(alloc: Global, disk: &mut D, names: &Names, bytes: &[u8]) -> Result<(), Undone>
+    ensures put { D.Tells → OnOk result (D.done disk.new
+        ≡ D.done disk.old ++ replaces (names_by names.now) bytes.now) }
+    ensures failed { D.Tells → OnErr result (IsLeft (names_by names.now) bytes.now
+        (D.done disk.old) (D.done disk.new)) }
+{
+    match replace(disk, alloc, names, &mut Whole::of(bytes)) {
+        Ok(()) => Ok(()),
+        Err(why) => Err(undone(alloc, why)?),
+    }
+}
