@@ -103,14 +103,14 @@ class Draft {
     this.shape = '';
     if (kind === 'block') this.put('top', ['size', 'organization', 'address'].map(name => control(name, { value: this.values[name] })));
     else if (this.isOfMine()) await this.offerAllocations();
-    else await this.offerRegisters();
+    else await this.offerRegistries();
     if (kind === this.kind) this.refresh();
   }
 
-  async offerRegisters() {
+  async offerRegistries() {
     const known = this.names.includes(this.values.registry) ? this.values.registry : this.names.length === 1 ? this.names[0] : undefined;
     const options = Object.fromEntries(this.names.map(name => [name, name]));
-    if (!this.names.length) this.put('top', [], h('p', { class: 'note' }, 'The authority has not opened any register yet.'));
+    if (!this.names.length) this.put('top', [], h('p', { class: 'note' }, 'The authority has not opened any registry yet.'));
     else this.put('top', [control('registry', { options, value: known, onchange: () => this.offerWishes() })]);
     if (known) await this.offerWishes();
   }
@@ -150,7 +150,7 @@ class Draft {
   wish(wish) {
     const policies = openPolicies(this.page, this.kind);
     if (!policies.length) {
-      this.put('wishes', [], h('p', { class: 'note' }, 'Nobody can ask for such a value of this register: no policy of it allows that.'));
+      this.put('wishes', [], h('p', { class: 'note' }, 'Nobody can ask for such a value of this registry: no policy of it allows that.'));
       return;
     }
     const options = { least: { title: 'The lowest free value' }, value: { title: 'A value that I choose' } };

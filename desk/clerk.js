@@ -1,4 +1,4 @@
-// What clerks do: decide requests, define registers, add prefixes, hold allocations, and hand out tokens.
+// What clerks do: decide requests, define registries, add prefixes, hold allocations, and hand out tokens.
 import { Refusal, ask } from './office.js';
 import { attempt, badge, button, control, details, focusOn, form, h, say, sure, table } from './dom.js';
 import { CAPABILITIES, POLICIES, STATES, dayOf, faultOf, grantOf, hexOf, inWords, outcome, policyOf, rangesOf, rowsOf } from './forms.js';
@@ -105,13 +105,13 @@ function refusal(path, { reference }, again) {
   });
 }
 
-// ---- Registers
+// ---- Registries
 
-/** The registers, each with its ranges and early allocations, and a form for a new one. */
-export async function registers(app) {
+/** The registries, each with its ranges and early allocations, and a form for a new one. */
+export async function registries(app) {
   const names = await ask('GET', '/registries');
-  const open = name => button('Open', () => openRegister(app, name), { 'aria-label': `Open ${name}` });
-  const list = table({ quiet: true, caption: 'Registers', columns: ['Name', 'Actions'], rows: names, empty: 'There are no registers yet.', cells: name => [name, open(name)] });
+  const open = name => button('Open', () => openRegistry(app, name), { 'aria-label': `Open ${name}` });
+  const list = table({ quiet: true, caption: 'Registries', columns: ['Name', 'Actions'], rows: names, empty: 'There are no registries yet.', cells: name => [name, open(name)] });
   return h('div', {}, list, definition(app));
 }
 
@@ -122,13 +122,13 @@ function rangeTable(caption, ranges) {
   return table({ caption, columns: ['First', 'Last', 'Policy', 'Note'], rows: ranges, empty: 'No ranges.', cells });
 }
 
-function openRegister(app, name, message) {
-  return app.open(`Register ${name}`, async () => {
+function openRegistry(app, name, message) {
+  return app.open(`Registry ${name}`, async () => {
     const page = await ask('GET', `/registries/${name}`), place = h('div');
     const early = page.entries.filter(({ expires }) => expires);
     const hold = (value, held) => attempt(place, async () => {
       await ask('PUT', `/desk/holds/${name}/${value}`, { held });
-      await openRegister(app, name, held ? `Value ${value} is held: it does not expire.` : `Value ${value} is released: it expires as its day says.`);
+      await openRegistry(app, name, held ? `Value ${value} is held: it does not expire.` : `Value ${value} is released: it expires as its day says.`);
     });
     const action = ({ value, held, status }) => {
       if (held) return button('Release', () => hold(value, false), { 'aria-label': `Release value ${value}` });
@@ -142,7 +142,7 @@ function openRegister(app, name, message) {
   }, message);
 }
 
-// A new register from a CSV file, after a look at its ranges.
+// A new registry from a CSV file, after a look at its ranges.
 function definition(app) {
   const preview = h('div', { role: 'status' });
   let file = null;
@@ -160,12 +160,12 @@ function definition(app) {
   chooser.input.setAttribute('accept', '.csv,text/csv,text/plain');
   const name = control('name');
   return form({
-    title: 'Define a register', verb: 'Define this register', controls: [name, chooser, most], parts: [name.node, chooser.node, preview, most.node],
+    title: 'Define a registry', verb: 'Define this registry', controls: [name, chooser, most], parts: [name.node, chooser.node, preview, most.node],
     check: values => ({ name: faultOf('name', values.name), max: faultOf('max', values.max), file: fileFault(file, Number(values.max)) }),
     send: async ({ name, max }) => {
-      if (!await sure(`Define ${name} with ${file.ranges.length} ranges, 0 to ${max}? The ranges of a register cannot be changed afterwards.`, 'Define')) return;
+      if (!await sure(`Define ${name} with ${file.ranges.length} ranges, 0 to ${max}? The ranges of a registry cannot be changed afterwards.`, 'Define')) return;
       await ask('PUT', `/desk/registries/${name}/${max}`, file.bytes);
-      await app.go('registers', `The register ${name} is defined.`);
+      await app.go('registries', `The registry ${name} is defined.`);
     },
   });
 }

@@ -12,7 +12,7 @@ const SECTIONS = {
   },
   expert: { queue: ['Requests to review', expert.queue] },
   clerk: {
-    waiting: ['Waiting', clerk.waiting], requests: ['All requests', clerk.everything], registers: ['Registers', clerk.registers],
+    waiting: ['Waiting', clerk.waiting], requests: ['All requests', clerk.everything], registries: ['Registries', clerk.registries],
     pool: ['Prefixes', clerk.pool], tokens: ['Tokens', clerk.tokens],
   },
 };

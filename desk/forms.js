@@ -22,7 +22,7 @@ const TRACKS = { standards: 'Standards Track', bcp: 'Best Current Practice', inf
 
 /** The kinds of requests, and how a form names them. */
 export const KINDS = {
-  code: { title: 'A value', says: 'A permanent value of a register.' },
+  code: { title: 'A value', says: 'A permanent value of a registry.' },
   early: { title: 'An early allocation', says: 'A value for one year, while its specification is still an Internet-Draft (RFC 7120).' },
   renew: { title: 'Another year', says: 'A renewal of an early allocation that you have.' },
   permanent: { title: 'A permanent value in place of an early one', says: 'An early allocation that you have becomes permanent.' },
@@ -38,23 +38,23 @@ const MARKS = ['stable', 'interest', 'will_be_rfc'];
 
 /** The fields of all forms, by the name of the member or of the part of the path. */
 export const FIELDS = {
-  registry: { label: 'Register', form: 'name' },
+  registry: { label: 'Registry', form: 'name' },
   value: { label: 'Value', form: 'number', hint: 'A whole number.' },
   least: { label: 'Policy' },
-  label: { label: 'Name of the value', hint: 'What the register will call it, for example the name of your option or message.' },
+  label: { label: 'Name of the value', hint: 'What the registry will call it, for example the name of your option or message.' },
   contact: { label: 'Contact', hint: 'Whom to ask about this value: a name and an e-mail address (RFC 8126, section 4).' },
   specification: { label: 'Specification', hint: 'Where the permanent, public specification is: its title or its web address. It must be detailed enough for independent implementations to work together (RFC 8126, section 4.6).' },
   'rfc-number': { label: 'Number of the RFC', form: 'rfc', hint: 'For example 9999.' },
   'rfc-stream': { label: 'Stream of the RFC', options: STREAMS },
   'rfc-track': { label: 'Status of the RFC', options: TRACKS },
-  minute: { label: 'Minute of the IESG', hint: 'The minute or message by which the IESG approved the assignment (RFC 8126, section 4.10).' },
+  minute: { label: 'IESG minutes', hint: 'The minutes or message by which the IESG approved the assignment (RFC 8126, section 4.10).' },
   draft: { label: 'Internet-Draft', hint: 'The draft that describes the value well enough to use it, for example draft-example-protocol-03 (RFC 7120, section 2).' },
   stable: { label: 'The specification is stable: a later version will still work with implementations of this one.' },
   interest: { label: 'There is enough interest in early implementation, or a risk that others will use the value without an allocation.' },
   chair: { label: 'Approval of the working group chairs', hint: 'Who approved the early allocation, and when or in which message (RFC 7120, section 3.1).' },
   director: { label: 'Approval of the area director', hint: 'Who approved the early allocation, and when or in which message (RFC 7120, section 3.1).' },
   will_be_rfc: { label: 'The specification will be published as an RFC.' },
-  iesg: { label: 'Minute of the IESG', hint: 'This allocation was renewed before. The IESG must approve another renewal: name its minute (RFC 7120, section 3.3).' },
+  iesg: { label: 'IESG minutes', hint: 'This allocation was renewed before. The IESG must approve another renewal: cite its minutes (RFC 7120, section 3.3).' },
   size: { label: 'Size', options: SIZES },
   organization: { label: 'Organization', hint: 'As it should be listed with the block.' },
   address: { label: 'Address of the organization', hint: 'On one line.' },
@@ -62,7 +62,7 @@ export const FIELDS = {
   agent: { label: 'Account of the agent', form: 'name', hint: 'Check the spelling: the office does not check whether the account exists.' },
   account: { label: 'Account', form: 'name', hint: 'Small letters, digits and hyphens, at most 32.' },
   expert: { label: 'Account of the expert', form: 'name', hint: 'Check the spelling: the office does not check whether the account exists.' },
-  name: { label: 'Name of the register', form: 'name', hint: 'Small letters, digits and hyphens, at most 32.' },
+  name: { label: 'Name of the registry', form: 'name', hint: 'Small letters, digits and hyphens, at most 32.' },
   max: { label: 'Largest value', form: 'number', hint: 'The last range must end here.' },
   prefix: { label: 'Prefix', form: 'prefix', hint: 'Six hexadecimal digits, for example 001A2B.' },
   text: { label: 'Your advice', hint: 'The clerks read it. The applicant does not.' },
@@ -91,12 +91,12 @@ export function faultOf(name, text, needed = true) {
   if (field.options) return Object.hasOwn(field.options, text) ? null : 'Choose one.';
   if (form === 'text' && text.length > 200) return `Use at most 200 characters. These are ${text.length}.`;
   const [pattern, sentence] = FORMS[form];
-  if (pattern.test(text)) return form === 'number' && Number(text) > 4294967295 ? 'The largest value that a register can have is 4294967295.' : null;
+  if (pattern.test(text)) return form === 'number' && Number(text) > 4294967295 ? 'The largest value that a registry can have is 4294967295.' : null;
   const odd = form === 'text' ? [...text].find(letter => letter < ' ' || letter > '~') : undefined;
   return odd === undefined ? sentence : `"${odd}" cannot be kept. ${sentence}`;
 }
 
-/** The range of a register in which a value lies, if one does. */
+/** The range of a registry in which a value lies, if one does. */
 export const rangeOf = (page, value) => page.ranges.find(({ lo, hi }) => lo <= value && value <= hi);
 
 /** Whether a kind of request can be made under a policy. */
@@ -111,7 +111,7 @@ export function freeUnder(page, policy) {
   return ranges.reduce((sum, { lo, hi }) => sum + hi - lo + 1, 0) - taken;
 }
 
-/** The policies of a register under which a kind of request can be made, each once. */
+/** The policies of a registry under which a kind of request can be made, each once. */
 export function openPolicies(page, kind) {
   return [...new Set(page.ranges.map(({ treatment }) => treatment))].filter(policy => isOpen(kind, policy));
 }
@@ -149,7 +149,7 @@ export function fieldsOf(kind, wish) {
   return ['registry', wish === 'least' ? 'least' : 'value', 'label'];
 }
 
-/** What is wrong with the values of a request, as a sentence for each field at fault. `page` is that of its register, if there is one. */
+/** What is wrong with the values of a request, as a sentence for each field at fault. `page` is that of its registry, if there is one. */
 export function faultsOf(kind, values, page) {
   const { needed, optional } = evidenceFor(kind, policyOf(kind, values, page), values.renewed), faults = {};
   const own = fieldsOf(kind, values.wish);
@@ -170,7 +170,7 @@ export function faultsOf(kind, values, page) {
 function valueFault(kind, values, page) {
   if (!page || faultOf('value', values.value ?? '')) return null;
   const value = Number(values.value);
-  if (value > page.max) return `The largest value of this register is ${page.max}.`;
+  if (value > page.max) return `The largest value of this registry is ${page.max}.`;
   const { treatment, lo, hi } = rangeOf(page, value);
   if (!isOpen(kind, treatment)) return whyClosed(kind, treatment, `${lo} to ${hi}`);
   const isNew = kind === 'code' || kind === 'early', entry = page.entries.find(one => one.value === value);
