@@ -34,6 +34,7 @@ use Rattle.reg_opening.proofs.Versions.{both_all, first_begins, schema_first}
 use Rattle.reg_opening.specs.declared.flaw.Flaw.{Flaw}
 use Rattle.reg_opening.specs.declared.kind.Found.{Found}
 use Rattle.reg_opening.specs.declared.kind.Found.TheVariants as finding
+use Rattle.reg_opening.specs.declared.kind.StoreKind.TheVariants as kinds
 use Rattle.reg_vacancies.specs.Vacancies.{AreVacanciesOf}
 use Rattle.reg_sql.specs.Keeping.{KeepsOffice}
 use Rattle.reg_sql.specs.Opening.{Brings, HasNoTables, IsAsItWas, IsRefused, IsTakenOver, TakesOver}
@@ -252,6 +253,12 @@ module _ (fresh : Bool) (old new : State) (idle : IsIdle old) {E : Type 0} (f : 
       (none.0.0, none.0.1, taken, none.1))
 
   module _ (v : Version) (free : Vacancies) (is : f ≡ finding.Ours v free) where
+    -- and it still is one
+    pub found_still : Works new → IsFoundAs new.now (kinds.Ours v)
+    found_still w =
+        subst (λ (db : Database). IsFoundAs db (kinds.Ours v)) (sym (finds.stays.unchanged w))
+        (told (finding.Ours v free) is w)
+
     -- its tables were there
     had : Works new → HasVersionTables v old.now
     had w = (told (finding.Ours v free) is w).0

@@ -1,5 +1,5 @@
 //! Stores that an office is opened from.
-ghost use Rattle.std.specs.Prelude.{◌≡◌, ◌⊎◌, true, false, IfErr, IfOk, IsTrue, Some};
+ghost use Rattle.std.specs.Prelude.{◌≡◌, ◌≢◌, ◌⊎◌, true, false, IfErr, IfOk, IsTrue, Some};
 ghost use Rattle.std.specs.Bool.{Decides};
 ghost use Rattle.sqlite.specs.Held.{state};
 ghost use Rattle.sqlite.specs.State.{HasCleanDisk};
@@ -12,6 +12,8 @@ ghost use Rattle.reg_tables.specs.Schema.{office_schema};
 ghost use Rattle.reg_tables.specs.Version.{newest};
 ghost use Rattle.reg_statements.specs.Content.{world_in};
 ghost use Rattle.reg_opening.specs.Causes.{TellsError};
+ghost use Rattle.reg_opening.specs.Opening.{IsFoundAs};
+ghost use Rattle.reg_opening.specs.declared.kind.StoreKind.TheVariants as kinds;
 ghost use Rattle.reg_sql.specs.Failing.{IsFailed, IsFailedBy};
 ghost use Rattle.reg_sql.specs.Keeping.{IsHonest, KeepsOffice};
 ghost use Rattle.reg_sql.specs.Opening.{Brings, HasNoTables, IsAsItWas, IsOpened, IsOpenedBy, IsRefused};
@@ -85,7 +87,7 @@ impl<S: Opens> SqlKeeper<S> {
         ensures unchanged { IfErr result (λ refusal.
             IsAsItWas (state S.Store conn) (state S.Store refusal.1)) }
         ensures cause { IfErr result (λ refusal. IsFailed S.Reported (S.Unloaded ⊎ S.Ungrown) S.Store
-            (state S.Store conn) (state S.Store refusal.1) refusal.0) }
+            fresh (state S.Store conn) (state S.Store refusal.1) refusal.0) }
     {
         match take_over(alloc, &mut conn, fresh) {
             Ok(vacancies) => Ok(SqlKeeper::new(alloc, conn, vacancies)),
@@ -103,7 +105,7 @@ fn take_over<S: Opens>(
 ) -> Result<Vacancies, OpenFault>
     ensures takes { TakesOver fresh (state S.Store conn.old) (state S.Store conn.new) result }
     ensures cause { IfErr result (IsFailed S.Reported (S.Unloaded ⊎ S.Ungrown) S.Store
-        (state S.Store conn.old) (state S.Store conn.new)) }
+        fresh (state S.Store conn.old) (state S.Store conn.new)) }
 {
     if !conn.is_autocommit() {
         return Err(OpenFault::NotOurs);
@@ -136,10 +138,13 @@ fn bring<S: Opens>(
     older: Version,
     vacancies: Vacancies,
 ) -> Result<Vacancies, OpenFault>
-    requires { IsIdle (state S.Store conn.old) }
+    requires idle { IsIdle (state S.Store conn.old) }
+    requires version { older ≢ newest }
+    requires found { Works (state S.Store conn.old)
+        → IsFoundAs (state S.Store conn.old).now (kinds.Ours older) }
     ensures brings { Brings older vacancies (state S.Store conn.old) (state S.Store conn.new) result }
     ensures cause { IfErr result (IsFailed S.Reported (S.Unloaded ⊎ S.Ungrown) S.Store
-        (state S.Store conn.old) (state S.Store conn.new)) }
+        false (state S.Store conn.old) (state S.Store conn.new)) }
 {
     match migrate(conn, older) {
         Ok(()) => Ok(vacancies),
@@ -164,7 +169,8 @@ fn is_to_found<S: Opens>(alloc: Global, conn: &Connection<S>, fresh: bool) -> Re
 
 /// Founds an office beside what stands in a store.
 fn found<S: Opens>(alloc: Global, conn: &mut Connection<S>) -> Result<Vacancies, OpenFault>
-    requires { IsIdle (state S.Store conn.old) }
+    requires idle { IsIdle (state S.Store conn.old) }
+    requires free { AreFree (state S.Store conn.old).now.schema }
     ensures rest { IsIdle (state S.Store conn.new) }
     ensures worked { Works (state S.Store conn.new) → Works (state S.Store conn.old) }
     ensures keeps { IfOk result (λ vacancies.
@@ -187,7 +193,7 @@ fn found<S: Opens>(alloc: Global, conn: &mut Connection<S>) -> Result<Vacancies,
     ensures unchanged { Works (state S.Store conn.new)
         → IfErr result (λ refusal. (state S.Store conn.new).now ≡ (state S.Store conn.old).now) }
     ensures cause { IfErr result (IsFailed S.Reported (S.Unloaded ⊎ S.Ungrown) S.Store
-        (state S.Store conn.old) (state S.Store conn.new)) }
+        true (state S.Store conn.old) (state S.Store conn.new)) }
 {
     match make_office(conn) {
         Ok(()) => Ok(Vacancies::new(alloc)),
@@ -214,7 +220,7 @@ pub fn open_by<O: Opener>(
     ensures refused { IfErr result (λ refusal.
         IsRefusedBy (state O.Base.Store) (O.Opens path.now) fresh refusal.0 refusal.1) }
     ensures cause { IfErr result (λ refusal. IsFailedBy O.Base.Reported
-        (O.Base.Unloaded ⊎ O.Base.Ungrown) O.Base.Store (O.Opens path.now) refusal.0 refusal.1) }
+        (O.Base.Unloaded ⊎ O.Base.Ungrown) O.Base.Store (O.Opens path.now) fresh refusal.0 refusal.1) }
 {
     let conn = match opener.open(rt, path) {
         Ok(conn) => conn,

@@ -1,4 +1,4 @@
-use Rattle.std.proofs.Common.{◌⊎◌, inr, refl}
+use Rattle.std.proofs.Common.{◌⊎◌, false, inr, refl}
 use Rattle.sqlite.specs.Held.{state}
 use Rattle.reg_statements.proofs.Migrated.{stored_version}
 use Rattle.reg_sql.proofs.Failed.{given_up}
@@ -24,5 +24,11 @@ returns-in-Ok-clause-brings g c =
 pub returns-in-Err-clause-cause : goal.returns-in-Err-clause-cause
 returns-in-Err-clause-cause g c =
     given_up g.S.Store g.S.Reports.Reported
-    (g.S.Loads.Unloaded ⊎ g.S.Grows.Ungrown) _ _ _ c.in-Err.error _ c.fault.ensures (λ seen gains. inr (c.args.older, gains))
-    c.in-Err.ensures.given_up
+    (g.S.Loads.Unloaded ⊎ g.S.Grows.Ungrown) false _ _ _ c.in-Err.error _ c.fault.ensures
+    (λ works seen gains.
+    inr (record {
+      version = c.args.older;
+      older = c.requires.version;
+      found = c.requires.found (c.migrate.ensures.worked works);
+      gained = gains;
+    })) c.in-Err.ensures.given_up

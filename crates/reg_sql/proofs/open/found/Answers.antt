@@ -1,4 +1,4 @@
-use Rattle.std.proofs.Common.{◌⊎◌, inl}
+use Rattle.std.proofs.Common.{◌⊎◌, inl, refl, true}
 use Rattle.sqlite.specs.Held.{state}
 use Rattle.reg_sql.proofs.Failed.{given_up}
 use Rattle.reg_sql.proofs.Founded.{blank, founded_alone, founded_empty, keeps_founded}
@@ -33,5 +33,6 @@ returns-in-Ok-clause-beside g c works = (c.in-Ok.ensures.founds works).beside
 pub returns-in-Err-clause-cause : goal.returns-in-Err-clause-cause
 returns-in-Err-clause-cause g c =
     given_up g.S.Store g.S.Reports.Reported
-    (g.S.Loads.Unloaded ⊎ g.S.Grows.Ungrown) _ _ _ c.in-Err.error _ c.fault.ensures (λ seen founds. inl founds)
+    (g.S.Loads.Unloaded ⊎ g.S.Grows.Ungrown) true _ _ _ c.in-Err.error _ c.fault.ensures
+    (λ works seen founds. inl (record { wanted = refl; free = c.requires.free; founds = founds }))
     c.in-Err.ensures.given_up
