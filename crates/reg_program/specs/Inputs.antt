@@ -11,6 +11,16 @@ AreKnown known bytes = IfSome known (λ all. bytes ≡ all)
 abbrev pub AreMore : ℕ → Option (List ℕ) → Type 0
 AreMore most known = IfSome known (λ all. most < length all)
 
+-- a file has just these bytes, where it is known what it has
+pub record HasBytes {F : Type 0} (held : F → Option (List ℕ)) (bytes : List ℕ) : Type 0 where
+  pub file : F
+  pub has : AreKnown (held file) bytes
+
+-- a file has more bytes than so many, where it is known what it has
+pub record HasMore {F : Type 0} (held : F → Option (List ℕ)) (most : ℕ) : Type 0 where
+  pub file : F
+  pub more : AreMore most (held file)
+
 abbrev pub is_line_feed : ℕ → Bool
 is_line_feed b = b == 10
 

@@ -2,7 +2,7 @@
 ghost use Rattle.std.specs.Prelude.{◌≡◌, ◌<◌, ◌≤◌, ◌^◌, ◌⊎◌, length, position, IfOk, IfSome, option_map};
 ghost use Rattle.std.specs.Io.BufRead.{strip_last};
 ghost use Rattle.std.specs.String.{string_bytes};
-ghost use Rattle.reg_program.specs.Inputs.{AreKnown, AreMore, IsTokenOf, is_line_feed, line_in, token_in};
+ghost use Rattle.reg_program.specs.Inputs.{AreKnown, AreMore, HasBytes, HasMore, IsTokenOf, is_line_feed, line_in, token_in};
 
 use crate::faults::JobFailure;
 use std::alloc::Global;
@@ -22,32 +22,47 @@ pub const MOST_NOTES_BYTES: usize = 1_048_576;
 /// The bytes of the file at a path. `Large` where it has more than 65,536, and `Read` where it
 /// cannot be read.
 pub fn bytes_of<H: Files>(rt: &H, alloc: Global, path: &str) -> Result<Vec<u8>, JobFailure>
-    ensures { IfOk result (λ bytes. length bytes.items ≤ 65536) }
+    ensures all { IfOk result (λ bytes. HasBytes H.File.remaining bytes.items) }
+    ensures most { IfOk result (λ bytes. length bytes.items ≤ 65536) }
+    ensures large { result ≡ Err JobFailure.Large → HasMore H.File.remaining 65536 }
 {
-    let mut file = fs::open(rt, path).map_err(failure)?;
-    let read = all_of(alloc, &mut file);
-    drop(file);
-    read
+    opened_up_to(rt, alloc, path, MOST_BYTES)
 }
 
 /// The bytes of the register at a path. `Large` where it has more than 268,435,456, and `Read` where
 /// it cannot be read.
 pub fn register_of<H: Files>(rt: &H, alloc: Global, path: &str) -> Result<Vec<u8>, JobFailure>
-    ensures { IfOk result (λ bytes. length bytes.items ≤ 268435456) }
+    ensures all { IfOk result (λ bytes. HasBytes H.File.remaining bytes.items) }
+    ensures most { IfOk result (λ bytes. length bytes.items ≤ 268435456) }
+    ensures large { result ≡ Err JobFailure.Large → HasMore H.File.remaining 268435456 }
 {
-    let mut file = fs::open(rt, path).map_err(failure)?;
-    let read = up_to(alloc, &mut file, MOST_REGISTER_BYTES);
-    drop(file);
-    read
+    opened_up_to(rt, alloc, path, MOST_REGISTER_BYTES)
 }
 
 /// The bytes of the file of notes at a path. `Large` where it has more than 1,048,576, and `Read` where
 /// it cannot be read.
 pub fn notes_of<H: Files>(rt: &H, alloc: Global, path: &str) -> Result<Vec<u8>, JobFailure>
-    ensures { IfOk result (λ bytes. length bytes.items ≤ 1048576) }
+    ensures all { IfOk result (λ bytes. HasBytes H.File.remaining bytes.items) }
+    ensures most { IfOk result (λ bytes. length bytes.items ≤ 1048576) }
+    ensures large { result ≡ Err JobFailure.Large → HasMore H.File.remaining 1048576 }
+{
+    opened_up_to(rt, alloc, path, MOST_NOTES_BYTES)
+}
+
+// The bytes of the file at a path. `Large` where it has more than so many.
+fn opened_up_to<H: Files>(
+    rt: &H,
+    alloc: Global,
+    path: &str,
+    most: usize,
+) -> Result<Vec<u8>, JobFailure>
+    requires { most < 2 ^ 32 }
+    ensures all { IfOk result (λ bytes. HasBytes H.File.remaining bytes.items) }
+    ensures most { IfOk result (λ bytes. length bytes.items ≤ most) }
+    ensures large { result ≡ Err JobFailure.Large → HasMore H.File.remaining most }
 {
     let mut file = fs::open(rt, path).map_err(failure)?;
-    let read = up_to(alloc, &mut file, MOST_NOTES_BYTES);
+    let read = up_to(alloc, &mut file, most);
     drop(file);
     read
 }
