@@ -5,3 +5,4 @@ mod failures;
 mod listening;
 mod messages;
 pub mod served;
+mod untaken;

@@ -11,15 +11,15 @@ use std::net::{Ipv4Addr, Shutdown, SocketAddr, TcpListener, TcpStream};
 use std::test::Fail;
 use std::time::Duration;
 
-// A listener at any port of loopback, and its address.
-fn listening(rt: &HostRuntime) -> Result<(TcpListener, SocketAddr), Fail> {
+/// A listener at any port of loopback, and its address.
+pub fn listening(rt: &HostRuntime) -> Result<(TcpListener, SocketAddr), Fail> {
     let listener = TcpListener::bind(rt, SocketAddr::from((Ipv4Addr::LOCALHOST, 0)))?;
     let address = listener.local_addr()?;
     Ok((listener, address))
 }
 
-// A client that has sent these bytes.
-fn client(rt: &HostRuntime, address: SocketAddr, bytes: &[u8]) -> Result<TcpStream, Fail> {
+/// A client that has sent these bytes.
+pub fn client(rt: &HostRuntime, address: SocketAddr, bytes: &[u8]) -> Result<TcpStream, Fail> {
     let mut stream = TcpStream::connect(rt, address)?;
     stream.write_all(bytes)?;
     Ok(stream)
@@ -31,15 +31,15 @@ fn silenced(stream: TcpStream) -> Result<TcpStream, Fail> {
     Ok(stream)
 }
 
-// What a client reads until the connection is closed.
-fn all_of(rt: &HostRuntime, stream: &mut TcpStream) -> Result<Vec<u8>, Fail> {
+/// What a client reads until the connection is closed.
+pub fn all_of(rt: &HostRuntime, stream: &mut TcpStream) -> Result<Vec<u8>, Fail> {
     let mut bytes = Vec::new(rt.alloc());
     stream.read_to_end(&mut bytes)?;
     Ok(bytes)
 }
 
-// So many connections were answered, and so many dropped.
-fn assert_counts(done: &Connections, answered: u32, dropped: u32) -> Result<(), Fail> {
+/// So many connections were answered, and so many dropped.
+pub fn assert_counts(done: &Connections, answered: u32, dropped: u32) -> Result<(), Fail> {
     ensure(
         done.answered == answered,
         "the connections that are answered",
