@@ -1,6 +1,6 @@
--- Copies of which less is told.
+-- Copies of which less is told, or more.
 use Rattle.std.proofs.Common.{◌≡◌, ℕ, ℤ, List, Option, Result, Ok, Err, refl, to_z, of_z, w64}
-use Rattle.std.specs.Prelude.{⊤, OnOk}
+use Rattle.std.specs.Prelude.{⊤, IfErr, OnOk}
 use Rattle.reg_tables.specs.Version.{number_of}
 use Rattle.reg_tables.specs.declared.version.Version.{Version}
 use Rattle.reg_tables.specs.declared.version.Version.TheVariants.{First, Second, Third}
@@ -20,3 +20,19 @@ pub told_less : (done : Result ⊤ Undone) (P Q : ℤ → ℕ → Type 0) (had h
 told_less (Ok u) P Q had has less (version, requests, is, wrote) =
     (version, requests, less version requests is, wrote)
 told_less (Err why) P Q had has less h = tt
+
+-- the line of a copy that was put, where that is known
+pub told_put : (done : Result ⊤ Undone) (Tells Put : Type 0) (P Q : ℤ → ℕ → Type 0)
+    (had has : Option (List ℕ))
+    → ((version : ℤ) (requests : ℕ) → P version requests → (Tells → Put) → Q version requests)
+    → OnOk done (PrintsCopied P had has) → (Tells → OnOk done Put)
+    → OnOk done (PrintsCopied Q had has)
+told_put (Ok u) Tells Put P Q had has more (version, requests, is, wrote) put =
+    (version, requests, more version requests is put, wrote)
+told_put (Err why) Tells Put P Q had has more h put = tt
+
+-- why there is no copy, where what was done is known
+pub left_open : (done : Result ⊤ Undone) (Tells : Type 0) (P Q : Undone → Type 0)
+    → ((why : Undone) → (Tells → P why) → Q why) → (Tells → IfErr done P) → IfErr done Q
+left_open (Ok u) Tells P Q more h = tt
+left_open (Err why) Tells P Q more h = more why h

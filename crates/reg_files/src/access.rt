@@ -1,5 +1,10 @@
 //! Who may read an office's files.
-use std::fs::{OpenOptions, Permissions};
+ghost use Rattle.std.specs.Prelude.{◌≢◌, ◌↔◌, IsTrue, OnOk, bit_and};
+ghost use Rattle.std.specs.Fs.{metadata_mode};
+ghost use Rattle.std.specs.Io.KnownBytes.{Appends};
+ghost use Rattle.reg_files.specs.Access.{reader_warning};
+
+use std::fs::{Metadata, OpenOptions, Permissions};
 use std::io::Write;
 use std::os::unix::fs::{OpenOptionsExt, PermissionsExt};
 use std::rt::Files;
@@ -42,10 +47,25 @@ pub fn warn_of_readers<H: Files, E: Write>(rt: &H, path: &str, errors: &mut E) {
     let Ok(found) = fs::metadata(rt, path) else {
         return;
     };
-    if found.permissions().mode() & READ_BY_OTHERS != 0 {
-        let _ = writeln!(
-            errors,
-            "warning: others may read {path}: chmod 600 it, and its -wal"
-        );
+    if is_read_by_others(&found) {
+        let _ = warn(path, errors);
     }
+}
+
+// Whether others than the owner of a file may read it.
+fn is_read_by_others(found: &Metadata) -> bool
+    ensures { IsTrue result ↔ (bit_and (metadata_mode found.now) READ_BY_OTHERS ≢ 0) }
+{
+    found.permissions().mode() & READ_BY_OTHERS != 0
+}
+
+// Warns of a file at a path.
+fn warn<E: Write>(path: &str, errors: &mut E) -> io::Result<()>
+    ensures { OnOk result
+        (Appends (E.contents errors.old) (E.contents errors.new) (reader_warning path.now)) }
+{
+    writeln!(
+        errors,
+        "warning: others may read {path}: chmod 600 it, and its -wal"
+    )
 }

@@ -5,30 +5,32 @@ ghost use Rattle.sqlite.specs.Held.{state};
 ghost use Rattle.reg_publish.specs.Disk.{replaces};
 ghost use Rattle.reg_publish.specs.Names.{names_by};
 ghost use Rattle.reg_program.specs.Copying.{IsUncopied, PrintsCopied, requests_in};
-ghost use Rattle.reg_sql.specs.Looking.{IsSeenIn};
-ghost use Rattle.reg_sql.specs.Snapshots.{ReadsFiles, alone};
 ghost use Rattle.reg_statements.specs.Content.{world_in};
 ghost use Rattle.reg_tables.specs.Connection.{Holds};
 ghost use Rattle.reg_tables.specs.Version.{number_of};
+ghost use Rattle.reg_files.specs.Copies.{IsCopied, IsNotCopied, IsPut, IsSeenAlone, IsToldOfSome, IsUnput};
 
-use crate::explained;
-use crate::private_disk::PrivateDisk;
-use crate::targets::target_of;
+use crate::originals::{Originals, SystemOriginals};
+use crate::targets::{Places, SystemPlaces};
 use reg_program::copying::{Copies, copy_in};
 use reg_program::faults::Undone;
 use reg_publish::disk::Disk;
 use reg_publish::replacement::Names;
 use reg_sql::look::Look;
-use reg_sql::snapshot::{Snapshot, snapshot_at};
+use reg_sql::snapshot::Snapshot;
 use sqlite::Alter;
 use std::alloc::Global;
 use std::io::Write;
 
-/// Copies of the offices in files, in folders of the system. Nothing is known of either.
+/// Copies of the offices in files, in folders of the system. The version and the number of requests that
+/// are printed are those of an office that was seen in some copy. Which file was read, and what was
+/// written, no contract can say.
 #[derive(Drop)]
 pub struct FileCopies;
 
 impl Copies for FileCopies {
+    ghost Copied = { λ _ _ _. IsToldOfSome };
+
     fn copy<W: Write>(
         &self,
         rt: &HostRuntime,
@@ -36,47 +38,110 @@ impl Copies for FileCopies {
         folder: &str,
         output: &mut W,
     ) -> Result<(), Undone> {
-        match snapshot_at(rt, path) {
-            Ok(snapshot) => put(rt, snapshot, path, folder, output),
-            Err(trouble) => Err(explained(rt.alloc(), trouble)?),
-        }
+        let copies = CopiesIn {
+            originals: SystemOriginals { rt },
+            places: SystemPlaces { rt },
+        };
+        copies.copy(rt, path, folder, output)
     }
 }
 
-// Puts a copy of the file at a path into the folder at a path, and lets the copy go.
-fn put<W: Write>(
-    rt: &HostRuntime,
-    mut snapshot: Snapshot,
+/// Copies of the offices that have their originals here, in these places.
+#[derive(Drop)]
+pub struct CopiesIn<O, P> {
+    /// Where they are read.
+    pub originals: O,
+    /// Where they are put.
+    pub places: P,
+}
+
+impl<O: Originals, P: Places> Copies for CopiesIn<O, P> {
+    ghost Copied = { λ copies path folder version requests.
+        IsCopied (P.Opened copies.places path folder) P.Given.Tells P.Given.done
+        (O.Taken copies.originals path) version requests };
+
+    fn copy<W: Write>(
+        &self,
+        rt: &HostRuntime,
+        path: &str,
+        folder: &str,
+        output: &mut W,
+    ) -> Result<(), Undone> {
+        copy_by(
+            rt.alloc(),
+            &self.originals,
+            &self.places,
+            path,
+            folder,
+            output,
+        )
+    }
+}
+
+/// Takes a copy of the office in the file at a path, lets its bytes take their place in the folder at a path,
+/// and prints the version of the office and how many requests it has. The original and the place say why
+/// there is none.
+pub fn copy_by<O: Originals, P: Places, W: Write>(
+    alloc: Global,
+    originals: &O,
+    places: &P,
     path: &str,
     folder: &str,
     output: &mut W,
 ) -> Result<(), Undone>
-    requires { IsSeenIn file_state (ReadsFiles (alone snapshot.bytes.items)) snapshot.look.version
-        snapshot.look.keeper.tables }
-    ensures { OnOk result (PrintsCopied (λ _ _. Unit {0}) (W.contents output.old)
-        (W.contents output.new)) }
+    ensures copied { OnOk result (PrintsCopied
+        (IsCopied (P.Opened places.now path.now folder.now) P.Given.Tells P.Given.done
+        (O.Taken originals.now path.now)) (W.contents output.old) (W.contents output.new)) }
+    ensures failed { IfErr result
+        (IsNotCopied (P.Opened places.now path.now folder.now) P.Given.Tells P.Given.done
+        (O.Taken originals.now path.now) (O.Untaken originals.now path.now)
+        (P.Unopened places.now path.now folder.now)) }
 {
-    let done = put_into(rt, &mut snapshot, path, folder, output);
+    let snapshot = originals.take(path)?;
+    put(alloc, snapshot, places, path, folder, output)
+}
+
+// Puts a copy of the office in the file at a path into the folder at a path, and lets the copy go.
+fn put<P: Places, W: Write>(
+    alloc: Global,
+    mut snapshot: Snapshot,
+    places: &P,
+    path: &str,
+    folder: &str,
+    output: &mut W,
+) -> Result<(), Undone>
+    requires { IsSeenAlone snapshot }
+    ensures copied { OnOk result (PrintsCopied
+        (IsPut (P.Opened places.now path.now folder.now) P.Given.Tells P.Given.done snapshot)
+        (W.contents output.old) (W.contents output.new)) }
+    ensures failed { IfErr result
+        (IsUnput (P.Opened places.now path.now folder.now) P.Given.Tells P.Given.done
+        (P.Unopened places.now path.now folder.now) snapshot) }
+{
+    let done = put_into(alloc, &mut snapshot, places, path, folder, output);
     let_go(snapshot.look);
     done
 }
 
-// The folder stays locked meanwhile.
-fn put_into<W: Write>(
-    rt: &HostRuntime,
+// The place stays open meanwhile.
+fn put_into<P: Places, W: Write>(
+    alloc: Global,
     snapshot: &mut Snapshot,
+    places: &P,
     path: &str,
     folder: &str,
     output: &mut W,
 ) -> Result<(), Undone>
-    requires { IsSeenIn file_state (ReadsFiles (alone snapshot.old.bytes.items))
-        snapshot.old.look.version snapshot.old.look.keeper.tables }
-    ensures { OnOk result (PrintsCopied (λ _ _. Unit {0}) (W.contents output.old)
-        (W.contents output.new)) }
+    requires { IsSeenAlone snapshot.old }
+    ensures copied { OnOk result (PrintsCopied
+        (IsPut (P.Opened places.now path.now folder.now) P.Given.Tells P.Given.done snapshot.old)
+        (W.contents output.old) (W.contents output.new)) }
+    ensures failed { IfErr result
+        (IsUnput (P.Opened places.now path.now folder.now) P.Given.Tells P.Given.done
+        (P.Unopened places.now path.now folder.now) snapshot.old) }
 {
-    let target = target_of(rt, path, folder)?;
-    let mut disk = PrivateDisk::of(rt);
-    put_snapshot(rt.alloc(), snapshot, &mut disk, &target.names, output)
+    let mut target = places.open(path, folder)?;
+    put_snapshot(alloc, snapshot, &mut target.disk, &target.names, output)
 }
 
 /// Lets the bytes of a copy in which an office was seen take their place on a disk, and prints the version
@@ -88,8 +153,7 @@ pub fn put_snapshot<D: Disk, W: Write>(
     names: &Names,
     output: &mut W,
 ) -> Result<(), Undone>
-    requires { IsSeenIn file_state (ReadsFiles (alone snapshot.old.bytes.items))
-        snapshot.old.look.version snapshot.old.look.keeper.tables }
+    requires { IsSeenAlone snapshot.old }
     ensures printed { OnOk result (PrintsCopied (λ version requests.
         (version ≡ number_of snapshot.old.look.version)
         × (Holds (file_state snapshot.new.look.keeper.tables)

@@ -4,8 +4,9 @@
 mod access;
 pub mod copies;
 pub mod laws;
-mod private_disk;
-mod targets;
+pub mod originals;
+pub mod private_disk;
+pub mod targets;
 
 use crate::access::{make_private, warn_of_readers};
 use reg_http::dates::Dates;

@@ -9,14 +9,17 @@ use std::fs;
 pub struct PrivateDisk<'a> {
     rt: &'a HostRuntime,
     disk: SystemDisk<'a, HostRuntime>,
+    /// A folder, which is locked until this is dropped.
+    lock: fs::File,
 }
 
 impl<'a> PrivateDisk<'a> {
-    /// That of a runtime.
-    pub fn of(rt: &'a HostRuntime) -> Self {
+    /// That of a runtime, where a folder is locked.
+    pub fn of(rt: &'a HostRuntime, lock: fs::File) -> Self {
         PrivateDisk {
             rt,
             disk: SystemDisk { rt },
+            lock,
         }
     }
 }

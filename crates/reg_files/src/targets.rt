@@ -1,7 +1,14 @@
 //! Where copies of offices are put.
+ghost use Rattle.std.specs.Prelude.{◌≡◌, ◌∷◌, ◌++◌, IfOk, MatchOption, MatchResult};
+ghost use Rattle.std.specs.Path.{HasNoSlash, slash};
+ghost use Rattle.reg_publish.specs.Names.{names_by};
+ghost use Rattle.reg_files.specs.Copies.{AreNamesIn};
+
 use crate::explained;
+use crate::private_disk::PrivateDisk;
 use reg_program::faults::{JobFailure, Undone};
 use reg_program::publishing::{locked, undone};
+use reg_publish::disk::Disk;
 use reg_publish::replacement::Names;
 use reg_sql::trouble::Trouble;
 use std::alloc::{AllocError, Global};
@@ -10,22 +17,68 @@ use std::{fs, io};
 
 /// Where a copy is put.
 #[derive(Drop)]
-pub struct Target {
+pub struct Target<D> {
     /// Its names.
     pub names: Names,
-    /// The folder, which is locked until this is dropped.
-    lock: fs::File,
+    /// The disk that they are on.
+    pub disk: D,
 }
 
-/// Where a copy of the office's file at a path is put: in the folder at a path, which is made where it is not
-/// there, under the file's own name. `Write` where the folder is the office's own or cannot be used, where
-/// another job writes there, or where what has that name is in use.
-pub fn target_of(rt: &HostRuntime, path: &str, folder: &str) -> Result<Target, Undone> {
+/// What has the folders that copies are put in.
+pub trait Places {
+    ghost use Rattle.std.specs.Prelude.{ℕ, List};
+    ghost use Rattle.reg_program.specs.declared.faults.Undone.{Undone as OfJob};
+    ghost use Rattle.reg_publish.specs.Disk.{FileNames};
+
+    /// A disk, while a place on it is open.
+    type Given: Disk + Drop;
+
+    /// A copy of the office in the file at a path goes into a folder at a path by these names, on this
+    /// disk.
+    ghost Opened: { Self → List ℕ → List ℕ → FileNames → Self.Given → Type 0 } = { λ _ _ _ _ _. Unit {0} };
+
+    /// Why none goes there.
+    ghost Unopened: { Self → List ℕ → List ℕ → OfJob → Type 0 } = { λ _ _ _ _. Unit {0} };
+
+    /// Opens the place of a copy of the office in the file at a path: in the folder at a path, which is
+    /// made where it is not there, under the file's own name. `Write` where the folder is the office's
+    /// own or cannot be used, where another job writes there, or where what has that name is in use.
+    fn open(&self, path: &str, folder: &str) -> Result<Target<Self::Given>, Undone>
+        ensures { MatchResult result
+            (λ target. Opened self.now path.now folder.now (names_by target.names) target.disk)
+            (Unopened self.now path.now folder.now) };
+}
+
+/// The folders of the file system. Which names a copy has there is known, but not of which file.
+#[derive(Drop)]
+pub struct SystemPlaces<'a> {
+    /// Its runtime.
+    pub rt: &'a HostRuntime,
+}
+
+impl<'a> Places for SystemPlaces<'a> {
+    type Given = PrivateDisk<'a>;
+
+    ghost Opened = { λ _ _ folder names _. AreNamesIn folder names };
+
+    fn open(&self, path: &str, folder: &str) -> Result<Target<PrivateDisk<'a>>, Undone> {
+        target_of(self.rt, path, folder)
+    }
+}
+
+// Opens the place of a copy, and locks its folder until what is given is dropped.
+fn target_of<'a>(
+    rt: &'a HostRuntime,
+    path: &str,
+    folder: &str,
+) -> Result<Target<PrivateDisk<'a>>, Undone>
+    ensures { IfOk result (λ target. AreNamesIn folder.now (names_by target.names)) }
+{
     let alloc = rt.alloc();
     let Ok(real) = fs::canonicalize(rt, path) else {
         return Err(explained(alloc, Trouble::NoFile)?);
     };
-    let Some((own, name)) = real.as_str().rsplit_once('/') else {
+    let Some((own, name)) = split(real.as_str()) else {
         return Err(explained(alloc, Trouble::NoFile)?);
     };
     if fs::create_dir_all(rt, folder).is_err() {
@@ -35,9 +88,20 @@ pub fn target_of(rt: &HostRuntime, path: &str, folder: &str) -> Result<Target, U
     refuse_own(rt, alloc, own, folder)?;
     refuse_used(rt, alloc, names.place.as_str())?;
     match locked(rt, folder) {
-        Ok(lock) => Ok(Target { names, lock }),
+        Ok(lock) => {
+            let disk = PrivateDisk::of(rt, lock);
+            Ok(Target { names, disk })
+        }
         Err(why) => Err(undone(alloc, why)?),
     }
+}
+
+// The folder of what is at a path, and its name there; none where no slash is in the path.
+fn split(path: &str) -> Option<(&str, &str)>
+    ensures { MatchOption result (HasNoSlash path.now) (λ parts.
+        HasNoSlash parts.1.now × (path.now ≡ parts.0.now ++ slash ∷ parts.1.now)) }
+{
+    path.rsplit_once('/')
 }
 
 // Refuses the folder in which the office's own file is.

@@ -1,0 +1,7 @@
+-- Who may read an office's files.
+use Rattle.std.specs.Prelude.{◌++◌, ℕ, List, codes}
+
+-- the line that warns of a file at a path that others may read
+abbrev pub reader_warning : List ℕ → List ℕ
+reader_warning path =
+    codes "warning: others may read " ++ (path ++ codes ": chmod 600 it, and its -wal\n")
