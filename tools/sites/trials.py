@@ -131,7 +131,7 @@ def judge_replaced(year, office, site):
 # ---- Edits of the files beside it
 
 def judge_other_files(year):
-    """A file that is not what the history says is named by `verify`, and seen by the lines of the document."""
+    """A file that is not what the history says, or of none of its registries, is named by `verify`, and seen by the lines of the document."""
     site = year.site_of(len(YEAR))
     for path, old, new in [
         ('registries/codes.json', b'"label":"Blue"', b'"label":"Bleu"'), ('registries/codes.csv', b'64,Blue,', b'64,Bleu,'),
@@ -147,6 +147,12 @@ def judge_other_files(year):
             year.tally.judge(line is not None and path in line, f'{path} with {new} is said to be {line!r}')
             year.tally.judge(year.said_by_lines(site).returncode == 1, f'the lines of the document do not see {path} with {new}')
         (site / path).write_bytes(data)
+    for path in 'registries/other.json', 'registries/other.csv':
+        (site / path).write_bytes((site / path.replace('other', 'codes')).read_bytes())
+        line = fault_of(year.program, ['verify', site])
+        year.tally.judge(line == f'{path} is of no registry of the history', f'{path} is said to be {line!r}')
+        year.tally.judge(year.said_by_lines(site).returncode == 1, f'the lines of the document do not see {path}')
+        (site / path).unlink()
     for digest in year.records[-1]['Digest'][:-1] + '#', 'f' * 16, '0' * 64:
         done = year.program.done(['verify', site, '--digest', digest])
         year.tally.judge(done.returncode > 0 and not done.stdout and done.stderr.startswith('fault: '), f'the digest {digest} gave {done}')

@@ -20,21 +20,21 @@ pub tries_verify : (Same : Type 0) (noted : Option (List ℕ)) (io : Streams) (d
 tries_verify Same noted io (Ok u) same h = (same, h)
 tries_verify Same noted io (Err why) same h = inr (same, h)
 
-module _ (Found : Part → Option (List ℕ) → Type 0) where
+module _ (Found : Part → Option (List ℕ) → Type 0) (Names : List (List ℕ) → Type 0) where
   -- why a folder is not verified is why the job is not done
   pub said_why : (noted : Option (List ℕ)) (why : Unverified) (undone : Undone)
-      → TellsWhy Found noted why → IsSaidOf why undone → IsUnverified Found noted undone
+      → TellsWhy Found Names noted why → IsSaidOf why undone → IsUnverified Found Names noted undone
   said_why noted un.Memory undone told said =
-      subst (IsUnverified Found noted) (sym said) tt
-  said_why noted un.Read undone told said = subst (IsUnverified Found noted) (sym said) tt
-  said_why noted un.Large undone told said = subst (IsUnverified Found noted) (sym said) tt
+      subst (IsUnverified Found Names noted) (sym said) tt
+  said_why noted un.Read undone told said = subst (IsUnverified Found Names noted) (sym said) tt
+  said_why noted un.Large undone told said = subst (IsUnverified Found Names noted) (sym said) tt
   said_why noted (un.Flawed flaw) (Explained f text) told said = (flaw, told, said.0, said.1)
   said_why noted (un.Flawed flaw) (Fault f) told said = absurd said
   said_why noted (un.Flawed flaw) (Refused line) told said = absurd said
 
   -- what is printed of a folder that is verified is said of its history
   pub printed_of : (noted : Option (List ℕ)) (had has : Option (List ℕ))
-      → PrintsVerified Found noted had has → IsVerifiedBy noted had has (Ok tt)
+      → PrintsVerified Found Names noted had has → IsVerifiedBy noted had has (Ok tt)
   printed_of noted had has printed =
       let is = printed.1 in (
         is.records,

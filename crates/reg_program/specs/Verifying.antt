@@ -14,12 +14,12 @@ use Rattle.reg_program.specs.declared.faults.JobFailure.TheVariants.{History, La
 use Rattle.reg_program.specs.declared.faults.Undone.{Undone}
 use Rattle.reg_program.specs.declared.faults.Undone.TheVariants.{Fault, Explained, Refused}
 
--- The folder whose files are found so is verified, and that is printed: how many changes its history has,
+-- The folder whose files are found and named so is verified, and that is printed: how many changes its history has,
 -- and the digest of the last one.
-abbrev pub PrintsVerified : (Part → Option (List ℕ) → Type 0) → Option (List ℕ) → Option (List ℕ)
-    → Option (List ℕ) → Type 0
-PrintsVerified Found noted had has =
-    (digests : List (List ℕ)) × IsVerified Found noted digests
+abbrev pub PrintsVerified : (Part → Option (List ℕ) → Type 0) → (List (List ℕ) → Type 0)
+    → Option (List ℕ) → Option (List ℕ) → Option (List ℕ) → Type 0
+PrintsVerified Found Names noted had has =
+    (digests : List (List ℕ)) × IsVerified Found Names noted digests
     × Appends had has (verified_text digests)
 
 -- why a folder is not verified, as a job says it, and for people
@@ -33,15 +33,16 @@ IsSaidOf (un.Flawed flaw) (Fault failure) = ⊥
 IsSaidOf (un.Flawed flaw) (Refused line) = ⊥
 
 -- this is wrong in the folder; or there was no memory, a file was not read, or nothing could be written
-abbrev pub IsUnverified : (Part → Option (List ℕ) → Type 0) → Option (List ℕ) → Undone → Type 0
-IsUnverified Found noted (Explained failure text) =
-    (flaw : Flaw) × TellsFlaw Found noted flaw × (failure ≡ History)
+abbrev pub IsUnverified : (Part → Option (List ℕ) → Type 0) → (List (List ℕ) → Type 0)
+    → Option (List ℕ) → Undone → Type 0
+IsUnverified Found Names noted (Explained failure text) =
+    (flaw : Flaw) × TellsFlaw Found Names noted flaw × (failure ≡ History)
     × (string_bytes text ≡ flaw_text flaw)
-IsUnverified Found noted (Fault Memory) = ⊤
-IsUnverified Found noted (Fault Read) = ⊤
-IsUnverified Found noted (Fault Large) = ⊤
-IsUnverified Found noted (Fault Write) = ⊤
-IsUnverified Found noted why = ⊥
+IsUnverified Found Names noted (Fault Memory) = ⊤
+IsUnverified Found Names noted (Fault Read) = ⊤
+IsUnverified Found Names noted (Fault Large) = ⊤
+IsUnverified Found Names noted (Fault Write) = ⊤
+IsUnverified Found Names noted why = ⊥
 
 -- What is printed is said of some history, in which no record is earlier than the one before it, and which
 -- has the digest that was noted, if one was; or nothing is, unless it could not be written.

@@ -2,6 +2,7 @@
 ghost use Rattle.std.specs.Prelude.{◌≡◌, IfOk, IfErr, OnOk, option_map, string_bytes};
 ghost use Rattle.std.specs.Io.KnownBytes.{Appends};
 ghost use Rattle.std.specs.Option.{option_copied};
+ghost use Rattle.reg_verify.specs.Strays.{Lists};
 ghost use Rattle.reg_verify.specs.Verifying.{Finds, verified_text};
 ghost use Rattle.reg_program.specs.Undone.{IsOfPrinting};
 ghost use Rattle.reg_program.specs.Verifying.{IsSaidOf, IsUnverified, IsVerifiedBy, PrintsVerified};
@@ -19,7 +20,8 @@ use std::io::Write;
 
 /// Verifies the published folder at a path, and prints how many changes its history has, and the digest of
 /// the last one. `History` where its files are not what its history says, or its history is not whole, or
-/// has no digest that begins with the digits that were noted, if any were; a second line says which.
+/// has no digest that begins with the digits that were noted, if any were, or where a file is of no registry
+/// of the history; a second line says which.
 pub fn verify<W: Write>(
     rt: &HostRuntime,
     path: &str,
@@ -40,9 +42,10 @@ pub fn verify_files<F: Reads, W: Write>(
     output: &mut W,
 ) -> Result<(), Undone>
     ensures ok { OnOk result (PrintsVerified (Finds F.Tells F.held folder.now)
-        (option_map string_bytes noted.now) (W.contents output.old) (W.contents output.new)) }
+        (Lists F.Tells F.listed folder.now) (option_map string_bytes noted.now)
+        (W.contents output.old) (W.contents output.new)) }
     ensures err { IfErr result (IsUnverified (Finds F.Tells F.held folder.now)
-        (option_map string_bytes noted.now)) }
+        (Lists F.Tells F.listed folder.now) (option_map string_bytes noted.now)) }
     ensures silent { IfErr result (λ why.
         (why ≡ Fault Write → ⊥) → W.contents output.new ≡ W.contents output.old) }
 {

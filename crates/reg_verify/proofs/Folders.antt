@@ -14,9 +14,13 @@ use Rattle.reg_print.specs.Listing.{listing_text}
 use Rattle.reg_site.specs.Site.{told_text}
 use Rattle.reg_publish.specs.Reading.{IsToldBy}
 use Rattle.reg_history.specs.declared.change.Record.{Record}
+use Rattle.reg_history.specs.Chain.{says as says_of}
 use Rattle.reg_history.specs.History.{IsHistory, SaysJust}
+use Rattle.reg_history.specs.Said.{said_by}
 use Rattle.reg_history.specs.declared.history.History.{History}
 use Rattle.reg_verify.specs.Index.{IsInHistory, NamedRecord, named_record}
+use Rattle.reg_verify.specs.Strays.{HasNoStray}
+use Rattle.reg_verify.proofs.StrayFiles.{none_said}
 use Rattle.reg_verify.specs.Verifying.{AddsBlocks, AddsPage, AddsPool, AreFactsOf, AreFactsOfPages, HasIndex, HasPage, IsHistoryIn, IsNotedIn, IsPageIn, IsVerified}
 use Rattle.reg_verify.specs.declared.part.Part.{Part}
 use Rattle.reg_verify.specs.declared.part.Part.TheVariants as part
@@ -90,12 +94,15 @@ module _ (Found : Part → Option (List ℕ) → Type 0) where
   index_found digests bytes named found names has =
       record { bytes = bytes; named = named; found = found; names = names; has = has }
 
-  -- a history that says just what the files publish, and has the record of the index
+-- what is verified, by its parts
+module _ (Found : Part → Option (List ℕ) → Type 0) (Names : List (List ℕ) → Type 0) where
+  -- a history that says just what the files publish, and has the record of the index, where no file is stray
   pub verified_by : (h : History) (digests : List (List ℕ)) (facts : List Fact)
       → IsHistoryIn Found h → HasIndex Found h.chain.digests.items → AreFactsOf Found facts
+      → HasNoStray Names (said_by h.said)
       → ((records : List Record) → IsHistory h records → SaysJust records facts)
-      → digests ≡ h.chain.digests.items → IsVerified Found None digests
-  verified_by h digests facts is index are says same = record {
+      → digests ≡ h.chain.digests.items → IsVerified Found Names None digests
+  verified_by h digests facts is index are none says same = record {
     records = is.0;
     facts = facts;
     history = is.1;
@@ -103,15 +110,16 @@ module _ (Found : Part → Option (List ℕ) → Type 0) where
     index = subst (HasIndex Found) (sym same) index;
     published = are;
     says = says is.0 is.2;
+    no_stray = none_said Names (said_by h.said) (says_of is.0) is.2.said none;
     has = tt;
   }
 
   -- and a digest that was noted
   pub verified_with : (noted : Option (List ℕ)) (digests digests' : List (List ℕ))
-      → IsVerified Found None digests → digests' ≡ digests → IsNotedIn digests noted
-      → IsVerified Found noted digests'
+      → IsVerified Found Names None digests → digests' ≡ digests → IsNotedIn digests noted
+      → IsVerified Found Names noted digests'
   verified_with noted digests digests' is same has =
-      subst (IsVerified Found noted) (sym same)
+      subst (IsVerified Found Names noted) (sym same)
       (record {
         records = is.records;
         facts = is.facts;
@@ -120,5 +128,6 @@ module _ (Found : Part → Option (List ℕ) → Type 0) where
         index = is.index;
         published = is.published;
         says = is.says;
+        no_stray = is.no_stray;
         has = has;
       })

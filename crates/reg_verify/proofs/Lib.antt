@@ -2,3 +2,4 @@ mod Flaws
 mod Folders
 mod Named
 mod Portioned
+mod StrayFiles

@@ -1,5 +1,5 @@
 -- What is wrong in a published folder, as it is said to people.
-use Rattle.std.specs.Prelude.{ℕ, ◌&&◌, Bool, List, ◌++◌, codes, nat_le, nat_lt, if◌then◌else◌}
+use Rattle.std.specs.Prelude.{ℕ, ◌&&◌, Bool, List, ◌++◌, codes, nat_le, nat_lt, if◌then◌else◌, string_bytes}
 use Rattle.std.specs.Fmt.{decimal}
 use Rattle.std.specs.List.{list_all}
 use Rattle.reg_verify.specs.Parts.{place_of}
@@ -49,6 +49,10 @@ listing_flaw name =
     codes "registries/" ++ (name ++ (codes ".csv is not the listing of registries/"
     ++ (name ++ codes ".json")))
 
+abbrev pub stray_text : List ℕ → List ℕ
+stray_text file =
+    codes "registries/" ++ (plain file ++ codes " is of no registry of the history")
+
 -- what is said of it
 abbrev pub flaw_text : Flaw → List ℕ
 flaw_text (flaw.Missing file) = missing_text file
@@ -60,6 +64,7 @@ flaw_text flaw.Index = codes "index.json names a record that changes.csv does no
 flaw_text (flaw.Misspelt file) = misspelt_text file
 flaw_text flaw.Unnamed = codes "index.json names no record"
 flaw_text (flaw.Listing name) = listing_flaw name
+flaw_text (flaw.Stray file) = stray_text (string_bytes file)
 flaw_text (flaw.Subject subject) = subject_text subject
 flaw_text flaw.Short = codes "give at least 16 digits of the digest"
 flaw_text flaw.Digest = codes "no digest of changes.csv begins with these digits"

@@ -1,4 +1,5 @@
 pub mod Flaws
 pub mod Index
 pub mod Parts
+pub mod Strays
 pub mod Verifying

@@ -1,6 +1,6 @@
 -- What it means that a published folder is verified. `Found` says which bytes a file of the folder has, or
--- that it is not there.
-use Rattle.std.specs.Prelude.{◌≡◌, ◌≢◌, ◌≤◌, ◌<◌, ⊤, ℕ, true, false, List, [], ◌++◌, Option, Some, None, codes, length, if◌then◌else◌, ◌==◌, map, All}
+-- that it is not there; `Names` says which names the files of its folder `registries` have.
+use Rattle.std.specs.Prelude.{◌≡◌, ◌≢◌, ◌≤◌, ◌<◌, ⊤, ℕ, true, false, List, [], ◌++◌, Option, Some, None, codes, length, if◌then◌else◌, ◌==◌, map, All, string_bytes}
 use Rattle.std.specs.Fmt.{decimal}
 use Rattle.std.specs.List.{flat_map}
 use Rattle.reg_core.specs.declared.holding.Listed.{Listed}
@@ -22,6 +22,7 @@ use Rattle.reg_site.specs.Site.{told_text}
 use Rattle.reg_verify.specs.Parts.{place_of}
 use Rattle.reg_verify.specs.declared.part.Part.{Part}
 use Rattle.reg_verify.specs.declared.part.Part.TheVariants as part
+use Rattle.reg_verify.specs.Strays.{HasNoStray, HasStray}
 use Rattle.reg_verify.specs.Index.{IsInHistory, NamedRecord, named_record}
 use Rattle.reg_verify.specs.declared.flaw.Flaw.{Flaw}
 use Rattle.reg_verify.specs.declared.flaw.Flaw.TheVariants as flaw
@@ -107,15 +108,17 @@ IsNotedIn digests None = ⊤
 IsNotedIn digests (Some digits) = (16 ≤ length digits) × (some_begins digits digests ≡ true)
 
 -- The history of the folder has these digests, the record that the index names, and the digest that was
--- noted, if one was. What it says is just what the files publish.
-pub record IsVerified (Found : Part → Option (List ℕ) → Type 0) (noted : Option (List ℕ))
-    (digests : List (List ℕ)) : Type 0 where
+-- noted, if one was. What it says is just what the files publish, and no other file there is the JSON or
+-- the listing of a registry.
+pub record IsVerified (Found : Part → Option (List ℕ) → Type 0) (Names : List (List ℕ) → Type 0)
+    (noted : Option (List ℕ)) (digests : List (List ℕ)) : Type 0 where
   pub records : List Record
   pub facts : List Fact
   pub history : HasHistory Found records
   pub tied : digests ≡ (chained records).digests
   pub index : HasIndex Found digests
   pub published : AreFactsOf Found facts
+  pub no_stray : HasNoStray Names (says records)
   pub says : SaysJust records facts
   pub has : IsNotedIn digests noted
 
@@ -133,41 +136,46 @@ verified_text digests =
 -- ---- Not verified
 
 -- what is wrong, where a digest was noted by these digits
-abbrev pub TellsFlaw : (Part → Option (List ℕ) → Type 0) → Option (List ℕ) → Flaw → Type 0
-TellsFlaw Found noted (flaw.Missing f) = Found f None
-TellsFlaw Found noted flaw.Header =
+abbrev pub TellsFlaw : (Part → Option (List ℕ) → Type 0) → (List (List ℕ) → Type 0)
+    → Option (List ℕ) → Flaw → Type 0
+TellsFlaw Found Names noted (flaw.Missing f) = Found f None
+TellsFlaw Found Names noted flaw.Header =
     (text : List ℕ) × Found part.History (Some text) × TellsWrong text unreadable.Header
-TellsFlaw Found noted (flaw.Record number) =
+TellsFlaw Found Names noted (flaw.Record number) =
     (text : List ℕ) × Found part.History (Some text) × TellsWrong text (unreadable.Wrong number)
-TellsFlaw Found noted flaw.Name = (records : List Record) × HasHistory Found records
-TellsFlaw Found noted flaw.Index =
+TellsFlaw Found Names noted flaw.Name = (records : List Record) × HasHistory Found records
+TellsFlaw Found Names noted flaw.Index =
     (records : List Record) × (bytes : List ℕ) × (named : NamedRecord)
     × HasHistory Found records × Found part.Index (Some bytes)
     × (named_record bytes ≡ Some named)
     × (IsInHistory (chained records).digests named → ⊥)
-TellsFlaw Found noted (flaw.Misspelt f) =
+TellsFlaw Found Names noted (flaw.Misspelt f) =
     (bytes : List ℕ) × Found f (Some bytes)
-TellsFlaw Found noted flaw.Unnamed =
+TellsFlaw Found Names noted flaw.Unnamed =
     (bytes : List ℕ) × Found part.Index (Some bytes) × (named_record bytes ≡ None)
-TellsFlaw Found noted (flaw.Listing name) =
+TellsFlaw Found Names noted (flaw.Listing name) =
     (page : Page) × (bytes : List ℕ) × IsPageIn Found name page
     × Found (part.Listing name) (Some bytes) × (bytes ≢ listing_text page)
-TellsFlaw Found noted (flaw.Subject subject) =
+TellsFlaw Found Names noted (flaw.Stray file) =
+    (records : List Record) × HasHistory Found records
+    × HasStray Names (says records) (string_bytes file)
+TellsFlaw Found Names noted (flaw.Subject subject) =
     (records : List Record) × (facts : List Fact) × HasHistory Found records
     × AreFactsOf Found facts × TellsUnlike (says records) facts (unlike.Subject subject)
-TellsFlaw Found noted flaw.Short =
+TellsFlaw Found Names noted flaw.Short =
     (digits : List ℕ) × (noted ≡ Some digits) × (length digits < 16)
-TellsFlaw Found noted flaw.Digest =
+TellsFlaw Found Names noted flaw.Digest =
     (records : List Record) × (digits : List ℕ) × HasHistory Found records
     × (noted ≡ Some digits) × (some_begins digits (chained records).digests ≡ false)
 
 -- why a folder is not verified: memory was wanting, a file could not be read or is too large; or this is
 -- wrong
-abbrev pub TellsWhy : (Part → Option (List ℕ) → Type 0) → Option (List ℕ) → Unverified → Type 0
-TellsWhy Found noted un.Memory = ⊤
-TellsWhy Found noted un.Read = ⊤
-TellsWhy Found noted un.Large = ⊤
-TellsWhy Found noted (un.Flawed f) = TellsFlaw Found noted f
+abbrev pub TellsWhy : (Part → Option (List ℕ) → Type 0) → (List (List ℕ) → Type 0)
+    → Option (List ℕ) → Unverified → Type 0
+TellsWhy Found Names noted un.Memory = ⊤
+TellsWhy Found Names noted un.Read = ⊤
+TellsWhy Found Names noted un.Large = ⊤
+TellsWhy Found Names noted (un.Flawed f) = TellsFlaw Found Names noted f
 
 -- ---- Parts of it
 

@@ -4,6 +4,7 @@ ghost use Rattle.reg_core.specs.declared.told.Told.TheVariants as tells;
 ghost use Rattle.reg_site.specs.Site.{told_text};
 ghost use Rattle.reg_publish.specs.Reading.{IsToldBy};
 ghost use Rattle.reg_verify.specs.declared.flaw.Unverified.TheVariants as un;
+ghost use Rattle.reg_verify.specs.Strays.{Lists};
 ghost use Rattle.reg_verify.specs.Verifying.{Finds, TellsWhy};
 
 use crate::flaw::{Flaw, Unverified};
@@ -26,7 +27,8 @@ pub(crate) fn bytes_of<F: Reads>(
 ) -> Result<Vec<u8>, Unverified>
     ensures bytes { IfOk result
         (λ bytes. Finds F.Tells F.held folder.now file.now (Some bytes.items)) }
-    ensures why { IfErr result (TellsWhy (Finds F.Tells F.held folder.now) None) }
+    ensures why { IfErr result (TellsWhy (Finds F.Tells F.held folder.now)
+        (Lists F.Tells F.listed folder.now) None) }
 {
     let place = file.place(alloc)?;
     match folder.read(alloc, place.as_str())? {
@@ -78,7 +80,8 @@ pub(crate) fn told_in<F: Reads>(
     ensures told { IfOk result
         (λ told. Finds F.Tells F.held folder.now file.now (Some (told_text told))) }
     ensures asked { IfOk result (IsToldBy command.now) }
-    ensures why { IfErr result (TellsWhy (Finds F.Tells F.held folder.now) None) }
+    ensures why { IfErr result (TellsWhy (Finds F.Tells F.held folder.now)
+        (Lists F.Tells F.listed folder.now) None) }
 {
     let bytes = bytes_of(alloc, folder, file)?;
     match told_of(alloc, command, bytes.as_slice()) {

@@ -1,7 +1,7 @@
 //! Why a published folder is not verified.
 ghost use Rattle.std.specs.Prelude.{◌≡◌, IfOk, string_bytes};
 ghost use Rattle.std.specs.List.{list_all};
-ghost use Rattle.reg_verify.specs.Flaws.{flaw_text, is_printable, listing_flaw, missing_text, misspelt_text, plain, subject_file, subject_text, unread_as, unreadable_as};
+ghost use Rattle.reg_verify.specs.Flaws.{flaw_text, is_printable, listing_flaw, missing_text, misspelt_text, plain, stray_text, subject_file, subject_text, unread_as, unreadable_as};
 ghost use Rattle.reg_verify.specs.declared.flaw.Unverified.TheVariants as un;
 
 use crate::folder::Unread;
@@ -43,6 +43,9 @@ pub enum Flaw {
     Misspelt(Part),
     /// The listing of this registry is not that of its JSON.
     Listing(Name),
+    /// This file of the folder `registries` is the JSON or the listing of a registry that the history does
+    /// not have.
+    Stray(String),
     /// This subject is published otherwise than the history says, or is in one of the two alone.
     Subject(Subject),
     /// The digest that was noted is given by fewer than 16 digits.
@@ -75,6 +78,7 @@ impl Flaw {
             Flaw::Misspelt(file) => misspelt_text(alloc, *file),
             Flaw::Unnamed => String::from_str(alloc, "index.json names no record"),
             Flaw::Listing(name) => listing_text(alloc, *name),
+            Flaw::Stray(file) => stray_text(alloc, file.as_str()),
             Flaw::Subject(subject) => subject_text(alloc, subject),
             Flaw::Short => String::from_str(alloc, "give at least 16 digits of the digest"),
             Flaw::Digest => {
@@ -143,6 +147,13 @@ fn listing_text(alloc: Global, name: Name) -> Result<String, AllocError>
 {
     let name = name.as_str();
     format!(in alloc; "registries/{name}.csv is not the listing of registries/{name}.json")
+}
+
+fn stray_text(alloc: Global, file: &str) -> Result<String, AllocError>
+    ensures { IfOk result (λ text. string_bytes text ≡ stray_text file.now) }
+{
+    let file = plain(file);
+    format!(in alloc; "registries/{file} is of no registry of the history")
 }
 
 fn subject_text(alloc: Global, subject: &Subject) -> Result<String, AllocError>

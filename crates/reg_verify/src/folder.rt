@@ -1,16 +1,16 @@
 //! Published folders that are read.
-ghost use Rattle.std.specs.Prelude.{◌≡◌, IfOk, option_map};
+ghost use Rattle.std.specs.Prelude.{◌≡◌, IfOk, map, option_map, string_bytes};
 
 use reg_publish::answers::read_up_to;
 use reg_publish::unpublished::Unpublished;
 use std::alloc::{AllocError, Global};
-use std::fs::{Files, open};
-use std::io::ErrorKind;
+use std::fs::{Files, open, read_dir};
+use std::io::{Error, ErrorKind};
 
 /// How many bytes a file has at most.
 const MOST_BYTES: usize = 268_435_456;
 
-/// Why a file was not read.
+/// Why a file was not read, or the names of files.
 #[derive(Clone, Copy, Debug, PartialEq, Eq)]
 pub enum Unread {
     /// There was no memory.
@@ -29,7 +29,7 @@ impl From<AllocError> for Unread {
 
 /// A folder whose files are read.
 pub trait Reads {
-    ghost use Rattle.std.specs.Prelude.{ℕ, List, Option, None};
+    ghost use Rattle.std.specs.Prelude.{ℕ, List, [], Option, None};
 
     /// Whether it is known which files are in it.
     ghost Tells: { Type 0 } = { ⊥ };
@@ -37,10 +37,19 @@ pub trait Reads {
     /// The bytes of the file at a place in it, if there is one.
     ghost held: { Self → List ℕ → Option (List ℕ) } = { λ _ _. None };
 
+    /// The names of the files in its folder `registries`.
+    ghost listed: { Self → List (List ℕ) } = { λ _. [] };
+
     /// The bytes of the file at a place in it; none where there is no file.
     fn read(&self, alloc: Global, place: &str) -> Result<Option<Vec<u8>>, Unread>
         ensures { Tells → IfOk result
             (λ found. option_map (λ v. v.items) found ≡ held self.now place.now) };
+
+    /// The names of the files in its folder `registries`, and of the folders there; none where there is no
+    /// such folder. A name that is no UTF-8 cannot be read.
+    fn names(&self, alloc: Global) -> Result<Vec<String>, Unread>
+        ensures { Tells → IfOk result
+            (λ files. map string_bytes files.items ≡ listed self.now) };
 }
 
 /// A folder of the file system. Nothing is known of it: no contract can say what a disk holds. Where there
@@ -53,7 +62,7 @@ pub struct SystemFolder<'a, H> {
     pub path: &'a str,
 }
 
-impl<H: Files> Reads for SystemFolder<'_, H> {
+impl<H: Files + AllocGlobal + Clone + Drop> Reads for SystemFolder<'_, H> {
     fn read(&self, alloc: Global, place: &str) -> Result<Option<Vec<u8>>, Unread> {
         let folder = self.path;
         let path = format!(in alloc; "{folder}/{place}")?;
@@ -65,10 +74,36 @@ impl<H: Files> Reads for SystemFolder<'_, H> {
             }
             Err(error) => match error.kind() {
                 ErrorKind::NotFound => Ok(None),
-                ErrorKind::OutOfMemory => Err(Unread::Memory),
-                _ => Err(Unread::Read),
+                _ => Err(not_opened(error)),
             },
         }
+    }
+
+    fn names(&self, alloc: Global) -> Result<Vec<String>, Unread> {
+        let folder = self.path;
+        let path = format!(in alloc; "{folder}/registries")?;
+        let mut names = Vec::new(alloc);
+        let entries = match read_dir(self.rt, path.as_str()) {
+            Ok(entries) => entries,
+            Err(error) => match error.kind() {
+                ErrorKind::NotFound => return Ok(names),
+                _ => return Err(not_opened(error)),
+            },
+        };
+        for entry in entries {
+            let entry = entry.map_err(not_opened)?;
+            let name = String::from_str(alloc, entry.file_name())?;
+            names.push(name).map_err(AllocError::from)?;
+        }
+        Ok(names)
+    }
+}
+
+// Why a file could not be opened, or a folder not be listed.
+fn not_opened(error: Error) -> Unread {
+    match error.kind() {
+        ErrorKind::OutOfMemory => Unread::Memory,
+        _ => Unread::Read,
     }
 }
 

@@ -3,6 +3,7 @@ ghost use Rattle.std.specs.Prelude.{◌≡◌, ◌↔◌, IfOk, IfErr, IsTrue, N
 ghost use Rattle.serde_json.specs.View.{view};
 ghost use Rattle.reg_verify.specs.declared.part.Part.TheVariants as part;
 ghost use Rattle.reg_verify.specs.Index.{IsInHistory, changes_in, digest_in, named_in, named_record, record_of};
+ghost use Rattle.reg_verify.specs.Strays.{Lists};
 ghost use Rattle.reg_verify.specs.Verifying.{Finds, HasHistory, HasIndex, TellsWhy};
 ghost use Rattle.reg_history.specs.Chain.{chained};
 ghost use Rattle.reg_history.specs.declared.change.Record.{Record};
@@ -35,7 +36,8 @@ pub(crate) fn find_record<F: Reads>(
     ensures why { IfErr result (λ why. (records : List Record)
         → HasHistory (Finds F.Tells F.held folder.now) records
         → chain.now.digests.items ≡ (chained records).digests
-        → TellsWhy (Finds F.Tells F.held folder.now) None why) }
+        → TellsWhy (Finds F.Tells F.held folder.now)
+        (Lists F.Tells F.listed folder.now) None why) }
 {
     let bytes = bytes_of(alloc, folder, &Part::Index)?;
     let Some(named) = named_record(alloc, bytes.as_slice())? else {

@@ -8,4 +8,5 @@ mod index;
 mod listing;
 pub mod part;
 mod registries;
+mod strays;
 pub mod verifying;

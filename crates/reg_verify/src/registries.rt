@@ -7,6 +7,7 @@ ghost use Rattle.reg_history.specs.declared.change.Record.{Record};
 ghost use Rattle.reg_history.specs.Published.{page_facts};
 ghost use Rattle.reg_print.specs.Listing.{listing_text};
 ghost use Rattle.reg_verify.specs.declared.part.Part.TheVariants as part;
+ghost use Rattle.reg_verify.specs.Strays.{Lists};
 ghost use Rattle.reg_verify.specs.Verifying.{AddsBlocks, AddsPage, AddsPool, AreFactsOf, AreFactsOfPages, Finds, HasHistory, HasPage, IsPageIn, IsNameless, TellsWhy};
 
 use crate::files::{blocks_in, bytes_of, page_in, pool_in, told_in};
@@ -33,7 +34,8 @@ pub(crate) fn facts_in<F: Reads>(
         (λ facts. AreFactsOf (Finds F.Tells F.held folder.now) facts.items) }
     ensures why { IfErr result (λ why. (records : List Record)
         → HasHistory (Finds F.Tells F.held folder.now) records
-        → TellsWhy (Finds F.Tells F.held folder.now) None why) }
+        → TellsWhy (Finds F.Tells F.held folder.now)
+        (Lists F.Tells F.listed folder.now) None why) }
 {
     let names = names_in(alloc, said)?;
     let mut facts = registries_in(alloc, folder, names.as_slice())?;
@@ -85,7 +87,8 @@ fn registries_in<F: Reads>(
 ) -> Result<Vec<Fact>, Unverified>
     ensures facts { IfOk result
         (λ facts. AreFactsOfPages (Finds F.Tells F.held folder.now) facts.items) }
-    ensures why { IfErr result (TellsWhy (Finds F.Tells F.held folder.now) None) }
+    ensures why { IfErr result (TellsWhy (Finds F.Tells F.held folder.now)
+        (Lists F.Tells F.listed folder.now) None) }
 {
     let mut facts = Vec::new(alloc);
     for name in names {
@@ -103,7 +106,8 @@ fn add_registry<F: Reads>(
 ) -> Result<(), Unverified>
     ensures facts { OnOk result
         (AddsPage (Finds F.Tells F.held folder.now) facts.old.items facts.new.items) }
-    ensures why { IfErr result (TellsWhy (Finds F.Tells F.held folder.now) None) }
+    ensures why { IfErr result (TellsWhy (Finds F.Tells F.held folder.now)
+        (Lists F.Tells F.listed folder.now) None) }
 {
     let told = told_in(
         alloc,
@@ -120,7 +124,8 @@ fn add_registry<F: Reads>(
 fn add_pool<F: Reads>(alloc: Global, folder: &F, facts: &mut Vec<Fact>) -> Result<(), Unverified>
     ensures facts { OnOk result
         (AddsPool (Finds F.Tells F.held folder.now) facts.old.items facts.new.items) }
-    ensures why { IfErr result (TellsWhy (Finds F.Tells F.held folder.now) None) }
+    ensures why { IfErr result (TellsWhy (Finds F.Tells F.held folder.now)
+        (Lists F.Tells F.listed folder.now) None) }
 {
     let told = told_in(alloc, folder, &Part::Pool, &PublicCommand::PoolList)?;
     Ok(add_prefixes(alloc, facts, pool_in(&told)?.prefixes())?)
@@ -130,7 +135,8 @@ fn add_pool<F: Reads>(alloc: Global, folder: &F, facts: &mut Vec<Fact>) -> Resul
 fn add_listed<F: Reads>(alloc: Global, folder: &F, facts: &mut Vec<Fact>) -> Result<(), Unverified>
     ensures facts { OnOk result
         (AddsBlocks (Finds F.Tells F.held folder.now) facts.old.items facts.new.items) }
-    ensures why { IfErr result (TellsWhy (Finds F.Tells F.held folder.now) None) }
+    ensures why { IfErr result (TellsWhy (Finds F.Tells F.held folder.now)
+        (Lists F.Tells F.listed folder.now) None) }
 {
     let told = told_in(alloc, folder, &Part::Blocks, &PublicCommand::BlockListing)?;
     Ok(add_blocks(alloc, facts, blocks_in(&told)?)?)
@@ -146,7 +152,8 @@ fn find_listing<F: Reads>(
     ensures found { OnOk result (Finds F.Tells F.held folder.now (part.Listing name)
         (Some (listing_text page.now))) }
     ensures why { IfErr result (λ why. IsPageIn (Finds F.Tells F.held folder.now) name page.now
-        → TellsWhy (Finds F.Tells F.held folder.now) None why) }
+        → TellsWhy (Finds F.Tells F.held folder.now)
+        (Lists F.Tells F.listed folder.now) None why) }
 {
     let bytes = bytes_of(alloc, folder, &Part::Listing(name))?;
     let mut listing = RegistryListing::of(alloc, page)?;

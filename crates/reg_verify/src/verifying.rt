@@ -4,6 +4,7 @@ ghost use Rattle.std.specs.Option.{option_copied};
 ghost use Rattle.reg_history.specs.Chain.{says};
 ghost use Rattle.reg_history.specs.declared.change.Record.{Record};
 ghost use Rattle.reg_history.specs.History.{IsHistory, SaysJust};
+ghost use Rattle.reg_verify.specs.Strays.{Lists};
 ghost use Rattle.reg_verify.specs.Verifying.{Finds, IsHistoryIn, IsNotedIn, IsUnlikeBy, IsUnnotedBy, IsVerified, TellsWhy, last_text, verified_text};
 
 use crate::files::bytes_of;
@@ -12,6 +13,7 @@ use crate::folder::Reads;
 use crate::index::find_record;
 use crate::part::Part;
 use crate::registries::facts_in;
+use crate::strays::stray_in;
 use reg_history::chain::Chain;
 use reg_history::change::Fact;
 use reg_history::history::{History, Unlike, read};
@@ -23,17 +25,17 @@ const LEAST_DIGITS: usize = 16;
 /// Verifies a published folder, and gives the digests of its history. The history is whole: each record has
 /// the number and the digest that follow from those before it. It has the record that the index names, and
 /// a digest that begins with the digits that were noted, if any were. What it says is just what the JSON of
-/// each registry, the pool and the listing of the blocks publish; and each listing of a registry is that of
-/// its JSON. Each file is read once.
+/// each registry, the pool and the listing of the blocks publish; each listing of a registry is that of its
+/// JSON; and there is no JSON and no listing of another registry. Each file is read once.
 pub fn verify_in<F: Reads>(
     alloc: Global,
     folder: &F,
     digits: Option<&[u8]>,
 ) -> Result<Chain, Unverified>
     ensures verified { IfOk result (λ chain. IsVerified (Finds F.Tells F.held folder.now)
-        (option_copied digits.entry) chain.digests.items) }
+        (Lists F.Tells F.listed folder.now) (option_copied digits.entry) chain.digests.items) }
     ensures why { IfErr result (TellsWhy (Finds F.Tells F.held folder.now)
-        (option_copied digits.entry)) }
+        (Lists F.Tells F.listed folder.now) (option_copied digits.entry)) }
 {
     let chain = chain_in(alloc, folder)?;
     match digits {
@@ -45,23 +47,30 @@ pub fn verify_in<F: Reads>(
     }
 }
 
-// The digests of the history of a folder, whose files say what it says.
+// The digests of the history of a folder, whose files say what it says. A stray file is an error only where
+// nothing else is wrong.
 fn chain_in<F: Reads>(alloc: Global, folder: &F) -> Result<Chain, Unverified>
-    ensures verified { IfOk result (λ chain. IsVerified (Finds F.Tells F.held folder.now) None
-        chain.digests.items) }
-    ensures why { IfErr result (TellsWhy (Finds F.Tells F.held folder.now) None) }
+    ensures verified { IfOk result (λ chain. IsVerified (Finds F.Tells F.held folder.now)
+        (Lists F.Tells F.listed folder.now) None chain.digests.items) }
+    ensures why { IfErr result (TellsWhy (Finds F.Tells F.held folder.now)
+        (Lists F.Tells F.listed folder.now) None) }
 {
     let history = history_in(alloc, folder)?;
     find_record(alloc, folder, &history.chain)?;
     let facts = facts_in(alloc, folder, &history.said)?;
+    let stray = stray_in(alloc, folder, &history.said)?;
     let chain = compared(alloc, history, facts.as_slice())?;
-    Ok(chain)
+    match stray {
+        None => Ok(chain),
+        Some(file) => Err(Unverified::Flawed(Flaw::Stray(file))),
+    }
 }
 
 // The history of a folder.
 fn history_in<F: Reads>(alloc: Global, folder: &F) -> Result<History, Unverified>
     ensures history { IfOk result (IsHistoryIn (Finds F.Tells F.held folder.now)) }
-    ensures why { IfErr result (TellsWhy (Finds F.Tells F.held folder.now) None) }
+    ensures why { IfErr result (TellsWhy (Finds F.Tells F.held folder.now)
+        (Lists F.Tells F.listed folder.now) None) }
 {
     let text = bytes_of(alloc, folder, &Part::History)?;
     Ok(read(alloc, text.as_slice())?)
