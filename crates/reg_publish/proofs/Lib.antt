@@ -1,4 +1,5 @@
 pub mod Asked
+pub mod Causes
 pub mod Copying
 pub mod Found
 pub mod Marks

@@ -1,9 +1,10 @@
 //! What a folder has of earlier publications.
-ghost use Rattle.std.specs.Prelude.{◌≡◌, ◌++◌, IfOk, IfSome, IsTrue, option_map};
-ghost use Rattle.reg_print.specs.Comparing.{Leaves};
+ghost use Rattle.std.specs.Prelude.{◌≡◌, ◌↔◌, ℕ, List, Option, Some, IfErr, IfOk, IsTrue, option_map};
+ghost use Rattle.std.specs.Option.{option_copied};
 ghost use Rattle.reg_history.specs.Chain.{header_line};
 ghost use Rattle.reg_history.specs.History.{IsHistoryOf};
-ghost use Rattle.reg_publish.specs.Earlier.{EndsWith, HasRecord, IsTied, NamesRecord, text_there};
+ghost use Rattle.reg_publish.specs.Earlier.{HasRecord, IsTied, behind, behind_first, digest_in, named_record, text_there, until};
+ghost use Rattle.reg_publish.specs.Faults.{IsUnread};
 ghost use Rattle.reg_site.specs.Files.{path_of};
 ghost use Rattle.reg_site.specs.declared.files.File.TheVariants as file;
 
@@ -31,6 +32,8 @@ pub fn read_earlier<F: Folder>(alloc: Global, folder: &F) -> Result<Earlier, Pub
         ≡ text_there (F.held folder.now (path_of file.Changes))) }
     ensures tied { F.Tells → IfOk result (λ earlier.
         IsTied (F.held folder.now (path_of file.IndexTree)) earlier.history.chain.digests.items) }
+    ensures why { F.Tells → IfErr result (IsUnread (F.held folder.now (path_of file.Changes))
+        (F.held folder.now (path_of file.IndexTree))) }
 {
     let changes = folder.read(alloc, File::Changes)?;
     let index = folder.read(alloc, File::IndexTree)?;
@@ -49,6 +52,8 @@ fn earlier_of(alloc: Global, changes: Option<Vec<u8>>) -> Result<Earlier, Publis
     ensures history { IfOk result (λ earlier. IsHistoryOf earlier.history earlier.text.items) }
     ensures there { IfOk result (λ earlier. earlier.text.items
         ≡ text_there (option_map (λ v. v.items) changes)) }
+    ensures why { IfErr result (λ why. (index : Option (List ℕ))
+        → IsUnread (option_map (λ v. v.items) changes) index why) }
 {
     match changes {
         Some(text) => {
@@ -73,29 +78,39 @@ fn begun(alloc: Global) -> Result<Earlier, AllocError>
 // Whether a history has the record that an index names, if there is one.
 fn is_tied(chain: &Chain, index: &Option<Vec<u8>>) -> bool
     ensures { IsTrue result
-        → IsTied (option_map (λ v. v.items) index.now) chain.now.digests.items }
+        ↔ IsTied (option_map (λ v. v.items) index.now) chain.now.digests.items }
 {
     match index {
         None => true,
-        Some(text) => match mark_in(text.as_slice()) {
-            Some(mark) => has_record(chain, mark),
-            None => false,
-        },
+        Some(text) => names_record(chain, text.as_slice()),
     }
 }
 
-fn has_record(chain: &Chain, mark: Mark<'_>) -> bool
-    ensures { IsTrue result
-        → HasRecord chain.now.digests.items mark.entry.number mark.entry.digest.now }
+// Whether a history has the record that this index names.
+fn names_record(chain: &Chain, index: &[u8]) -> bool
+    ensures { IsTrue result ↔ IsTied (Some index.now) chain.now.digests.items }
 {
-    (mark.number == 0 && mark.digest.is_empty()) || chain.has(u64::from(mark.number), mark.digest)
+    match named_record(index) {
+        Some(named) => has_record(chain, named),
+        None => false,
+    }
+}
+
+fn has_record(chain: &Chain, named: Named<'_>) -> bool
+    ensures { IsTrue result
+        ↔ HasRecord chain.now.digests.items named.entry.number named.entry.digest.now }
+{
+    if named.number == 0 {
+        return named.digest.is_empty();
+    }
+    chain.has(u64::from(named.number), named.digest)
 }
 
 // ---- The record that an index names
 
 // A record by its number and its digest.
 #[derive(Clone, Copy)]
-struct Mark<'a> {
+struct Named<'a> {
     number: u32,
     digest: &'a [u8],
 }
@@ -108,26 +123,32 @@ const BEFORE_DIGEST: &[u8] = b",\"digest\":\"";
 const BEHIND_DIGEST: &[u8] = b"\",\"registers\":[";
 
 // The record that an index for programs names; none where it names none.
-fn mark_in(index: &[u8]) -> Option<Mark<'_>>
-    ensures { IfSome result (λ mark. NamesRecord index.now mark.number mark.digest.now) }
+fn named_record(index: &[u8]) -> Option<Named<'_>>
+    ensures { option_map (λ named. (named.number, named.digest.now)) result ≡ named_record index.now }
 {
-    let found = from_mark(index)?;
-    let rest = behind(MARK, found)?;
+    let rest = behind_first(MARK, index)?;
     let (digits, rest) = until(b',', rest)?;
     let number = read_number(digits)?;
     let rest = behind(BEFORE_DIGEST, rest)?;
-    let (digest, rest) = until(b'"', rest)?;
-    behind(BEHIND_DIGEST, rest)?;
-    Some(Mark { number, digest })
+    let digest = digest_in(rest)?;
+    Some(Named { number, digest })
 }
 
-// What stands in an index from the first mark on.
-fn from_mark(index: &[u8]) -> Option<&[u8]>
-    ensures { IfSome result (λ rest. EndsWith index.now rest.now) }
+// The digest with which a text begins, where what follows it in an index stands behind it.
+fn digest_in(text: &[u8]) -> Option<&[u8]>
+    ensures { option_copied result ≡ digest_in text.now }
 {
-    for place in 0..index.len() {
-        let rest = &index[place..];
-        if rest.starts_with(MARK) {
+    let (digest, rest) = until(b'"', text)?;
+    behind(BEHIND_DIGEST, rest)?;
+    Some(digest)
+}
+
+// What stands in a text behind the first place of this front.
+fn behind_first<'a>(front: &[u8], text: &'a [u8]) -> Option<&'a [u8]>
+    ensures { option_copied result ≡ behind_first front.now text.now }
+{
+    for place in 0..text.len() {
+        if let Some(rest) = behind(front, &text[place..]) {
             return Some(rest);
         }
     }
@@ -136,15 +157,15 @@ fn from_mark(index: &[u8]) -> Option<&[u8]>
 
 // What is left of a text behind this front, where it begins with it.
 fn behind<'a>(front: &[u8], text: &'a [u8]) -> Option<&'a [u8]>
-    ensures { Leaves front.now text.now result }
+    ensures { option_copied result ≡ behind front.now text.now }
 {
     text.strip_prefix(front)
 }
 
 // A text before the first such byte, and from it on.
 fn until<'a>(byte: u8, text: &'a [u8]) -> Option<(&'a [u8], &'a [u8])>
-    ensures { IfSome result (λ parts. text.now ≡ parts.0.now ++ parts.1.now) }
+    ensures { option_map (λ parts. (parts.0.now, parts.1.now)) result ≡ until byte text.now }
 {
     let end = text.iter().position(|other| *other == byte)?;
-    text.split_at_checked(end)
+    Some(text.split_at(end))
 }

@@ -77,6 +77,11 @@ impl<T: Drop> From<AllocFailed<T>> for PublishFault {
 }
 
 impl From<Unreadable> for PublishFault {
+    ghost use Rattle.std.specs.Prelude.{◌≡◌};
+    ghost use Rattle.reg_publish.specs.Faults.{unreadable_as};
+
+    ghost from_gives = { λ why given. given ≡ unreadable_as why };
+
     fn from(why: Unreadable) -> PublishFault {
         match why {
             Unreadable::Memory => PublishFault::Unpublished(Unpublished::Memory),
@@ -87,6 +92,11 @@ impl From<Unreadable> for PublishFault {
 }
 
 impl From<Unrecorded> for PublishFault {
+    ghost use Rattle.std.specs.Prelude.{◌≡◌};
+    ghost use Rattle.reg_publish.specs.Faults.{unrecorded_as};
+
+    ghost from_gives = { λ why given. given ≡ unrecorded_as why };
+
     fn from(why: Unrecorded) -> PublishFault {
         match why {
             Unrecorded::Memory => PublishFault::Unpublished(Unpublished::Memory),

@@ -1,16 +1,18 @@
 //! Publishes all files of a site.
 ghost use Rattle.std.specs.Prelude.{◌≡◌, [], List, IfErr, IfOk, OnOk};
 ghost use Rattle.std.specs.Option.{option_copied};
-ghost use Rattle.reg_history.specs.Chain.{chained};
+ghost use Rattle.reg_history.specs.Chain.{chained, says};
 ghost use Rattle.reg_history.specs.History.{IsHistory};
 ghost use Rattle.reg_history.specs.Overview.{IsOverview};
 ghost use Rattle.reg_history.specs.Recording.{Ends, IsRecorded};
-ghost use Rattle.reg_publish.specs.Faults.{IsOfHistory};
+ghost use Rattle.reg_publish.specs.Faults.{IsLostBy, IsOfHistory, TellsWhy};
 ghost use Rattle.reg_publish.specs.Folder.{Places, PlacesSummed};
 ghost use Rattle.reg_publish.specs.Publishing.{PublishesSite};
-ghost use Rattle.reg_publish.specs.Told.{blocks_of, facts_told, pages_of, prefixes_of};
+ghost use Rattle.reg_publish.specs.Told.{blocks_of, facts_at, facts_told, pages_of, prefixes_of};
+ghost use Rattle.reg_site.specs.Files.{path_of};
 ghost use Rattle.reg_site.specs.Noted.{noted_in};
 ghost use Rattle.reg_site.specs.Site.{index_files, rows_by, site_files, steady_files};
+ghost use Rattle.reg_site.specs.declared.files.File.TheVariants as file;
 
 use crate::earlier::{Earlier, read_earlier};
 use crate::faults::PublishFault;
@@ -31,10 +33,6 @@ use reg_site::files::File;
 use reg_site::noted::of_authority;
 use reg_site::sums::Sums;
 use std::alloc::Global;
-
-/// How many bytes are set aside for each new record, so that a long history grows where it is. What is not
-/// used is given no memory.
-const RECORD_BYTES: usize = 256;
 
 /// How much was published.
 #[derive(Debug, Drop)]
@@ -61,6 +59,9 @@ pub fn publish<S: Source, F: Folder>(
     ensures done { OnOk result (PublishesSite S.published S.Holds F.Tells F.held F.Puts source.old source.new
         folder.old folder.new (option_copied notes.entry) moment) }
     ensures history { IfErr result (λ why. IsOfHistory why → folder.new ≡ folder.old) }
+    ensures why { F.Tells → IfErr result (TellsWhy (F.held folder.old (path_of file.Changes))
+        (F.held folder.old (path_of file.IndexTree)) (S.Holds source.new)
+        (facts_at (S.published source.old) moment)) }
 {
     let told = ask_all(alloc, source, moment)?;
     let count = count_of(alloc, notes, &told)?;
@@ -74,16 +75,17 @@ pub fn publish<S: Source, F: Folder>(
 fn go_on(
     alloc: Global,
     history: History,
-    mut text: Vec<u8>,
+    text: Vec<u8>,
     moment: u64,
     told: &AllTold,
 ) -> Result<Recorded, PublishFault>
-    ensures { IfOk result (λ recorded. (records : List Record) → IsHistory history records
+    ensures goes_on { IfOk result (λ recorded. (records : List Record) → IsHistory history records
         → (chained records).text ≡ text.items
         → Ends (record { records = records; moment = moment; facts = facts_told told.now }) recorded) }
+    ensures lost { IfErr result (λ why. (records : List Record) → IsHistory history records
+        → (chained records).text ≡ text.items
+        → IsLostBy (says records) (facts_told told.now) why) }
 {
-    let new = told.count()?.saturating_sub(history.said.len());
-    text.reserve(new.saturating_mul(RECORD_BYTES))?;
     let mut recorder = history.go_on(alloc, text, moment)?;
     told.tell(alloc, &mut recorder)?;
     Ok(recorder.end()?)
