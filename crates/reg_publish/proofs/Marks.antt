@@ -7,7 +7,7 @@ use denote.Ref.{Bor}
 use Rattle.std.proofs.lemmas.Option.{cond_some, none-some, option_and_then_some, some_pair_parts}
 use Rattle.std.proofs.lemmas.Slice.Eq.{bytes_eq-Decides}
 use Rattle.reg_ranges.specs.Numbers.{read_number}
-use Rattle.reg_publish.specs.Earlier.{HasRecord, IsTied, Named, NamesRecord, behind, behind_first, digest_in, named_by, named_record, until}
+use Rattle.reg_publish.specs.Earlier.{HasRecord, IsTied, NamesRecord, behind, behind_first, digest_in, named_by, named_record, until}
 
 -- ---- What is found in a text
 

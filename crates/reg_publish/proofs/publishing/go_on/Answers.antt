@@ -1,4 +1,4 @@
-use Rattle.std.proofs.Common.{◌≡◌, List, [], refl, sym, ◌∙◌, subst, append-nil}
+use Rattle.std.proofs.Common.{◌≡◌, List, [], refl, sym, subst, append-nil}
 use Rattle.reg_history.specs.Chain.{chained, says}
 use Rattle.reg_history.specs.History.{IsHistory}
 use Rattle.reg_history.specs.Recording.{Aim, Awaits}
