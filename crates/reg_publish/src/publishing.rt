@@ -34,6 +34,10 @@ use reg_site::noted::of_authority;
 use reg_site::sums::Sums;
 use std::alloc::Global;
 
+/// How many bytes are set aside for each new record, so that a long history grows where it is. What is not
+/// used is given no memory.
+const RECORD_BYTES: usize = 256;
+
 /// How much was published.
 #[derive(Debug, Drop)]
 pub struct Count {
@@ -75,7 +79,7 @@ pub fn publish<S: Source, F: Folder>(
 fn go_on(
     alloc: Global,
     history: History,
-    text: Vec<u8>,
+    mut text: Vec<u8>,
     moment: u64,
     told: &AllTold,
 ) -> Result<Recorded, PublishFault>
@@ -86,6 +90,8 @@ fn go_on(
         → (chained records).text ≡ text.items
         → IsLostBy (says records) (facts_told told.now) why) }
 {
+    let new = told.count()?.saturating_sub(history.said.len());
+    text.reserve(new.saturating_mul(RECORD_BYTES))?;
     let mut recorder = history.go_on(alloc, text, moment)?;
     told.tell(alloc, &mut recorder)?;
     Ok(recorder.end()?)

@@ -1,4 +1,4 @@
-use Rattle.std.proofs.Common.{◌≡◌, List, [], refl, sym, subst, append-nil}
+use Rattle.std.proofs.Common.{◌≡◌, List, [], refl, sym, subst, ◌∙◌, append-nil}
 use Rattle.reg_history.specs.Chain.{chained, says}
 use Rattle.reg_history.specs.History.{IsHistory}
 use Rattle.reg_history.specs.Recording.{Aim, Awaits}
@@ -18,7 +18,7 @@ returns-clause-goes_on c = λ records is same.
     c.in_ok-end.ensures.goes_on aim
     (c.in_ok-tell.ensures.goes_on aim []
     (subst To (sym (append-nil aim.facts))
-    (c.in_ok-recorder.ensures aim (record { history = is; text = same; moment = refl }))))
+    (c.in_ok-recorder.ensures aim (record { history = is; text = same ∙ sym c.reserve.ensures.items; moment = refl }))))
 
 pub returns-in_err-end-clause-lost : goal.returns-in_err-end-clause-lost
 returns-in_err-end-clause-lost c =
@@ -35,4 +35,4 @@ returns-in_err-end-clause-lost c =
     (c.in_err-end.ensures.lost aim
     (c.in_ok-tell.ensures.goes_on aim []
     (subst To (sym (append-nil aim.facts))
-    (c.in_ok-recorder.ensures aim (record { history = is; text = same; moment = refl }))))))
+    (c.in_ok-recorder.ensures aim (record { history = is; text = same ∙ sym c.reserve.ensures.items; moment = refl }))))))
