@@ -66,37 +66,29 @@ pub struct Directories<'a> {
 }
 
 impl<'a> Folders for Directories<'a> {
-    type Given = LockedFolder<Directory<SystemDisk<'a, HostRuntime>>>;
+    type Given = LockedDirectory<'a>;
 
-    fn open(&self, alloc: Global, path: &str) -> Result<Self::Given, Unpublished> {
-        let folder = Directory::open(self.rt, alloc, path)?;
+    fn open(&self, alloc: Global, path: &str) -> Result<LockedDirectory<'a>, Unpublished> {
+        let directory = Directory::open(self.rt, alloc, path)?;
         let lock = locked(self.rt, path)?;
-        Ok(LockedFolder { folder, lock })
+        Ok(LockedDirectory { directory, lock })
     }
 }
 
-/// A folder that is locked until this is dropped. What is known of the folder is known of it.
+/// A folder of the file system, which is locked until this is dropped.
 #[derive(Drop)]
-pub struct LockedFolder<F> {
-    folder: F,
+pub struct LockedDirectory<'a> {
+    directory: Directory<SystemDisk<'a, HostRuntime>>,
     lock: fs::File,
 }
 
-impl<F: Folder> Folder for LockedFolder<F> {
-    ghost Puts = { λ old new place bytes. F.Puts old.folder new.folder place bytes };
-
-    ghost Leaves = { λ old new place bytes. F.Leaves old.folder new.folder place bytes };
-
-    ghost Tells = { F.Tells };
-
-    ghost held = { λ locked place. F.held locked.folder place };
-
+impl Folder for LockedDirectory<'_> {
     fn read(&self, alloc: Global, file: File) -> Result<Option<Vec<u8>>, Unpublished> {
-        self.folder.read(alloc, file)
+        self.directory.read(alloc, file)
     }
 
     fn publish<P: Portions>(&mut self, file: File, bytes: &mut P) -> Result<(), Unpublished> {
-        self.folder.publish(file, bytes)
+        self.directory.publish(file, bytes)
     }
 }
 
