@@ -19,9 +19,9 @@ use reg_program::tasks::{Offices, Task};
 use reg_sql::keeper::SqlKeeper;
 use reg_sql::look::{Look as LookAt, look_at};
 use reg_sql::open::{OpenFault, Opened as Left, open_by};
-use reg_sql::opener::{Opener, SystemFiles};
+use reg_sql::opener::SystemFiles;
 use reg_sql::trouble::Trouble;
-use sqlite::{Alter, Unknown};
+use sqlite::{Alter, FileFrom, FileStore, Start, Unknown};
 use std::alloc::{AllocError, Global};
 use std::io::{Read, Write};
 
@@ -45,8 +45,7 @@ impl Offices for Files {
     ) -> Result<(), Undone> {
         // Where it cannot be made, opening it says why.
         let _ = make_private(rt, path);
-        let files = SystemFiles { start: Unknown };
-        match opened(rt, files, path, task.begins()) {
+        match opened(rt, Unknown, path, task.begins()) {
             Ok(keeper) => carry_out_in(rt, keeper, dates, path, task, console),
             Err(undone) => Err(undone),
         }
@@ -152,14 +151,14 @@ impl<S: Alter + Drop> Stores for OneOffice<S> {
     }
 }
 
-// The office at a path, whatever opens it: over a known store it unfolds all that it holds.
-fn opened<O: Opener>(
+// The office in the files at a path, whatever is known of them.
+fn opened<T: Start>(
     rt: &HostRuntime,
-    opener: O,
+    start: T,
     path: &str,
     begins: bool,
-) -> Result<SqlKeeper<O::Base>, Undone> {
-    match open_by(rt, opener, path, begins) {
+) -> Result<SqlKeeper<FileStore<FileFrom<T>>>, Undone> {
+    match open_by(rt, SystemFiles { start }, path, begins) {
         Ok(keeper) => Ok(keeper),
         Err((fault, left)) => Err(refused(fault, left)),
     }
