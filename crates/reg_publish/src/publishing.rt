@@ -11,7 +11,7 @@ ghost use Rattle.reg_publish.specs.Publishing.{PublishesSite};
 ghost use Rattle.reg_publish.specs.Told.{blocks_of, facts_at, facts_told, pages_of, prefixes_of};
 ghost use Rattle.reg_site.specs.Files.{path_of};
 ghost use Rattle.reg_site.specs.Noted.{noted_in};
-ghost use Rattle.reg_site.specs.Site.{index_files, rows_by, site_files, steady_files};
+ghost use Rattle.reg_site.specs.Site.{index_files, rows_by, shown_files, site_files};
 ghost use Rattle.reg_site.specs.declared.files.File.TheVariants as file;
 
 use crate::earlier::{Earlier, read_earlier};
@@ -71,7 +71,7 @@ pub fn publish<S: Source, F: Folder>(
     let count = count_of(alloc, notes, &told)?;
     let Earlier { text, history } = read_earlier(alloc, folder)?;
     let recorded = go_on(alloc, history, text, moment, &told)?;
-    publish_told(alloc, folder, notes, &recorded, &told, moment)?;
+    publish_told(alloc, folder, notes, recorded, &told, moment)?;
     Ok(count)
 }
 
@@ -97,51 +97,44 @@ fn go_on(
     Ok(recorder.end()?)
 }
 
-// Publishes all files of what was told, with this history.
+// Publishes all files of what was told, with this history. Its text goes once it is published.
 fn publish_told<F: Folder>(
     alloc: Global,
     folder: &mut F,
     notes: Option<&Notes>,
-    recorded: &Recorded,
+    recorded: Recorded,
     told: &AllTold,
     moment: u64,
 ) -> Result<(), Unpublished>
-    ensures { OnOk result ((records : List Record) → IsRecorded recorded.now records
+    ensures { OnOk result ((records : List Record) → IsRecorded recorded records
         → Places F.Puts folder.old folder.new (site_files (option_copied notes.entry) records
         (pages_of told.now.pages.items) (prefixes_of told.now.pool) (blocks_of told.now.blocks) moment)) }
 {
     let mut sums = Sums::new(alloc);
-    publish_steady(alloc, folder, &mut sums, notes, recorded, told)?;
-    publish_last(
-        alloc,
-        folder,
-        &mut sums,
-        notes,
-        &recorded.overview,
-        told,
-        moment,
-    )?;
+    let Recorded { text, overview } = recorded;
+    put(alloc, folder, &mut sums, File::Changes, text.as_slice())?;
+    drop(text);
+    publish_shown(alloc, folder, &mut sums, notes, &overview, told)?;
+    publish_last(alloc, folder, &mut sums, notes, &overview, told, moment)?;
     put_sums(alloc, folder, sums)?;
     Ok(())
 }
 
-// Publishes all files on which the moment does not stand.
-fn publish_steady<F: Folder>(
+// Publishes the files that show what was told, and what changed last.
+fn publish_shown<F: Folder>(
     alloc: Global,
     folder: &mut F,
     sums: &mut Sums,
     notes: Option<&Notes>,
-    recorded: &Recorded,
+    overview: &Overview,
     told: &AllTold,
 ) -> Result<(), Unpublished>
-    ensures { OnOk result ((records : List Record) → IsRecorded recorded.now records
+    ensures { OnOk result ((records : List Record) → IsOverview overview.now records
         → PlacesSummed F.Puts folder.old folder.new sums.old sums.new
-        (steady_files (option_copied notes.entry) (chained records).text records (chained records).digests
+        (shown_files (option_copied notes.entry) records (chained records).digests
         (pages_of told.now.pages.items) (prefixes_of told.now.pool) (blocks_of told.now.blocks))) }
 {
     let authority = of_authority(notes);
-    let overview = &recorded.overview;
-    put(alloc, folder, sums, File::Changes, recorded.text.as_slice())?;
     publish_registries(alloc, folder, sums, notes, overview, told.pages.as_slice())?;
     publish_blocks(alloc, folder, sums, authority, blocks_in(&told.blocks)?)?;
     publish_pool(alloc, folder, sums, pool_in(&told.pool)?)?;

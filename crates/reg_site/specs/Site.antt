@@ -147,15 +147,20 @@ index_files authority digests registers prefixes rows moment =
 
 -- ---- The site
 
+-- the files that show what is published and what changed last
+abbrev pub shown_files : Option Notes → List Record → List (List ℕ) → List Page → List ℕ → List Listed
+    → Files
+shown_files notes records digests pages prefixes rows =
+    flat_map (page_files notes records) pages
+    ++ (block_files (noted_in notes []) rows
+    ++ (pool_files prefixes ++ change_files (noted_in notes []) records digests))
+
 -- the files on which no moment stands but those of the changes: the history first, and then those that
 -- show what is published
 abbrev pub steady_files : Option Notes → List ℕ → List Record → List (List ℕ) → List Page → List ℕ
     → List Listed → Files
 steady_files notes text records digests pages prefixes rows =
-    one_file file.Changes text
-    ++ (flat_map (page_files notes records) pages
-    ++ (block_files (noted_in notes []) rows
-    ++ (pool_files prefixes ++ change_files (noted_in notes []) records digests)))
+    one_file file.Changes text ++ shown_files notes records digests pages prefixes rows
 
 -- all files but the sums
 abbrev pub summed_files : Option Notes → List ℕ → List Record → List (List ℕ) → List Page → List ℕ
