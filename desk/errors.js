@@ -1,8 +1,13 @@
 // Every error of the office as a sentence that says what to do. Nothing here touches the document or the network.
 
-/** The errors by their names, in the order of the specification, and then those of HTTP. */
+/** The errors by their names, in the order in which the office names the first. */
 export const ERRORS = {
   line: 'This line is not a line of a script. Write the moment, the token, the method, the path and the body with one space between them.',
+  head: 'The office could not read the head of the request. Check the program that sent it.',
+  encoding: 'The body was sent in pieces or encoded. Send it whole, with its length.',
+  length: 'The length of the body is missing digits or was given twice. Check the program that sent it.',
+  large: 'This is too large: at most 65,536 bytes can be sent. Make the file smaller.',
+  short: 'The connection ended before all was sent. Send it again.',
   route: 'The office has no such address. Check the path, or reload this page in case it is out of date.',
   method: 'The office does not do this at this address. Reload this page in case it is out of date.',
   body: 'The office could not read what was sent. Send one JSON object, or nothing where nothing is wanted.',
@@ -32,11 +37,6 @@ export const ERRORS = {
   exists: 'This exists already with other content. Choose another name for the registry, or another token.',
   bits: 'This prefix is for group or local addresses, so no blocks can be cut from it. The second digit must be 0, 4, 8 or C.',
   storage: 'The office could not save this, so nothing was changed. Send it again in a minute. If this goes on, tell the authority.',
-  head: 'The office could not read the head of the request. Check the program that sent it.',
-  encoding: 'The body was sent in pieces or encoded. Send it whole, with its length.',
-  length: 'The length of the body is missing digits or was given twice. Check the program that sent it.',
-  large: 'This is too large: at most 65,536 bytes can be sent. Make the file smaller.',
-  short: 'The connection ended before all was sent. Send it again.',
 };
 
 // The forms of the parts that `field` names, as sentences.
