@@ -218,10 +218,11 @@ def judge_cost(office):
     print(f'the largest page has {largest / 1e6:.1f} MB, the history {len(files["changes.csv"]) / 1e6:.1f} MB, the site {sum(map(len, files.values())) / 1e6:.1f} MB')
     for name, (wall, busy, most) in costs.items():
         print(f'{name}, with {ENTRIES} entries: {wall:.2f} s, {busy:.2f} s of the processor, {most / 1e6:.1f} MB at most, {most / largest:.1f} of the page')
-    for name in 'publish, over HTTP', 'publish, over HTTP again':
+    # A first run keeps twice the largest page at most, and one that goes on with a history as much again.
+    for name, pages in ('publish, over HTTP', 2), ('publish, over HTTP again', 4):
         wall, busy, most = costs[name]
         office.tally.judge(busy <= 2, f'{name}: {busy:.2f} seconds, and at most two are wanted')
-        print(f'{name}: {most / 1e6:.1f} MB, where the aim is {4 * largest / 1e6:.1f}: twice the page, and as much again for the history')
+        office.tally.judge(most <= pages * largest, f'{name}: {most / 1e6:.1f} MB, and at most {pages * largest / 1e6:.1f} are wanted')
 
 
 # ---- Faults
