@@ -150,8 +150,8 @@ fn push_number(alloc: Global, text: &mut String, name: &str, n: usize) -> Result
     push_field(text, name, digits.as_str())
 }
 
-// The phrase of a status (RFC 9110 section 15).
-fn reason(status: u16) -> &'static str
+/// The phrase of a status (RFC 9110 section 15); empty for one that no answer has.
+pub fn reason(status: u16) -> &'static str
     ensures { result.now ≡ reason status }
 {
     if status == 200 {

@@ -137,6 +137,9 @@ last_place_keeps i id port connections within = text_keeps (with_index i (filled
 file_keeps : Fills false (with_index 1 (filled (place_rule (codes "FILE"))))
 file_keeps = place_keeps 1 (codes "FILE") refl refl refl
 
+source_keeps : Fills false (with_index 1 (filled (place_rule (codes "SOURCE"))))
+source_keeps = place_keeps 1 (codes "SOURCE") refl refl refl
+
 help_flag_keeps : Fills false (filled help_rule)
 help_flag_keeps = (help_keeps HoldsValue false (filled help_rule) refl, none_keeps HoldsValue (filled help_rule) refl)
 
@@ -268,7 +271,7 @@ serve_gives words none =
 request_gives : GivesJob (sub_of request_app)
 request_gives words none =
     let held = leaf_rows (sub_of request_app) (
-      file_keeps,
+      source_keeps,
       (
         place_keeps 2 (codes "METHOD") refl refl refl,
         (
@@ -282,7 +285,7 @@ request_gives words none =
 define_gives : GivesJob (sub_of define_app)
 define_gives words none =
     let held = leaf_rows (sub_of define_app) (
-      file_keeps,
+      source_keeps,
       (
         place_keeps 2 (codes "NAME") refl refl refl,
         (place_keeps 3 (codes "MAX") refl refl refl, (place_keeps 4 (codes "CSV") refl refl refl, (clerk_keeps, (help_flag_keeps, tt)))),
@@ -297,13 +300,13 @@ define_gives words none =
 
 listing_gives : GivesJob (sub_of listing_app)
 listing_gives words none =
-    let held = leaf_rows (sub_of listing_app) (file_keeps, (option_keeps (codes "registry") refl refl refl, (help_flag_keeps, tt))) refl words none in
+    let held = leaf_rows (sub_of listing_app) (source_keeps, (option_keeps (codes "registry") refl refl refl, (help_flag_keeps, tt))) refl words none in
     text_given _ _ held.0 (held.1.0 refl)
 
 publish_gives : GivesJob (sub_of publish_app)
 publish_gives words none =
     let held = leaf_rows (sub_of publish_app) (
-      place_keeps 1 (codes "SOURCE") refl refl refl,
+      source_keeps,
       (place_keeps 2 (codes "FOLDER") refl refl refl, (option_keeps (codes "notes") refl refl refl, (help_flag_keeps, tt))),
     ) refl words none in
     (text_given _ _ held.0 (held.1.0 refl), text_given _ _ held.0 (held.1.1.0 refl))
@@ -319,7 +322,7 @@ verify_gives words none =
 due_gives : GivesJob (sub_of due_app)
 due_gives words none =
     let held = leaf_rows (sub_of due_app) (
-      place_keeps 1 (codes "SOURCE") refl refl refl,
+      source_keeps,
       (within_keeps, (help_flag_keeps, tt)),
     ) refl words none in
     (text_given _ _ held.0 (held.1.0 refl), within_given _ held.0 (held.1.1.0 refl))

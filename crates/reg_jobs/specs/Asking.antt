@@ -68,19 +68,19 @@ IsJobOf name rows (Serve service) =
     × IsCountOf rows service.connections
     × (service.log ≡ is_used (codes "log") rows)
 IsJobOf name rows (Request request) =
-    (name ≡ codes "request") × IsTextOf (codes "FILE") rows (string_bytes request.file)
+    (name ≡ codes "request") × IsTextOf (codes "SOURCE") rows (string_bytes request.source)
     × IsTextOf (codes "METHOD") rows (string_bytes request.method)
     × IsTextOf (codes "PATH") rows (string_bytes request.path)
     × (first_of (codes "BODY") rows ≡ option_map string_bytes request.body)
     × (first_of (codes "token") rows ≡ option_map string_bytes request.token)
 IsJobOf name rows (Define order) =
-    (name ≡ codes "define") × IsTextOf (codes "FILE") rows (string_bytes order.file)
+    (name ≡ codes "define") × IsTextOf (codes "SOURCE") rows (string_bytes order.source)
     × IsTextOf (codes "NAME") rows (string_bytes order.name)
     × IsTextOf (codes "MAX") rows (string_bytes order.max)
     × IsTextOf (codes "CSV") rows (string_bytes order.ranges)
     × IsTextOf (codes "clerk") rows (string_bytes order.clerk)
-IsJobOf name rows (Listing file registry) =
-    (name ≡ codes "listing") × IsTextOf (codes "FILE") rows (string_bytes file)
+IsJobOf name rows (Listing source registry) =
+    (name ≡ codes "listing") × IsTextOf (codes "SOURCE") rows (string_bytes source)
     × (first_of (codes "registry") rows ≡ option_map string_bytes registry)
 IsJobOf name rows (Publish order) =
     (name ≡ codes "publish") × IsTextOf (codes "SOURCE") rows (string_bytes order.source)
@@ -177,11 +177,11 @@ HasJob name rows =
     (HasText (codes "FILE") rows × HasNumber (codes "port") 1 65535 rows
     × MayHaveNumber (codes "connections") 1 1000000 rows)
     (Where (bytes_eq name (codes "request"))
-    (HasText (codes "FILE") rows × HasText (codes "METHOD") rows × HasText (codes "PATH") rows)
+    (HasText (codes "SOURCE") rows × HasText (codes "METHOD") rows × HasText (codes "PATH") rows)
     (Where (bytes_eq name (codes "define"))
-    (HasText (codes "FILE") rows × HasText (codes "NAME") rows × HasText (codes "MAX") rows
+    (HasText (codes "SOURCE") rows × HasText (codes "NAME") rows × HasText (codes "MAX") rows
     × HasText (codes "CSV") rows × HasText (codes "clerk") rows)
-    (Where (bytes_eq name (codes "listing")) (HasText (codes "FILE") rows)
+    (Where (bytes_eq name (codes "listing")) (HasText (codes "SOURCE") rows)
     (HasTellingJob name rows)))))))
 
 -- the words of `revoke` do not say which

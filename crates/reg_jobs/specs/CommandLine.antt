@@ -49,10 +49,14 @@ within_rule = record (option_rule (codes "within")) {
 abbrev pub file_app : Text → App
 file_app name = with_rule (new_app name) (place_rule (codes "FILE"))
 
--- a command whose first words are an office's file, and two more
+-- a command whose first word is an office's file, or where it is served
+abbrev pub source_app : Text → App
+source_app name = with_rule (new_app name) (place_rule (codes "SOURCE"))
+
+-- a command whose first words are an office's file, or where it is served, and two more
 abbrev pub words_app : Text → Text → Text → App
 words_app name first second =
-    with_rule (with_rule (file_app name) (place_rule first)) (place_rule second)
+    with_rule (with_rule (source_app name) (place_rule first)) (place_rule second)
 
 abbrev pub script_app : App
 script_app =
@@ -83,7 +87,7 @@ abbrev pub define_app : App
 define_app = with_rule (with_rule registry_app (place_rule (codes "CSV"))) clerk_rule
 
 abbrev pub listing_app : App
-listing_app = with_rule (file_app (codes "listing")) (option_rule (codes "registry"))
+listing_app = with_rule (source_app (codes "listing")) (option_rule (codes "registry"))
 
 -- the command `request` with its first words
 abbrev pub path_app : App
@@ -109,8 +113,8 @@ revoke_app =
 
 abbrev pub publish_app : App
 publish_app =
-    with_rule (with_rule (with_rule (new_app (codes "publish")) (place_rule (codes "SOURCE")))
-    (place_rule (codes "FOLDER"))) (option_rule (codes "notes"))
+    with_rule (with_rule (source_app (codes "publish")) (place_rule (codes "FOLDER")))
+    (option_rule (codes "notes"))
 
 abbrev pub verify_app : App
 verify_app =
@@ -118,7 +122,7 @@ verify_app =
     (option_rule (codes "digest"))
 
 abbrev pub due_app : App
-due_app = with_rule (with_rule (new_app (codes "due")) (place_rule (codes "SOURCE"))) within_rule
+due_app = with_rule (source_app (codes "due")) within_rule
 
 -- the program, before its jobs
 abbrev pub program_app : App

@@ -159,7 +159,7 @@ fn said_connections(matches: &ArgMatches) -> Result<u32, JobFault>
 
 fn define_of(alloc: Global, matches: &ArgMatches) -> Result<Job, JobFault>
     ensures said { IfOk result (IsJobOf (codes "define") (rows_of (found_of matches.now))) }
-    ensures given { HasText (codes "FILE") (rows_of (found_of matches.now))
+    ensures given { HasText (codes "SOURCE") (rows_of (found_of matches.now))
         → HasText (codes "NAME") (rows_of (found_of matches.now))
         → HasText (codes "MAX") (rows_of (found_of matches.now))
         → HasText (codes "CSV") (rows_of (found_of matches.now))
@@ -167,7 +167,7 @@ fn define_of(alloc: Global, matches: &ArgMatches) -> Result<Job, JobFault>
         → MatchResult result IsInRange (λ fault. fault ≡ Memory) }
 {
     Ok(Job::Define(Definition {
-        file: text(alloc, matches, "FILE")?,
+        source: text(alloc, matches, "SOURCE")?,
         name: text(alloc, matches, "NAME")?,
         max: text(alloc, matches, "MAX")?,
         ranges: text(alloc, matches, "CSV")?,
@@ -177,24 +177,24 @@ fn define_of(alloc: Global, matches: &ArgMatches) -> Result<Job, JobFault>
 
 fn listing_of(alloc: Global, matches: &ArgMatches) -> Result<Job, JobFault>
     ensures said { IfOk result (IsJobOf (codes "listing") (rows_of (found_of matches.now))) }
-    ensures given { HasText (codes "FILE") (rows_of (found_of matches.now))
+    ensures given { HasText (codes "SOURCE") (rows_of (found_of matches.now))
         → MatchResult result IsInRange (λ fault. fault ≡ Memory) }
 {
     Ok(Job::Listing {
-        file: text(alloc, matches, "FILE")?,
+        source: text(alloc, matches, "SOURCE")?,
         registry: optional_text(alloc, matches, "registry")?,
     })
 }
 
 fn request_of(alloc: Global, matches: &ArgMatches) -> Result<Job, JobFault>
     ensures said { IfOk result (IsJobOf (codes "request") (rows_of (found_of matches.now))) }
-    ensures given { HasText (codes "FILE") (rows_of (found_of matches.now))
+    ensures given { HasText (codes "SOURCE") (rows_of (found_of matches.now))
         → HasText (codes "METHOD") (rows_of (found_of matches.now))
         → HasText (codes "PATH") (rows_of (found_of matches.now))
         → MatchResult result IsInRange (λ fault. fault ≡ Memory) }
 {
     Ok(Job::Request(Request {
-        file: text(alloc, matches, "FILE")?,
+        source: text(alloc, matches, "SOURCE")?,
         method: text(alloc, matches, "METHOD")?,
         path: text(alloc, matches, "PATH")?,
         body: optional_text(alloc, matches, "BODY")?,

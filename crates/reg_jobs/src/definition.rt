@@ -2,7 +2,7 @@
 ghost use Rattle.std.specs.Prelude.{◌≡◌, codes, false, IfOk, IsOkAnd};
 ghost use Rattle.clap.specs.Words.{AddsSubcommand, app_of, new_app, rule_of};
 ghost use Rattle.clap.specs.declared.builder.command.Command.TheViews.{out-Command};
-ghost use Rattle.reg_jobs.specs.CommandLine.{asking_app, check_app, clerk_rule, connections_rule, copy_app, define_app, due_app, expert_rule, file_app, flag_rule, import_app, init_app, last_place_rule, listing_app, office_app, option_rule, path_app, place_rule, port_rule, publish_app, register_app, registry_app, request_app, revoke_app, script_app, serve_app, serving_app, telling_app, tokens_app, verify_app, within_rule, words_app};
+ghost use Rattle.reg_jobs.specs.CommandLine.{asking_app, check_app, clerk_rule, connections_rule, copy_app, define_app, due_app, expert_rule, file_app, flag_rule, import_app, init_app, last_place_rule, listing_app, office_app, option_rule, path_app, place_rule, port_rule, publish_app, register_app, registry_app, request_app, revoke_app, script_app, serve_app, serving_app, source_app, telling_app, tokens_app, verify_app, within_rule, words_app};
 
 use crate::help;
 use crate::jobs::VERSION;
@@ -87,7 +87,21 @@ fn file_command<'a>(
     command(alloc, name, about, example).arg(place(alloc, "FILE", "The office's file"))
 }
 
-// A command whose first words are an office's file, and these two, each by its name and its help.
+// A command whose first word is an office's file, or where it is served.
+fn source_command<'a>(
+    alloc: Global,
+    name: &'a str,
+    about: &'a str,
+    example: &'a str,
+) -> Result<Command<'a>, AllocError>
+    ensures shape { IfOk result (λ c. app_of c ≡ source_app name.entry.now) }
+    ensures local { IfOk result (λ c. (out-Command c).has_globals ≡ false) }
+{
+    command(alloc, name, about, example).arg(source(alloc))
+}
+
+// A command whose first words are an office's file, or where it is served, and these two, each by its
+// name and its help.
 fn words_command<'a>(
     alloc: Global,
     name: &'a str,
@@ -100,7 +114,7 @@ fn words_command<'a>(
         (λ c. app_of c ≡ words_app name.entry.now first.entry.0.now second.entry.0.now) }
     ensures local { IfOk result (λ c. (out-Command c).has_globals ≡ false) }
 {
-    file_command(alloc, name, about, example)?
+    source_command(alloc, name, about, example)?
         .arg(place(alloc, first.0, first.1))?
         .arg(place(alloc, second.0, second.1))
 }
@@ -186,7 +200,7 @@ fn listing<'a>(alloc: Global) -> Result<Command<'a>, AllocError>
     ensures shape { IfOk result (λ c. app_of c ≡ listing_app) }
     ensures local { IfOk result (λ c. (out-Command c).has_globals ≡ false) }
 {
-    file_command(alloc, "listing", help::LISTING_ABOUT, help::LISTING_EXAMPLE)?.arg(option(
+    source_command(alloc, "listing", help::LISTING_ABOUT, help::LISTING_EXAMPLE)?.arg(option(
         alloc,
         "registry",
         "NAME",
@@ -231,8 +245,7 @@ fn publish<'a>(alloc: Global) -> Result<Command<'a>, AllocError>
     ensures shape { IfOk result (λ c. app_of c ≡ publish_app) }
     ensures local { IfOk result (λ c. (out-Command c).has_globals ≡ false) }
 {
-    command(alloc, "publish", help::PUBLISH_ABOUT, help::PUBLISH_EXAMPLE)
-        .arg(source(alloc))?
+    source_command(alloc, "publish", help::PUBLISH_ABOUT, help::PUBLISH_EXAMPLE)?
         .arg(folder(alloc))?
         .arg(option(
             alloc,
@@ -260,9 +273,7 @@ fn due<'a>(alloc: Global) -> Result<Command<'a>, AllocError>
     ensures shape { IfOk result (λ c. app_of c ≡ due_app) }
     ensures local { IfOk result (λ c. (out-Command c).has_globals ≡ false) }
 {
-    command(alloc, "due", help::DUE_ABOUT, help::DUE_EXAMPLE)
-        .arg(source(alloc))?
-        .arg(within(alloc))
+    source_command(alloc, "due", help::DUE_ABOUT, help::DUE_EXAMPLE)?.arg(within(alloc))
 }
 
 fn check<'a>(alloc: Global) -> Result<Command<'a>, AllocError>

@@ -62,10 +62,12 @@ not public it writes only the pattern:
   2026-11-26T08:00:01Z PUT /desk/approve/{account}/{reference} 200 112";
 
 pub const REQUEST_ABOUT: &str =
-    "Sends one request to the office in FILE, and prints the body of the answer";
+    "Sends one request to the office at SOURCE, and prints the body of the answer";
 
-pub const REQUEST_EXAMPLE: &str = "Example:
+pub const REQUEST_EXAMPLE: &str =
+    "SOURCE is an office's file, or the address of a served office. Example:
   reg_cli request office.db GET /registries
+  reg_cli request http://127.0.0.1:8080 GET /registries
   reg_cli request office.db PUT /desk/approve/alice/a-1 --token @clerk.token
 
 A BODY of - means standard input, at most 65,536 bytes:
@@ -77,7 +79,9 @@ and the exit status is 1.";
 pub const DEFINE_ABOUT: &str =
     "Defines the registry NAME, with the values 0 to MAX and the ranges in the file CSV";
 
-pub const DEFINE_EXAMPLE: &str = "Example. If ranges.csv has these lines:
+pub const DEFINE_EXAMPLE: &str =
+    "SOURCE is an office's file, or the address of a served office. Example. If ranges.csv
+has these lines:
   lo,hi,treatment,note
   0,99,first-come-first-served,
   100,255,reserved,kept for later
@@ -86,7 +90,8 @@ then this prints 200 {\"defined\":\"codes\"}:
 
 pub const LISTING_ABOUT: &str = "Prints a registry, or the blocks that were given, as CSV";
 
-pub const LISTING_EXAMPLE: &str = "Example:
+pub const LISTING_EXAMPLE: &str =
+    "SOURCE is an office's file, or the address of a served office. Example:
   reg_cli listing office.db
   reg_cli listing office.db --registry codes";
 

@@ -26,14 +26,14 @@ pub enum Job {
     },
     /// Serves the office in a file over HTTP on loopback, one connection after the other.
     Serve(Service),
-    /// Has the office in a file answer one request.
+    /// Has the office in a file, or one that is served, answer one request.
     Request(Request),
-    /// Defines a registry from a range file, in the office in a file.
+    /// Defines a registry from a range file, in the office in a file or in one that is served.
     Define(Definition),
-    /// Prints a listing of the office in a file.
+    /// Prints a listing of the office in a file, or of one that is served.
     Listing {
-        /// The path of the office's file.
-        file: String,
+        /// The path of the office's file, or the address at which it is served.
+        source: String,
         /// The registry that is listed; without one, the blocks are.
         registry: Option<String>,
     },
@@ -126,8 +126,8 @@ pub struct Publication {
 /// One request of an office.
 #[derive(Drop)]
 pub struct Request {
-    /// The path of the office's file.
-    pub file: String,
+    /// The path of the office's file, or the address at which it is served.
+    pub source: String,
     /// The request's method.
     pub method: String,
     /// The request's path.
@@ -150,8 +150,8 @@ pub enum Which {
 /// How a registry is defined.
 #[derive(Drop)]
 pub struct Definition {
-    /// The path of the office's file.
-    pub file: String,
+    /// The path of the office's file, or the address at which it is served.
+    pub source: String,
     /// The registry's name.
     pub name: String,
     /// The registry's largest value, in decimal.

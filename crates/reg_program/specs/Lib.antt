@@ -12,6 +12,7 @@ pub mod Performing
 pub mod Printing
 pub mod Publishing
 pub mod Revoking
+pub mod Served
 pub mod Serving
 pub mod Tasks
 pub mod Tokens

@@ -22,9 +22,11 @@ use Rattle.reg_program.specs.Expiring.{PrintsTable}
 use Rattle.reg_program.specs.Founding.{RunsAll, told_beside}
 use Rattle.reg_program.specs.Importing.{IsImported}
 use Rattle.reg_program.specs.Inputs.{AreKnown, IsServed, IsTokenOf, body_in, token_in}
+use Rattle.reg_program.specs.Served.{PrintsAnswer}
 use Rattle.reg_program.specs.Tasks.{Streams}
 use Rattle.reg_program.specs.Verifying.{IsVerifiedBy}
 use Rattle.reg_program.specs.Version.{version_line}
+use Rattle.reg_program.specs.declared.asking.Form.{Form}
 use Rattle.reg_program.specs.declared.asking.Form.TheVariants.{Body, Line}
 use Rattle.reg_program.specs.declared.faults.Undone.{Undone}
 use Rattle.reg_program.specs.declared.tasks.Task.{Task}
@@ -99,6 +101,14 @@ abbrev pub CarriesThen : (List ℕ → Task → Streams → Result ⊤ Undone �
 CarriesThen Carried file Is io done =
     (unread : Option (List ℕ)) × Carries Carried file Is (after_reading unread io) done
 
+-- the office in a file does so; or nothing is done with any, and it is printed in this form what the one
+-- that is served answers
+abbrev pub AnswersFrom : Type 0 → List ℕ → Form → Streams → (Result ⊤ Undone → Type 0)
+    → Result ⊤ Undone → Type 0
+AnswersFrom Untouched source form io Does done =
+    (IsServed source → Untouched × OnOk done (PrintsAnswer form io.had io.has))
+    × ((IsServed source → ⊥) → Does done)
+
 -- an office in memory that was empty is founded, with the token that a word says, and answers all lines
 -- of standard input on standard output
 pub record RunsInMemory (word : List ℕ) (io : Streams) : Type 0 where
@@ -152,11 +162,14 @@ module _ (Carried : List ℕ → Task → Streams → Result ⊤ Undone → Type
       Carries Carried (string_bytes service.file)
       (λ task. task ≡ Serve service.port service.connections service.log) io done
   DoesJob io (job.Request order) done =
-      CarriesThen Carried (string_bytes order.file) (IsRequestedBy order io.unread) io done
+      AnswersFrom Untouched (string_bytes order.source) Body io
+      (CarriesThen Carried (string_bytes order.source) (IsRequestedBy order io.unread) io) done
   DoesJob io (job.Define order) done =
-      Carries Carried (string_bytes order.file) (IsDefinedBy order) io done
-  DoesJob io (job.Listing file registry) done =
-      Carries Carried (string_bytes file) (IsListedBy (option_map string_bytes registry)) io done
+      AnswersFrom Untouched (string_bytes order.source) Line io
+      (Carries Carried (string_bytes order.source) (IsDefinedBy order) io) done
+  DoesJob io (job.Listing source registry) done =
+      AnswersFrom Untouched (string_bytes source) Body io
+      (Carries Carried (string_bytes source) (IsListedBy (option_map string_bytes registry)) io) done
   DoesJob io (job.Publish order) done =
       PublishesFrom Carried Checked Untouched (string_bytes order.source)
       (string_bytes order.folder) (is_some order.notes) io done

@@ -61,9 +61,13 @@ IsOfStoreOrPrinting (Fault Store) = ⊤
 IsOfStoreOrPrinting (Fault Write) = ⊤
 IsOfStoreOrPrinting _ = ⊥
 
+-- a status and a body, with a space between
+abbrev pub line_by : ℕ → List ℕ → List ℕ
+line_by status body = decimal status ++ 32 ∷ body
+
 -- the status and the body of an answer, with a space between
 abbrev pub answer_line : Answer → List ℕ
-answer_line a = decimal (status_of a) ++ 32 ∷ body_text a
+answer_line a = line_by (status_of a) (body_text a)
 
 -- the reply is a refusal, and this line says which; or there was no memory
 abbrev pub IsRefusedBy : Reply → Undone → Type 0

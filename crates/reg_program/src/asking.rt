@@ -14,7 +14,7 @@ ghost use Rattle.reg_print.specs.declared.answer.Answer.TheVariants as answer;
 ghost use Rattle.reg_program.specs.Asking.{IsPrinted, IsUnprinted, Spells, after_body, definition_at, in_form, listing_at, printed};
 ghost use Rattle.reg_program.specs.Doing.{Does};
 ghost use Rattle.reg_program.specs.Looking.{only_looks};
-ghost use Rattle.reg_program.specs.Undone.{IsRefusedBy, answer_line as line_of, refusal_line as text_of_refusal};
+ghost use Rattle.reg_program.specs.Undone.{IsRefusedBy, answer_line as line_of, line_by, refusal_line as text_of_refusal};
 
 use crate::faults::{JobFailure, Undone};
 use reg_core::command::Command;
@@ -36,10 +36,18 @@ pub fn definition(alloc: Global, order: &Definition, ranges: &[u8]) -> Result<Co
     ensures { let path = definition_at (string_bytes order.now.name) (string_bytes order.now.max) in
         Spells (asked (codes "PUT") path ranges.now) result }
 {
+    let path = definition_path(alloc, order)?;
+    command(alloc, b"PUT", path.as_bytes(), ranges)
+}
+
+/// The path at which a registry is defined.
+pub fn definition_path(alloc: Global, order: &Definition) -> Result<String, AllocError>
+    ensures { IfOk result (λ path. string_bytes path
+        ≡ definition_at (string_bytes order.now.name) (string_bytes order.now.max)) }
+{
     let name = order.name.as_str();
     let max = order.max.as_str();
-    let path = format!(in alloc; "/desk/registries/{name}/{max}")?;
-    command(alloc, b"PUT", path.as_bytes(), ranges)
+    format!(in alloc; "/desk/registries/{name}/{max}")
 }
 
 /// The command that lists a registry or, without one, the blocks. `Refused` where the name is none.
@@ -48,12 +56,18 @@ pub fn listing(alloc: Global, registry: &Option<String>) -> Result<Command, Undo
         Spells (asked (codes "GET") path []) result }
     ensures looks { IfOk result (λ command. only_looks command ≡ true) }
 {
+    let path = listing_path(alloc, registry)?;
+    command(alloc, b"GET", path.as_bytes(), b"")
+}
+
+/// The path at which a registry is listed or, without one, the blocks.
+pub fn listing_path(alloc: Global, registry: &Option<String>) -> Result<String, AllocError>
+    ensures { IfOk result (λ path. string_bytes path
+        ≡ listing_at (option_map string_bytes registry.now)) }
+{
     match registry {
-        Some(name) => {
-            let path = format!(in alloc; "/listings/registries/{name}")?;
-            command(alloc, b"GET", path.as_bytes(), b"")
-        }
-        None => command(alloc, b"GET", b"/listings/blocks", b""),
+        Some(name) => format!(in alloc; "/listings/registries/{name}"),
+        None => String::from_str(alloc, "/listings/blocks"),
     }
 }
 
@@ -147,8 +161,8 @@ fn in_form(alloc: Global, answer: &Answer, form: Form) -> Result<Vec<u8>, AllocE
     }
 }
 
-// A line feed after JSON.
-fn with_end(mut text: Vec<u8>, format: Format) -> Result<Vec<u8>, AllocError>
+/// The text, and a line feed after JSON.
+pub fn with_end(mut text: Vec<u8>, format: Format) -> Result<Vec<u8>, AllocError>
     ensures { IfOk result (λ ended. ended.items ≡ text.items ++ after_body format) }
 {
     match format {
@@ -173,8 +187,15 @@ pub fn answer_line(alloc: Global, answer: &Answer) -> Result<Vec<u8>, AllocError
     ensures { IfOk result (λ line. line.items ≡ line_of answer.now) }
 {
     let (status, body) = body_of(alloc, answer)?;
+    line_by(alloc, status, body.as_slice())
+}
+
+/// A status and a body, with a space between.
+pub fn line_by(alloc: Global, status: u16, body: &[u8]) -> Result<Vec<u8>, AllocError>
+    ensures { IfOk result (λ line. line.items ≡ line_by status body.now) }
+{
     let mut line = format!(in alloc; "{status} ")?.into_bytes();
-    line.extend_from_slice(body.as_slice())?;
+    line.extend_from_slice(body)?;
     Ok(line)
 }
 

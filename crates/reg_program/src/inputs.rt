@@ -2,7 +2,7 @@
 ghost use Rattle.std.specs.Prelude.{◌≡◌, ◌<◌, ◌≤◌, ◌^◌, ◌⊎◌, length, position, IfOk, IfSome, option_map};
 ghost use Rattle.std.specs.Io.BufRead.{strip_last};
 ghost use Rattle.std.specs.String.{string_bytes};
-ghost use Rattle.reg_program.specs.Inputs.{AreKnown, AreMore, HasBytes, HasMore, IsTokenOf, is_line_feed, line_in, token_in};
+ghost use Rattle.reg_program.specs.Inputs.{AreKnown, AreMore, HasBytes, HasMore, IsTokenOf, body_in, is_line_feed, line_in, token_in};
 
 use crate::faults::JobFailure;
 use std::alloc::Global;
@@ -90,6 +90,23 @@ fn up_to<R: Read>(alloc: Global, reader: &mut R, most: usize) -> Result<Vec<u8>,
         Ok(_) if bytes.len() <= most => Ok(bytes),
         Ok(_) => Err(JobFailure::Large),
         Err(error) => Err(failure(error)),
+    }
+}
+
+/// The body that a word says: its bytes, or what stands on standard input for `-`; without a word,
+/// nothing. Else as `all_of`.
+pub fn body_of<R: Read>(
+    alloc: Global,
+    word: &Option<String>,
+    input: &mut R,
+) -> Result<Vec<u8>, JobFailure>
+    ensures { IfOk result (λ body. AreKnown
+        (body_in (option_map string_bytes word.now) (R.remaining input.old)) body.items) }
+{
+    match word {
+        Some(word) if word.as_str() == "-" => all_of(alloc, input),
+        Some(word) => all_of(alloc, &mut word.as_bytes()),
+        None => Ok(Vec::new(alloc)),
     }
 }
 

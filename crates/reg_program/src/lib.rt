@@ -2,6 +2,7 @@
 #![tactic(auto)]
 
 pub mod asking;
+pub mod carrying;
 pub mod checking;
 pub mod console;
 pub mod copying;
@@ -15,7 +16,9 @@ pub mod noting;
 pub mod performing;
 pub mod progress;
 pub mod publishing;
+pub mod requesting;
 pub mod scripts;
+pub mod served;
 pub mod stores;
 pub mod tasks;
 pub mod tokens;

@@ -1,38 +1,36 @@
 //! Doing the jobs of the program.
-ghost use Rattle.std.specs.Prelude.{◌≡◌, ◌⊎◌, IfOk, OnOk, is_some, option_map};
+ghost use Rattle.std.specs.Prelude.{◌≡◌, ◌⊎◌, OnOk, is_some, option_map};
 ghost use Rattle.std.specs.String.{string_bytes};
 ghost use Rattle.reg_program.specs.Copying.{PrintsCopied};
 ghost use Rattle.reg_program.specs.Founding.{RunsAll, told_beside};
 ghost use Rattle.reg_program.specs.Importing.{IsImported};
-ghost use Rattle.reg_program.specs.Inputs.{AreKnown, body_in};
-ghost use Rattle.reg_program.specs.Performing.{Carries, CarriesThen, DoesJob, EndsBy, IsDefinedBy, IsFounding, IsListedBy, IsPublishedTo};
-ghost use Rattle.reg_program.specs.Performing.{IsRequestedBy, IsTakenBy, PublishesFrom, RunsIn, TellsDue, Tries, refused_status};
+ghost use Rattle.reg_program.specs.Performing.{Carries, DoesJob, EndsBy, IsFounding, IsPublishedTo};
+ghost use Rattle.reg_program.specs.Performing.{IsTakenBy, PublishesFrom, RunsIn, TellsDue, Tries, refused_status};
 ghost use Rattle.reg_program.specs.Tasks.{streams};
 ghost use Rattle.reg_program.specs.Verifying.{IsVerifiedBy};
 
-use crate::asking::{Form, definition, listing, print, requested};
+use crate::asking::print;
+use crate::carrying::carry_out;
 use crate::console::Console;
 use crate::copying::Copies;
 use crate::expiring::print_due_served;
 use crate::faults::Undone;
 use crate::importing::import;
-use crate::inputs::{all_of, bytes_of, optional_token, token_of};
+use crate::inputs::token_of;
 use crate::noting::notes_at;
 use crate::publishing::{port_of, publish_served};
+use crate::requesting::{define, list, request};
 use crate::scripts::run_in;
 use crate::tasks::{Offices, Task};
 use crate::tokens::account_of;
 use crate::verifying::verify;
 use crate::version::print_version;
 use reg_http::dates::{Dates, moment_now};
-use reg_jobs::jobs::{
-    Definition, Importation, Job, JobFault, Publication, Request, Service, Which,
-};
+use reg_jobs::jobs::{Importation, Job, JobFault, Publication, Service, Which};
 use reg_keeper::keeper::Keeper;
 use reg_notes::notes::Notes;
 use reg_office::{Choice, Office};
 use reg_store::lists::ListKeeper;
-use std::alloc::Global;
 use std::io::{Read, Write};
 
 /// Does a job over the given standard input, output and error, these dates, and the offices in files
@@ -129,11 +127,11 @@ fn attempt<D: Dates, O: Offices, C: Copies, R: Read, W: Write, E: Write>(
         Job::Serve(order) => serve(rt, dates, offices, order, console),
         Job::Request(order) => request(rt, dates, offices, order, console),
         Job::Define(order) => define(rt, dates, offices, order, console),
-        Job::Listing { file, registry } => list(
+        Job::Listing { source, registry } => list(
             rt,
             dates,
             offices,
-            file.as_str(),
+            source.as_str(),
             registry,
             console,
         ),
@@ -151,24 +149,6 @@ fn attempt<D: Dates, O: Offices, C: Copies, R: Read, W: Write, E: Write>(
         Job::Version => print_version(rt.alloc(), console.output),
         Job::Help { text } => print(console.output, text.as_bytes()),
     }
-}
-
-// Carries a task out with the office in the file at a path, and lets the task go.
-fn carry_out<D: Dates, O: Offices, R: Read, W: Write, E: Write>(
-    rt: &HostRuntime,
-    dates: &mut D,
-    offices: &mut O,
-    path: &str,
-    task: Task<'_>,
-    console: &mut Console<'_, R, W, E>,
-) -> Result<(), Undone>
-    ensures { let io = streams console.old.is_watched
-        (R.remaining console.old.input.now) (R.remaining console.new.input.now)
-        (W.contents console.old.output.now) (W.contents console.new.output.now)
-        (D.readings dates.old) (D.readings dates.new) in
-        O.Carried offices.old offices.new path.now task.entry io result }
-{
-    offices.carry_out(rt, dates, path, &task, console)
 }
 
 fn script<D: Dates, O: Offices, R: Read, W: Write, E: Write>(
@@ -277,94 +257,6 @@ fn serve<D: Dates, O: Offices, R: Read, W: Write, E: Write>(
         log: order.log,
     };
     carry_out(rt, dates, offices, order.file.as_str(), task, console)
-}
-
-fn request<D: Dates, O: Offices, R: Read, W: Write, E: Write>(
-    rt: &HostRuntime,
-    dates: &mut D,
-    offices: &mut O,
-    order: &Request,
-    console: &mut Console<'_, R, W, E>,
-) -> Result<(), Undone>
-    ensures { let io = streams console.old.is_watched
-        (R.remaining console.old.input.now) (R.remaining console.new.input.now)
-        (W.contents console.old.output.now) (W.contents console.new.output.now)
-        (D.readings dates.old) (D.readings dates.new) in
-        Tries (offices.new ≡ offices.old) (CarriesThen (O.Carried offices.old offices.new)
-        (string_bytes order.now.file) (IsRequestedBy order.now io.unread) io) result }
-{
-    let alloc = rt.alloc();
-    let token = optional_token(rt, alloc, &order.token)?;
-    let body = body_of(alloc, &order.body, console.input)?;
-    let command = requested(alloc, order, body.as_slice())?;
-    let task = Task::Ask {
-        token: token.as_deref(),
-        command,
-        form: Form::Body,
-    };
-    carry_out(rt, dates, offices, order.file.as_str(), task, console)
-}
-
-// The body that a word says: its bytes, or what stands on standard input for `-`; without a word,
-// nothing.
-fn body_of<R: Read>(alloc: Global, word: &Option<String>, input: &mut R) -> Result<Vec<u8>, Undone>
-    ensures { IfOk result (λ body. AreKnown
-        (body_in (option_map string_bytes word.now) (R.remaining input.old)) body.items) }
-{
-    match word {
-        Some(word) if word.as_str() == "-" => Ok(all_of(alloc, input)?),
-        Some(word) => Ok(all_of(alloc, &mut word.as_bytes())?),
-        None => Ok(Vec::new(alloc)),
-    }
-}
-
-fn define<D: Dates, O: Offices, R: Read, W: Write, E: Write>(
-    rt: &HostRuntime,
-    dates: &mut D,
-    offices: &mut O,
-    order: &Definition,
-    console: &mut Console<'_, R, W, E>,
-) -> Result<(), Undone>
-    ensures { let io = streams console.old.is_watched
-        (R.remaining console.old.input.now) (R.remaining console.new.input.now)
-        (W.contents console.old.output.now) (W.contents console.new.output.now)
-        (D.readings dates.old) (D.readings dates.new) in
-        Tries (offices.new ≡ offices.old) (Carries (O.Carried offices.old offices.new)
-        (string_bytes order.now.file) (IsDefinedBy order.now) io) result }
-{
-    let alloc = rt.alloc();
-    let token = token_of(rt, alloc, order.clerk.as_str())?;
-    let ranges = bytes_of(rt, alloc, order.ranges.as_str())?;
-    let command = definition(alloc, order, ranges.as_slice())?;
-    let task = Task::Ask {
-        token: Some(token.as_slice()),
-        command,
-        form: Form::Line,
-    };
-    carry_out(rt, dates, offices, order.file.as_str(), task, console)
-}
-
-fn list<D: Dates, O: Offices, R: Read, W: Write, E: Write>(
-    rt: &HostRuntime,
-    dates: &mut D,
-    offices: &mut O,
-    file: &str,
-    registry: &Option<String>,
-    console: &mut Console<'_, R, W, E>,
-) -> Result<(), Undone>
-    ensures { let io = streams console.old.is_watched
-        (R.remaining console.old.input.now) (R.remaining console.new.input.now)
-        (W.contents console.old.output.now) (W.contents console.new.output.now)
-        (D.readings dates.old) (D.readings dates.new) in
-        Tries (offices.new ≡ offices.old) (Carries (O.Carried offices.old offices.new) file.now
-        (IsListedBy (option_map string_bytes registry.now)) io) result }
-{
-    let task = Task::Ask {
-        token: None,
-        command: listing(rt.alloc(), registry)?,
-        form: Form::Body,
-    };
-    carry_out(rt, dates, offices, file, task, console)
 }
 
 // Publishes the office that is served at an address, or the one in a file, with the notes in a file, if

@@ -2,6 +2,7 @@ pub mod Asked
 pub mod Causes
 pub mod Copying
 pub mod Found
+pub mod Heads
 pub mod Marks
 pub mod Placed
 pub mod ReadPages

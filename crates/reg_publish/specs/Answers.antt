@@ -1,5 +1,8 @@
--- The bytes of an answer that is read.
-use Rattle.std.specs.Prelude.{◌≡◌, ◌<◌, ℕ, List, length, Option, IfSome}
+-- The bytes of an answer, and the answer that they are.
+use Rattle.std.specs.Prelude.{◌≡◌, ◌<◌, ◌++◌, ℕ, List, length, codes, Option, IfSome}
+use Rattle.std.specs.Fmt.{decimal}
+use Rattle.reg_http.specs.Response.{field_line, head_text, line_end, media_type}
+use Rattle.reg_print.specs.declared.answer.Format.{Format}
 
 -- the bytes are all that there are, where those are known
 abbrev pub AreAll : Option (List ℕ) → List ℕ → Type 0
@@ -8,3 +11,13 @@ AreAll known bytes = IfSome known (λ all. bytes ≡ all)
 -- the bytes are more than so many, where they are known
 abbrev pub AreMore : ℕ → Option (List ℕ) → Type 0
 AreMore most known = IfSome known (λ all. most < length all)
+
+-- the bytes of an answer of an office with this status, this format and this body
+abbrev pub answer_text : ℕ → Format → List ℕ → List ℕ
+answer_text status format body = head_text status (media_type format) (length body) ++ body
+
+-- the last lines of the head of an answer, whose body has so many bytes
+abbrev pub end_of_head : ℕ → List ℕ
+end_of_head count =
+    field_line (codes "Content-Length") (decimal count)
+    ++ (field_line (codes "Connection") (codes "close") ++ line_end)

@@ -1,8 +1,13 @@
-//! The answers of an office that is served: the body of one that has the form of an office's.
-ghost use Rattle.std.specs.Prelude.{◌≡◌, ◌+◌, ◌≤◌, IfOk, length};
-ghost use Rattle.reg_publish.specs.Answers.{AreAll, AreMore};
+//! The answers of an office that is served: their bytes, and what those say that have the form of an
+//! office's.
+ghost use Rattle.std.specs.Prelude.{◌≡◌, ◌+◌, ◌<◌, ◌≤◌, ◌++◌, true, IfOk, IfSome, codes, length};
+ghost use Rattle.std.specs.Fmt.{decimal};
+ghost use Rattle.reg_http.specs.Response.{field_line, line_end, media_type, reason, status_line};
+ghost use Rattle.reg_print.specs.Comparing.{Leaves};
+ghost use Rattle.reg_publish.specs.Answers.{AreAll, AreMore, answer_text, end_of_head};
 
 use crate::unpublished::{Unpublished, unread};
+use reg_http::response::reason;
 use reg_print::answer::Format;
 use reg_ranges::number::read_number;
 use std::alloc::Global;
@@ -51,25 +56,142 @@ pub fn read_up_to<R: Read>(
     Err(Unpublished::Read)
 }
 
-/// The body of an answer with status 200, whose bytes are a head as an office writes it and just as
-/// many bytes as it says; none of any other bytes.
-pub fn body_of(format: Format, answer: &[u8]) -> Option<&[u8]> {
-    let rest = answer.strip_prefix(head_of(format))?;
-    let end = rest.iter().position(|byte| *byte == b'\r')?;
-    let (digits, rest) = rest.split_at(end);
-    let body = rest.strip_prefix(b"\r\nConnection: close\r\n\r\n".as_slice())?;
-    let count = read_number(digits)?;
-    if body.len() == count as usize {
+// ---- What the bytes of an answer say
+
+/// An answer of an office that is served, as its bytes say it.
+#[derive(Clone, Copy)]
+pub struct Answered<'a> {
+    /// Its status (RFC 9110 section 15), which is one that an office gives.
+    pub status: u16,
+    /// What the bytes of its body are.
+    pub format: Format,
+    /// The bytes of its body.
+    pub body: &'a [u8],
+}
+
+/// The answer that these bytes are: a head as an office writes it, of a status that an office gives, and
+/// just as many bytes of a body as the head says. None of any other bytes.
+pub fn answer_in(answer: &[u8]) -> Option<Answered<'_>>
+    ensures whole { IfSome result (λ a. answer.now ≡ answer_text a.status a.format a.body.now) }
+    ensures given { IfSome result (λ a. 0 < length (reason a.status)) }
+{
+    let (status, rest) = status_in(answer)?;
+    let (format, rest) = format_in(rest)?;
+    let body = body_in(rest)?;
+    Some(Answered {
+        status,
+        format,
+        body,
+    })
+}
+
+/// The body of an answer with status 200 and this format; none of any other bytes.
+pub fn body_of(format: Format, answer: &[u8]) -> Option<&[u8]>
+    ensures { IfSome result (λ body. answer.now ≡ answer_text 200 format body.now) }
+{
+    let answered = answer_in(answer)?;
+    if answered.status == 200 && answered.format == format {
+        Some(answered.body)
+    } else {
+        None
+    }
+}
+
+// The status that the first line says, and what stands behind that line.
+fn status_in(answer: &[u8]) -> Option<(u16, &[u8])>
+    ensures whole { IfSome result (λ r. answer.now ≡ status_line r.0 ++ r.1.now) }
+    ensures given { IfSome result (λ r. 0 < length (reason r.0)) }
+{
+    let rest = behind(b"HTTP/1.1 ", answer)?;
+    let (digits, rest) = until(b' ', rest)?;
+    let status = status_of(digits)?;
+    let rest = behind(b" ", rest)?;
+    let rest = behind(phrase_of(status)?, rest)?;
+    let rest = behind(b"\r\n", rest)?;
+    Some((status, rest))
+}
+
+fn status_of(digits: &[u8]) -> Option<u16>
+    ensures { IfSome result (λ status. digits.now ≡ decimal status) }
+{
+    let status = read_number(digits)?;
+    if status > 999 {
+        return None;
+    }
+    Some(status as u16)
+}
+
+// The phrase of a status that an office gives.
+fn phrase_of(status: u16) -> Option<&'static [u8]>
+    ensures is { IfSome result (λ phrase. phrase.now ≡ reason status) }
+    ensures given { IfSome result (λ phrase. 0 < length (reason status)) }
+{
+    let phrase = reason(status).as_bytes();
+    if phrase.is_empty() {
+        return None;
+    }
+    Some(phrase)
+}
+
+// The format that a line says, and what stands behind that line.
+fn format_in(text: &[u8]) -> Option<(Format, &[u8])>
+    ensures { IfSome result (λ r. text.now
+        ≡ field_line (codes "Content-Type") (media_type r.0) ++ r.1.now) }
+{
+    let rest = behind(b"Content-Type: ", text)?;
+    let (media, rest) = until(b'\r', rest)?;
+    let format = format_of(media)?;
+    let rest = behind(b"\r\n", rest)?;
+    Some((format, rest))
+}
+
+fn format_of(media: &[u8]) -> Option<Format>
+    ensures { IfSome result (λ format. media.now ≡ media_type format) }
+{
+    if media == b"application/json" {
+        Some(Format::Json)
+    } else if media == b"text/csv" {
+        Some(Format::Csv)
+    } else {
+        None
+    }
+}
+
+// The body behind the last lines of a head, which say its length.
+fn body_in(text: &[u8]) -> Option<&[u8]>
+    ensures { IfSome result (λ body. text.now ≡ end_of_head (length body.now) ++ body.now) }
+{
+    let rest = behind(b"Content-Length: ", text)?;
+    let (digits, rest) = until(b'\r', rest)?;
+    let body = behind(b"\r\nConnection: close\r\n\r\n", rest)?;
+    if says(digits, body.len()) {
         Some(body)
     } else {
         None
     }
 }
 
-// The head to the length of the body.
-fn head_of(format: Format) -> &'static [u8] {
-    match format {
-        Format::Json => { b"HTTP/1.1 200 OK\r\nContent-Type: application/json\r\nContent-Length: " }
-        Format::Csv => b"HTTP/1.1 200 OK\r\nContent-Type: text/csv\r\nContent-Length: ",
+// Whether these digits say this number.
+fn says(digits: &[u8], number: usize) -> bool
+    ensures { result ≡ true → digits.now ≡ decimal number }
+{
+    match read_number(digits) {
+        Some(said) => said as usize == number,
+        None => false,
     }
+}
+
+// What is left of a text behind this front, where it begins with it.
+fn behind<'a>(front: &[u8], text: &'a [u8]) -> Option<&'a [u8]>
+    ensures { Leaves front.now text.now result }
+{
+    text.strip_prefix(front)
+}
+
+// A text before the first such byte, and from it on.
+fn until(byte: u8, text: &[u8]) -> Option<(&[u8], &[u8])>
+    ensures { IfSome result (λ parts. text.now ≡ parts.0.now ++ parts.1.now) }
+{
+    let end = text.iter().position(|other| *other == byte)?;
+    Some(text.split_at(end))
 }

@@ -61,8 +61,10 @@ fn ask_served<H: AllocGlobal + Clock + Net<Listener = TcpListener, Stream = TcpS
     }
 }
 
-// One request, and the bytes of its answer to their end.
-fn exchange<H: AllocGlobal + Clock + Net<Listener = TcpListener, Stream = TcpStream>>(
+/// Sends the bytes of one request to what listens on a port of loopback, and gives the bytes of its
+/// answer to their end. `Read` where nobody listens there, or ten seconds are not enough for both, and
+/// else as `read_answer`.
+pub fn exchange<H: AllocGlobal + Clock + Net<Listener = TcpListener, Stream = TcpStream>>(
     rt: &H,
     port: u16,
     request: &[u8],

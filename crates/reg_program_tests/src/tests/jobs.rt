@@ -1,6 +1,8 @@
-//! Jobs over stores, readers and writers that fail, and at moments that are none.
+//! Jobs over stores, readers and writers that fail, and at moments that are none; answers of an office that
+//! is served.
 mod devices;
 mod failing_keeper;
 mod faults;
 mod lines;
 mod running;
+mod served;

@@ -1,12 +1,8 @@
-use Rattle.reg_jobs.proofs.Adding.{added_local, added_shape, last_local, last_shape}
+use Rattle.reg_jobs.proofs.Adding.{last_local, last_shape}
 use Rattle.reg_jobs.proofs.definition.due.Goals as goal
 
 pub returns-clause-shape : goal.returns-clause-shape
-returns-clause-shape c =
-    let one = added_shape c.in_ok-arg.ensures c.source.ensures.local c.command.ensures.shape c.source.ensures.rule in
-    last_shape c.arg-2.result _ _ c.arg-2.ensures c.within.ensures.local one c.within.ensures.rule
+returns-clause-shape c = last_shape c.arg.result _ _ c.arg.ensures c.within.ensures.local c.in_ok-source_command.ensures.shape c.within.ensures.rule
 
 pub returns-clause-local : goal.returns-clause-local
-returns-clause-local c =
-    let one = added_local c.in_ok-arg.ensures c.source.ensures.local c.command.ensures.local in
-    last_local c.arg-2.result _ _ c.arg-2.ensures c.within.ensures.local one
+returns-clause-local c = last_local c.arg.result _ _ c.arg.ensures c.within.ensures.local c.in_ok-source_command.ensures.local

@@ -93,3 +93,54 @@ returns-in-Verify g c =
     Same io job) done)
     (sym c.in-Verify.is)
     (tries_verify Same (option_map string_bytes c.in-Verify.digest) io done refl c.verify_at.ensures)
+
+pub returns-in-Request : goal.returns-in-Request
+returns-in-Request g c =
+    let done = c.request.result in
+    let io = streams c.args.console.now.is_watched
+    (g.R.Read.remaining c.args.console.now.input.now)
+    (g.R.Read.remaining c.request.new.console.input.now)
+    (g.W.Write.contents c.args.console.now.output.now)
+    (g.W.Write.contents c.request.new.console.output.now)
+    (g.D.Dates.readings c.args.dates.now) (g.D.Dates.readings c.request.new.dates) in
+    let Same = c.request.new.offices ≡ c.args.offices.now in
+    subst (λ (job : Job). Tries Same
+    (DoesJob (g.O.Offices.Carried c.args.offices.now c.request.new.offices)
+    (g.O.Offices.Checked c.args.offices.now c.request.new.offices) (g.C.Copies.Copied c.args.copies.now)
+    Same io job) done)
+    (sym c.in-Request.is)
+    c.request.ensures
+
+pub returns-in-Define : goal.returns-in-Define
+returns-in-Define g c =
+    let done = c.define.result in
+    let io = streams c.args.console.now.is_watched
+    (g.R.Read.remaining c.args.console.now.input.now)
+    (g.R.Read.remaining c.define.new.console.input.now)
+    (g.W.Write.contents c.args.console.now.output.now)
+    (g.W.Write.contents c.define.new.console.output.now)
+    (g.D.Dates.readings c.args.dates.now) (g.D.Dates.readings c.define.new.dates) in
+    let Same = c.define.new.offices ≡ c.args.offices.now in
+    subst (λ (job : Job). Tries Same
+    (DoesJob (g.O.Offices.Carried c.args.offices.now c.define.new.offices)
+    (g.O.Offices.Checked c.args.offices.now c.define.new.offices) (g.C.Copies.Copied c.args.copies.now)
+    Same io job) done)
+    (sym c.in-Define.is)
+    c.define.ensures
+
+pub returns-in-Listing : goal.returns-in-Listing
+returns-in-Listing g c =
+    let done = c.list.result in
+    let io = streams c.args.console.now.is_watched
+    (g.R.Read.remaining c.args.console.now.input.now)
+    (g.R.Read.remaining c.list.new.console.input.now)
+    (g.W.Write.contents c.args.console.now.output.now)
+    (g.W.Write.contents c.list.new.console.output.now)
+    (g.D.Dates.readings c.args.dates.now) (g.D.Dates.readings c.list.new.dates) in
+    let Same = c.list.new.offices ≡ c.args.offices.now in
+    subst (λ (job : Job). Tries Same
+    (DoesJob (g.O.Offices.Carried c.args.offices.now c.list.new.offices)
+    (g.O.Offices.Checked c.args.offices.now c.list.new.offices) (g.C.Copies.Copied c.args.copies.now)
+    Same io job) done)
+    (sym c.in-Listing.is)
+    (rw (c.as_str-in-Listing.ensures.value) at c.list.ensures)

@@ -5,7 +5,7 @@ use Rattle.reg_program.specs.Inputs.{AreKnown, IsTokenOf, body_in}
 use Rattle.reg_program.specs.Performing.{IsRequestedBy}
 use Rattle.reg_program.specs.Tasks.{streams}
 use Rattle.reg_program.proofs.Carried.{carries_then}
-use Rattle.reg_program.proofs.performing.request.Goals as goal
+use Rattle.reg_program.proofs.requesting.request_in.Goals as goal
 
 pub returns : goal.returns
 returns g c =
@@ -21,7 +21,7 @@ returns g c =
     (g.W.Write.contents c.carry_out.new.console.output.now)
     (g.D.Dates.readings c.args.dates.now) (g.D.Dates.readings c.carry_out.new.dates) in
     carries_then (g.O.Offices.Carried c.args.offices.now c.carry_out.new.offices) _
-    c.as_str.result.now (string_bytes order.file) (IsRequestedBy order input) io
+    c.as_str.result.now (string_bytes order.source) (IsRequestedBy order input) io
     (g.R.Read.remaining c.body_of.new.input) _ c.carry_out.result c.as_str.ensures.value
     c.carry_out.ensures
     (refl, token, c.as_slice.result.now, body, c.in_ok-command.ensures.spelled)

@@ -1,0 +1,162 @@
+//! The jobs that are one command of an office, in a file or where it is served.
+ghost use Rattle.std.specs.Prelude.{◌≡◌, option_map};
+ghost use Rattle.std.specs.String.{string_bytes};
+ghost use Rattle.reg_program.specs.Performing.{AnswersFrom, Carries, CarriesThen, IsDefinedBy, IsListedBy, IsRequestedBy, Tries};
+ghost use Rattle.reg_program.specs.Tasks.{streams};
+
+use crate::asking::{Form, definition, listing, requested};
+use crate::carrying::carry_out;
+use crate::console::Console;
+use crate::faults::Undone;
+use crate::inputs::{body_of, bytes_of, optional_token, token_of};
+use crate::publishing::port_of;
+use crate::served::{define_served, list_served, request_served};
+use crate::tasks::{Offices, Task};
+use reg_http::dates::Dates;
+use reg_jobs::jobs::{Definition, Request};
+use std::io::{Read, Write};
+
+/// Has the office that is served at an address, or the one in a file, answer one request.
+pub fn request<D: Dates, O: Offices, R: Read, W: Write, E: Write>(
+    rt: &HostRuntime,
+    dates: &mut D,
+    offices: &mut O,
+    order: &Request,
+    console: &mut Console<'_, R, W, E>,
+) -> Result<(), Undone>
+    ensures { let io = streams console.old.is_watched
+        (R.remaining console.old.input.now) (R.remaining console.new.input.now)
+        (W.contents console.old.output.now) (W.contents console.new.output.now)
+        (D.readings dates.old) (D.readings dates.new) in
+        Tries (offices.new ≡ offices.old) (AnswersFrom (offices.new ≡ offices.old)
+        (string_bytes order.now.source) Form.Body io (CarriesThen
+        (O.Carried offices.old offices.new) (string_bytes order.now.source)
+        (IsRequestedBy order.now io.unread) io)) result }
+{
+    match port_of(order.source.as_str())? {
+        Some(port) => request_served(rt, port, order, console.input, console.output),
+        None => request_in(rt, dates, offices, order, console),
+    }
+}
+
+fn request_in<D: Dates, O: Offices, R: Read, W: Write, E: Write>(
+    rt: &HostRuntime,
+    dates: &mut D,
+    offices: &mut O,
+    order: &Request,
+    console: &mut Console<'_, R, W, E>,
+) -> Result<(), Undone>
+    ensures { let io = streams console.old.is_watched
+        (R.remaining console.old.input.now) (R.remaining console.new.input.now)
+        (W.contents console.old.output.now) (W.contents console.new.output.now)
+        (D.readings dates.old) (D.readings dates.new) in
+        Tries (offices.new ≡ offices.old) (CarriesThen (O.Carried offices.old offices.new)
+        (string_bytes order.now.source) (IsRequestedBy order.now io.unread) io) result }
+{
+    let alloc = rt.alloc();
+    let token = optional_token(rt, alloc, &order.token)?;
+    let body = body_of(alloc, &order.body, console.input)?;
+    let command = requested(alloc, order, body.as_slice())?;
+    let task = Task::Ask {
+        token: token.as_deref(),
+        command,
+        form: Form::Body,
+    };
+    carry_out(rt, dates, offices, order.source.as_str(), task, console)
+}
+
+/// Defines a registry from a range file, in the office that is served at an address, or in the one in a
+/// file.
+pub fn define<D: Dates, O: Offices, R: Read, W: Write, E: Write>(
+    rt: &HostRuntime,
+    dates: &mut D,
+    offices: &mut O,
+    order: &Definition,
+    console: &mut Console<'_, R, W, E>,
+) -> Result<(), Undone>
+    ensures { let io = streams console.old.is_watched
+        (R.remaining console.old.input.now) (R.remaining console.new.input.now)
+        (W.contents console.old.output.now) (W.contents console.new.output.now)
+        (D.readings dates.old) (D.readings dates.new) in
+        Tries (offices.new ≡ offices.old) (AnswersFrom (offices.new ≡ offices.old)
+        (string_bytes order.now.source) Form.Line io (Carries
+        (O.Carried offices.old offices.new) (string_bytes order.now.source)
+        (IsDefinedBy order.now) io)) result }
+{
+    match port_of(order.source.as_str())? {
+        Some(port) => define_served(rt, port, order, console.output),
+        None => define_in(rt, dates, offices, order, console),
+    }
+}
+
+fn define_in<D: Dates, O: Offices, R: Read, W: Write, E: Write>(
+    rt: &HostRuntime,
+    dates: &mut D,
+    offices: &mut O,
+    order: &Definition,
+    console: &mut Console<'_, R, W, E>,
+) -> Result<(), Undone>
+    ensures { let io = streams console.old.is_watched
+        (R.remaining console.old.input.now) (R.remaining console.new.input.now)
+        (W.contents console.old.output.now) (W.contents console.new.output.now)
+        (D.readings dates.old) (D.readings dates.new) in
+        Tries (offices.new ≡ offices.old) (Carries (O.Carried offices.old offices.new)
+        (string_bytes order.now.source) (IsDefinedBy order.now) io) result }
+{
+    let alloc = rt.alloc();
+    let token = token_of(rt, alloc, order.clerk.as_str())?;
+    let ranges = bytes_of(rt, alloc, order.ranges.as_str())?;
+    let command = definition(alloc, order, ranges.as_slice())?;
+    let task = Task::Ask {
+        token: Some(token.as_slice()),
+        command,
+        form: Form::Line,
+    };
+    carry_out(rt, dates, offices, order.source.as_str(), task, console)
+}
+
+/// Prints a listing of the office that is served at an address, or of the one in a file.
+pub fn list<D: Dates, O: Offices, R: Read, W: Write, E: Write>(
+    rt: &HostRuntime,
+    dates: &mut D,
+    offices: &mut O,
+    source: &str,
+    registry: &Option<String>,
+    console: &mut Console<'_, R, W, E>,
+) -> Result<(), Undone>
+    ensures { let io = streams console.old.is_watched
+        (R.remaining console.old.input.now) (R.remaining console.new.input.now)
+        (W.contents console.old.output.now) (W.contents console.new.output.now)
+        (D.readings dates.old) (D.readings dates.new) in
+        Tries (offices.new ≡ offices.old) (AnswersFrom (offices.new ≡ offices.old) source.now
+        Form.Body io (Carries (O.Carried offices.old offices.new) source.now
+        (IsListedBy (option_map string_bytes registry.now)) io)) result }
+{
+    match port_of(source)? {
+        Some(port) => list_served(rt, port, registry, console.output),
+        None => list_in(rt, dates, offices, source, registry, console),
+    }
+}
+
+fn list_in<D: Dates, O: Offices, R: Read, W: Write, E: Write>(
+    rt: &HostRuntime,
+    dates: &mut D,
+    offices: &mut O,
+    file: &str,
+    registry: &Option<String>,
+    console: &mut Console<'_, R, W, E>,
+) -> Result<(), Undone>
+    ensures { let io = streams console.old.is_watched
+        (R.remaining console.old.input.now) (R.remaining console.new.input.now)
+        (W.contents console.old.output.now) (W.contents console.new.output.now)
+        (D.readings dates.old) (D.readings dates.new) in
+        Tries (offices.new ≡ offices.old) (Carries (O.Carried offices.old offices.new) file.now
+        (IsListedBy (option_map string_bytes registry.now)) io) result }
+{
+    let task = Task::Ask {
+        token: None,
+        command: listing(rt.alloc(), registry)?,
+        form: Form::Body,
+    };
+    carry_out(rt, dates, offices, file, task, console)
+}

@@ -1,0 +1,56 @@
+-- Answers of an office, put together from the parts that were read.
+use Rattle.std.proofs.Common.{◌≡◌, ◌++◌, ◌∙◌, ℕ, List, codes, length, ap, append_assoc}
+use Rattle.std.specs.Prelude.{Some}
+use Rattle.std.specs.Fmt.{decimal}
+use Rattle.reg_http.specs.Response.{field_line, head_text, line_end, media_type, reason, status_line}
+use Rattle.reg_print.specs.declared.answer.Format.{Format}
+use Rattle.reg_ranges.specs.Numbers.{read_number}
+use Rattle.reg_ranges.proofs.Numerals.{reads_decimals}
+use Rattle.reg_publish.specs.Answers.{answer_text, end_of_head}
+
+-- digits that say a number are its decimal text
+pub digits_are : (digits : List ℕ) (number : ℕ) → read_number digits ≡ Some number
+    → digits ≡ decimal number
+digits_are digits number is = ((reads_decimals number digits).0 is).1
+
+-- the first line
+pub status_joined : (status : ℕ) (answer digits first second third fourth rest : List ℕ)
+    → answer ≡ codes "HTTP/1.1 " ++ first → first ≡ digits ++ second → digits ≡ decimal status
+    → second ≡ codes " " ++ third → third ≡ reason status ++ fourth → fourth ≡ line_end ++ rest
+    → answer ≡ status_line status ++ rest
+status_joined status answer digits first second third fourth rest a b c d e f =
+    a
+    ∙ ap (λ t. codes "HTTP/1.1 " ++ t)
+    (b
+    ∙ (λ i. c i ++ (d ∙ ap (λ t. codes " " ++ t) (e ∙ ap (λ t. reason status ++ t) f)) i))
+    ∙ simp append_assoc
+
+-- the line of the format
+pub format_joined : (format : Format) (text media first second rest : List ℕ)
+    → text ≡ codes "Content-Type: " ++ first → first ≡ media ++ second → media ≡ media_type format
+    → second ≡ line_end ++ rest
+    → text ≡ field_line (codes "Content-Type") (media_type format) ++ rest
+format_joined format text media first second rest a b c d =
+    a ∙ ap (λ t. codes "Content-Type: " ++ t) (b ∙ (λ i. c i ++ d i)) ∙ simp append_assoc
+
+-- the last lines, and the body
+pub end_joined : (text digits first second body : List ℕ)
+    → text ≡ codes "Content-Length: " ++ first → first ≡ digits ++ second
+    → digits ≡ decimal (length body)
+    → second ≡ codes "\r\nConnection: close\r\n\r\n" ++ body
+    → text ≡ end_of_head (length body) ++ body
+end_joined text digits first second body a b c d =
+    a ∙ ap (λ t. codes "Content-Length: " ++ t) (b ∙ (λ i. c i ++ d i)) ∙ simp append_assoc
+
+-- all of them
+pub answer_joined : (status : ℕ) (format : Format) (answer first second body : List ℕ)
+    → answer ≡ status_line status ++ first
+    → first ≡ field_line (codes "Content-Type") (media_type format) ++ second
+    → second ≡ end_of_head (length body) ++ body
+    → answer ≡ answer_text status format body
+unfolding head_text
+answer_joined status format answer first second body a b c =
+    a
+    ∙ ap (λ t. status_line status ++ t)
+    (b ∙ ap (λ t. field_line (codes "Content-Type") (media_type format) ++ t) c)
+    ∙ simp append_assoc
