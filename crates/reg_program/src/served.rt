@@ -2,13 +2,12 @@
 //!
 //! A command is read first as over a file. So what spells none is refused in the same way, and nothing is
 //! sent but the method and the path of a request that an office has.
-ghost use Rattle.std.specs.Prelude.{◌≡◌, ◌++◌, IfErr, IfOk, OnOk, length, option_and_then};
+ghost use Rattle.std.specs.Prelude.{◌≡◌, IfErr, IfOk, OnOk, length, option_and_then};
 ghost use Rattle.std.specs.Option.{option_copied};
 ghost use Rattle.std.specs.String.{string_bytes};
 ghost use Rattle.reg_core.specs.Names.{is_token};
 ghost use Rattle.reg_ranges.specs.Texts.{read_text};
 ghost use Rattle.reg_program.specs.Served.{IsUnprintedOf, PrintsAnswer, PrintsAnswerOf, is_accepting, request_head, request_text, told, told_line, token_line};
-ghost use Rattle.reg_program.specs.declared.asking.Form.TheVariants.{Body, Line};
 
 use crate::asking::{
     Form, definition, definition_path, line_by, listing, listing_path, print, requested, with_end,
@@ -45,7 +44,7 @@ pub fn request_served<R: Read, W: Write>(
     input: &mut R,
     output: &mut W,
 ) -> Result<(), Undone>
-    ensures { OnOk result (PrintsAnswer Body (W.contents output.old) (W.contents output.new)) }
+    ensures { OnOk result (PrintsAnswer Form.Body (W.contents output.old) (W.contents output.new)) }
 {
     let alloc = rt.alloc();
     let token = optional_token(rt, alloc, &order.token)?;
@@ -69,7 +68,7 @@ pub fn define_served<W: Write>(
     order: &Definition,
     output: &mut W,
 ) -> Result<(), Undone>
-    ensures { OnOk result (PrintsAnswer Line (W.contents output.old) (W.contents output.new)) }
+    ensures { OnOk result (PrintsAnswer Form.Line (W.contents output.old) (W.contents output.new)) }
 {
     let alloc = rt.alloc();
     let token = token_of(rt, alloc, order.clerk.as_str())?;
@@ -93,7 +92,7 @@ pub fn list_served<W: Write>(
     registry: &Option<String>,
     output: &mut W,
 ) -> Result<(), Undone>
-    ensures { OnOk result (PrintsAnswer Body (W.contents output.old) (W.contents output.new)) }
+    ensures { OnOk result (PrintsAnswer Form.Body (W.contents output.old) (W.contents output.new)) }
 {
     let alloc = rt.alloc();
     drop(listing(alloc, registry)?);

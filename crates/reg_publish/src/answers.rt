@@ -2,7 +2,7 @@
 //! office's.
 ghost use Rattle.std.specs.Prelude.{◌≡◌, ◌+◌, ◌<◌, ◌≤◌, ◌++◌, true, IfOk, IfSome, codes, length};
 ghost use Rattle.std.specs.Fmt.{decimal};
-ghost use Rattle.reg_http.specs.Response.{field_line, line_end, media_type, reason, status_line};
+ghost use Rattle.reg_http.specs.Response.{field_line, media_type, reason, status_line};
 ghost use Rattle.reg_print.specs.Comparing.{Leaves};
 ghost use Rattle.reg_publish.specs.Answers.{AreAll, AreMore, answer_text, end_of_head};
 
