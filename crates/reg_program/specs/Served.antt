@@ -1,5 +1,5 @@
 -- The jobs that are one command, of an office that is served: what is sent, and what is printed.
-use Rattle.std.specs.Prelude.{◌≡◌, ◌==◌, ◌||◌, ◌++◌, ⊤, ⊥, ℕ, Bool, true, false, List, [], Option, Some, None, codes, length}
+use Rattle.std.specs.Prelude.{◌≡◌, ◌==◌, ◌||◌, ◌++◌, ⊤, ℕ, Bool, true, false, List, [], Option, Some, None, codes, length}
 use Rattle.std.specs.Fmt.{decimal}
 use Rattle.std.specs.Io.KnownBytes.{Appends}
 use Rattle.reg_print.specs.declared.answer.Format.{Format}

@@ -8,6 +8,13 @@ use Rattle.reg_ranges.specs.Numbers.{read_number}
 use Rattle.reg_ranges.proofs.Numerals.{reads_decimals}
 use Rattle.reg_publish.specs.Answers.{answer_text, end_of_head}
 
+regroup : (a b c d : List ℕ) → a ++ (b ++ (c ++ d)) ≡ ((a ++ b) ++ c) ++ d
+regroup a b c d = simp append_assoc
+
+regroup_all : (a b c d e f : List ℕ)
+    → a ++ (b ++ ((c ++ (d ++ e)) ++ f)) ≡ ((((a ++ b) ++ c) ++ d) ++ e) ++ f
+regroup_all a b c d e f = simp append_assoc
+
 -- digits that say a number are its decimal text
 pub digits_are : (digits : List ℕ) (number : ℕ) → read_number digits ≡ Some number
     → digits ≡ decimal number
@@ -40,7 +47,10 @@ pub end_joined : (text digits first second body : List ℕ)
     → second ≡ codes "\r\nConnection: close\r\n\r\n" ++ body
     → text ≡ end_of_head (length body) ++ body
 end_joined text digits first second body a b c d =
-    a ∙ ap (λ t. codes "Content-Length: " ++ t) (b ∙ (λ i. c i ++ d i)) ∙ simp append_assoc
+    let last = field_line (codes "Connection") (codes "close") ++ line_end in
+    a
+    ∙ ap (λ t. codes "Content-Length: " ++ t)
+    (b ∙ (λ i. c i ++ d i) ∙ regroup (decimal (length body)) line_end last body)
 
 -- all of them
 pub answer_joined : (status : ℕ) (format : Format) (answer first second body : List ℕ)
@@ -53,4 +63,6 @@ answer_joined status format answer first second body a b c =
     a
     ∙ ap (λ t. status_line status ++ t)
     (b ∙ ap (λ t. field_line (codes "Content-Type") (media_type format) ++ t) c)
-    ∙ simp append_assoc
+    ∙ regroup_all (status_line status) (field_line (codes "Content-Type") (media_type format))
+    (field_line (codes "Content-Length") (decimal (length body)))
+    (field_line (codes "Connection") (codes "close")) line_end body

@@ -148,9 +148,9 @@ fn format_in(text: &[u8]) -> Option<(Format, &[u8])>
 fn format_of(media: &[u8]) -> Option<Format>
     ensures { IfSome result (λ format. media.now ≡ media_type format) }
 {
-    if media == b"application/json" {
+    if media == b"application/json".as_slice() {
         Some(Format::Json)
-    } else if media == b"text/csv" {
+    } else if media == b"text/csv".as_slice() {
         Some(Format::Csv)
     } else {
         None
