@@ -50,10 +50,11 @@ pub fn request_served<R: Read, W: Write>(
     let token = optional_token(rt, alloc, &order.token)?;
     let body = body_of(alloc, &order.body, input)?;
     drop(requested(alloc, order, body.as_slice())?);
+    let caller = token.as_deref();
     let sent = Sent {
         method: order.method.as_str(),
         path: order.path.as_str(),
-        token: token.as_deref(),
+        token: caller,
         body: body.as_slice(),
     };
     ask_served(rt, port, sent, Form::Body, output)
