@@ -22,15 +22,13 @@ use reg_publish::peer::exchange;
 use std::alloc::{AllocError, Global};
 use std::io::{Read, Write};
 
-/// A request to an office that is served.
+/// A request to an office that is served, but for the token of who asks.
 #[derive(Clone, Copy)]
 pub struct Sent<'a> {
     /// Its method.
     pub method: &'a str,
     /// Its path.
     pub path: &'a str,
-    /// The token of who asks; without one, anybody does.
-    pub token: Option<&'a [u8]>,
     /// Its body.
     pub body: &'a [u8],
 }
@@ -50,14 +48,12 @@ pub fn request_served<R: Read, W: Write>(
     let token = optional_token(rt, alloc, &order.token)?;
     let body = body_of(alloc, &order.body, input)?;
     drop(requested(alloc, order, body.as_slice())?);
-    let caller = token.as_deref();
     let sent = Sent {
         method: order.method.as_str(),
         path: order.path.as_str(),
-        token: caller,
         body: body.as_slice(),
     };
-    ask_served(rt, port, sent, Form::Body, output)
+    ask_served(rt, port, sent, token.as_deref(), Form::Body, output)
 }
 
 /// Defines a registry from a range file, in the office that is served on a port of loopback, and prints
@@ -79,10 +75,9 @@ pub fn define_served<W: Write>(
     let sent = Sent {
         method: "PUT",
         path: path.as_str(),
-        token: Some(token.as_slice()),
         body: ranges.as_slice(),
     };
-    ask_served(rt, port, sent, Form::Line, output)
+    ask_served(rt, port, sent, Some(token.as_slice()), Form::Line, output)
 }
 
 /// Prints a listing of the office that is served on a port of loopback: of a registry or, without one, of
@@ -101,24 +96,25 @@ pub fn list_served<W: Write>(
     let sent = Sent {
         method: "GET",
         path: path.as_str(),
-        token: None,
         body: b"",
     };
-    ask_served(rt, port, sent, Form::Body, output)
+    ask_served(rt, port, sent, None, Form::Body, output)
 }
 
-// Has the office that is served on a port of loopback answer a request, and prints its answer.
+// Has the office that is served on a port of loopback answer a request of the caller with this token, or
+// of anybody, and prints its answer.
 fn ask_served<W: Write>(
     rt: &HostRuntime,
     port: u16,
     sent: Sent<'_>,
+    token: Option<&[u8]>,
     form: Form,
     output: &mut W,
 ) -> Result<(), Undone>
     ensures { OnOk result (PrintsAnswer form (W.contents output.old) (W.contents output.new)) }
 {
     let alloc = rt.alloc();
-    let request = request_bytes(alloc, sent)?;
+    let request = request_bytes(alloc, sent, token)?;
     match exchange(rt, port, request.as_slice()) {
         Ok(answer) => print_answer(alloc, answer.as_slice(), form, output),
         Err(why) => Err(undone(alloc, why)?),
@@ -129,12 +125,15 @@ fn ask_served<W: Write>(
 
 /// The bytes of a request (RFC 9112): its method, its path, its token, if that has the form of one, and
 /// its body. Any other token is nobody's, as none is.
-pub fn request_bytes(alloc: Global, sent: Sent<'_>) -> Result<Vec<u8>, AllocError>
+pub fn request_bytes(
+    alloc: Global,
+    sent: Sent<'_>,
+    token: Option<&[u8]>,
+) -> Result<Vec<u8>, AllocError>
     ensures { IfOk result (λ v. v.items ≡ request_text sent.entry.method.now sent.entry.path.now
-        (option_and_then (read_text is_token) (option_copied sent.entry.token))
-        sent.entry.body.now) }
+        (option_and_then (read_text is_token) (option_copied token.entry)) sent.entry.body.now) }
 {
-    let authorization = authorization(alloc, formed(sent.token))?;
+    let authorization = authorization(alloc, formed(token))?;
     let mut bytes = head(alloc, sent, authorization.as_str())?.into_bytes();
     bytes.extend_from_slice(sent.body)?;
     Ok(bytes)

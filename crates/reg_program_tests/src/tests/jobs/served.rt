@@ -139,10 +139,9 @@ fn request(alloc: Global, token: Option<&[u8]>) -> Result<Vec<u8>, AllocError> {
     let sent = Sent {
         method: "PUT",
         path: "/agents/bob",
-        token,
         body: b"{\"reads\":true}",
     };
-    request_bytes(alloc, sent)
+    request_bytes(alloc, sent, token)
 }
 
 #[test]
