@@ -5,7 +5,8 @@ use Rattle.sqlite.specs.Listing.{understood}
 use Rattle.sqlite_tied.specs.Compute.{everything}
 use Rattle.std.proofs.lemmas.Simd.{map-map}
 use Rattle.reg_maps.proofs.MapLaws.{text_keys}
-use Rattle.reg_keeper.specs.Rows.{cap_rows, link_rows}
+use Rattle.reg_core.specs.CapRows.{cap_rows}
+use Rattle.reg_core.specs.Link.{link_rows}
 use Rattle.reg_tables.specs.Selecting.{Selects, columns_of, ordered_by}
 use Rattle.reg_statements.specs.Defined.{Chooses, rows_where}
 use Rattle.reg_statements.specs.Office as office

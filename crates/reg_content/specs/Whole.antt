@@ -1,8 +1,8 @@
 -- Rows of whole tables, and the texts of their statements.
 use Rattle.std.specs.Prelude.{ℕ, List}
-use Rattle.reg_keeper.specs.Rows.{cap_row, link_row}
-use Rattle.reg_keeper.specs.declared.rows.CapRow.{CapRow}
-use Rattle.reg_keeper.specs.declared.rows.LinkRow.{LinkRow}
+use Rattle.reg_core.specs.CapRows.{cap_row, link_row}
+use Rattle.reg_core.specs.declared.capability.CapRow.{CapRow}
+use Rattle.reg_core.specs.declared.link.LinkRow.{LinkRow}
 use Rattle.reg_records.specs.declared.agents.Link.{Link}
 use Rattle.reg_records.specs.declared.caps.Grant.{Grant}
 use Rattle.reg_content.specs.declared.whole.TheConstants.{SELECT_AGENTS, SELECT_CAPS}

@@ -1,14 +1,16 @@
 //! The rows of whole tables: all capabilities, and all agents.
 ghost use Rattle.std.specs.Prelude.{◌≡◌, IfOk, map};
 ghost use Rattle.sqlite.specs.Held.{state};
-ghost use Rattle.reg_keeper.specs.Rows.{cap_rows, link_rows};
+ghost use Rattle.reg_core.specs.CapRows.{cap_rows};
+ghost use Rattle.reg_core.specs.Link.{link_rows};
 ghost use Rattle.reg_content.specs.Calls.{IsKeeping, Looks};
 ghost use Rattle.reg_content.specs.Whole.{cap_of, link_of};
 
 use crate::kept::list;
 use reg_core::rows::Rows;
 use reg_keeper::keeper::Fault;
-use reg_keeper::rows::{CapRow, LinkRow};
+use reg_core::capability::CapRow;
+use reg_core::link::LinkRow;
 use reg_records::agents::Link;
 use reg_records::caps::Grant;
 use sqlite::{Alter, Connection};

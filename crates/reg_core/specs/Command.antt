@@ -3,7 +3,7 @@
 use Rattle.std.specs.Prelude.{Bool, true, ◌&&◌, ◌^◌, nat_lt, List, ℕ, Option, Some, None, option_map}
 use Rattle.reg_blocks.specs.Block.{is_block}
 use Rattle.reg_ranges.specs.Texts.{is_text}
-use Rattle.reg_core.specs.Names.{is_name, is_token}
+use Rattle.reg_core.specs.Names.{is_name, is_token, is_digits}
 use Rattle.reg_core.specs.Advice.{has_advice_form}
 use Rattle.reg_core.specs.Ask.{has_ask_form}
 use Rattle.reg_core.specs.Capability.{has_cap_form}
@@ -17,7 +17,7 @@ use Rattle.reg_core.specs.declared.command.Command.TheVariants.{Public, Applican
 use Rattle.reg_core.specs.declared.command.PublicCommand.TheVariants.{Registries, Registry, RegistryListing, PoolList, BlockListing}
 use Rattle.reg_core.specs.declared.command.ApplicantCommand.TheVariants.{Own, OwnOne, Submit, Withdraw, Holdings, SetListing, SetAgent, Agents, Principals, PrincipalRows}
 use Rattle.reg_core.specs.declared.command.ExpertCommand.TheVariants.{Queue, Advise}
-use Rattle.reg_core.specs.declared.command.ClerkCommand.TheVariants.{AllRequests, OneRequest, AssignExpert, Approve, Decline, SetHold, Define, AddPool, Grant, Revoke}
+use Rattle.reg_core.specs.declared.command.ClerkCommand.TheVariants.{AllRequests, OneRequest, AssignExpert, Approve, Decline, SetHold, Define, AddPool, Grant, Revoke, PendingRequests, AllCapabilities, RevokeDigits, RevokeAccount, CountRows}
 
 -- the kind of capability that a command needs; none where it is anybody's
 abbrev pub kind_of : Command → Option Kind
@@ -60,6 +60,11 @@ about by (Clerk (Define name table)) = None
 about by (Clerk (AddPool prefix)) = None
 about by (Clerk (Grant token cap)) = None
 about by (Clerk (Revoke token)) = None
+about by (Clerk PendingRequests) = None
+about by (Clerk AllCapabilities) = None
+about by (Clerk (RevokeDigits digits)) = None
+about by (Clerk (RevokeAccount account)) = None
+about by (Clerk CountRows) = None
 
 -- its texts and numbers have their forms; whether a number may be in the pool is no matter of
 -- form: the rule decides it
@@ -94,3 +99,8 @@ has_command_form (Clerk (Define name table)) = is_name name && has_table_form ta
 has_command_form (Clerk (AddPool prefix)) = true
 has_command_form (Clerk (Grant token cap)) = is_token token && has_cap_form cap
 has_command_form (Clerk (Revoke token)) = is_token token
+has_command_form (Clerk PendingRequests) = true
+has_command_form (Clerk AllCapabilities) = true
+has_command_form (Clerk (RevokeDigits digits)) = is_digits digits
+has_command_form (Clerk (RevokeAccount account)) = is_name account
+has_command_form (Clerk CountRows) = true

@@ -3,8 +3,8 @@ use Rattle.std.specs.Prelude.{ℕ, Bool, ◌&&◌, List, map}
 use Rattle.std.specs.FinMap.{FinMap, entries}
 use Rattle.reg_maps.specs.Maps.{same_text, only_if, select}
 use Rattle.reg_core.specs.Advice.{is_advised}
-use Rattle.reg_core.specs.Request.{request_row}
-use Rattle.reg_core.specs.World.{World, RequestName, Seat, seat_cmp}
+use Rattle.reg_core.specs.Request.{request_row, is_pending}
+use Rattle.reg_core.specs.World.{World, RequestName, Seat, name_cmp, seat_cmp}
 use Rattle.reg_core.specs.declared.advice.Advice.{Advice}
 use Rattle.reg_core.specs.declared.advice.Opinion.{Opinion}
 use Rattle.reg_core.specs.declared.case_file.CaseFile.{CaseFile}
@@ -36,6 +36,22 @@ file w name case =
       advice =
           opinions_of w name;
     }
+
+-- the name of its request
+abbrev pub name_of : CaseFile → RequestName
+name_of file = (file.request.account, file.request.reference)
+
+-- ---- Requests that wait
+
+-- the requests that are neither decided nor withdrawn
+abbrev pub waiting : World → FinMap name_cmp Case
+waiting w = select (λ name case. only_if (is_pending case.state) case) w.requests
+
+-- their files, by account and reference
+abbrev pub waiting_files : World → List CaseFile
+waiting_files w = map (λ e. file w e.0 e.1) (entries (waiting w))
+
+-- ---- Advice
 
 -- one of the request's experts is for it
 abbrev pub was_advised : World → RequestName → Bool

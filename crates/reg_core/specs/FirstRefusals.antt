@@ -138,9 +138,10 @@ line_of no.Taken = 16
 line_of no.Exhausted = 17
 line_of no.Advice = 18
 line_of no.Own = 19
-line_of no.Holding = 20
-line_of no.Exists = 21
-line_of no.Bits = 22
+line_of no.Several = 20
+line_of no.Holding = 21
+line_of no.Exists = 22
+line_of no.Bits = 23
 
 -- the refusal applies, and none that applies stands in an earlier line
 pub record IsFirst (rows : Ground) (account : List ℕ) (ask : Ask) (refusal : Refusal) :

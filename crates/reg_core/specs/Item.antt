@@ -1,7 +1,7 @@
 -- What the parts of a request are called.
 use Rattle.std.specs.Prelude.{ℕ, List, codes}
 use Rattle.reg_core.specs.declared.item.Item.{Item}
-use Rattle.reg_core.specs.declared.item.Item.TheVariants.{Account, Address, Agent, Block, Chair, Contact, Director, Draft, Expert, Extra, Held, Iesg, Interest, Kind, Label, Least, Max, Minute, Name, Number, Organization, Prefix, Private, Reads, Reason, Reference, Registry, Rfc, Size, Specification, Stable, Stream, Text, Token, Track, Until, Value, Verdict, WillBeRfc}
+use Rattle.reg_core.specs.declared.item.Item.TheVariants.{Account, Address, Agent, Block, Chair, Contact, Digits, Director, Draft, Expert, Extra, Held, Iesg, Interest, Kind, Label, Least, Max, Minute, Name, Number, Organization, Prefix, Private, Reads, Reason, Reference, Registry, Rfc, Size, Specification, Stable, Stream, Text, Token, Track, Until, Value, Verdict, WillBeRfc}
 
 abbrev pub item_name : Item → List ℕ
 item_name Account = codes "account"
@@ -10,6 +10,7 @@ item_name Agent = codes "agent"
 item_name Block = codes "block"
 item_name Chair = codes "chair"
 item_name Contact = codes "contact"
+item_name Digits = codes "digits"
 item_name Director = codes "director"
 item_name Draft = codes "draft"
 item_name Expert = codes "expert"

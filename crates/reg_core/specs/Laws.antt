@@ -1,6 +1,7 @@
 -- The laws of the office.
-use Rattle.std.specs.Prelude.{◌≡◌, ◌<◌, ◌≤◌, ◌↔◌, ◌⊎◌, ℕ, max, Bool, true, false, List, [], ◌∷◌, Option, Some, None, IsSome, Ok, IsTrue, codes}
-use Rattle.std.specs.FinMap.{get, contains_key, keys}
+use Rattle.std.specs.Prelude.{◌≡◌, ◌<◌, ◌≤◌, ◌↔◌, ◌⊎◌, ℕ, max, Bool, true, false, List, [], ◌∷◌, length, Option, Some, None, IsSome, Ok, IsTrue, codes}
+use Rattle.std.specs.FinMap.{FinMap, get, contains_key, keys}
+use Rattle.reg_maps.specs.Maps.{text_cmp}
 use Rattle.reg_blocks.specs.Block.{SizedPrefix}
 use Rattle.reg_blocks.specs.Pool.{is_pool_prefix}
 use Rattle.reg_early.specs.Calendar.{IsDay, year_after}
@@ -10,9 +11,11 @@ use Rattle.reg_core.specs.Allowance.{allowance_on, allowed, ground_of, needs_adv
 use Rattle.reg_core.specs.Answer.{change_of}
 use Rattle.reg_core.specs.Award.{Award, for_good, early, renewed, settled, awarded_entry, new_holding, Allowance, given_in}
 use Rattle.reg_ranges.specs.Tables.{Table}
+use Rattle.reg_core.specs.CapRows.{begins_with, is_of, cap_row, caps_that}
 use Rattle.reg_core.specs.Capability.{last_until}
+use Rattle.reg_core.specs.Counting.{counts}
 use Rattle.reg_core.specs.Command.{kind_of, has_command_form}
-use Rattle.reg_core.specs.Lists.{Shows, BlockList, IsRow, IsOwnRow, IsFile, IsItem, OwnList, HasHoldingOf, HoldingList, QueueList, AccountList, ShowsMark, SaidOfAgent}
+use Rattle.reg_core.specs.Lists.{CapList, HaveGone, PendingList, Shows, BlockList, IsRow, IsOwnRow, IsFile, IsItem, OwnList, HasHoldingOf, HoldingList, QueueList, AccountList, ShowsMark, SaidOfAgent}
 use Rattle.reg_core.specs.Names.{is_token, is_digest}
 use Rattle.reg_core.specs.Request.{is_pending, request_rows}
 use Rattle.reg_core.specs.Rules.{change_to_give}
@@ -26,18 +29,20 @@ use Rattle.reg_core.specs.declared.advice.Verdict.TheVariants.{For}
 use Rattle.reg_core.specs.declared.ask.Ask.{Ask}
 use Rattle.reg_core.specs.declared.ask.Ask.TheVariants.{Code, Early, Renew, Permanent, Block}
 use Rattle.reg_core.specs.declared.capability.Cap.{Cap}
+use Rattle.reg_core.specs.declared.capability.CapRow.{CapRow}
 use Rattle.reg_core.specs.declared.capability.Kind.{Kind}
 use Rattle.reg_core.specs.declared.capability.Kind.TheVariants as kind
 use Rattle.reg_core.specs.declared.change.Change.{Change}
 use Rattle.reg_core.specs.declared.change.Change.TheVariants.{Grant as GrantIt}
+use Rattle.reg_core.specs.declared.command.ClerkCommand.{ClerkCommand}
 use Rattle.reg_core.specs.declared.command.Command.{Command}
 use Rattle.reg_core.specs.declared.command.Command.TheVariants.{Public, Applicant, Expert, Clerk}
 use Rattle.reg_core.specs.declared.command.ApplicantCommand.TheVariants.{Own, OwnOne, Submit, Withdraw, Holdings as OwnHoldings, SetListing, SetAgent, Agents, Principals, PrincipalRows}
 use Rattle.reg_core.specs.declared.command.ExpertCommand.TheVariants.{Queue, Advise}
-use Rattle.reg_core.specs.declared.command.ClerkCommand.TheVariants.{AllRequests, OneRequest, AssignExpert, Approve, Decline, SetHold, Define, AddPool, Grant, Revoke}
+use Rattle.reg_core.specs.declared.command.ClerkCommand.TheVariants.{AllRequests, OneRequest, AssignExpert, Approve, Decline, SetHold, Define, AddPool, Grant, Revoke, PendingRequests, AllCapabilities, RevokeDigits, RevokeAccount, CountRows}
 use Rattle.reg_core.specs.declared.command.PublicCommand.TheVariants.{Registries, Registry, RegistryListing, PoolList, BlockListing}
 use Rattle.reg_core.specs.declared.told.Told.{Told}
-use Rattle.reg_core.specs.declared.told.Told.TheVariants.{Names, Page, Listing, Pool, Blocks, Made, Row, Rows, Held, Holdings, Agent, Accounts, Queued, Queue, Desk, Desks, Filed, Marked, Defined, Pooled, Granted, Revoked}
+use Rattle.reg_core.specs.declared.told.Told.TheVariants.{Names, Page, Listing, Pool, Blocks, Made, Row, Rows, Held, Holdings, Agent, Accounts, Queued, Queue, Desk, Desks, Filed, Marked, Defined, Pooled, Granted, Revoked, Cases, Capabilities, Counts}
 use Rattle.reg_core.specs.declared.holding.Holder.{Holder}
 use Rattle.reg_core.specs.declared.refusal.Refusal.{Refusal}
 use Rattle.reg_core.specs.declared.reply.Reply.{Reply}
@@ -97,77 +102,85 @@ RunsKeepWell digest_of =
 abbrev pub IsApproved : State → Type 0
 IsApproved state = (given : Given) × (state ≡ Approved given)
 
--- the world after a command on a day, by a caller with this capability or with none, has what the
+-- the world after a command at a moment, by a caller with this capability or with none, has what the
 -- caller is told, and that is about what was asked
 abbrev pub IsDone : (List ℕ → List ℕ) → World → Option Cap → ℕ → Command → Told → Type 0
-IsDone digest_of w by today (Public Registries) (Names names) = names ≡ keys w.registries
-IsDone digest_of w by today (Public (Registry name)) (Page page) = Shows w name today page
-IsDone digest_of w by today (Public (RegistryListing name)) (Listing page) =
-    Shows w name today page
-IsDone digest_of w by today (Public PoolList) (Pool prefixes) = prefixes ≡ keys w.pool
-IsDone digest_of w by today (Public BlockListing) (Blocks rows) =
+IsDone digest_of w by moment (Public Registries) (Names names) = names ≡ keys w.registries
+IsDone digest_of w by moment (Public (Registry name)) (Page page) = Shows w name (utc_day moment) page
+IsDone digest_of w by moment (Public (RegistryListing name)) (Listing page) =
+    Shows w name (utc_day moment) page
+IsDone digest_of w by moment (Public PoolList) (Pool prefixes) = prefixes ≡ keys w.pool
+IsDone digest_of w by moment (Public BlockListing) (Blocks rows) =
     BlockList w rows
-IsDone digest_of w by today (Applicant Own) (Rows rows) =
+IsDone digest_of w by moment (Applicant Own) (Rows rows) =
     (cap : Cap) × (by ≡ Some cap) × OwnList w cap.account rows
-IsDone digest_of w by today (Applicant (OwnOne reference)) (Row row) = IsOwnRow w by reference row
-IsDone digest_of w by today (Applicant (Submit reference ask)) (Made row) =
+IsDone digest_of w by moment (Applicant (OwnOne reference)) (Row row) = IsOwnRow w by reference row
+IsDone digest_of w by moment (Applicant (Submit reference ask)) (Made row) =
     (row.ask ≡ ask) × IsOwnRow w by reference row
-IsDone digest_of w by today (Applicant (Submit reference ask)) (Row row) =
+IsDone digest_of w by moment (Applicant (Submit reference ask)) (Row row) =
     (row.ask ≡ ask) × IsOwnRow w by reference row
-IsDone digest_of w by today (Applicant (Withdraw reference)) (Row row) =
+IsDone digest_of w by moment (Applicant (Withdraw reference)) (Row row) =
     (row.state ≡ Withdrawn) × IsOwnRow w by reference row
-IsDone digest_of w by today (Applicant OwnHoldings) (Holdings rows) =
+IsDone digest_of w by moment (Applicant OwnHoldings) (Holdings rows) =
     (cap : Cap) × (by ≡ Some cap) × HoldingList w cap.account rows
-IsDone digest_of w by today (Applicant (SetListing block private)) (Held row) =
+IsDone digest_of w by moment (Applicant (SetListing block private)) (Held row) =
     (row.block ≡ block) × (row.private ≡ private) × (cap : Cap) × (by ≡ Some cap)
     × HasHoldingOf w cap.account row
-IsDone digest_of w by today (Applicant (SetAgent agent reads)) (Agent given is) =
+IsDone digest_of w by moment (Applicant (SetAgent agent reads)) (Agent given is) =
     (given ≡ agent) × (is ≡ reads) × SaidOfAgent w by agent reads
-IsDone digest_of w by today (Applicant Agents) (Accounts names) =
+IsDone digest_of w by moment (Applicant Agents) (Accounts names) =
     (cap : Cap) × (by ≡ Some cap)
     × AccountList names (λ agent. contains_key w.agents (cap.account, agent) ≡ true)
-IsDone digest_of w by today (Applicant Principals) (Accounts names) =
+IsDone digest_of w by moment (Applicant Principals) (Accounts names) =
     (cap : Cap) × (by ≡ Some cap)
     × AccountList names (λ principal. contains_key w.agents (principal, cap.account) ≡ true)
-IsDone digest_of w by today (Applicant (PrincipalRows principal)) (Rows rows) =
+IsDone digest_of w by moment (Applicant (PrincipalRows principal)) (Rows rows) =
     (cap : Cap) × (by ≡ Some cap) × (contains_key w.agents (principal, cap.account) ≡ true)
     × OwnList w principal rows
-IsDone digest_of w by today (Expert Queue) (Queue rows) =
+IsDone digest_of w by moment (Expert Queue) (Queue rows) =
     (cap : Cap) × (by ≡ Some cap) × QueueList w cap.account rows
-IsDone digest_of w by today (Expert (Advise account reference advice)) (Queued row) =
+IsDone digest_of w by moment (Expert (Advise account reference advice)) (Queued row) =
     (row.advice ≡ Some advice) × (cap : Cap) × (by ≡ Some cap)
     × IsItem w cap.account account reference row
-IsDone digest_of w by today (Clerk AllRequests) (Desks rows) = rows ≡ request_rows w.requests
-IsDone digest_of w by today (Clerk (OneRequest account reference)) (Filed file) =
+IsDone digest_of w by moment (Clerk AllRequests) (Desks rows) = rows ≡ request_rows w.requests
+IsDone digest_of w by moment (Clerk (OneRequest account reference)) (Filed file) =
     IsFile w account reference file
-IsDone digest_of w by today (Clerk (AssignExpert account reference expert)) (Desk row) =
+IsDone digest_of w by moment (Clerk (AssignExpert account reference expert)) (Desk row) =
     (contains_key w.queue ((account, reference), expert) ≡ true) × IsRow w account reference row
-IsDone digest_of w by today (Clerk (Approve account reference)) (Desk row) =
+IsDone digest_of w by moment (Clerk (Approve account reference)) (Desk row) =
     IsApproved row.state × IsRow w account reference row
-IsDone digest_of w by today (Clerk (Decline account reference reason)) (Desk row) =
+IsDone digest_of w by moment (Clerk (Decline account reference reason)) (Desk row) =
     (row.state ≡ Declined reason) × IsRow w account reference row
-IsDone digest_of w by today (Clerk (SetHold name value held)) (Marked entry) =
-    ShowsMark w name value held today entry
-IsDone digest_of w by today (Clerk (Define name table)) (Defined given) =
+IsDone digest_of w by moment (Clerk (SetHold name value held)) (Marked entry) =
+    ShowsMark w name value held (utc_day moment) entry
+IsDone digest_of w by moment (Clerk (Define name table)) (Defined given) =
     (given ≡ name) × (get w.registries name ≡ Some table)
-IsDone digest_of w by today (Clerk (AddPool prefix)) (Pooled given) =
+IsDone digest_of w by moment (Clerk (AddPool prefix)) (Pooled given) =
     (given ≡ prefix) × (is_pool_prefix prefix ≡ true) × (contains_key w.pool prefix ≡ true)
-IsDone digest_of w by today (Clerk (Grant token cap)) (Granted given) =
+IsDone digest_of w by moment (Clerk (Grant token cap)) (Granted given) =
     (given ≡ cap) × (get w.caps (digest_of token) ≡ Some cap)
-IsDone digest_of w by today (Clerk (Revoke token)) Revoked = get w.caps (digest_of token) ≡ None
-IsDone digest_of w by today command told = ⊥
+IsDone digest_of w by moment (Clerk (Revoke token)) Revoked = get w.caps (digest_of token) ≡ None
+IsDone digest_of w by moment (Clerk PendingRequests) (Cases files) = PendingList w files
+IsDone digest_of w by moment (Clerk AllCapabilities) (Capabilities rows) = CapList w rows
+IsDone digest_of w by moment (Clerk (RevokeDigits digits)) (Capabilities rows) =
+    HaveGone w (begins_with digits) rows
+IsDone digest_of w by moment (Clerk (RevokeAccount account)) (Capabilities rows) =
+    HaveGone w (is_of account) rows
+IsDone digest_of w by moment (Clerk CountRows) (Counts given) =
+    given ≡ counts moment (utc_day moment) w
+IsDone digest_of w by moment command told = ⊥
 
 -- a refusal says nothing of the world
 abbrev pub WasDone : (List ℕ → List ℕ) → World → Option Cap → ℕ → Command → Reply → Type 0
-WasDone digest_of w by today command (Accepted told) =
-    IsDone digest_of w by today command told
-WasDone digest_of w by today command (Refused refusal) = Unit {0}
+WasDone digest_of w by moment command (Accepted told) =
+    IsDone digest_of w by moment command told
+WasDone digest_of w by moment command (Refused refusal) = Unit {0}
 
 abbrev pub AnswersAreDone : (List ℕ → List ℕ) → Type 0
 AnswersAreDone digest_of =
     (w : World) (caller : Option (List ℕ)) (moment : ℕ) (command : Command)
     → let after = step digest_of w caller moment command in
-    WasDone digest_of after.world (cap_at w caller) (utc_day moment) command after.reply
+    WasDone digest_of after.world (cap_at w caller) moment command after.reply
 
 -- what is given is of what the ask names, in the account's name, and for as long as it asks
 abbrev pub IsOfAsk : List ℕ → Ask → Award → Type 0
@@ -346,6 +359,43 @@ abbrev pub GivenStays : (List ℕ → List ℕ) → Type 0
 GivenStays digest_of =
     (w : World) (events : List Event) → WellKept w → have_forms events ≡ true
     → Stays (IsRenewedIn events) w (world_after digest_of w events)
+
+-- ---- What a clerk takes away
+
+-- of the old capabilities just those that pass the test have gone, and they are the rows
+pub record TakesJust (old new : FinMap text_cmp Cap) (chosen : CapRow → Bool) (rows : List CapRow) :
+    Type 0 where
+  pub told : rows ≡ caps_that chosen old
+  pub gone : (digest : List ℕ) (cap : Cap) → get old digest ≡ Some cap
+      → chosen (cap_row digest cap) ≡ true → get new digest ≡ None
+  pub others : (digest : List ℕ) (cap : Cap) → get old digest ≡ Some cap
+      → chosen (cap_row digest cap) ≡ false → get new digest ≡ Some cap
+  pub none : (digest : List ℕ) → get old digest ≡ None → get new digest ≡ None
+
+-- a clerk who is told of capabilities that have gone after such a command took just these, and nothing
+-- else changes; the token in use keeps its capability
+abbrev pub TookJust : (List ℕ → List ℕ) → World → Option (List ℕ) → ℕ → ClerkCommand
+    → (CapRow → Bool) → List CapRow → Type 0
+TookJust digest_of w caller moment command chosen rows =
+    let after = step digest_of w caller moment (Clerk command) in
+    after.reply ≡ Accepted (Capabilities rows)
+    → TakesJust w.caps after.world.caps chosen rows
+    × (after.world ≡ record w { caps = after.world.caps })
+    × (cap_at after.world caller ≡ cap_at w caller)
+
+-- a clerk who names a token by digits takes away no more than the one capability whose digest begins
+-- with them; one who names an account takes away all of its, and nobody else's
+pub record RevocationsTakeJust (digest_of : List ℕ → List ℕ) : Type 0 where
+  pub by_digits : (w : World) (caller : Option (List ℕ)) (moment : ℕ) (digits : List ℕ)
+      (rows : List CapRow)
+      → TookJust digest_of w caller moment (RevokeDigits digits) (begins_with digits) rows
+  pub one : (w : World) (caller : Option (List ℕ)) (moment : ℕ) (digits : List ℕ)
+      (rows : List CapRow)
+      → (step digest_of w caller moment (Clerk (RevokeDigits digits))).reply
+      ≡ Accepted (Capabilities rows) → length rows ≤ 1
+  pub by_account : (w : World) (caller : Option (List ℕ)) (moment : ℕ) (account : List ℕ)
+      (rows : List CapRow)
+      → TookJust digest_of w caller moment (RevokeAccount account) (is_of account) rows
 
 -- ---- The same again, later
 

@@ -14,6 +14,8 @@ pub mod Link
 pub mod File
 pub mod View
 pub mod Queue
+pub mod CapRows
+pub mod Counting
 pub mod Page
 pub mod FirstRefusals
 pub mod LeastFree

@@ -1,10 +1,18 @@
 -- Links: which account, a principal, has which other as its agent, who may read its requests.
 use Rattle.std.specs.Prelude.{ℕ, Bool, ◌&&◌, not, List, map}
-use Rattle.std.specs.FinMap.{keys}
+use Rattle.std.specs.FinMap.{keys, entries}
 use Rattle.std.specs.FinSet.{FinSet}
 use Rattle.reg_maps.specs.Maps.{same_text}
 use Rattle.reg_core.specs.Names.{is_name}
 use Rattle.reg_core.specs.World.{Link, link_cmp}
+use Rattle.reg_core.specs.declared.link.LinkRow.{LinkRow}
+
+abbrev pub link_row : Link → LinkRow
+link_row link = record { principal = link.0; agent = link.1 }
+
+-- all links, by principal and then by agent
+abbrev pub link_rows : FinSet link_cmp → List LinkRow
+link_rows links = map (λ e. link_row e.0) (entries links)
 
 -- the agents of links, and their principals, in order
 abbrev pub agent_rows : FinSet link_cmp → List (List ℕ)

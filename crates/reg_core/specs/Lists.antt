@@ -5,15 +5,17 @@ use Rattle.std.specs.List.Sorted.{IsStrictlySortedBy, IsStrictlyIncreasing}
 use Rattle.reg_maps.specs.Maps.{text_cmp}
 use Rattle.reg_blocks.specs.Block.{SizedPrefix, block_cmp}
 use Rattle.reg_early.specs.declared.term.Status.TheVariants as status
+use Rattle.reg_core.specs.CapRows.{cap_place, cap_place_cmp, cap_row}
 use Rattle.reg_core.specs.Entry.{page_entry}
-use Rattle.reg_core.specs.File.{experts_of, opinions_of}
+use Rattle.reg_core.specs.File.{experts_of, name_of, opinions_of}
 use Rattle.reg_core.specs.Holding.{holder_in, holding_row, holding_rows, listed_rows}
 use Rattle.reg_core.specs.Page.{page_entries}
 use Rattle.reg_core.specs.Queue.{queue_rows}
-use Rattle.reg_core.specs.Request.{case_of, request_rows, word_of}
+use Rattle.reg_core.specs.Request.{case_of, is_pending, request_rows, word_of}
 use Rattle.reg_core.specs.View.{published, requests_of, holdings_of, queue_of}
 use Rattle.reg_core.specs.World.{World, name_cmp}
 use Rattle.reg_core.specs.declared.capability.Cap.{Cap}
+use Rattle.reg_core.specs.declared.capability.CapRow.{CapRow}
 use Rattle.reg_core.specs.declared.entry.PageEntry.{PageEntry}
 use Rattle.reg_core.specs.declared.entry.Registration.{Registration}
 use Rattle.reg_core.specs.declared.case_file.CaseFile.{CaseFile}
@@ -179,6 +181,41 @@ pub record QueueList (w : World) (expert : List ℕ) (rows : List QueueRow) : Ty
       → (row : QueueRow) × Contains rows row × IsItem w expert account reference row
   -- they ascend by account and reference, so no request has two
   pub ascending : IsStrictlySortedBy name_cmp (map (λ row. (row.account, row.reference)) rows)
+
+-- ---- What a clerk lists
+
+-- the file is of a request that waits
+abbrev pub IsWaiting : World → CaseFile → Type 0
+IsWaiting w file =
+    IsFile w file.request.account file.request.reference file
+    × (is_pending file.request.state ≡ true)
+
+-- the files are those of the requests that wait
+pub record PendingList (w : World) (files : List CaseFile) : Type 0 where
+  -- each is of a request that waits
+  pub only : All (IsWaiting w) files
+  -- each request that waits has its file among them
+  pub every : (account reference : List ℕ) (case : Case)
+      → get w.requests (account, reference) ≡ Some case → is_pending case.state ≡ true
+      → (file : CaseFile) × Contains files file × IsFile w account reference file
+  -- they ascend by account and reference, so no request has two
+  pub ascending : IsStrictlySortedBy name_cmp (map name_of files)
+
+-- the rows are all capabilities
+pub record CapList (w : World) (rows : List CapRow) : Type 0 where
+  -- each is there
+  pub only : All (λ row. get w.caps row.digest ≡ Some row.cap) rows
+  -- each that is there has its row among them
+  pub every : (digest : List ℕ) (cap : Cap) → get w.caps digest ≡ Some cap
+      → Contains rows (cap_row digest cap)
+  -- they ascend by account and digest, so none comes twice
+  pub ascending : IsStrictlySortedBy cap_place_cmp (map cap_place rows)
+
+-- the rows pass the test, and no capability that is left does
+pub record HaveGone (w : World) (chosen : CapRow → Bool) (rows : List CapRow) : Type 0 where
+  pub only : All (λ row. chosen row ≡ true) rows
+  pub none : (digest : List ℕ) (cap : Cap) → get w.caps digest ≡ Some cap
+      → chosen (cap_row digest cap) ≡ false
 
 -- ---- Agents and principals
 

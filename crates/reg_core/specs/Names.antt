@@ -42,6 +42,10 @@ is_token s = is_run is_token_byte 16 64 s
 abbrev pub is_digest : List ℕ → Bool
 is_digest s = is_run is_digest_byte 64 64 s
 
+-- the first 8 digits or more
+abbrev pub is_digits : List ℕ → Bool
+is_digits s = is_run is_digest_byte 8 64 s
+
 -- a name in so many bytes, with zeros after it
 abbrev pub in_place : ℕ → List ℕ → List ℕ
 in_place room s = s ++ replicate (room - length s) 0
@@ -55,6 +59,9 @@ ascii_token s h = ascii_run is_token_byte 16 64 (λ b h. grind (arith, nat_tests
 
 pub ascii_digest : (s : List ℕ) → is_digest s ≡ true → IsAscii s
 ascii_digest s h = ascii_run is_digest_byte 64 64 (λ b h. grind (arith, nat_tests)) s h
+
+pub ascii_digits : (s : List ℕ) → is_digits s ≡ true → IsAscii s
+ascii_digits s h = ascii_run is_digest_byte 8 64 (λ b h. grind (arith, nat_tests)) s h
 
 -- each form is of no more bytes than it says
 short_run : (kind : ℕ → Bool) (low high : ℕ) (s : List ℕ)
@@ -73,6 +80,9 @@ short_token s h = short_run is_token_byte 16 64 s h
 
 pub short_digest : (s : List ℕ) → is_digest s ≡ true → length s ≤ 64
 short_digest s h = short_run is_digest_byte 64 64 s h
+
+pub short_digits : (s : List ℕ) → is_digits s ≡ true → length s ≤ 64
+short_digits s h = short_run is_digest_byte 8 64 s h
 
 -- one byte counts the bytes of each
 pub counted_name : 32 ≤ 255

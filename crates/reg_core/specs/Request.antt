@@ -6,7 +6,7 @@ use Rattle.reg_ranges.specs.Texts.{is_text}
 use Rattle.reg_ranges.specs.Words.{read_among}
 use Rattle.reg_core.specs.World.{RequestName, name_cmp, in_state}
 use Rattle.reg_core.specs.declared.change.Change.{Change}
-use Rattle.reg_core.specs.declared.change.Change.TheVariants.{Grant, Revoke, Define, AddPool, Submit, Close, Assign, Advise, GiveValue, GiveBlock, SetPrivate, SetHold, SetAgent}
+use Rattle.reg_core.specs.declared.change.Change.TheVariants.{Grant, Revoke, RevokeAll, Define, AddPool, Submit, Close, Assign, Advise, GiveValue, GiveBlock, SetPrivate, SetHold, SetAgent}
 use Rattle.reg_core.specs.declared.request.Case.{Case}
 use Rattle.reg_core.specs.declared.request.Given.{Given}
 use Rattle.reg_core.specs.declared.request.Given.TheVariants.{Value, Block}
@@ -75,6 +75,7 @@ read_state s = read_among states state_word s
 abbrev pub state_by : Change → Option State
 state_by (Grant digest cap) = None
 state_by (Revoke digest) = None
+state_by (RevokeAll digests) = None
 state_by (Define name table) = None
 state_by (AddPool prefix) = None
 state_by (Submit account reference ask) = Some Pending

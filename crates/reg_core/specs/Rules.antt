@@ -1,5 +1,6 @@
 -- The rule by which each command is decided, over just the rows that it needs.
-use Rattle.std.specs.Prelude.{◌≡◌, ℕ, Bool, true, false, ◌&&◌, not, List, Option, Some, None, Result, Ok, Err, is_some, if◌then◌else◌, MatchResult}
+use Rattle.std.specs.Prelude.{◌≡◌, ℕ, Bool, true, false, ◌&&◌, not, List, [], ◌∷◌, map, Option, Some, None, Result, Ok, Err, is_some, if◌then◌else◌, MatchResult}
+use Rattle.std.specs.List.{list_any}
 use Rattle.reg_maps.specs.Maps.{same_text}
 use Rattle.reg_blocks.specs.Block.{SizedPrefix}
 use Rattle.reg_blocks.specs.Pool.{is_pool_prefix}
@@ -18,14 +19,15 @@ use Rattle.reg_core.specs.World.{RequestName, Place, Link}
 use Rattle.reg_core.specs.declared.advice.Advice.{Advice as AdviceOf}
 use Rattle.reg_core.specs.declared.ask.Ask.{Ask}
 use Rattle.reg_core.specs.declared.capability.Cap.{Cap}
+use Rattle.reg_core.specs.declared.capability.CapRow.{CapRow}
 use Rattle.reg_core.specs.declared.change.Change.{Change}
-use Rattle.reg_core.specs.declared.change.Change.TheVariants.{Grant, Revoke, Define, AddPool, Submit, Close, Assign, Advise, GiveValue, GiveBlock, SetPrivate, SetHold, SetAgent}
+use Rattle.reg_core.specs.declared.change.Change.TheVariants.{Grant, Revoke, RevokeAll, Define, AddPool, Submit, Close, Assign, Advise, GiveValue, GiveBlock, SetPrivate, SetHold, SetAgent}
 use Rattle.reg_core.specs.declared.decide.Decision.{Decision}
 use Rattle.reg_core.specs.declared.decide.Decision.TheVariants.{Make, Same}
 use Rattle.reg_core.specs.declared.decide.Deny.{Deny}
 use Rattle.reg_core.specs.declared.decide.Deny.TheVariants.{Refused, Memory}
 use Rattle.reg_core.specs.declared.refusal.Refusal.{Refusal}
-use Rattle.reg_core.specs.declared.refusal.Refusal.TheVariants.{Ref, Closed, Permanent, Expired, Advice, Own, Exists, Bits}
+use Rattle.reg_core.specs.declared.refusal.Refusal.TheVariants.{Ref, Closed, Permanent, Expired, Advice, Own, Several, Exists, Bits}
 use Rattle.reg_core.specs.declared.request.Case.{Case}
 use Rattle.reg_core.specs.declared.request.Given.{Given}
 use Rattle.reg_core.specs.declared.request.State.{State}
@@ -160,6 +162,27 @@ revoke_rule in_use existing digest =
     if same_text in_use digest then Err Own
     else if is_some existing then Ok (Make (Revoke digest))
     else Ok Same
+
+-- the token in use is among those with these capabilities
+abbrev pub has_token : List ℕ → List CapRow → Bool
+has_token in_use rows = list_any (λ row. same_text row.digest in_use) rows
+
+-- those that begin with a clerk's digits: one goes, but not one of several
+abbrev pub one_rule : List CapRow → Result Decision Refusal
+one_rule [] = Ok Same
+one_rule (row ∷ []) = Ok (Make (Revoke row.digest))
+one_rule (row ∷ other ∷ rows) = Err Several
+
+abbrev pub revoke_digits_rule : List ℕ → List CapRow → Result Decision Refusal
+revoke_digits_rule in_use rows = if has_token in_use rows then Err Own else one_rule rows
+
+-- those of an account: all go
+abbrev pub all_rule : List CapRow → Decision
+all_rule [] = Same
+all_rule (row ∷ rows) = Make (RevokeAll (map (λ row. row.digest) (row ∷ rows)))
+
+abbrev pub revoke_account_rule : List ℕ → List CapRow → Result Decision Refusal
+revoke_account_rule in_use rows = if has_token in_use rows then Err Own else Ok (all_rule rows)
 
 -- the decision is the rule's, or want of memory where a change has to be made
 abbrev pub Follows : Result Decision Refusal → Result Decision Deny → Type 0

@@ -3,12 +3,14 @@ use Rattle.std.specs.Prelude.{ℕ, Bool, false, ◌&&◌, nat_lt, List, Option, 
 use Rattle.std.specs.FinMap.{get, contains_key}
 use Rattle.reg_core.specs.Allowance.{◌>>=◌, or_refusal, ground_of}
 use Rattle.reg_core.specs.Answer.{Answer, reply_of, change_of, unchanged, by_rule, case_by, desk_row, answer}
+use Rattle.reg_core.specs.CapRows.{begins_with, is_of, cap_list, caps_that}
 use Rattle.reg_core.specs.Capability.{same_kind}
+use Rattle.reg_core.specs.Counting.{counts}
 use Rattle.reg_core.specs.Entry.{page_entry, with_hold}
-use Rattle.reg_core.specs.Rules.{assign_rule, approve_rule, decline_rule, hold_rule, define_rule, pool_rule, grant_rule, revoke_rule}
+use Rattle.reg_core.specs.Rules.{assign_rule, approve_rule, decline_rule, hold_rule, define_rule, pool_rule, grant_rule, revoke_rule, revoke_digits_rule, revoke_account_rule}
 use Rattle.reg_core.specs.View.{published, view_of}
 use Rattle.reg_early.specs.Moment.{is_in_clock, utc_day}
-use Rattle.reg_core.specs.File.{file, was_advised}
+use Rattle.reg_core.specs.File.{file, waiting_files, was_advised}
 use Rattle.reg_core.specs.Request.{request_rows}
 use Rattle.reg_core.specs.World.{World, RequestName, applied_if}
 use Rattle.reg_core.specs.declared.capability.Cap.{Cap}
@@ -16,7 +18,7 @@ use Rattle.reg_core.specs.declared.capability.Kind.TheVariants.{Clerk}
 use Rattle.reg_core.specs.declared.command.Command.{Command}
 use Rattle.reg_core.specs.declared.command.Command.TheVariants as command
 use Rattle.reg_core.specs.declared.command.ClerkCommand.{ClerkCommand}
-use Rattle.reg_core.specs.declared.command.ClerkCommand.TheVariants.{AllRequests, OneRequest, AssignExpert, Approve, Decline, SetHold, Define, AddPool, Grant, Revoke}
+use Rattle.reg_core.specs.declared.command.ClerkCommand.TheVariants.{AllRequests, OneRequest, AssignExpert, Approve, Decline, SetHold, Define, AddPool, Grant, Revoke, PendingRequests, AllCapabilities, RevokeDigits, RevokeAccount, CountRows}
 use Rattle.reg_core.specs.declared.told.Told.{Told}
 use Rattle.reg_core.specs.declared.told.Told.TheVariants as tells
 use Rattle.reg_core.specs.declared.decide.Decision.{Decision}
@@ -46,48 +48,58 @@ abbrev pub desk_by : RequestName → Case → Decision → Told
 desk_by name case decision = desk_row name (case_by decision case)
 
 module _ (digest_of : List ℕ → List ℕ) where
-  -- a clerk is answered on a day over the whole world; in_use is the digest of the clerk's own
-  -- token
-  abbrev pub clerk_answer : World → List ℕ → ℕ → ClerkCommand → Answer
-  clerk_answer w in_use today AllRequests = unchanged (tells.Desks (request_rows w.requests))
-  clerk_answer w in_use today (OneRequest account reference) = do
+  -- a clerk is answered at a moment, on its day, over the whole world; in_use is the digest of the
+  -- clerk's own token
+  abbrev pub clerk_answer : World → List ℕ → ℕ → ℕ → ClerkCommand → Answer
+  clerk_answer w in_use moment today AllRequests = unchanged (tells.Desks (request_rows w.requests))
+  clerk_answer w in_use moment today (OneRequest account reference) = do
     case ← or_refusal no.Request (get w.requests (account, reference))
     unchanged (tells.Filed (file w (account, reference) case))
-  clerk_answer w in_use today (AssignExpert account reference expert) = do
+  clerk_answer w in_use moment today (AssignExpert account reference expert) = do
     case ← or_refusal no.Request (get w.requests (account, reference))
     by_rule (assign_rule (account, reference) expert
         (contains_key w.queue ((account, reference), expert)) case.state)
         (desk_by (account, reference) case)
-  clerk_answer w in_use today (Approve account reference) = do
+  clerk_answer w in_use moment today (Approve account reference) = do
     case ← or_refusal no.Request (get w.requests (account, reference))
     by_rule (approve_rule (ground_of (published w) case.ask) (was_advised w (account, reference))
         (account, reference) case.ask today case.state)
         (desk_by (account, reference) case)
-  clerk_answer w in_use today (Decline account reference reason) = do
+  clerk_answer w in_use moment today (Decline account reference reason) = do
     case ← or_refusal no.Request (get w.requests (account, reference))
     by_rule (decline_rule (account, reference) reason case.state)
         (desk_by (account, reference) case)
-  clerk_answer w in_use today (SetHold name value held) = do
+  clerk_answer w in_use moment today (SetHold name value held) = do
     table ← or_refusal no.Registry (get w.registries name)
     a ← or_refusal no.Entry (get w.entries (name, value))
     by_rule (hold_rule (name, value) held a.term today)
         (λ decision. tells.Marked (page_entry today value (with_hold held a)))
-  clerk_answer w in_use today (Define name table) =
+  clerk_answer w in_use moment today (Define name table) =
       by_rule (define_rule (get w.registries name) name table) (λ decision. tells.Defined name)
-  clerk_answer w in_use today (AddPool prefix) =
+  clerk_answer w in_use moment today (AddPool prefix) =
       by_rule (pool_rule (contains_key w.pool prefix) prefix) (λ decision. tells.Pooled prefix)
-  clerk_answer w in_use today (Grant token cap) =
+  clerk_answer w in_use moment today (Grant token cap) =
       by_rule (grant_rule (get w.caps (digest_of token)) (digest_of token) cap)
       (λ decision. tells.Granted cap)
-  clerk_answer w in_use today (Revoke token) =
+  clerk_answer w in_use moment today (Revoke token) =
       by_rule (revoke_rule in_use (get w.caps (digest_of token)) (digest_of token))
       (λ decision. tells.Revoked)
+  clerk_answer w in_use moment today PendingRequests = unchanged (tells.Cases (waiting_files w))
+  clerk_answer w in_use moment today AllCapabilities =
+      unchanged (tells.Capabilities (cap_list w.caps))
+  clerk_answer w in_use moment today (RevokeDigits digits) =
+      let rows = caps_that (begins_with digits) w.caps in
+      by_rule (revoke_digits_rule in_use rows) (λ decision. tells.Capabilities rows)
+  clerk_answer w in_use moment today (RevokeAccount account) =
+      let rows = caps_that (is_of account) w.caps in
+      by_rule (revoke_account_rule in_use rows) (λ decision. tells.Capabilities rows)
+  clerk_answer w in_use moment today CountRows = unchanged (tells.Counts (counts moment today w))
 
   -- a clerk's command; a caller who acts as no clerk is answered as any other is
   abbrev pub clerk_answer_to : World → Option (List ℕ) → ℕ → ClerkCommand → Answer
   clerk_answer_to w None moment given = answer (view_of w None) moment (command.Clerk given)
   clerk_answer_to w (Some digest) moment given =
-      if acts_as_clerk (get w.caps digest) moment then clerk_answer w digest (utc_day moment) given
+      if acts_as_clerk (get w.caps digest) moment then clerk_answer w digest moment (utc_day moment) given
       else answer (view_of w (Some digest)) moment (command.Clerk given)
 
   -- a caller is known by the digest of its token, if it has one

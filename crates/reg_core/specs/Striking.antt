@@ -3,11 +3,13 @@ use Rattle.std.specs.Prelude.{◌≡◌, ℕ, Bool, true, false, ◌||◌, not, 
 use Rattle.std.specs.FinMap.{get}
 use Rattle.std.specs.List.{AllZip}
 use Rattle.reg_maps.specs.Maps.{same_text}
+use Rattle.reg_core.specs.File.{name_of}
 use Rattle.reg_core.specs.Run.{Event, run, world_after}
 use Rattle.reg_core.specs.Unseen.{Stage, stages, is_unseen, kept_stages, struck}
 use Rattle.reg_core.specs.View.{published, cap_at, view_of}
 use Rattle.reg_core.specs.World.{World, RequestName}
 use Rattle.reg_core.specs.declared.capability.Cap.{Cap}
+use Rattle.reg_core.specs.declared.case_file.CaseFile.{CaseFile}
 use Rattle.reg_core.specs.declared.told.Told.{Told}
 use Rattle.reg_core.specs.declared.told.Told.TheVariants as tells
 use Rattle.reg_core.specs.declared.queue.QueueRow.{QueueRow}
@@ -62,6 +64,9 @@ lists_others account cap (tells.Defined name) = false
 lists_others account cap (tells.Pooled prefix) = false
 lists_others account cap (tells.Granted given) = false
 lists_others account cap tells.Revoked = false
+lists_others account cap (tells.Cases files) = true
+lists_others account cap (tells.Capabilities rows) = false
+lists_others account cap (tells.Counts counts) = false
 
 -- a refusal lists nothing
 abbrev pub reply_lists_others : List ℕ → Option Cap → Reply → Bool
@@ -74,6 +79,9 @@ requests_without unseen rows = filter (λ row. not (unseen (row.account, row.ref
 
 abbrev pub queue_without : (RequestName → Bool) → List QueueRow → List QueueRow
 queue_without unseen rows = filter (λ row. not (unseen (row.account, row.reference))) rows
+
+abbrev pub files_without : (RequestName → Bool) → List CaseFile → List CaseFile
+files_without unseen files = filter (λ file. not (unseen (name_of file))) files
 
 -- what is told without the rows of unseen requests, where it lists requests
 abbrev pub told_without : (RequestName → Bool) → Told → Told
@@ -99,6 +107,9 @@ told_without unseen (tells.Defined name) = tells.Defined name
 told_without unseen (tells.Pooled prefix) = tells.Pooled prefix
 told_without unseen (tells.Granted cap) = tells.Granted cap
 told_without unseen tells.Revoked = tells.Revoked
+told_without unseen (tells.Cases files) = tells.Cases (files_without unseen files)
+told_without unseen (tells.Capabilities rows) = tells.Capabilities rows
+told_without unseen (tells.Counts counts) = tells.Counts counts
 
 abbrev pub reply_without : (RequestName → Bool) → Reply → Reply
 reply_without unseen (Accepted told) = Accepted (told_without unseen told)

@@ -55,6 +55,7 @@ about_at s = about (cap_at s.before s.event.caller) s.event.command
 abbrev pub reveals : List ℕ → RequestName → Change → Bool
 reveals account name (change.Grant digest cap) = false
 reveals account name (change.Revoke digest) = false
+reveals account name (change.RevokeAll digests) = false
 reveals account name (change.Define registry table) = false
 reveals account name (change.AddPool prefix) = false
 reveals account name (change.Submit applicant reference ask) = false

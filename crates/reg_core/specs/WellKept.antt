@@ -21,7 +21,7 @@ use Rattle.reg_core.specs.World.{World, RequestName, Place, place_cmp, Seat, Lin
 use Rattle.reg_core.specs.declared.advice.Advice.{Advice}
 use Rattle.reg_core.specs.declared.capability.Cap.{Cap}
 use Rattle.reg_core.specs.declared.change.Change.{Change}
-use Rattle.reg_core.specs.declared.change.Change.TheVariants.{Grant, Revoke, Define, AddPool, Submit, Close, Assign, Advise, GiveValue, GiveBlock, SetPrivate, SetHold, SetAgent}
+use Rattle.reg_core.specs.declared.change.Change.TheVariants.{Grant, Revoke, RevokeAll, Define, AddPool, Submit, Close, Assign, Advise, GiveValue, GiveBlock, SetPrivate, SetHold, SetAgent}
 use Rattle.reg_core.specs.declared.request.Case.{Case}
 use Rattle.reg_core.specs.declared.ask.Ask.{Ask}
 use Rattle.reg_core.specs.declared.ask.Ask.TheVariants.{Block}
@@ -134,6 +134,7 @@ pub record WellKept (w : World) : Type 0 where
 abbrev pub IsNew : World → Change → Type 0
 IsNew w (Grant digest cap) = get w.caps digest ≡ None
 IsNew w (Revoke digest) = Unit {0}
+IsNew w (RevokeAll digests) = Unit {0}
 IsNew w (Define name table) = get w.registries name ≡ None
 IsNew w (AddPool prefix) = contains_key w.pool prefix ≡ false
 IsNew w (Submit account reference ask) = get w.requests (account, reference) ≡ None

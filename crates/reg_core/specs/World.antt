@@ -1,5 +1,5 @@
 -- The whole content of an office, and what a change does to it.
-use Rattle.std.specs.Prelude.{ℕ, Bool, true, false, List, Option, Some, None}
+use Rattle.std.specs.Prelude.{ℕ, Bool, true, false, List, [], ◌∷◌, Option, Some, None}
 use Rattle.std.specs.Ordering.{nat_cmp}
 use Rattle.std.specs.declared.cmp.Ordering.{Ordering}
 use Rattle.std.specs.FinMap as map
@@ -14,7 +14,7 @@ use Rattle.reg_core.specs.declared.advice.Advice.{Advice}
 use Rattle.reg_core.specs.declared.ask.Ask.{Ask}
 use Rattle.reg_core.specs.declared.capability.Cap.{Cap}
 use Rattle.reg_core.specs.declared.change.Change.{Change}
-use Rattle.reg_core.specs.declared.change.Change.TheVariants.{Grant, Revoke, Define, AddPool, Submit, Close, Assign, Advise, GiveValue, GiveBlock, SetPrivate, SetHold, SetAgent}
+use Rattle.reg_core.specs.declared.change.Change.TheVariants.{Grant, Revoke, RevokeAll, Define, AddPool, Submit, Close, Assign, Advise, GiveValue, GiveBlock, SetPrivate, SetHold, SetAgent}
 use Rattle.reg_core.specs.declared.request.Case.{Case}
 use Rattle.reg_core.specs.declared.request.State.{State}
 use Rattle.reg_core.specs.declared.request.State.TheVariants.{Pending, Approved}
@@ -97,12 +97,19 @@ in_state state case = record case { state = state }
 abbrev pub with_state : World → RequestName → State → World
 with_state w name state = record w { requests = update w.requests name (in_state state) }
 
--- the world after a change: one row added, replaced or taken away, all other rows the same; a value
--- or a block that is given changes two rows, its request and its entry or holder. The entry is put
+-- capabilities without those at these digests
+abbrev pub without : List (List ℕ) → FinMap text_cmp Cap → FinMap text_cmp Cap
+without [] caps = caps
+without (digest ∷ digests) caps = without digests (remove caps digest)
+
+-- the world after a change: one row added, replaced or taken away, all other rows the same; several
+-- capabilities can be taken away at once; a value or a block that is given changes two rows, its
+-- request and its entry or holder. The entry is put
 -- at its place, in the place of one that stands there
 abbrev pub applied : World → Change → World
 applied w (Grant digest cap) = record w { caps = insert w.caps digest cap }
 applied w (Revoke digest) = record w { caps = remove w.caps digest }
+applied w (RevokeAll digests) = record w { caps = without digests w.caps }
 applied w (Define name table) = record w { registries = insert w.registries name table }
 applied w (AddPool prefix) = record w { pool = insert w.pool prefix tt }
 applied w (Submit account reference ask) =

@@ -2,7 +2,7 @@
 ghost use Rattle.std.specs.Prelude.{◌≡◌, ◌≤◌};
 ghost use Rattle.reg_core.specs.Capability.{kind_word, last_until, read_kind, read_until};
 
-use crate::text::Account;
+use crate::text::{Account, Digest};
 use reg_ranges::formed::Formed;
 use std::marker::Model;
 
@@ -101,4 +101,11 @@ impl Formed for Cap {
         self.account.formed();
         let _seconds = self.until.seconds();
     }
+}
+
+/// A capability, with the digest of the token that has it.
+#[derive(Clone, Copy, PartialEq, Eq)]
+pub struct CapRow {
+    pub digest: Digest,
+    pub cap: Cap,
 }

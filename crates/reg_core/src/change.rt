@@ -7,6 +7,7 @@ use crate::capability::Cap;
 use crate::entry::Entry;
 use crate::holding::Holding;
 use crate::request::State;
+use crate::rows::Rows;
 use crate::text::{Account, Digest, Name, Ref};
 use reg_blocks::block::Block;
 use reg_ranges::table::RangeTable;
@@ -19,6 +20,8 @@ pub enum Change {
     Grant(Digest, Cap),
     /// Takes the capability at a digest away.
     Revoke(Digest),
+    /// Takes the capabilities at these digests away.
+    RevokeAll(Rows<Digest>),
     /// Adds a registry.
     Define(Name, RangeTable),
     /// Adds a prefix to the pool.
@@ -58,6 +61,7 @@ impl Change {
             Change::GiveBlock(_, _, holding) => Ok(Some(holding.approval())),
             Change::Grant(_, _)
             | Change::Revoke(_)
+            | Change::RevokeAll(_)
             | Change::Define(_, _)
             | Change::AddPool(_)
             | Change::Assign(_, _, _)

@@ -5,7 +5,7 @@ ghost use Rattle.reg_core.specs.Command.{kind_of};
 use crate::advice::Advice;
 use crate::ask::Ask;
 use crate::capability::{Cap, Kind};
-use crate::text::{Account, Name, Ref, Text, Token};
+use crate::text::{Account, Digits, Name, Ref, Text, Token};
 use reg_blocks::block::Block;
 use reg_ranges::table::RangeTable;
 
@@ -94,6 +94,16 @@ pub enum ClerkCommand {
     Grant(Token, Cap),
     /// Takes a token's capability away.
     Revoke(Token),
+    /// Lists the requests that wait, with their experts and all advice on them.
+    PendingRequests,
+    /// Lists all capabilities.
+    AllCapabilities,
+    /// Takes the capability away of the one token whose digest begins with these digits.
+    RevokeDigits(Digits),
+    /// Takes all capabilities of an account away.
+    RevokeAccount(Account),
+    /// Counts the rows of each kind, requests apart.
+    CountRows,
 }
 
 impl Command {

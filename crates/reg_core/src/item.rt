@@ -12,6 +12,8 @@ pub enum Item {
     Block,
     Chair,
     Contact,
+    /// The first digits of a token's digest.
+    Digits,
     Director,
     Draft,
     Expert,
@@ -62,6 +64,7 @@ impl Item {
             Item::Block => "block",
             Item::Chair => "chair",
             Item::Contact => "contact",
+            Item::Digits => "digits",
             Item::Director => "director",
             Item::Draft => "draft",
             Item::Expert => "expert",

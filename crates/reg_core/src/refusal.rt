@@ -50,6 +50,8 @@ pub enum Refusal {
     /// A clerk names the applicant as an expert, or revokes the token in use; or an applicant names
     /// itself as its agent.
     Own,
+    /// A clerk names tokens by digits with which the digests of several begin.
+    Several,
     /// The block is none of the caller's.
     Holding,
     /// Something else is there already.

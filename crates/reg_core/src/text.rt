@@ -8,7 +8,7 @@ ghost use Rattle.std.specs.Ordering.{nat_cmp};
 ghost use Rattle.std.specs.List.{list_all};
 ghost use Rattle.std.specs.Str.{IsAscii};
 ghost use Rattle.reg_ranges.specs.Texts.{read_text};
-ghost use Rattle.reg_core.specs.Names.{is_name_byte as name_byte, is_token_byte as token_byte, is_digest_byte as digest_byte, is_name as name, is_token, is_digest, ascii_name, ascii_token, ascii_digest, in_place, short_name, short_token, short_digest, counted_name, counted_token, counted_digest};
+ghost use Rattle.reg_core.specs.Names.{is_name_byte as name_byte, is_token_byte as token_byte, is_digest_byte as digest_byte, is_name as name, is_token, is_digest, is_digits, ascii_name, ascii_token, ascii_digest, ascii_digits, in_place, short_name, short_token, short_digest, short_digits, counted_name, counted_token, counted_digest};
 
 use reg_ranges::formed::Formed;
 pub use reg_ranges::text::Text;
@@ -28,6 +28,9 @@ pub const MOST_TOKEN_BYTES: usize = 64;
 
 /// The bytes of a digest.
 pub const DIGEST_BYTES: usize = 64;
+
+/// The fewest digits of a digest by which a clerk names a token.
+pub const LEAST_DIGITS: usize = 8;
 
 /// Which bytes a kind of name may have, which are at most `N`.
 pub trait Form<const N: usize> {
@@ -241,6 +244,23 @@ impl Form<DIGEST_BYTES> for DigestForm {
     }
 }
 
+/// 8 to 64 lower-case hexadecimal digits: the first of a digest, by which a clerk names a token.
+pub struct DigitsForm;
+
+impl Form<DIGEST_BYTES> for DigitsForm {
+    ghost fits = { is_digits };
+
+    ghost ascii = { ascii_digits };
+
+    ghost short = { short_digits };
+
+    ghost counted = { counted_digest };
+
+    fn accepts(bytes: &[u8]) -> bool {
+        (LEAST_DIGITS..=DIGEST_BYTES).contains(&bytes.len()) && all_digest_bytes(bytes)
+    }
+}
+
 /// An applicant's, an expert's or a clerk's account.
 pub type Account = Word<NameForm<AccountKind>, MOST_NAME_BYTES>;
 
@@ -255,6 +275,9 @@ pub type Token = Word<TokenForm, MOST_TOKEN_BYTES>;
 
 /// The digest of a token.
 pub type Digest = Word<DigestForm, DIGEST_BYTES>;
+
+/// The first digits of a token's digest.
+pub type Digits = Word<DigitsForm, DIGEST_BYTES>;
 
 fn is_name(bytes: &[u8]) -> bool
     ensures { result ≡ name bytes.now }

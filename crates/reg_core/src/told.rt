@@ -1,6 +1,7 @@
 //! What the caller of an accepted command is told.
-use crate::capability::Cap;
+use crate::capability::{Cap, CapRow};
 use crate::case_file::CaseFile;
+use crate::counts::Counts;
 use crate::entry::PageEntry;
 use crate::holding::{Holding, Listed};
 use crate::page::Page;
@@ -56,6 +57,12 @@ pub enum Told {
     Granted(Cap),
     /// The token has no capability now.
     Revoked,
+    /// The requests that wait, with all that the desk has of them, by account and reference.
+    Cases(Rows<CaseFile>),
+    /// Capabilities, by account and digest: all, or those that a clerk took away just now.
+    Capabilities(Rows<CapRow>),
+    /// How many rows of each kind there are, requests apart.
+    Counts(Counts),
 }
 
 // Not derived: what a crate above owes where it lets go what a caller is told is proved here, once.
@@ -70,6 +77,7 @@ impl Drop for Told {
             Told::Desk(_) | Told::Desks(_) | Told::Filed(_) => {}
             Told::Marked(_) | Told::Defined(_) | Told::Pooled(_) => {}
             Told::Granted(_) | Told::Revoked => {}
+            Told::Cases(_) | Told::Capabilities(_) | Told::Counts(_) => {}
         }
     }
 }

@@ -4,11 +4,12 @@ ghost use Rattle.std.specs.FinMap.{contains_key, get, keys};
 ghost use Rattle.std.specs.List.Sorted.{IsStrictlyIncreasing};
 ghost use Rattle.reg_maps.specs.Maps.{only_if};
 ghost use Rattle.reg_core.specs.BlockDue.{due_in};
+ghost use Rattle.reg_core.specs.CapRows.{cap_rows};
 ghost use Rattle.reg_core.specs.Entry.{entry_row};
-ghost use Rattle.reg_core.specs.File.{file as file_of};
+ghost use Rattle.reg_core.specs.File.{file as file_of, waiting_files};
 ghost use Rattle.reg_core.specs.Holding.{holding_row, holding_rows, listed_rows, masked_blocks};
 ghost use Rattle.reg_core.specs.LeastFree.{least_free_in};
-ghost use Rattle.reg_core.specs.Link.{agent_rows, principal_names};
+ghost use Rattle.reg_core.specs.Link.{agent_rows, link_rows, principal_names};
 ghost use Rattle.reg_core.specs.Page.{entry_rows};
 ghost use Rattle.reg_core.specs.Queue.{queue_row, queue_rows};
 ghost use Rattle.reg_core.specs.Request.{request_row, request_rows};
@@ -16,17 +17,16 @@ ghost use Rattle.reg_core.specs.View.{agents_of, entries_of, holdings_of, princi
 ghost use Rattle.reg_core.specs.WellKept.{WellKept, CanApply};
 ghost use Rattle.reg_core.specs.World.{World, applied};
 ghost use Rattle.reg_keeper.specs.Keeper.{Selects, Makes};
-ghost use Rattle.reg_keeper.specs.Rows.{cap_rows, link_rows};
 
-use crate::rows::{CapRow, LinkRow};
 use reg_blocks::block::Block;
 use reg_blocks::pool::Pool;
 use reg_blocks::size::Size;
-use reg_core::capability::Cap;
+use reg_core::capability::{Cap, CapRow};
 use reg_core::case_file::CaseFile;
 use reg_core::change::Change;
 use reg_core::entry::Entry;
 use reg_core::holding::{Holding, Listed};
+use reg_core::link::LinkRow;
 use reg_core::queue::QueueRow;
 use reg_core::request::Request;
 use reg_core::rows::Rows;
@@ -168,6 +168,12 @@ pub trait Keeper {
         ensures { Selects world Holds Sound FAILS self.old self.new result
             (λ w row. row ≡ option_map (file_of w (account.now, reference.now))
             (get w.requests (account.now, reference.now))) };
+
+    /// The requests that wait, with their experts and all advice on them, by account and then by
+    /// reference.
+    fn pending(&mut self) -> Result<Rows<CaseFile>, Fault>
+        ensures { Selects world Holds Sound FAILS self.old self.new result
+            (λ w files. files ≡ waiting_files w) };
 
     /// All requests that are assigned to an expert, with the expert's own advice, by account and
     /// then by reference.

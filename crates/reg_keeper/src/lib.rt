@@ -2,4 +2,3 @@
 #![tactic(auto)]
 
 pub mod keeper;
-pub mod rows;

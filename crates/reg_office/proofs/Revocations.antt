@@ -18,8 +18,8 @@ use Rattle.reg_core.specs.declared.capability.Kind.{Kind}
 use Rattle.reg_core.specs.declared.capability.Kind.TheVariants.{Applicant, Expert, Clerk}
 use Rattle.reg_core.specs.declared.change.Change.TheVariants.{Revoke}
 use Rattle.reg_keeper.specs.Keeper.{MayFault}
-use Rattle.reg_keeper.specs.Rows.{cap_row, cap_rows}
-use Rattle.reg_keeper.specs.declared.rows.CapRow.{CapRow}
+use Rattle.reg_core.specs.CapRows.{cap_row, cap_rows}
+use Rattle.reg_core.specs.declared.capability.CapRow.{CapRow}
 use Rattle.reg_office.specs.Revocation.{HasClerkAt, IsRefusedSo, MayRevoke, is_chosen, is_clerk_at}
 use Rattle.reg_office.specs.Revocation.{leaves_clerk, may_take, revoked, taken, taken_of}
 use Rattle.reg_office.specs.declared.revocation.Choice.{Choice}

@@ -14,8 +14,9 @@ use Rattle.reg_core.specs.declared.entry.Entry.{Entry}
 use Rattle.reg_core.specs.declared.request.Request.{Request}
 use Rattle.reg_core.specs.declared.request.StateWord.{StateWord}
 use Rattle.reg_core.specs.declared.request.StateWord.TheVariants.{Pending, Approved, Declined, Withdrawn}
-use Rattle.reg_keeper.specs.Rows.{cap_rows, link_rows}
-use Rattle.reg_keeper.specs.declared.rows.CapRow.{CapRow}
+use Rattle.reg_core.specs.CapRows.{cap_rows}
+use Rattle.reg_core.specs.Link.{link_rows}
+use Rattle.reg_core.specs.declared.capability.CapRow.{CapRow}
 use Rattle.reg_office.specs.declared.counting.CapCounts.{CapCounts}
 use Rattle.reg_office.specs.declared.counting.Counts.{Counts}
 use Rattle.reg_office.specs.declared.counting.EntryCounts.{EntryCounts}

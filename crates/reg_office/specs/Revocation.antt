@@ -10,9 +10,9 @@ use Rattle.reg_core.specs.declared.capability.Cap.{Cap}
 use Rattle.reg_core.specs.declared.capability.Kind.TheVariants.{Clerk}
 use Rattle.reg_core.specs.declared.change.Change.TheVariants.{Revoke}
 use Rattle.reg_keeper.specs.Keeper.{MayFault}
-use Rattle.reg_keeper.specs.Rows.{cap_rows}
+use Rattle.reg_core.specs.CapRows.{cap_rows}
 use Rattle.reg_keeper.specs.declared.keeper.Fault.TheVariants.{Memory}
-use Rattle.reg_keeper.specs.declared.rows.CapRow.{CapRow}
+use Rattle.reg_core.specs.declared.capability.CapRow.{CapRow}
 use Rattle.reg_office.specs.declared.revocation.Choice.{Choice}
 use Rattle.reg_office.specs.declared.revocation.Choice.TheVariants.{Digits, Account}
 use Rattle.reg_office.specs.declared.revocation.RevokeFault.{RevokeFault}

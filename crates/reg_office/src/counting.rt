@@ -3,7 +3,7 @@ ghost use Rattle.std.specs.Prelude.{◌≡◌, length, IfSome};
 ghost use Rattle.reg_core.specs.Holding.{listed_rows, masked_blocks};
 ghost use Rattle.reg_core.specs.Request.{request_rows};
 ghost use Rattle.reg_keeper.specs.Keeper.{Selects};
-ghost use Rattle.reg_keeper.specs.Rows.{cap_rows};
+ghost use Rattle.reg_core.specs.CapRows.{cap_rows};
 ghost use Rattle.reg_office.specs.Counting.{cap_counts, counts as all_counts, entries_in};
 ghost use Rattle.reg_office.specs.Counting.{entry_counts, in_state as state_count, plus};
 ghost use Rattle.reg_office.specs.Counting.{request_counts, with_status as status_count};
@@ -14,7 +14,7 @@ use reg_core::text::Name;
 use reg_early::day::Day;
 use reg_early::term::Status;
 use reg_keeper::keeper::{Fault, Keeper};
-use reg_keeper::rows::CapRow;
+use reg_core::capability::CapRow;
 
 /// How many rows of each kind an office has.
 #[derive(Clone, Copy, Debug, PartialEq, Eq)]

@@ -6,7 +6,7 @@ ghost use Rattle.reg_core.specs.Command.{kind_of};
 ghost use Rattle.reg_core.specs.Names.{is_token};
 ghost use Rattle.reg_core.specs.Step.{answer_to};
 ghost use Rattle.reg_keeper.specs.Keeper.{MayFault, IsUnfailed, GoesOn, Selects};
-ghost use Rattle.reg_keeper.specs.Rows.{cap_rows};
+ghost use Rattle.reg_core.specs.CapRows.{cap_rows};
 ghost use Rattle.reg_commands.specs.Caller.{caller_of as caller, step_by, token_digest};
 ghost use Rattle.reg_office.specs.Counting.{counts};
 ghost use Rattle.reg_office.specs.Found.{WasFounded, IsCause, MayFound};
@@ -27,7 +27,7 @@ use reg_core::rows::Rows;
 use reg_core::told::Told;
 use reg_early::day::{Day, day_of};
 use reg_keeper::keeper::{Fault, Keeper};
-use reg_keeper::rows::CapRow;
+use reg_core::capability::CapRow;
 use std::alloc::Global;
 use std::marker::Model;
 

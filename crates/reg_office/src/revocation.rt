@@ -11,7 +11,7 @@ use reg_core::change::Change;
 use reg_core::rows::Rows;
 use reg_core::text::Account;
 use reg_keeper::keeper::{Fault, Keeper};
-use reg_keeper::rows::CapRow;
+use reg_core::capability::CapRow;
 use std::alloc::{AllocError, Global};
 
 /// Which capabilities are taken away.

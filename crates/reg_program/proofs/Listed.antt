@@ -13,7 +13,7 @@ use Rattle.jiff.specs.Types.{DateTime}
 use Rattle.jiff.specs.Words.{civil_nanos}
 use Rattle.jiff.proofs.SpanFacts.{signed_arith}
 use Rattle.reg_maps.specs.Maps.{pair_cmp, text_cmp}
-use Rattle.reg_keeper.specs.declared.rows.CapRow.{CapRow}
+use Rattle.reg_core.specs.declared.capability.CapRow.{CapRow}
 use Rattle.reg_print.specs.Records.{Adds}
 use Rattle.reg_print.proofs.PrintedTokens.{one_more}
 use Rattle.reg_program.specs.Printing.{Prints}

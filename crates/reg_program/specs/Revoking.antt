@@ -3,7 +3,7 @@ use Rattle.std.specs.Prelude.{◌≡◌, ◌⊎◌, ℕ, false, List, Option, Ok
 use Rattle.reg_core.specs.Names.{is_name}
 use Rattle.reg_core.specs.World.{World}
 use Rattle.reg_core.specs.declared.refusal.Refusal.TheVariants.{Own}
-use Rattle.reg_keeper.specs.declared.rows.CapRow.{CapRow}
+use Rattle.reg_core.specs.declared.capability.CapRow.{CapRow}
 use Rattle.reg_office.specs.Revocation.{HasClerkAt, IsPartlyRevoked, revoked, taken}
 use Rattle.reg_office.specs.declared.revocation.Choice.{Choice}
 use Rattle.reg_office.specs.declared.revocation.RevokeFault.{RevokeFault}

@@ -8,8 +8,8 @@ use Rattle.jiff.specs.Names.{iso_datetime_text}
 use Rattle.jiff.specs.Words.{civil_nanos}
 use Rattle.reg_maps.specs.Maps.{pair_cmp, text_cmp}
 use Rattle.reg_core.specs.World.{World}
-use Rattle.reg_keeper.specs.Rows.{cap_rows}
-use Rattle.reg_keeper.specs.declared.rows.CapRow.{CapRow}
+use Rattle.reg_core.specs.CapRows.{cap_rows}
+use Rattle.reg_core.specs.declared.capability.CapRow.{CapRow}
 use Rattle.reg_print.specs.Listing.{csv_text}
 use Rattle.reg_print.specs.Records.{Adds}
 use Rattle.reg_core.specs.Capability.{kind_word}

@@ -17,7 +17,7 @@ use reg_core::capability::Until;
 use reg_core::refusal::Refusal;
 use reg_core::text::{Account, Digest};
 use reg_keeper::keeper::Keeper;
-use reg_keeper::rows::CapRow;
+use reg_core::capability::CapRow;
 use reg_office::{Choice, Office, RevokeFault};
 use reg_print::listing::writing::{empty, text_of, write_record};
 use std::alloc::{AllocError, Global};

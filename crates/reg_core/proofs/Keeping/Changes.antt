@@ -1,5 +1,5 @@
 -- Changes that fit a well kept world.
-use Rattle.std.proofs.Common.{◌≡◌, ℕ, Bool, true, false, cond, ◌&&◌, List, refl, sym, ap, subst, ◌∙◌}
+use Rattle.std.proofs.Common.{◌≡◌, ℕ, Bool, true, false, cond, ◌&&◌, List, [], ◌∷◌, refl, sym, ap, subst, ◌∙◌}
 use Rattle.std.specs.Prelude.{Option, Some, None, IsSome, is_some, not}
 use Rattle.std.specs.Cmp.{first_so, second_so}
 use Rattle.std.specs.Cmp.Derive.{both_true}
@@ -19,11 +19,11 @@ use Rattle.reg_core.specs.MayBeGiven.{IsDuly, place_of}
 use Rattle.reg_core.specs.Names.{is_name}
 use Rattle.reg_core.specs.Request.{has_state_form}
 use Rattle.reg_core.specs.WellKept.{WellKept, CanApply, has_grant_form, has_registry_form, has_request_form, has_seat_form, is_open_at, is_registered_to, is_registered_at, is_size_asked, is_held_by, stands_in}
-use Rattle.reg_core.specs.World.{World, RequestName, Place, Link, place_cmp, in_state, pending, with_state}
+use Rattle.reg_core.specs.World.{World, RequestName, Place, Link, place_cmp, in_state, pending, with_state, without}
 use Rattle.reg_core.specs.declared.advice.Advice.{Advice}
 use Rattle.reg_core.specs.declared.ask.Ask.{Ask}
 use Rattle.reg_core.specs.declared.capability.Cap.{Cap}
-use Rattle.reg_core.specs.declared.change.Change.TheVariants.{Grant, Revoke, Define, AddPool, Submit, Close, Assign, Advise, GiveValue, SetHold, SetAgent}
+use Rattle.reg_core.specs.declared.change.Change.TheVariants.{Grant, Revoke, RevokeAll, Define, AddPool, Submit, Close, Assign, Advise, GiveValue, SetHold, SetAgent}
 use Rattle.reg_core.specs.declared.entry.Entry.{Entry}
 use Rattle.reg_core.specs.declared.entry.Registration.{Registration}
 use Rattle.reg_core.specs.declared.request.Case.{Case}
@@ -53,6 +53,22 @@ can_revoke w digest kept = (
   with_caps w kept (remove w.caps digest)
       (remove_keeps text_keys (λ digest cap. has_grant_form digest cap ≡ true) w.caps digest
       kept.caps),
+)
+
+without_keeps : (digests : List (List ℕ)) (caps : FinMap text_cmp Cap)
+    → ((digest : List ℕ) (cap : Cap) → get caps digest ≡ Some cap → has_grant_form digest cap ≡ true)
+    → (digest : List ℕ) (cap : Cap) → get (without digests caps) digest ≡ Some cap
+    → has_grant_form digest cap ≡ true
+without_keeps [] caps kept = kept
+without_keeps (digest ∷ digests) caps kept =
+    without_keeps digests (remove caps digest)
+    (remove_keeps text_keys (λ digest cap. has_grant_form digest cap ≡ true) caps digest kept)
+
+pub can_revoke_all : (w : World) (digests : List (List ℕ)) → WellKept w
+    → CanApply w (RevokeAll digests)
+can_revoke_all w digests kept = (
+  tt,
+  with_caps w kept (without digests w.caps) (without_keeps digests w.caps kept.caps),
 )
 
 pub can_define : (w : World) (name : List ℕ) (table : Table) → WellKept w

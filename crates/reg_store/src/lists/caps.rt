@@ -2,13 +2,13 @@
 ghost use Rattle.std.specs.Prelude.{◌≡◌, IfOk};
 ghost use Rattle.std.specs.FinMap as fin;
 ghost use Rattle.reg_maps.specs.Maps.{text_cmp, finite_map};
-ghost use Rattle.reg_keeper.specs.Rows.{cap_rows};
+ghost use Rattle.reg_core.specs.CapRows.{cap_rows};
 
 use crate::maps::{push_rows, row_at};
 use reg_core::capability::Cap;
 use reg_core::rows::Rows;
 use reg_core::text::Digest;
-use reg_keeper::rows::CapRow;
+use reg_core::capability::CapRow;
 use std::alloc::{AllocError, Global};
 use std::collections::BTreeMap;
 

@@ -4,14 +4,14 @@ ghost use Rattle.std.specs.FinMap as fin;
 ghost use Rattle.reg_core.specs.Link.{agent_rows, principal_names};
 ghost use Rattle.reg_core.specs.View.{agents_of, principals_of};
 ghost use Rattle.reg_core.specs.World.{with_link};
-ghost use Rattle.reg_keeper.specs.Rows.{link_rows};
+ghost use Rattle.reg_core.specs.Link.{link_rows};
 ghost use Rattle.reg_store.specs.Lists.Pairs.{AreMirrored, all_pairs, link_world};
 
 use crate::groups::{list_group, put_row, row_in, take_row};
 use crate::maps::push_rows;
 use reg_core::rows::Rows;
 use reg_core::text::Account;
-use reg_keeper::rows::LinkRow;
+use reg_core::link::LinkRow;
 use std::alloc::{AllocError, Global};
 use std::collections::BTreeMap;
 

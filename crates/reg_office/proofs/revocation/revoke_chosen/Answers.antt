@@ -1,5 +1,5 @@
 use Rattle.std.proofs.Common.{◌≡◌, List, Ok, sym, ap, subst, ◌∙◌}
-use Rattle.reg_keeper.specs.declared.rows.CapRow.{CapRow}
+use Rattle.reg_core.specs.declared.capability.CapRow.{CapRow}
 use Rattle.reg_office.specs.Revocation.{HasClerkAt, revoked, taken, taken_of}
 use Rattle.reg_office.proofs.Revocations.{clerk_stays, may_revoke}
 use Rattle.reg_office.proofs.revocation.revoke_chosen.Goals as goal

@@ -1,5 +1,5 @@
 use Rattle.std.proofs.Common.{List, ℕ, subst, sym, rules}
-use Rattle.reg_keeper.specs.declared.rows.CapRow.{CapRow}
+use Rattle.reg_core.specs.declared.capability.CapRow.{CapRow}
 use Rattle.reg_program.specs.Tokens.{HasRecords, IsTable}
 use Rattle.reg_program.proofs.Listed.{in_places, prints}
 use Rattle.reg_program.proofs.tokens.print_rows.Goals as goal

@@ -1,5 +1,5 @@
 use Rattle.std.proofs.Common.{List, subst}
-use Rattle.reg_keeper.specs.declared.rows.CapRow.{CapRow}
+use Rattle.reg_core.specs.declared.capability.CapRow.{CapRow}
 use Rattle.reg_program.specs.Printing.{Prints}
 use Rattle.reg_program.specs.Tokens.{IsTable}
 use Rattle.reg_program.proofs.Did.{ends_printing}

@@ -1,6 +1,6 @@
 use Rattle.std.proofs.Common.{List, subst, ◌∙◌}
 use Rattle.std.proofs.lemmas.Result.{err_from_is_err_and}
-use Rattle.reg_keeper.specs.declared.rows.CapRow.{CapRow}
+use Rattle.reg_core.specs.declared.capability.CapRow.{CapRow}
 use Rattle.reg_program.specs.Printing.{Prints}
 use Rattle.reg_program.specs.Tokens.{IsTable}
 use Rattle.reg_program.proofs.Did.{ends_printing, fault_is_common, printing_is_common, stops}

@@ -14,7 +14,8 @@ use reg_core::request::Request;
 use reg_core::rows::Rows;
 use reg_core::text::{Account, Digest, Name, Ref};
 use reg_keeper::keeper::{Fault, Keeper};
-use reg_keeper::rows::{CapRow, LinkRow};
+use reg_core::capability::CapRow;
+use reg_core::link::LinkRow;
 use reg_ranges::policy::Policy;
 use reg_ranges::table::RangeTable;
 

@@ -1,7 +1,7 @@
 use Rattle.std.proofs.Common.{◌++◌, ap, sym, ◌∙◌, map, rules}
 use Rattle.reg_maps.proofs.MapLaws.{text_keys}
 use Rattle.reg_maps.proofs.FiniteMaps.InOrder.{entries-finite_map}
-use Rattle.reg_keeper.specs.Rows.{cap_row}
+use Rattle.reg_core.specs.CapRows.{cap_row}
 use Rattle.reg_store.proofs.lists.caps.caps_in.Goals as goal
 
 pub returns : goal.returns

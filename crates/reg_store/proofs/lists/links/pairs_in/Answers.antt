@@ -10,8 +10,8 @@ use Rattle.reg_maps.specs.Groups.{rows_in, group_rows}
 use Rattle.reg_maps.proofs.MapLaws.{text_keys}
 use Rattle.reg_maps.proofs.FiniteMaps.InOrder.{entries-pair_map, rows_in-push, map-group_rows}
 use Rattle.reg_core.specs.World.{Link}
-use Rattle.reg_keeper.specs.declared.rows.LinkRow.{LinkRow}
-use Rattle.reg_keeper.specs.Rows.{link_row}
+use Rattle.reg_core.specs.declared.link.LinkRow.{LinkRow}
+use Rattle.reg_core.specs.Link.{link_row}
 use Rattle.reg_store.proofs.lists.links.pairs_in.Goals as goal
 
 abbrev listed : List (Link × (Unit {0})) → List LinkRow

@@ -4,7 +4,7 @@ use Rattle.std.specs.BTreeMap.{IsOrdered}
 use Rattle.std.specs.Map.Iter.{deref_pair}
 use Rattle.reg_maps.specs.Maps.{text_cmp}
 use Rattle.reg_maps.specs.Groups.{rows_in}
-use Rattle.reg_keeper.specs.Rows.{link_row}
+use Rattle.reg_core.specs.Link.{link_row}
 use Rattle.reg_store.proofs.lists.links.pairs_in.Given as goal
 
 abbrev pub invariant-loop-principal : goal.invariant-loop-principal
