@@ -29,6 +29,6 @@ pub use grant::decide_grant;
 pub use hold::decide_hold;
 pub use pool::decide_pool;
 pub use private::decide_private;
-pub use revoke::decide_revoke;
+pub use revoke::{decide_revoke, decide_revoke_account, decide_revoke_digits};
 pub use submit::decide_submit;
 pub use withdraw::decide_withdraw;
