@@ -1,6 +1,6 @@
 -- What each rule decides to change fits the world over whose rows it was decided, and so does what
 -- each step changes.
-use Rattle.std.proofs.Common.{◌≡◌, ℕ, Bool, true, List, refl, ap, subst, arith}
+use Rattle.std.proofs.Common.{◌≡◌, ℕ, Bool, true, List, map, refl, ap, subst, arith}
 use Rattle.std.proofs.lemmas.Bool.Decides.{nat_tests}
 use Rattle.std.specs.Cmp.{first_so, second_so}
 use Rattle.std.specs.Cmp.Derive.{both_true}
@@ -18,7 +18,7 @@ use Rattle.reg_core.specs.Capability.{last_until, has_cap_form}
 use Rattle.reg_core.specs.Entry.{has_day_form}
 use Rattle.reg_core.specs.Laws.{GivesDigests, ChangesFit, IsOfAsk}
 use Rattle.reg_core.specs.Names.{is_name, is_digest}
-use Rattle.reg_core.specs.Rules.{withdraw_rule, private_rule, agent_rule, decline_rule, hold_rule, assign_rule, advise_rule, change_to_give, approve_rule, define_rule, pool_rule, grant_rule, revoke_rule, submit_rule}
+use Rattle.reg_core.specs.Rules.{withdraw_rule, private_rule, agent_rule, decline_rule, hold_rule, assign_rule, advise_rule, change_to_give, approve_rule, define_rule, pool_rule, grant_rule, revoke_rule, revoke_digits_rule, revoke_account_rule, submit_rule}
 use Rattle.reg_core.specs.View.{Queued, published, cap_at}
 use Rattle.reg_core.specs.WellKept.{WellKept, CanApply, has_grant_form, has_registry_form, has_request_form}
 use Rattle.reg_core.specs.World.{World, Link, Place, RequestName, pending}
@@ -27,9 +27,10 @@ use Rattle.reg_core.specs.declared.ask.Ask.{Ask}
 use Rattle.reg_core.specs.declared.ask.Ask.TheVariants.{Block}
 use Rattle.reg_blocks.specs.Block.{SizedPrefix}
 use Rattle.reg_core.specs.declared.capability.Cap.{Cap}
+use Rattle.reg_core.specs.declared.capability.CapRow.{CapRow}
 use Rattle.reg_core.specs.declared.holding.Holder.{Holder}
 use Rattle.reg_core.specs.declared.change.Change.{Change}
-use Rattle.reg_core.specs.declared.change.Change.TheVariants.{Grant, Revoke, Define, AddPool, Submit, Close, Assign, Advise, GiveValue, GiveBlock, SetPrivate, SetHold, SetAgent}
+use Rattle.reg_core.specs.declared.change.Change.TheVariants.{Grant, Revoke, RevokeAll, Define, AddPool, Submit, Close, Assign, Advise, GiveValue, GiveBlock, SetPrivate, SetHold, SetAgent}
 use Rattle.reg_core.specs.declared.decide.Decision.TheVariants.{Make}
 use Rattle.reg_core.specs.declared.entry.Registration.{Registration}
 use Rattle.reg_core.specs.declared.refusal.Refusal.{Refusal}
@@ -38,9 +39,9 @@ use Rattle.reg_core.specs.declared.request.Given.{Given}
 use Rattle.reg_core.specs.declared.request.State.TheVariants.{Pending, Approved, Declined, Withdrawn}
 use Rattle.reg_decisions.proofs.Allowances.{allowed_duly, allowed_of_ask, allows_block}
 use Rattle.reg_decisions.proofs.Blocks.{due_is_due}
-use Rattle.reg_core.proofs.Keeping.Changes.{can_grant, can_revoke, can_define, can_add_pool, can_submit, can_close, can_assign, can_advise, can_give, can_hold, can_link}
+use Rattle.reg_core.proofs.Keeping.Changes.{can_grant, can_revoke, can_revoke_all, can_define, can_add_pool, can_submit, can_close, can_assign, can_advise, can_give, can_hold, can_link}
 use Rattle.reg_decisions.proofs.Keeping.Blocks.{can_give_block, can_mark}
-use Rattle.reg_decisions.proofs.Outcomes.Deciding.{where_made, Defines, Pools, Grants, Revokes, Submits, Withdraws, Lists, Links, Declines, HoldsEntry, Assigns, Advises, Approves, define_decides, pool_decides, grant_decides, revoke_decides, submit_decides, withdraw_decides, listing_decides, agent_decides, decline_decides, hold_decides, assign_decides, advise_decides, approve_decides}
+use Rattle.reg_decisions.proofs.Outcomes.Deciding.{where_made, Defines, Pools, Grants, Revokes, RevokesOne, RevokesAll, Submits, Withdraws, Lists, Links, Declines, HoldsEntry, Assigns, Advises, Approves, define_decides, pool_decides, grant_decides, revoke_decides, revoke_digits_decides, revoke_account_decides, submit_decides, withdraw_decides, listing_decides, agent_decides, decline_decides, hold_decides, assign_decides, advise_decides, approve_decides}
 use Rattle.reg_decisions.proofs.Outcomes.Dues.{Due, has_change_form, changes_due}
 use Rattle.reg_core.proofs.Queues.{IsQueued}
 
@@ -77,6 +78,19 @@ revoke_fits w in_use digest change kept made =
     where_made (Revokes in_use (get w.caps digest) digest) _ change
     (revoke_decides in_use (get w.caps digest) digest) made (CanApply w)
     (λ facts. can_revoke w digest kept)
+
+-- a revocation of capabilities that were chosen fits each world, if it is to be made
+pub revoke_digits_fits : (w : World) (in_use : List ℕ) (rows : List CapRow) (change : Change)
+    → WellKept w → revoke_digits_rule in_use rows ≡ Ok (Make change) → CanApply w change
+revoke_digits_fits w in_use rows change kept made =
+    where_made (RevokesOne in_use rows) _ change (revoke_digits_decides in_use rows) made
+    (CanApply w) (λ facts. can_revoke w facts.1.digest kept)
+
+pub revoke_account_fits : (w : World) (in_use : List ℕ) (rows : List CapRow) (change : Change)
+    → WellKept w → revoke_account_rule in_use rows ≡ Ok (Make change) → CanApply w change
+revoke_account_fits w in_use rows change kept made =
+    where_made (RevokesAll in_use rows) _ change (revoke_account_decides in_use rows) made
+    (CanApply w) (λ facts. can_revoke_all w (map (λ row. row.digest) rows) kept)
 
 -- a request that is to be made fits the world that has this request, or none, under the name,
 -- whatever made it allowed
@@ -223,6 +237,7 @@ module _ (w : World) (kept : WellKept w) (caller : Option (List ℕ)) (moment : 
       → CanApply w change
   due_fits (Grant digest cap) due form = can_grant w digest cap kept form due.1
   due_fits (Revoke digest) due form = can_revoke w digest kept
+  due_fits (RevokeAll digests) due form = can_revoke_all w digests kept
   due_fits (Define name table) due form = can_define w name table kept form due.1
   due_fits (AddPool prefix) due form = can_add_pool w prefix kept due.1 due.2
   due_fits (Submit account reference ask) due form =

@@ -9,8 +9,10 @@ use Rattle.std.specs.FinMap.{get, contains_key, keys}
 use Rattle.reg_early.specs.Moment.{is_in_clock, utc_day}
 use Rattle.reg_core.specs.Allowance.{◌>>=◌, or_refusal, allowed, ground_of}
 use Rattle.reg_core.specs.Answer.{Outcome, Answer, change_by, by_rule, case_by, own_row, made_row, item, public_answer, as_kind, own_answer, expert_answer, answer_at, answer}
+use Rattle.reg_core.specs.CapRows.{begins_with, is_of, cap_list, caps_that}
 use Rattle.reg_core.specs.Capability.{same_kind}
-use Rattle.reg_core.specs.File.{file, was_advised}
+use Rattle.reg_core.specs.Counting.{counts}
+use Rattle.reg_core.specs.File.{file, waiting_files, was_advised}
 use Rattle.reg_core.specs.Entry.{page_entry, with_hold}
 use Rattle.reg_core.specs.Holding.{holding_row, holding_rows, listed_rows, with_mark}
 use Rattle.reg_core.specs.Link.{agent_rows, principal_names}
@@ -31,7 +33,7 @@ use Rattle.reg_core.specs.declared.command.ApplicantCommand.TheVariants.{Own, Ow
 use Rattle.reg_core.specs.declared.command.ExpertCommand.{ExpertCommand}
 use Rattle.reg_core.specs.declared.command.ExpertCommand.TheVariants.{Queue, Advise}
 use Rattle.reg_core.specs.declared.command.ClerkCommand.{ClerkCommand}
-use Rattle.reg_core.specs.declared.command.ClerkCommand.TheVariants.{AllRequests, OneRequest, AssignExpert, Approve, Decline, SetHold, Define, AddPool, Grant, Revoke}
+use Rattle.reg_core.specs.declared.command.ClerkCommand.TheVariants.{AllRequests, OneRequest, AssignExpert, Approve, Decline, SetHold, Define, AddPool, Grant, Revoke, PendingRequests, AllCapabilities, RevokeDigits, RevokeAccount, CountRows}
 use Rattle.reg_core.specs.declared.command.PublicCommand.{PublicCommand}
 use Rattle.reg_core.specs.declared.command.PublicCommand.TheVariants.{Registries, Registry, RegistryListing, PoolList, BlockListing}
 use Rattle.reg_core.specs.declared.told.Told.{Told}
@@ -43,7 +45,7 @@ use Rattle.reg_blocks.specs.Block.{SizedPrefix}
 use Rattle.reg_core.specs.declared.holding.Holder.{Holder}
 use Rattle.reg_core.specs.declared.request.Case.{Case}
 use Rattle.reg_core.proofs.Cases.{by_test}
-use Rattle.reg_decisions.proofs.Outcomes.Deciding.{Rule, Decides, Defines, Pools, Grants, Revokes, Submits, Withdraws, Lists, Links, Declines, HoldsEntry, Assigns, Advises, Approves, define_decides, pool_decides, grant_decides, revoke_decides, submit_decides, withdraw_decides, listing_decides, agent_decides, decline_decides, hold_decides, assign_decides, advise_decides, approve_decides}
+use Rattle.reg_decisions.proofs.Outcomes.Deciding.{Rule, Decides, Defines, Pools, Grants, Revokes, RevokesOne, RevokesAll, Submits, Withdraws, Lists, Links, Declines, HoldsEntry, Assigns, Advises, Approves, define_decides, pool_decides, grant_decides, revoke_decides, revoke_digits_decides, revoke_account_decides, submit_decides, withdraw_decides, listing_decides, agent_decides, decline_decides, hold_decides, assign_decides, advise_decides, approve_decides}
 use Rattle.reg_core.proofs.Queues.{queued_found}
 use Rattle.reg_decisions.proofs.Blocks.{holding_found}
 use Rattle.reg_core.proofs.Links.{own_agent, own_principal, own_principal_rows}
@@ -133,40 +135,52 @@ ExpertSo w account (Advise applicant reference advice) o =
     (λ decision. item (applicant, reference) (with_advice advice (as_queued old case))) o)
 
 -- a clerk whose own token has the digest in_use
-abbrev pub ClerkSo : (List ℕ → List ℕ) → World → List ℕ → ℕ → ClerkCommand → Outcome → Type 0
-ClerkSo digest_of w in_use today AllRequests o = Tells (tells.Desks (request_rows w.requests)) o
-ClerkSo digest_of w in_use today (OneRequest account reference) o =
+abbrev pub ClerkSo : (List ℕ → List ℕ) → World → List ℕ → ℕ → ℕ → ClerkCommand → Outcome → Type 0
+ClerkSo digest_of w in_use moment today AllRequests o = Tells (tells.Desks (request_rows w.requests)) o
+ClerkSo digest_of w in_use moment today (OneRequest account reference) o =
     Row (get w.requests (account, reference))
     (λ case. Tells (tells.Filed (file w (account, reference) case)) o)
-ClerkSo digest_of w in_use today (AssignExpert account reference expert) o =
+ClerkSo digest_of w in_use moment today (AssignExpert account reference expert) o =
     Row (get w.requests (account, reference)) (λ case.
     Comes (Assigns (account, reference) expert
     (contains_key w.queue ((account, reference), expert)) case.state)
     (desk_by (account, reference) case) o)
-ClerkSo digest_of w in_use today (Approve account reference) o =
+ClerkSo digest_of w in_use moment today (Approve account reference) o =
     Row (get w.requests (account, reference)) (λ case.
     Comes (Approves (ground_of (published w) case.ask) (was_advised w (account, reference))
     (account, reference) case.ask today case.state)
     (desk_by (account, reference) case) o)
-ClerkSo digest_of w in_use today (Decline account reference reason) o =
+ClerkSo digest_of w in_use moment today (Decline account reference reason) o =
     Row (get w.requests (account, reference))
     (λ case. Comes (Declines (account, reference) reason case.state)
     (desk_by (account, reference) case) o)
-ClerkSo digest_of w in_use today (SetHold name value held) o =
+ClerkSo digest_of w in_use moment today (SetHold name value held) o =
     Row (get w.registries name) (λ table.
     Row (get w.entries (name, value)) (λ a.
     Comes (HoldsEntry (name, value) held a.term today)
     (λ decision. tells.Marked (page_entry today value (with_hold held a))) o))
-ClerkSo digest_of w in_use today (Define name table) o =
+ClerkSo digest_of w in_use moment today (Define name table) o =
     Comes (Defines (get w.registries name) name table) (λ decision. tells.Defined name) o
-ClerkSo digest_of w in_use today (AddPool prefix) o =
+ClerkSo digest_of w in_use moment today (AddPool prefix) o =
     Comes (Pools (contains_key w.pool prefix) prefix) (λ decision. tells.Pooled prefix) o
-ClerkSo digest_of w in_use today (Grant token cap) o =
+ClerkSo digest_of w in_use moment today (Grant token cap) o =
     Comes (Grants (get w.caps (digest_of token)) (digest_of token) cap)
     (λ decision. tells.Granted cap) o
-ClerkSo digest_of w in_use today (Revoke token) o =
+ClerkSo digest_of w in_use moment today (Revoke token) o =
     Comes (Revokes in_use (get w.caps (digest_of token)) (digest_of token))
     (λ decision. tells.Revoked) o
+ClerkSo digest_of w in_use moment today PendingRequests o =
+    Tells (tells.Cases (waiting_files w)) o
+ClerkSo digest_of w in_use moment today AllCapabilities o =
+    Tells (tells.Capabilities (cap_list w.caps)) o
+ClerkSo digest_of w in_use moment today (RevokeDigits digits) o =
+    let rows = caps_that (begins_with digits) w.caps in
+    Comes (RevokesOne in_use rows) (λ decision. tells.Capabilities rows) o
+ClerkSo digest_of w in_use moment today (RevokeAccount account) o =
+    let rows = caps_that (is_of account) w.caps in
+    Comes (RevokesAll in_use rows) (λ decision. tells.Capabilities rows) o
+ClerkSo digest_of w in_use moment today CountRows o =
+    Tells (tells.Counts (counts moment today w)) o
 
 -- ---- Whose command it was
 
@@ -191,7 +205,7 @@ module _ (digest_of : List ℕ → List ℕ) (w : World) (caller : Option (List 
   CommandSo (Expert command) o =
       (by : Serves w caller moment kind.Expert) × ExpertSo w by.cap.account command o
   CommandSo (Clerk command) o =
-      (by : ClerkServes w caller moment) × ClerkSo digest_of w by.digest (utc_day moment) command o
+      (by : ClerkServes w caller moment) × ClerkSo digest_of w by.digest moment (utc_day moment) command o
 
 -- the office was open, and this was so
 pub record IsAccepted (digest_of : List ℕ → List ℕ) (w : World) (caller : Option (List ℕ))
@@ -298,37 +312,44 @@ module _ (w : World) (today : ℕ) where
       (advise_decides name account advice (get w.advice (name, account))
       (word_of is.case.state)))))
 
-  clerk_so : (digest_of : List ℕ → List ℕ) (in_use : List ℕ) (command : ClerkCommand)
-      → IfOk (clerk_answer digest_of w in_use today command)
-      (ClerkSo digest_of w in_use today command)
-  clerk_so digest_of in_use AllRequests = refl
-  clerk_so digest_of in_use (OneRequest account reference) =
+  clerk_so : (digest_of : List ℕ → List ℕ) (in_use : List ℕ) (moment : ℕ) (command : ClerkCommand)
+      → IfOk (clerk_answer digest_of w in_use moment today command)
+      (ClerkSo digest_of w in_use moment today command)
+  clerk_so digest_of in_use moment AllRequests = refl
+  clerk_so digest_of in_use moment (OneRequest account reference) =
       row_so no.Request (get w.requests (account, reference)) _ _ (λ case is. refl)
-  clerk_so digest_of in_use (AssignExpert account reference expert) =
+  clerk_so digest_of in_use moment (AssignExpert account reference expert) =
       row_so no.Request (get w.requests (account, reference)) _ _ (λ case is.
       rule_so _ _ _
       (assign_decides (account, reference) expert
       (contains_key w.queue ((account, reference), expert)) case.state))
-  clerk_so digest_of in_use (Approve account reference) =
+  clerk_so digest_of in_use moment (Approve account reference) =
       row_so no.Request (get w.requests (account, reference)) _ _ (λ case is.
       rule_so _ _ _
       (approve_decides (ground_of (published w) case.ask) (was_advised w (account, reference))
       (account, reference) case.ask today case.state))
-  clerk_so digest_of in_use (Decline account reference reason) =
+  clerk_so digest_of in_use moment (Decline account reference reason) =
       row_so no.Request (get w.requests (account, reference)) _ _
       (λ case is. rule_so _ _ _ (decline_decides (account, reference) reason case.state))
-  clerk_so digest_of in_use (SetHold name value held) =
+  clerk_so digest_of in_use moment (SetHold name value held) =
       row_so no.Registry (get w.registries name) _ _ (λ table is.
       row_so no.Entry (get w.entries (name, value)) _ _ (λ a is.
       rule_so _ _ _ (hold_decides (name, value) held a.term today)))
-  clerk_so digest_of in_use (Define name table) =
+  clerk_so digest_of in_use moment (Define name table) =
       rule_so _ _ _ (define_decides (get w.registries name) name table)
-  clerk_so digest_of in_use (AddPool prefix) =
+  clerk_so digest_of in_use moment (AddPool prefix) =
       rule_so _ _ _ (pool_decides (contains_key w.pool prefix) prefix)
-  clerk_so digest_of in_use (Grant token cap) =
+  clerk_so digest_of in_use moment (Grant token cap) =
       rule_so _ _ _ (grant_decides (get w.caps (digest_of token)) (digest_of token) cap)
-  clerk_so digest_of in_use (Revoke token) =
+  clerk_so digest_of in_use moment (Revoke token) =
       rule_so _ _ _ (revoke_decides in_use (get w.caps (digest_of token)) (digest_of token))
+  clerk_so digest_of in_use moment PendingRequests = refl
+  clerk_so digest_of in_use moment AllCapabilities = refl
+  clerk_so digest_of in_use moment (RevokeDigits digits) =
+      rule_so _ _ _ (revoke_digits_decides in_use (caps_that (begins_with digits) w.caps))
+  clerk_so digest_of in_use moment (RevokeAccount account) =
+      rule_so _ _ _ (revoke_account_decides in_use (caps_that (is_of account) w.caps))
+  clerk_so digest_of in_use moment CountRows = refl
 
 -- ---- Who is served
 
@@ -430,17 +451,17 @@ module _ (digest_of : List ℕ → List ℕ) (w : World) where
   answer_to_so (Some digest) moment (Clerk given) =
       let P = IsAccepted digest_of w (Some digest) moment (Clerk given) in
       by_test (λ a. IfOk a P) (acts_as_clerk (get w.caps digest) moment)
-      (clerk_answer digest_of w digest (utc_day moment) given)
+      (clerk_answer digest_of w digest moment (utc_day moment) given)
       (answer (view_of w (Some digest)) moment (Clerk given))
       (λ acts.
       let now = first_so (is_in_clock moment) (is_clerk (get w.caps digest) moment) acts in
       let serves =
       clerk_serves w digest moment
       (second_so (is_in_clock moment) (is_clerk (get w.caps digest) moment) acts) in
-      IfOk-weaker _ (ClerkSo digest_of w digest (utc_day moment) given) P
+      IfOk-weaker _ (ClerkSo digest_of w digest moment (utc_day moment) given) P
       (λ o so. record
       { is_open = now; so = (record { digest = digest; is = refl; serves = serves }, so) })
-      (clerk_so w (utc_day moment) digest_of digest given))
+      (clerk_so w (utc_day moment) digest_of digest moment given))
       (λ other. view_so w (Some digest) moment digest_of (Clerk given))
 
   -- of each accepted command that is so

@@ -1,6 +1,6 @@
 -- What was so of the rows where a rule has decided: that all was there already, or that this
 -- change is made.
-use Rattle.std.proofs.Common.{◌≡◌, ℕ, Bool, true, false, not, ◌&&◌, List, refl, sym, ap, subst, ◌∙◌}
+use Rattle.std.proofs.Common.{◌≡◌, ℕ, Bool, true, false, not, ◌&&◌, List, [], ◌∷◌, map, refl, sym, ap, subst, ◌∙◌}
 use Rattle.std.proofs.lemmas.Result.{IfOk-at_ok}
 use Rattle.std.proofs.lemmas.Slice.Eq.{bytes_eq-Decides}
 use Rattle.std.specs.Prelude.{Option, Some, None, Result, Ok, Err, IfOk, IsSome, is_some, if◌then◌else◌}
@@ -19,13 +19,14 @@ use Rattle.reg_core.specs.Advice.{is_given}
 use Rattle.reg_core.specs.Laws.{IsApproved}
 use Rattle.reg_core.specs.Ask.{same_ask}
 use Rattle.reg_core.specs.Capability.{same_cap}
-use Rattle.reg_core.specs.Rules.{withdraw_rule, private_rule, link_rule, agent_rule, new_hold_rule, mark_rule, hold_rule, decline_rule, assign_rule, new_advice_rule, advise_rule, change_to_give, give_rule, approve_rule, define_rule, pool_rule, grant_rule, revoke_rule, submit_rule}
+use Rattle.reg_core.specs.Rules.{withdraw_rule, private_rule, link_rule, agent_rule, new_hold_rule, mark_rule, hold_rule, decline_rule, assign_rule, new_advice_rule, advise_rule, change_to_give, give_rule, approve_rule, define_rule, pool_rule, grant_rule, revoke_rule, has_token, one_rule, revoke_digits_rule, all_rule, revoke_account_rule, submit_rule}
 use Rattle.reg_core.specs.World.{RequestName, Place, Link}
 use Rattle.reg_core.specs.declared.advice.Advice.{Advice as AdviceOf}
 use Rattle.reg_core.specs.declared.ask.Ask.{Ask}
 use Rattle.reg_core.specs.declared.capability.Cap.{Cap}
+use Rattle.reg_core.specs.declared.capability.CapRow.{CapRow}
 use Rattle.reg_core.specs.declared.change.Change.{Change}
-use Rattle.reg_core.specs.declared.change.Change.TheVariants.{Grant, Revoke, Define, AddPool, Submit, Close, Assign, Advise, SetPrivate, SetHold, SetAgent}
+use Rattle.reg_core.specs.declared.change.Change.TheVariants.{Grant, Revoke, RevokeAll, Define, AddPool, Submit, Close, Assign, Advise, SetPrivate, SetHold, SetAgent}
 use Rattle.reg_core.specs.declared.decide.Decision.{Decision}
 use Rattle.reg_core.specs.declared.decide.Decision.TheVariants.{Make, Same}
 use Rattle.reg_core.specs.declared.refusal.Refusal.{Refusal}
@@ -147,6 +148,48 @@ pub revoke_decides : (in_use : List ℕ) (existing : Option Cap) (digest : List 
 revoke_decides in_use existing digest =
     branches (Revokes in_use existing digest) (same_text in_use digest) (Err Own)
     (revoke_other existing digest) (λ own. tt) (revoke_other_decides in_use existing digest)
+
+-- ---- Revocations of those that were chosen
+
+-- the token in use is not among them; none is there, or just one, which goes
+abbrev pub RevokesOne : List ℕ → List CapRow → Rule
+RevokesOne in_use rows = record {
+  there = (has_token in_use rows ≡ false) × (rows ≡ []);
+  made = (has_token in_use rows ≡ false) × (row : CapRow) × (rows ≡ row ∷ []);
+  change = λ one. Revoke one.1.digest;
+}
+
+one_decides : (in_use : List ℕ) (rows : List CapRow) → has_token in_use rows ≡ false
+    → IfOk (one_rule rows) (Decides (RevokesOne in_use rows))
+one_decides in_use [] other = (other, refl)
+one_decides in_use (row ∷ []) other = ((other, row, refl), refl)
+one_decides in_use (row ∷ next ∷ rows) other = tt
+
+pub revoke_digits_decides : (in_use : List ℕ) (rows : List CapRow)
+    → IfOk (revoke_digits_rule in_use rows) (Decides (RevokesOne in_use rows))
+revoke_digits_decides in_use rows =
+    branches (RevokesOne in_use rows) (has_token in_use rows) (Err Own) (one_rule rows)
+    (λ own. tt) (one_decides in_use rows)
+
+-- the token in use is not among them; none is there, or all go
+abbrev pub RevokesAll : List ℕ → List CapRow → Rule
+RevokesAll in_use rows = record {
+  there = (has_token in_use rows ≡ false) × (rows ≡ []);
+  made = (has_token in_use rows ≡ false)
+      × (row : CapRow) × (others : List CapRow) × (rows ≡ row ∷ others);
+  change = λ some. RevokeAll (map (λ row. row.digest) rows);
+}
+
+all_decides : (in_use : List ℕ) (rows : List CapRow) → has_token in_use rows ≡ false
+    → Decides (RevokesAll in_use rows) (all_rule rows)
+all_decides in_use [] other = (other, refl)
+all_decides in_use (row ∷ rows) other = ((other, row, rows, refl), refl)
+
+pub revoke_account_decides : (in_use : List ℕ) (rows : List CapRow)
+    → IfOk (revoke_account_rule in_use rows) (Decides (RevokesAll in_use rows))
+revoke_account_decides in_use rows =
+    branches (RevokesAll in_use rows) (has_token in_use rows) (Err Own) (Ok (all_rule rows))
+    (λ own. tt) (all_decides in_use rows)
 
 -- ---- Requests
 

@@ -1,10 +1,11 @@
 -- What was so when a step made a change: who gave the command, and the rows that the change is
 -- about.
-use Rattle.std.proofs.Common.{◌≡◌, ℕ, Bool, true, false, ◌&&◌, not, List, refl, sym, ap, subst, ◌∙◌}
+use Rattle.std.proofs.Common.{◌≡◌, ℕ, Bool, true, false, ◌&&◌, not, List, [], refl, sym, ap, subst, ◌∙◌}
 use Rattle.std.specs.Cmp.{first_so, second_so}
 use Rattle.std.specs.Cmp.Derive.{both_true}
-use Rattle.std.specs.Prelude.{Option, Some, None, Ok, Err, IsSome}
+use Rattle.std.specs.Prelude.{Option, Some, None, Ok, Err, IsSome, All}
 use Rattle.std.specs.FinMap.{get, contains_key}
+use Rattle.std.proofs.lemmas.List.Elements.{All-head, All-map}
 use Rattle.reg_maps.specs.Maps.{same_text}
 use Rattle.reg_blocks.specs.Block.{SizedPrefix}
 use Rattle.reg_blocks.specs.Pool.{is_pool_prefix}
@@ -18,6 +19,7 @@ use Rattle.reg_core.specs.Award.{Award, AwardedEntry, awarded_entry, new_holding
 use Rattle.reg_core.specs.Answer.{Outcome, Answer, change_of, change_by}
 use Rattle.reg_core.specs.Ask.{has_ask_form}
 use Rattle.reg_core.specs.BlocksGiven.{IsDueIn}
+use Rattle.reg_core.specs.CapRows.{begins_with, is_of, caps_that}
 use Rattle.reg_core.specs.Capability.{has_cap_form}
 use Rattle.reg_core.specs.Command.{own_name, about, has_command_form}
 use Rattle.reg_core.specs.File.{was_advised}
@@ -33,9 +35,10 @@ use Rattle.reg_core.specs.declared.ask.Ask.{Ask}
 use Rattle.reg_core.specs.declared.ask.Ask.TheVariants.{Block}
 use Rattle.reg_core.specs.declared.ask.BlockAsk.{BlockAsk}
 use Rattle.reg_core.specs.declared.capability.Cap.{Cap}
+use Rattle.reg_core.specs.declared.capability.CapRow.{CapRow}
 use Rattle.reg_core.specs.declared.capability.Kind.TheVariants as kind
 use Rattle.reg_core.specs.declared.change.Change.{Change}
-use Rattle.reg_core.specs.declared.change.Change.TheVariants.{Grant, Revoke, Define, AddPool, Submit, Close, Assign, Advise, GiveValue, GiveBlock, SetPrivate, SetHold, SetAgent}
+use Rattle.reg_core.specs.declared.change.Change.TheVariants.{Grant, Revoke, RevokeAll, Define, AddPool, Submit, Close, Assign, Advise, GiveValue, GiveBlock, SetPrivate, SetHold, SetAgent}
 use Rattle.reg_core.specs.declared.command.Command.{Command}
 use Rattle.reg_core.specs.declared.command.Command.TheVariants.{Public, Applicant, Expert, Clerk}
 use Rattle.reg_core.specs.declared.command.ApplicantCommand.TheVariants as applicant
@@ -57,6 +60,7 @@ use Rattle.reg_core.specs.declared.request.StateWord.TheVariants as word
 use Rattle.reg_decisions.proofs.Outcomes.Deciding.{Rule, Decides}
 use Rattle.reg_decisions.proofs.Allowances.{allowed_of_ask, allows_block}
 use Rattle.reg_decisions.proofs.Blocks.{due_is_due}
+use Rattle.reg_decisions.proofs.Chosen.{IsOther, chosen_others}
 use Rattle.reg_decisions.proofs.Outcomes.Accepted.{Tells, Comes, Row, Serves, ClerkServes, IsAccepted, accepted}
 
 -- ---- What was so, by the change
@@ -125,8 +129,9 @@ pub record MarksEntry (w : World) (today : ℕ) (place : Place) (held : Bool) : 
 abbrev pub Due : World → Option (List ℕ) → ℕ → Change → Type 0
 Due w caller moment (Grant digest cap) = ClerkServes w caller moment × (get w.caps digest ≡ None)
 Due w caller moment (Revoke digest) =
-    (by : ClerkServes w caller moment) × (same_text by.digest digest ≡ false)
-    × IsSome (get w.caps digest)
+    (by : ClerkServes w caller moment) × IsOther w.caps by.digest digest
+Due w caller moment (RevokeAll digests) =
+    (by : ClerkServes w caller moment) × All (IsOther w.caps by.digest) digests
 Due w caller moment (Define name table) =
     ClerkServes w caller moment × (get w.registries name ≡ None)
 Due w caller moment (AddPool prefix) =
@@ -161,6 +166,7 @@ Due w caller moment (SetAgent principal agent reads) =
 abbrev pub change_about : Change → Option RequestName
 change_about (Grant digest cap) = None
 change_about (Revoke digest) = None
+change_about (RevokeAll digests) = None
 change_about (Define name table) = None
 change_about (AddPool prefix) = None
 change_about (Submit account reference ask) = Some (account, reference)
@@ -183,6 +189,7 @@ has_reason_form Withdrawn = true
 abbrev pub has_change_form : Change → Bool
 has_change_form (Grant digest cap) = has_grant_form digest cap
 has_change_form (Revoke digest) = true
+has_change_form (RevokeAll digests) = true
 has_change_form (Define name table) = has_registry_form name table
 has_change_form (AddPool prefix) = true
 has_change_form (Submit account reference ask) = is_name reference && has_ask_form ask
@@ -455,7 +462,32 @@ module _ (digest_of : List ℕ → List ℕ) (w : World) (caller : Option (List 
       ))
   due_so (Clerk (clerk.Revoke token)) o change a made =
       due_by a.is_open a.so.1 made (λ facts. (
-        (a.so.0, facts.0, facts.1),
+        (a.so.0, facts),
+        tt,
+        refl,
+        λ digests form. refl,
+      ))
+  due_so (Clerk (clerk.RevokeDigits digits)) o change a made =
+      let in_use = a.so.0.digest in
+      due_by a.is_open a.so.1 made (λ facts. (
+        (
+          a.so.0,
+          All-head (λ (row : CapRow). IsOther w.caps in_use row.digest) facts.1 []
+              (subst (All (λ (row : CapRow). IsOther w.caps in_use row.digest)) facts.2
+              (chosen_others w.caps in_use (begins_with digits) facts.0)),
+        ),
+        tt,
+        refl,
+        λ digests form. refl,
+      ))
+  due_so (Clerk (clerk.RevokeAccount account)) o change a made =
+      let rows = caps_that (is_of account) w.caps in
+      due_by a.is_open a.so.1 made (λ facts. (
+        (
+          a.so.0,
+          All-map (IsOther w.caps a.so.0.digest) (λ (row : CapRow). row.digest) rows
+              (chosen_others w.caps a.so.0.digest (is_of account) facts.0),
+        ),
         tt,
         refl,
         λ digests form. refl,
