@@ -31,17 +31,17 @@ pub fn decide_revoke(
 
 /// Decides a revocation by digits over the capabilities whose digests begin with them: where the
 /// digest in use is among these, it is refused as `Own`, else where there are several, as `Several`,
-/// and where there is none, nothing changes.
-pub fn decide_revoke_digits(in_use: &Digest, rows: &[CapRow]) -> Result<Decision, Deny>
-    ensures { Follows (revoke_digits_rule in_use.now rows.now) result }
+/// and where there is none, nothing changes. It takes no memory.
+pub fn decide_revoke_digits(in_use: &Digest, rows: &[CapRow]) -> Result<Decision, Refusal>
+    ensures { result ≡ revoke_digits_rule in_use.now rows.now }
 {
     if has_token(in_use, rows) {
-        return Err(Deny::Refused(Refusal::Own));
+        return Err(Refusal::Own);
     }
     match rows {
         [] => Ok(Decision::Same),
         [row] => Ok(Decision::Make(Change::Revoke(row.digest))),
-        _ => Err(Deny::Refused(Refusal::Several)),
+        _ => Err(Refusal::Several),
     }
 }
 
