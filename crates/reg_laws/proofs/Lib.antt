@@ -1,3 +1,4 @@
+pub mod Capabilities
 pub mod Outcomes
 pub mod Agents
 pub mod FirstRefusals

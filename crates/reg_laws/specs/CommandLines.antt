@@ -4,12 +4,14 @@ use Rattle.std.specs.Prelude.{◌≡◌, ◌⊎◌, ◌<◌, ◌≤◌, ◌/◌,
 use Rattle.std.specs.FinMap.{get, contains_key}
 use Rattle.reg_early.specs.Moment.{utc_day}
 use Rattle.reg_early.specs.declared.term.Term.{Term}
+use Rattle.reg_core.specs.CapRows.{begins_with, is_of, cap_row}
 use Rattle.reg_core.specs.Laws.{IsApproved, IsAdvised}
 use Rattle.reg_core.specs.Step.{step}
 use Rattle.reg_core.specs.View.{cap_at}
 use Rattle.reg_core.specs.WellKept.{WellKept}
 use Rattle.reg_core.specs.World.{World}
 use Rattle.reg_core.specs.declared.capability.Cap.{Cap}
+use Rattle.reg_core.specs.declared.capability.CapRow.{CapRow}
 use Rattle.reg_core.specs.declared.capability.Kind.{Kind}
 use Rattle.reg_core.specs.declared.capability.Kind.TheVariants as kind
 use Rattle.reg_core.specs.declared.command.Command.{Command}
@@ -19,7 +21,7 @@ use Rattle.reg_core.specs.declared.command.ApplicantCommand.TheVariants.{Own, Ow
 use Rattle.reg_core.specs.declared.command.ExpertCommand.{ExpertCommand}
 use Rattle.reg_core.specs.declared.command.ExpertCommand.TheVariants.{Queue, Advise}
 use Rattle.reg_core.specs.declared.command.ClerkCommand.{ClerkCommand}
-use Rattle.reg_core.specs.declared.command.ClerkCommand.TheVariants.{AllRequests, OneRequest, AssignExpert, Approve, Decline, SetHold, Define, AddPool, Grant, Revoke}
+use Rattle.reg_core.specs.declared.command.ClerkCommand.TheVariants.{AllRequests, OneRequest, AssignExpert, Approve, Decline, SetHold, Define, AddPool, Grant, Revoke, PendingRequests, AllCapabilities, RevokeDigits, RevokeAccount, CountRows}
 use Rattle.reg_core.specs.declared.command.PublicCommand.{PublicCommand}
 use Rattle.reg_core.specs.declared.command.PublicCommand.TheVariants.{Registries, Registry, RegistryListing, PoolList, BlockListing}
 use Rattle.reg_core.specs.declared.refusal.Refusal.TheVariants as no
@@ -98,6 +100,23 @@ hold_lines today held term =
 abbrev pub IsNoPrefix : ℕ → Type 0
 IsNoPrefix prefix = (2 ^ 24 ≤ prefix) ⊎ (¬ ((prefix / 2 ^ 16) % 4 ≡ 0))
 
+-- a token with this digest has a capability, which passes the test
+abbrev pub IsChosen : World → (CapRow → Bool) → List ℕ → Type 0
+IsChosen w chosen digest =
+    (cap : Cap) × (get w.caps digest ≡ Some cap) × (chosen (cap_row digest cap) ≡ true)
+
+-- that of the token in use does; those of two tokens do; that of no token does
+abbrev pub IsOwnChosen : World → (CapRow → Bool) → Option (List ℕ) → Type 0
+IsOwnChosen w chosen in_use =
+    (digest : List ℕ) × (in_use ≡ Some digest) × IsChosen w chosen digest
+
+abbrev pub AreSeveral : World → (CapRow → Bool) → Type 0
+AreSeveral w chosen =
+    (a : List ℕ) × (b : List ℕ) × (¬ (a ≡ b)) × IsChosen w chosen a × IsChosen w chosen b
+
+abbrev pub NoneIsChosen : World → (CapRow → Bool) → Type 0
+NoneIsChosen w chosen = (digest : List ℕ) → ¬ (IsChosen w chosen digest)
+
 -- on a day, of one whose token in use has this digest
 abbrev pub clerk_lines : (List ℕ → List ℕ) → World → Option (List ℕ) → ℕ → ClerkCommand → Lines
 clerk_lines digest_of w in_use today AllRequests = unchanged
@@ -140,6 +159,18 @@ clerk_lines digest_of w in_use today (Revoke token) =
     refuses no.Own (in_use ≡ Some (digest_of token))
     or_else is_there (get w.caps (digest_of token) ≡ None)
     or_else accepted
+clerk_lines digest_of w in_use today PendingRequests = unchanged
+clerk_lines digest_of w in_use today AllCapabilities = unchanged
+clerk_lines digest_of w in_use today (RevokeDigits digits) =
+    refuses no.Own (IsOwnChosen w (begins_with digits) in_use)
+    or_else refuses no.Several (AreSeveral w (begins_with digits))
+    or_else is_there (NoneIsChosen w (begins_with digits))
+    or_else accepted
+clerk_lines digest_of w in_use today (RevokeAccount account) =
+    refuses no.Own (IsOwnChosen w (is_of account) in_use)
+    or_else is_there (NoneIsChosen w (is_of account))
+    or_else accepted
+clerk_lines digest_of w in_use today CountRows = unchanged
 
 -- ---- Any caller
 

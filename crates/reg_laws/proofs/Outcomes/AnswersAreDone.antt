@@ -17,7 +17,7 @@ use Rattle.reg_core.specs.declared.command.Command.{Command}
 use Rattle.reg_core.specs.declared.command.Command.TheVariants.{Public, Applicant, Expert, Clerk}
 use Rattle.reg_core.specs.declared.command.ApplicantCommand.TheVariants.{Own, OwnOne, Submit, Withdraw, Holdings, SetListing, SetAgent, Agents, Principals, PrincipalRows}
 use Rattle.reg_core.specs.declared.command.ExpertCommand.TheVariants.{Queue, Advise}
-use Rattle.reg_core.specs.declared.command.ClerkCommand.TheVariants.{AllRequests, OneRequest, AssignExpert, Approve, Decline, SetHold, Define, AddPool, Grant, Revoke}
+use Rattle.reg_core.specs.declared.command.ClerkCommand.TheVariants.{AllRequests, OneRequest, AssignExpert, Approve, Decline, SetHold, Define, AddPool, Grant, Revoke, PendingRequests, AllCapabilities, RevokeDigits, RevokeAccount, CountRows}
 use Rattle.reg_core.specs.declared.command.PublicCommand.TheVariants.{Registries, Registry, RegistryListing, PoolList, BlockListing}
 use Rattle.reg_core.specs.declared.decide.Decision.{Decision}
 use Rattle.reg_core.specs.declared.decide.Decision.TheVariants.{Make, Same}
@@ -85,12 +85,12 @@ module _ (digest_of : List ℕ → List ℕ) (w : World) (caller : Option (List 
   -- after the command and its outcome all is as the caller is told
   abbrev pub Done : Command → Outcome → Type 0
   Done command o =
-      IsDone digest_of (applied_if w o.change) (cap_at w caller) (utc_day moment) command o.told
+      IsDone digest_of (applied_if w o.change) (cap_at w caller) moment command o.told
 
   -- after it makes this change the caller is told this
   abbrev DoneBy : Command → Told → Change → Type 0
   DoneBy command told change =
-      IsDone digest_of (applied w change) (cap_at w caller) (utc_day moment) command told
+      IsDone digest_of (applied w change) (cap_at w caller) moment command told
 
   -- a change approves the request, a line for each award
   given_done : (account reference : List ℕ) (case : Case) (award : Award)
@@ -130,7 +130,7 @@ module _ (digest_of : List ℕ → List ℕ) (w : World) (caller : Option (List 
       let command = Applicant (Submit reference ask) in
       decided (Done command) so.1
       (λ there.
-      subst (λ old. IsDone digest_of w (cap_at w caller) (utc_day moment) command
+      subst (λ old. IsDone digest_of w (cap_at w caller) moment command
       (made_row name ask old)) (sym there.1)
       (there.2, (so.0.cap, so.0.is_there, (refl, refl, there.1))))
       (λ facts.
@@ -296,6 +296,13 @@ module _ (digest_of : List ℕ → List ℕ) (w : World) (caller : Option (List 
   done (Clerk (Revoke token)) o so =
       decided (Done (Clerk (Revoke token))) so.1 (λ there. there.1)
       (λ facts. get-removed text_keys w.caps (digest_of token))
+  done (Clerk PendingRequests) o so =
+      subst (Done (Clerk PendingRequests)) (sym so.1) (pending_list w)
+  done (Clerk AllCapabilities) o so =
+      subst (Done (Clerk AllCapabilities)) (sym so.1) (cap_list_whole w)
+  done (Clerk (RevokeDigits digits)) o so = digits_done digits o so.0.digest so.1
+  done (Clerk (RevokeAccount account)) o so = account_done account o so.0.digest so.1
+  done (Clerk CountRows) o so = subst (Done (Clerk CountRows)) (sym so.1) refl
 
 -- an accepted command: its outcome, what was so, and that what its caller is told is so after it
 pub record IsAcceptedAndDone (digest_of : List ℕ → List ℕ) (w : World) (caller : Option (List ℕ))
@@ -327,7 +334,7 @@ pub all_done : (digest_of : List ℕ → List ℕ) → AnswersAreDone digest_of
 all_done digest_of w caller moment command = by (answer_to digest_of w caller moment command) refl
   where
     by : (a : Answer) → answer_to digest_of w caller moment command ≡ a
-        → WasDone digest_of (applied_if w (change_of a)) (cap_at w caller) (utc_day moment) command
+        → WasDone digest_of (applied_if w (change_of a)) (cap_at w caller) moment command
         (reply_of a)
     by (Ok o) is =
         done digest_of w caller moment command o
