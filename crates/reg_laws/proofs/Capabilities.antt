@@ -7,18 +7,21 @@ use Rattle.std.specs.Ordering.{eq_by_cmp}
 use Rattle.std.specs.Cmp.{eq_by_cmp_equiv}
 use Rattle.std.proofs.lemmas.Bool.{both_ways}
 use Rattle.std.proofs.lemmas.List.{get_or-map, length-map}
-use Rattle.std.proofs.lemmas.List.Elements.{All-nil, All-cons, All-weaker, All-map, All-filter, All-contains, filter_passes}
+use Rattle.std.proofs.lemmas.List.Elements.{All-nil, All-cons, All-head, All-weaker, All-map, All-contains, filter_passes}
 use Rattle.std.proofs.lemmas.List.Folds.{list_any_none, list_any_at}
 use Rattle.std.proofs.lemmas.List.Kept.{AllPairs-filter}
 use Rattle.std.proofs.lemmas.Map.Keys.{IsDistinct-from_sorted, apart_from_distinct}
-use Rattle.reg_maps.specs.Maps.{text_cmp}
-use Rattle.reg_maps.proofs.MapLaws.{text_keys, tied, All-entries, Contains-map, Contains-entries, ascending-entries, get-at_remove}
+use Rattle.reg_maps.specs.Maps.{text_cmp, same_text}
+use Rattle.reg_maps.proofs.MapLaws.{text_keys, tied, Contains-map, Contains-entries, ascending-entries, get-at_remove}
 use Rattle.reg_core.specs.CapRows.{cap_row, cap_rows, caps_that}
 use Rattle.reg_core.specs.Laws.{TakesJust}
 use Rattle.reg_core.specs.Lists.{HaveGone}
+use Rattle.reg_core.specs.Rules.{has_token}
 use Rattle.reg_core.specs.World.{World, without}
 use Rattle.reg_core.specs.declared.capability.Cap.{Cap}
 use Rattle.reg_core.specs.declared.capability.CapRow.{CapRow}
+use Rattle.reg_core.proofs.SamenessIsDecided.{same_text-itself}
+use Rattle.reg_decisions.proofs.Chosen.{chosen_there}
 
 -- ---- Without some of them
 
@@ -78,13 +81,21 @@ module _ (chosen : CapRow → Bool) (caps : FinMap text_cmp Cap) where
 
   -- each is there, and passes
   pub each_is : All (λ row. (get caps row.digest ≡ Some row.cap) × (chosen row ≡ true)) rows
-  each_is k d inside = (
-    All-filter chosen (λ row. get caps row.digest ≡ Some row.cap) (cap_rows caps)
-        (All-map (λ row. get caps row.digest ≡ Some row.cap) row (entries caps)
-        (All-entries text_keys.total (λ e. get caps e.0 ≡ Some e.1) caps (λ digest cap is. is)))
-        k d inside,
-    filter_passes chosen (cap_rows caps) k d inside,
-  )
+  each_is k d inside =
+      (chosen_there caps chosen k d inside, filter_passes chosen (cap_rows caps) k d inside)
+
+  -- so there is none if none passes
+  pub none_are : ((digest : List ℕ) (cap : Cap) → get caps digest ≡ Some cap
+      → chosen (cap_row digest cap) ≡ false) → rows ≡ []
+  none_are none = by rows refl
+    where
+      by : (found : List CapRow) → rows ≡ found → found ≡ []
+      by [] is = refl
+      by (row ∷ more) is =
+          let first =
+          All-head (λ row. (get caps row.digest ≡ Some row.cap) × (chosen row ≡ true)) row more
+          (subst (All (λ row. (get caps row.digest ≡ Some row.cap) × (chosen row ≡ true))) is each_is) in
+          absurd (both_ways (chosen row) (none row.digest row.cap first.0) first.1)
 
   -- each that is there and passes is one of them
   pub is_one : (digest : List ℕ) (cap : Cap) → get caps digest ≡ Some cap
@@ -94,6 +105,14 @@ module _ (chosen : CapRow → Bool) (caps : FinMap text_cmp Cap) where
       (cap_row digest cap) (passing chosen (cap_rows caps))
       (Contains-map row (entries caps) (digest, cap)
       (Contains-entries text_keys caps digest cap is))
+
+  -- the token in use is among them if its capability passes
+  pub is_in_use : (in_use : List ℕ) (cap : Cap) → get caps in_use ≡ Some cap
+      → chosen (cap_row in_use cap) ≡ true → has_token in_use rows ≡ true
+  is_in_use in_use cap is passes =
+      let at = is_one in_use cap is passes in
+      list_any_at (λ row. same_text row.digest in_use) rows at.0 (cap_row in_use cap) at.1
+      (ap (λ (row : CapRow). same_text row.digest in_use) at.2 ∙ same_text-itself in_use)
 
   -- no two of them have one digest
   pub apart : AllPairs (λ a b. eq_by_cmp text_cmp a.digest b.digest ≡ false) rows

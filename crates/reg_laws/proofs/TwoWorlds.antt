@@ -272,10 +272,10 @@ module _ (digest_of : List ℕ → List ℕ) where
   answer_to-view w (Some digest) moment (command.Clerk given) h =
       let told = answer (view_of w (Some digest)) moment (command.Clerk given) in
       ap (λ b. if is_in_clock moment && b
-      then clerk_answer digest_of w digest (utc_day moment) given else told)
+      then clerk_answer digest_of w digest moment (utc_day moment) given else told)
       (no_clerk (get w.caps digest) moment h)
       ∙ elim (is_in_clock moment) as
-      (λ b. (if b && false then clerk_answer digest_of w digest (utc_day moment) given
+      (λ b. (if b && false then clerk_answer digest_of w digest moment (utc_day moment) given
       else told) ≡ told) [
         | true ↦ refl
         | false ↦ refl

@@ -133,17 +133,17 @@ module _ (w : World) (moment : ℕ) where
         → By w (refuses no.Clock (IsOutsideYears moment)
         or_else kind_lines kind.Clerk moment o
         (λ account. clerk_lines digest_of w (Some digest) (utc_day moment) given))
-        (if acts_as_clerk o moment then clerk_answer digest_of w digest (utc_day moment) given
+        (if acts_as_clerk o moment then clerk_answer digest_of w digest moment (utc_day moment) given
         else (if is_in_clock moment
         then as_kind kind.Clerk (option_map (with_personal w) o) moment (λ account my. Err no.Kind)
         else Err no.Clock))
     clerk_by digest given o =
         by_test P (acts_as_clerk o moment)
-        (clerk_answer digest_of w digest (utc_day moment) given) viewed
+        (clerk_answer digest_of w digest moment (utc_day moment) given) viewed
         (λ acts. inr (
           inside moment (first_so (is_in_clock moment) (is_clerk o moment) acts),
           clerk_admits o _ _ (second_so (is_in_clock moment) (is_clerk o moment) acts)
-              (λ account. clerk_goes w kept digest_of digest (utc_day moment) given),
+              (λ account. clerk_goes w kept digest_of digest moment (utc_day moment) given),
         ))
         (λ idle. by_test P (is_in_clock moment)
         (as_kind kind.Clerk (option_map (with_personal w) o) moment (λ account my. Err no.Kind))

@@ -16,6 +16,7 @@ use Rattle.reg_core.specs.Allowance.{◌>>=◌, or_refusal, allowance_on, allowe
 use Rattle.reg_core.specs.Answer.{Answer, by_rule, item, public_answer, own_answer, expert_answer}
 use Rattle.reg_core.specs.Ask.{same_ask}
 use Rattle.reg_core.specs.Award.{Allowance, given_in}
+use Rattle.reg_core.specs.CapRows.{begins_with, is_of}
 use Rattle.reg_core.specs.Capability.{same_cap}
 use Rattle.reg_core.specs.File.{was_advised}
 use Rattle.reg_core.specs.Holding.{holding_row, with_mark}
@@ -35,7 +36,7 @@ use Rattle.reg_core.specs.declared.command.ApplicantCommand.TheVariants.{Own, Ow
 use Rattle.reg_core.specs.declared.command.ExpertCommand.{ExpertCommand}
 use Rattle.reg_core.specs.declared.command.ExpertCommand.TheVariants.{Queue, Advise}
 use Rattle.reg_core.specs.declared.command.ClerkCommand.{ClerkCommand}
-use Rattle.reg_core.specs.declared.command.ClerkCommand.TheVariants.{AllRequests, OneRequest, AssignExpert, Approve, Decline, SetHold, Define, AddPool, Grant, Revoke}
+use Rattle.reg_core.specs.declared.command.ClerkCommand.TheVariants.{AllRequests, OneRequest, AssignExpert, Approve, Decline, SetHold, Define, AddPool, Grant, Revoke, PendingRequests, AllCapabilities, RevokeDigits, RevokeAccount, CountRows}
 use Rattle.reg_core.specs.declared.command.PublicCommand.{PublicCommand}
 use Rattle.reg_core.specs.declared.command.PublicCommand.TheVariants.{Registries, Registry, RegistryListing, PoolList, BlockListing}
 use Rattle.reg_core.specs.declared.change.Change.TheVariants as change
@@ -57,6 +58,7 @@ use Rattle.reg_core.proofs.SamenessIsDecided.{same_ask-is, same_ask-itself, same
 use Rattle.reg_decisions.proofs.Files.{advised_by, advised_is}
 use Rattle.reg_decisions.proofs.Stepping.{own_request}
 use Rattle.reg_laws.proofs.Lines.Asks.{asks}
+use Rattle.reg_laws.proofs.Lines.Revocations.{revoke_digits_goes, revoke_account_goes}
 use Rattle.reg_laws.proofs.Lines.Turns.{By, row, fails, other_text, same_texts}
 use Rattle.reg_laws.specs.AnswerLines.{Lines, refuses, is_there, ◌or_else◌, accepted, of_row}
 use Rattle.reg_laws.specs.AskLines.{ask_lines, IsReviewed}
@@ -541,29 +543,36 @@ module _ (w : World) where
   -- ---- A clerk
 
   module _ (kept : WellKept w) (digest_of : List ℕ → List ℕ) where
-    pub clerk_goes : (in_use : List ℕ) (today : ℕ) (command : ClerkCommand)
+    pub clerk_goes : (in_use : List ℕ) (moment today : ℕ) (command : ClerkCommand)
         → By w (clerk_lines digest_of w (Some in_use) today command)
-        (clerk_answer digest_of w in_use today command)
-    clerk_goes in_use today AllRequests = (refl, refl)
-    clerk_goes in_use today (OneRequest account reference) =
+        (clerk_answer digest_of w in_use moment today command)
+    clerk_goes in_use moment today AllRequests = (refl, refl)
+    clerk_goes in_use moment today (OneRequest account reference) =
         row w no.Request (get w.requests (account, reference)) _ _ (λ case is. (refl, refl))
-    clerk_goes in_use today (AssignExpert account reference expert) =
+    clerk_goes in_use moment today (AssignExpert account reference expert) =
         row w no.Request (get w.requests (account, reference)) _ _
         (λ case is. assign_goes (account, reference) expert
         (contains_key w.queue ((account, reference), expert)) case.state _)
-    clerk_goes in_use today (Approve account reference) =
+    clerk_goes in_use moment today (Approve account reference) =
         row w no.Request (get w.requests (account, reference)) _ _
         (λ case is. approve_goes kept (account, reference) case today _)
-    clerk_goes in_use today (Decline account reference reason) =
+    clerk_goes in_use moment today (Decline account reference reason) =
         row w no.Request (get w.requests (account, reference)) _ _
         (λ case is. decline_goes (account, reference) reason case.state _)
-    clerk_goes in_use today (SetHold name value held) =
+    clerk_goes in_use moment today (SetHold name value held) =
         row w no.Registry (get w.registries name) _ _ (λ table there.
         row w no.Entry (get w.entries (name, value)) _ _ (λ a is.
         hold_goes (name, value) held a.term.first a.term.expires a.term.renewed a.term.held today _))
-    clerk_goes in_use today (Define name table) = define_goes (get w.registries name) name table _
-    clerk_goes in_use today (AddPool prefix) = pool_goes (contains_key w.pool prefix) prefix _
-    clerk_goes in_use today (Grant token cap) =
+    clerk_goes in_use moment today (Define name table) = define_goes (get w.registries name) name table _
+    clerk_goes in_use moment today (AddPool prefix) = pool_goes (contains_key w.pool prefix) prefix _
+    clerk_goes in_use moment today (Grant token cap) =
         grant_goes (get w.caps (digest_of token)) (digest_of token) cap _
-    clerk_goes in_use today (Revoke token) =
+    clerk_goes in_use moment today (Revoke token) =
         revoke_goes in_use (get w.caps (digest_of token)) (digest_of token) _
+    clerk_goes in_use moment today PendingRequests = (refl, refl)
+    clerk_goes in_use moment today AllCapabilities = (refl, refl)
+    clerk_goes in_use moment today (RevokeDigits digits) =
+        revoke_digits_goes w (begins_with digits) in_use _
+    clerk_goes in_use moment today (RevokeAccount account) =
+        revoke_account_goes w (is_of account) in_use _
+    clerk_goes in_use moment today CountRows = (refl, refl)

@@ -20,7 +20,7 @@ use Rattle.reg_core.specs.declared.refusal.Refusal.TheVariants as no
 use Rattle.reg_core.specs.declared.told.Told.{Told}
 use Rattle.reg_core.proofs.Cases.{by_test}
 use Rattle.reg_core.specs.Answer.{by_rule}
-use Rattle.reg_laws.proofs.Capabilities.{each_is, is_one, apart}
+use Rattle.reg_laws.proofs.Capabilities.{each_is, is_one, is_in_use, apart}
 use Rattle.reg_laws.proofs.Lines.Turns.{By, fails}
 use Rattle.reg_laws.specs.AnswerLines.{refuses, is_there, ◌or_else◌, accepted}
 use Rattle.reg_laws.specs.CommandLines.{IsChosen, IsOwnChosen, AreSeveral, NoneIsChosen}
@@ -49,11 +49,9 @@ module _ (w : World) (chosen : CapRow → Bool) where
   is_own : (in_use : List ℕ) → IsOwnChosen w chosen (Some in_use) → has_token in_use rows ≡ true
   is_own in_use own =
       let is = own.1 in
-      let same : in_use ≡ own.0 = cc in
-      let at = is_one chosen w.caps own.0 own.2.0 own.2.1 own.2.2 in
-      list_any_at (λ row. same_text row.digest in_use) rows at.0 (cap_row own.0 own.2.0) at.1
-      (ap (λ (row : CapRow). same_text row.digest in_use) at.2
-      ∙ (bytes_eq-Decides own.0 in_use).1 (sym same))
+      let same : own.0 ≡ in_use = cc in
+      let found = subst (IsChosen w chosen) same own.2 in
+      is_in_use chosen w.caps in_use found.0 found.1 found.2
 
   -- how many there are
   none_is : (digest : List ℕ) → [] ≡ rows → ¬ (IsChosen w chosen digest)

@@ -1,5 +1,5 @@
 -- The world after a command has what its reply says.
-use Rattle.std.proofs.Common.{◌≡◌, ℕ, Bool, false, List, refl, sym, ap, subst, ◌∙◌}
+use Rattle.std.proofs.Common.{◌≡◌, ℕ, Bool, false, List, map, refl, sym, ap, subst, ◌∙◌}
 use Rattle.std.specs.Prelude.{Option, Some, None, Ok, Err, is_some, option_map}
 use Rattle.std.specs.FinMap.{get}
 use Rattle.std.proofs.lemmas.Slice.Eq.{bytes_eq-Decides}
@@ -9,9 +9,11 @@ use Rattle.reg_maps.proofs.KeySets.{is_inserted}
 use Rattle.reg_early.specs.Moment.{utc_day}
 use Rattle.reg_early.specs.Terms.{held_term}
 use Rattle.reg_core.specs.Award.{Award, awarded_entry, new_holding}
+use Rattle.reg_core.specs.CapRows.{begins_with, is_of, caps_that}
 use Rattle.reg_core.specs.Entry.{page_entry, with_hold}
 use Rattle.reg_core.specs.Holding.{with_mark}
-use Rattle.reg_core.specs.World.{World, RequestName, in_state, applied, applied_if, pending, Seat}
+use Rattle.reg_core.specs.World.{World, RequestName, in_state, without, applied, applied_if, pending, Seat}
+use Rattle.reg_core.specs.declared.capability.CapRow.{CapRow}
 use Rattle.reg_core.specs.declared.change.Change.{Change}
 use Rattle.reg_core.specs.declared.command.Command.{Command}
 use Rattle.reg_core.specs.declared.command.Command.TheVariants.{Public, Applicant, Expert, Clerk}
@@ -30,20 +32,24 @@ use Rattle.reg_core.specs.declared.request.State.TheVariants.{Approved, Declined
 use Rattle.reg_core.proofs.Links.{link_is, agent_list, principal_list}
 use Rattle.reg_core.proofs.KeyOrders.{name_keys, place_keys, seat_keys, block_keys}
 use Rattle.reg_core.specs.Answer.{Outcome, Answer, reply_of, change_of, change_by, made_row}
-use Rattle.reg_core.specs.Rules.{change_to_give}
+use Rattle.reg_core.specs.Rules.{has_token, change_to_give}
 use Rattle.reg_core.specs.Step.{desk_by, answer_to}
-use Rattle.reg_core.specs.Laws.{IsDone, WasDone, AnswersAreDone, is_refused}
+use Rattle.reg_core.specs.Laws.{IsDone, WasDone, AnswersAreDone, TakesJust, is_refused}
+use Rattle.reg_core.specs.Lists.{HaveGone}
 use Rattle.reg_core.specs.View.{cap_at}
 use Rattle.reg_core.specs.declared.told.Told.{Told}
-use Rattle.reg_decisions.proofs.Outcomes.Deciding.{Rule, Decides}
+use Rattle.reg_core.specs.declared.told.Told.TheVariants as tells
+use Rattle.reg_decisions.proofs.Outcomes.Deciding.{Rule, Decides, RevokesOne, RevokesAll}
 use Rattle.reg_core.specs.declared.change.Change.TheVariants as change
 use Rattle.reg_decisions.proofs.Outcomes.Accepted.{Comes, CommandSo, accepted}
+use Rattle.reg_laws.proofs.Capabilities.{takes_just, have_gone}
+use Rattle.reg_laws.proofs.Outcomes.ClerkLists.{pending_list, cap_list_whole}
 use Rattle.reg_laws.proofs.Outcomes.WholeLists.{entry_list, block_list, own_list, holding_list, queue_list}
 
 -- ---- The forms of an outcome
 
 -- what holds of the outcome of each decision holds of the outcome
-decided : (P : Outcome → Type 0) {rule : Rule} {told : Decision → Told} {outcome : Outcome}
+pub decided : (P : Outcome → Type 0) {rule : Rule} {told : Decision → Told} {outcome : Outcome}
     → Comes rule told outcome
     → (rule.there → P (record { told = told Same; change = None }))
     → ((facts : rule.made)
@@ -60,6 +66,35 @@ decided P {rule = rule} {told = told} comes there made =
     by Same so = there so
     by (Make change) so =
         subst (λ c. P (record { told = told (Make c); change = Some c })) so.1 (made so.0)
+
+-- ---- Capabilities that a clerk takes away
+
+-- the caller is told of these, of which none is the token in use, and they have gone
+pub record Took (w : World) (in_use : List ℕ) (rows : List CapRow) (o : Outcome) : Type 0 where
+  pub told : o.told ≡ tells.Capabilities rows
+  pub others : has_token in_use rows ≡ false
+  pub after : applied_if w o.change
+      ≡ record w { caps = without (map (λ row. row.digest) rows) w.caps }
+
+module _ (w : World) (in_use : List ℕ) (rows : List CapRow) (o : Outcome) where
+  abbrev gone : List CapRow → World
+  gone rows = record w { caps = without (map (λ row. row.digest) rows) w.caps }
+
+  pub took_one : Comes (RevokesOne in_use rows) (λ decision. tells.Capabilities rows) o
+      → Took w in_use rows o
+  took_one comes =
+      decided (Took w in_use rows) comes
+      (λ there. record { told = refl; others = there.0; after = ap gone (sym there.1) })
+      (λ facts. record { told = refl; others = facts.0; after = ap gone (sym facts.2) })
+
+  pub took_all : Comes (RevokesAll in_use rows) (λ decision. tells.Capabilities rows) o
+      → Took w in_use rows o
+  took_all comes =
+      decided (Took w in_use rows) comes
+      (λ there. record { told = refl; others = there.0; after = ap gone (sym there.1) })
+      (λ facts. record { told = refl; others = facts.0; after = refl })
+
+-- ---- What is so after a command
 
 -- a request is in the state that a change gives it
 in_new_state : (w : World) (name : RequestName) (case : Case) (state : State)
@@ -106,6 +141,15 @@ module _ (digest_of : List ℕ → List ℕ) (w : World) (caller : Option (List 
     (Block h.block, refl),
     (refl, refl, in_new_state w (account, reference) case (Approved (Block h.block)) is_there),
   )
+
+  -- the capabilities that a clerk took away have gone
+  all_gone : (in_use : List ℕ) (chosen : CapRow → Bool) (o : Outcome)
+      → Took w in_use (caps_that chosen w.caps) o
+      → HaveGone (applied_if w o.change) chosen (caps_that chosen w.caps)
+  all_gone in_use chosen o took =
+      have_gone (applied_if w o.change) w.caps chosen (caps_that chosen w.caps)
+      (subst (λ (v : World). TakesJust w.caps v.caps chosen (caps_that chosen w.caps)) (sym took.after)
+      (takes_just chosen w.caps))
 
   -- a line for each command
   done : (command : Command) (o : Outcome) → CommandSo digest_of w caller moment command o
@@ -300,8 +344,14 @@ module _ (digest_of : List ℕ → List ℕ) (w : World) (caller : Option (List 
       subst (Done (Clerk PendingRequests)) (sym so.1) (pending_list w)
   done (Clerk AllCapabilities) o so =
       subst (Done (Clerk AllCapabilities)) (sym so.1) (cap_list_whole w)
-  done (Clerk (RevokeDigits digits)) o so = digits_done digits o so.0.digest so.1
-  done (Clerk (RevokeAccount account)) o so = account_done account o so.0.digest so.1
+  done (Clerk (RevokeDigits digits)) o so =
+      let took = took_one w so.0.digest (caps_that (begins_with digits) w.caps) o so.1 in
+      subst (IsDone digest_of (applied_if w o.change) (cap_at w caller) moment (Clerk (RevokeDigits digits)))
+      (sym took.told) (all_gone so.0.digest (begins_with digits) o took)
+  done (Clerk (RevokeAccount account)) o so =
+      let took = took_all w so.0.digest (caps_that (is_of account) w.caps) o so.1 in
+      subst (IsDone digest_of (applied_if w o.change) (cap_at w caller) moment (Clerk (RevokeAccount account)))
+      (sym took.told) (all_gone so.0.digest (is_of account) o took)
   done (Clerk CountRows) o so = subst (Done (Clerk CountRows)) (sym so.1) refl
 
 -- an accepted command: its outcome, what was so, and that what its caller is told is so after it

@@ -1,6 +1,6 @@
 -- An accepted command that is given again is accepted, and changes nothing, since what its caller
 -- was told is so.
-use Rattle.std.proofs.Common.{◌≡◌, ℕ, Bool, true, false, List, refl, sym, ap, subst, ◌∙◌, arith}
+use Rattle.std.proofs.Common.{◌≡◌, ℕ, Bool, true, false, List, [], refl, sym, ap, subst, ◌∙◌, arith}
 use Rattle.std.specs.Prelude.{Option, Some, None, IsSome, is_some, Ok, nat_le, nat_lt}
 use Rattle.std.specs.FinMap.{get, contains_key, keys}
 use Rattle.std.proofs.lemmas.Bool.Decides.{nat_tests}
@@ -15,9 +15,11 @@ use Rattle.reg_core.specs.Holding.{holder_in, holding_row, holding_rows, listed_
 use Rattle.reg_core.specs.Page.{page}
 use Rattle.reg_core.specs.Ask.{same_ask}
 use Rattle.reg_core.specs.Answer.{Answer, Outcome, reply_of, change_of, unchanged, own_answer, own_row, desk_row, item}
+use Rattle.reg_core.specs.CapRows.{begins_with, is_of, cap_list}
 use Rattle.reg_core.specs.Capability.{same_kind}
 use Rattle.reg_core.specs.Command.{kind_of}
-use Rattle.reg_core.specs.File.{file}
+use Rattle.reg_core.specs.Counting.{counts}
+use Rattle.reg_core.specs.File.{file, waiting_files}
 use Rattle.reg_core.specs.Queue.{queue_rows}
 use Rattle.reg_core.specs.Laws.{is_refused, IsStillValid, MayRepeat, IsDone, RepeatsActOnce}
 use Rattle.reg_core.specs.Lists.{IsRow, IsOwnRow}
@@ -38,7 +40,7 @@ use Rattle.reg_core.specs.declared.command.ApplicantCommand.TheVariants.{Own, Ow
 use Rattle.reg_core.specs.declared.command.ExpertCommand.{ExpertCommand}
 use Rattle.reg_core.specs.declared.command.ExpertCommand.TheVariants.{Queue, Advise}
 use Rattle.reg_core.specs.declared.command.ClerkCommand.{ClerkCommand}
-use Rattle.reg_core.specs.declared.command.ClerkCommand.TheVariants.{AllRequests, OneRequest, AssignExpert, Approve, Decline, SetHold, Define, AddPool, Grant, Revoke}
+use Rattle.reg_core.specs.declared.command.ClerkCommand.TheVariants.{AllRequests, OneRequest, AssignExpert, Approve, Decline, SetHold, Define, AddPool, Grant, Revoke, PendingRequests, AllCapabilities, RevokeDigits, RevokeAccount, CountRows}
 use Rattle.reg_core.specs.declared.command.PublicCommand.{PublicCommand}
 use Rattle.reg_core.specs.declared.command.PublicCommand.TheVariants.{Registries, Registry, RegistryListing, PoolList, BlockListing}
 use Rattle.reg_core.specs.declared.told.Told.{Told}
@@ -50,6 +52,7 @@ use Rattle.reg_core.specs.declared.request.Request.{Request}
 use Rattle.reg_core.specs.declared.request.State.TheVariants.{Approved}
 use Rattle.reg_core.proofs.SamenessIsDecided.{same_text-itself, same_advice-itself, same_cap-itself, same_ask-itself, same_table-itself}
 use Rattle.reg_decisions.proofs.Outcomes.Accepted.{Serves, ClerkServes, CommandSo}
+use Rattle.reg_laws.proofs.Capabilities.{none_are}
 use Rattle.reg_laws.proofs.Outcomes.AnswersAreDone.{Done, accepted_done}
 use Rattle.reg_core.proofs.Links.{own_agent, own_principal}
 use Rattle.reg_decisions.proofs.Blocks.{own_holding}
@@ -144,10 +147,10 @@ row_at v account reference row is = let at = is.0 in let under = is.1 in
     sym (ap (get v.requests) (λ i. (at i, under i))) ∙ is.2
 
 module _ (digest_of : List ℕ → List ℕ) (v : World) (moment : ℕ) (now : is_in_clock moment ≡ true)
-    (by : Option Cap) (day : ℕ) where
+    (by : Option Cap) (first : ℕ) where
   module _ (caller : Option (List ℕ)) where
     public_again : (command : PublicCommand) (told : Told)
-        → IsDone digest_of v by day (Public command) told
+        → IsDone digest_of v by first (Public command) told
         → OnlyTells (answer_to digest_of v caller moment (Public command))
     public_again Registries (tells.Names names) so =
         rw now (tells.Names (keys v.registries), refl)
@@ -187,7 +190,7 @@ module _ (digest_of : List ℕ → List ℕ) (v : World) (moment : ℕ) (now : i
           ∙ rw (own_request may.cap.account reference v, is, same) refl
 
       own_again : (command : ApplicantCommand) (told : Told)
-          → IsDone digest_of v by day (Applicant command) told
+          → IsDone digest_of v by first (Applicant command) told
           → OnlyTells (answer_to digest_of v caller moment (Applicant command))
       own_again Own (tells.Rows rows) so = (
         tells.Rows (request_rows (requests_of may.cap.account v)),
@@ -260,7 +263,7 @@ module _ (digest_of : List ℕ → List ℕ) (v : World) (moment : ℕ) (now : i
 
     module _ (may : Acts v caller moment by kind.Expert) where
       expert_again : (command : ExpertCommand) (told : Told)
-          → IsDone digest_of v by day (Expert command) told
+          → IsDone digest_of v by first (Expert command) told
           → OnlyTells (answer_to digest_of v caller moment (Expert command))
       expert_again Queue (tells.Queue rows) so = (
         tells.Queue (queue_rows (queue_of may.cap.account v)),
@@ -305,7 +308,7 @@ module _ (digest_of : List ℕ → List ℕ) (v : World) (moment : ℕ) (now : i
             absurd (cc)
 
     clerk_again : (command : ClerkCommand) (told : Told)
-        → IsDone digest_of v by day (Clerk command) told
+        → IsDone digest_of v by first (Clerk command) told
         → OnlyTells (answer_to digest_of v (Some digest) moment (Clerk command))
     clerk_again AllRequests (tells.Desks rows) so = (
       tells.Desks (request_rows v.requests),
@@ -360,6 +363,28 @@ module _ (digest_of : List ℕ → List ℕ) (v : World) (moment : ℕ) (now : i
       tells.Revoked,
       rw (now, may.is_there, may.of_kind, may.early, other_token (digest_of token) so, so) refl,
     )
+    clerk_again PendingRequests (tells.Cases files) so = (
+      tells.Cases (waiting_files v),
+      rw (now, may.is_there, may.of_kind, may.early) refl,
+    )
+    clerk_again AllCapabilities (tells.Capabilities rows) so = (
+      tells.Capabilities (cap_list v.caps),
+      rw (now, may.is_there, may.of_kind, may.early) refl,
+    )
+    clerk_again (RevokeDigits digits) (tells.Capabilities rows) so =
+        let none = none_are (begins_with digits) v.caps so.none in (
+          tells.Capabilities [],
+          rw (now, may.is_there, may.of_kind, may.early, none) refl,
+        )
+    clerk_again (RevokeAccount account) (tells.Capabilities rows) so =
+        let none = none_are (is_of account) v.caps so.none in (
+          tells.Capabilities [],
+          rw (now, may.is_there, may.of_kind, may.early, none) refl,
+        )
+    clerk_again CountRows (tells.Counts given) so = (
+      tells.Counts (counts moment (utc_day moment) v),
+      rw (now, may.is_there, may.of_kind, may.early) refl,
+    )
     clerk_again command told so = absurd so
 
 -- ---- The law
@@ -380,20 +405,20 @@ module _ (digest_of : List ℕ → List ℕ) (w : World) (caller : Option (List 
       MayRepeat w v caller second (kind_of command) → Done digest_of w caller first command o
       → OnlyTells (answer_to digest_of v caller second command)
   again (Public command) o so may done =
-      public_again digest_of (applied_if w o.change) second now (cap_at w caller) (utc_day first)
+      public_again digest_of (applied_if w o.change) second now (cap_at w caller) first
       caller command o.told done
   again (Applicant command) o so may done =
-      own_again digest_of (applied_if w o.change) second now (cap_at w caller) (utc_day first)
+      own_again digest_of (applied_if w o.change) second now (cap_at w caller) first
       caller (acts w (applied_if w o.change) caller first second kind.Applicant so.0 may) command
       o.told done
   again (Expert command) o so may done =
-      expert_again digest_of (applied_if w o.change) second now (cap_at w caller) (utc_day first)
+      expert_again digest_of (applied_if w o.change) second now (cap_at w caller) first
       caller (acts w (applied_if w o.change) caller first second kind.Expert so.0 may) command
       o.told done
   again (Clerk command) o so may done =
       let v = applied_if w o.change in
       subst (λ c. OnlyTells (answer_to digest_of v c second (Clerk command))) (sym so.0.is)
-      (clerk_again digest_of v second now (cap_at w caller) (utc_day first) so.0.digest
+      (clerk_again digest_of v second now (cap_at w caller) first so.0.digest
       (clerk_acts w v caller first second so.0 may) command o.told done)
 
 pub once : (digest_of : List ℕ → List ℕ) → RepeatsActOnce digest_of

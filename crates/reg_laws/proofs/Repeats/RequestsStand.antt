@@ -2,7 +2,6 @@
 use Rattle.std.proofs.Common.{◌≡◌, ℕ, List, refl, sym, ap, subst, ◌∙◌}
 use Rattle.std.specs.Prelude.{Option, Some, None}
 use Rattle.std.specs.FinMap.{get}
-use Rattle.reg_early.specs.Moment.{utc_day}
 use Rattle.reg_core.specs.Answer.{change_of, reply_of, unchanged, desk_row}
 use Rattle.reg_core.specs.Laws.{GivesDigests, IsApproved, IsDone, IsLater, StillAsks, StillStands, SubmissionsStand, ApprovalsStand}
 use Rattle.reg_core.specs.Lists.{IsOwnRow, IsRow}
@@ -30,22 +29,22 @@ use Rattle.reg_laws.proofs.Repeats.RepeatsActOnce.{acts, clerk_acts, row_at, sub
 use Rattle.reg_laws.proofs.GivenStays.{runs_stay}
 
 -- what an accepted request's caller is told is the caller's own request with the ask
-submitted : (digest_of : List ℕ → List ℕ) (w : World) (by : Option Cap) (day : ℕ)
+submitted : (digest_of : List ℕ → List ℕ) (w : World) (by : Option Cap) (first : ℕ)
     (reference : List ℕ) (ask : Ask) (told : Told)
-    → IsDone digest_of w by day (Applicant (Submit reference ask)) told
+    → IsDone digest_of w by first (Applicant (Submit reference ask)) told
     → (row : Request) × (row.ask ≡ ask) × IsOwnRow w by reference row
-submitted digest_of w by day reference ask (tells.Made row) so = (row, so.0, so.1)
-submitted digest_of w by day reference ask (tells.Row row) so = (row, so.0, so.1)
-submitted digest_of w by day reference ask told so = absurd so
+submitted digest_of w by first reference ask (tells.Made row) so = (row, so.0, so.1)
+submitted digest_of w by first reference ask (tells.Row row) so = (row, so.0, so.1)
+submitted digest_of w by first reference ask told so = absurd so
 
 -- what an approval's caller is told is the request, approved
-approved : (digest_of : List ℕ → List ℕ) (w : World) (by : Option Cap) (day : ℕ)
+approved : (digest_of : List ℕ → List ℕ) (w : World) (by : Option Cap) (first : ℕ)
     (account reference : List ℕ) (told : Told)
-    → IsDone digest_of w by day (Clerk (Approve account reference)) told
+    → IsDone digest_of w by first (Clerk (Approve account reference)) told
     → (row : Request) × (told ≡ tells.Desk row) × IsApproved row.state
     × IsRow w account reference row
-approved digest_of w by day account reference (tells.Desk row) so = (row, refl, so.0, so.1)
-approved digest_of w by day account reference told so = absurd so
+approved digest_of w by first account reference (tells.Desk row) so = (row, refl, so.0, so.1)
+approved digest_of w by first account reference told so = absurd so
 
 -- a request that still is as it was asked is there
 record IsThere (case : Case) (existing : Option Case) : Type 0 where
@@ -82,7 +81,7 @@ module _ (digest_of : List ℕ → List ℕ) (digests : GivesDigests digest_of) 
       let u = applied_if w by.outcome.change in
       let after : (step digest_of w caller first command).world ≡ u =
       ap (λ a. applied_if w (change_of a)) by.is in
-      let told = submitted digest_of u (cap_at w caller) (utc_day first) reference ask
+      let told = submitted digest_of u (cap_at w caller) first reference ask
       by.outcome.told by.done in
       let name : RequestName = (told.2.0.account, reference) in
       let row : get (step digest_of w caller first command).world.requests name
@@ -94,7 +93,7 @@ module _ (digest_of : List ℕ → List ℕ) (digests : GivesDigests digest_of) 
       let its = subst (λ a. get v.requests (a, reference) ≡ Some now.row)
       (may.account told.2.0 told.2.1) now.is in
       let asks = now.asks ∙ told.1 in
-      let again = submit_again digest_of v second later.is_open (cap_at w caller) (utc_day first)
+      let again = submit_again digest_of v second later.is_open (cap_at w caller) first
       caller may reference ask now.row its asks in (
         request_row (may.cap.account, reference) now.row,
         asks,
@@ -111,7 +110,7 @@ module _ (digest_of : List ℕ → List ℕ) (digests : GivesDigests digest_of) 
       let u = applied_if w by.outcome.change in
       let after : (step digest_of w caller first command).world ≡ u =
       ap (λ a. applied_if w (change_of a)) by.is in
-      let told = approved digest_of u (cap_at w caller) (utc_day first) account reference
+      let told = approved digest_of u (cap_at w caller) first account reference
       by.outcome.told by.done in
       let row : get (step digest_of w caller first command).world.requests name
       ≡ Some (case_of told.0) =
@@ -125,7 +124,7 @@ module _ (digest_of : List ℕ → List ℕ) (digests : GivesDigests digest_of) 
       let shown = desk_row name (in_state (Approved given) now.row) in
       let again = subst (λ c. answer_to digest_of v c second command ≡ unchanged shown)
       (sym by.so.0.is)
-      (approve_again digest_of v second later.is_open (cap_at w caller) (utc_day first)
+      (approve_again digest_of v second later.is_open (cap_at w caller) first
       by.so.0.digest may account reference now.row given now.is is) in
       let at = told.3.0 in
       let under = told.3.1 in

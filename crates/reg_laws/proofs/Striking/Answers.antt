@@ -28,13 +28,13 @@ use Rattle.reg_core.specs.declared.command.ApplicantCommand.TheVariants.{Own, Ow
 use Rattle.reg_core.specs.declared.command.ExpertCommand.{ExpertCommand}
 use Rattle.reg_core.specs.declared.command.ExpertCommand.TheVariants.{Queue, Advise}
 use Rattle.reg_core.specs.declared.command.ClerkCommand.{ClerkCommand}
-use Rattle.reg_core.specs.declared.command.ClerkCommand.TheVariants.{AllRequests, OneRequest, AssignExpert, Approve, Decline}
+use Rattle.reg_core.specs.declared.command.ClerkCommand.TheVariants.{AllRequests, OneRequest, AssignExpert, Approve, Decline, PendingRequests}
 use Rattle.reg_core.specs.declared.told.Told.TheVariants as tells
 use Rattle.reg_core.specs.declared.refusal.Refusal.{Refusal}
 use Rattle.reg_core.specs.declared.refusal.Refusal.TheVariants as no
 use Rattle.reg_core.specs.declared.reply.Reply.TheVariants.{Accepted}
 use Rattle.reg_core.proofs.SamenessIsDecided.{same_kind-is}
-use Rattle.reg_laws.proofs.Striking.Lists.{same_requests, same_queue}
+use Rattle.reg_laws.proofs.Striking.Lists.{same_requests, same_queue, same_files}
 use Rattle.reg_laws.proofs.Striking.Views.{own_agree, queue_agree, rows_agree, seats_same, personal_same}
 use Rattle.reg_laws.proofs.Striking.Worlds.{with_requests_of, agree_rest, Unaware}
 
@@ -173,28 +173,34 @@ module _
       same_whole (rw (queued cap.account (applicant, reference) h) refl)
 
   module _ (digest_of : List ℕ → List ℕ) where
-    clerk_same : (existing : Option Cap) (in_use : List ℕ) (today : ℕ) (given : ClerkCommand)
+    clerk_same : (existing : Option Cap) (in_use : List ℕ) (moment today : ℕ) (given : ClerkCommand)
         → IsOpen (about existing (command.Clerk given))
-        → Same existing (clerk_answer digest_of u in_use today given)
-        (clerk_answer digest_of v in_use today given)
-    clerk_same existing in_use today AllRequests h = record {
+        → Same existing (clerk_answer digest_of u in_use moment today given)
+        (clerk_answer digest_of v in_use moment today given)
+    clerk_same existing in_use moment today AllRequests h = record {
       whole = λ mine. absurd (cc);
       change = refl;
       rows = ap (λ rows. Accepted (tells.Desks rows)) (same_requests hidden _ _ requests);
     }
-    clerk_same existing in_use today (OneRequest applicant reference) h =
+    clerk_same existing in_use moment today (OneRequest applicant reference) h =
         let name : RequestName = (applicant, reference) in
         same_whole (rw (requests name h, queue_seats name h, advice_seats name h) refl)
-    clerk_same existing in_use today (AssignExpert applicant reference expert) h =
+    clerk_same existing in_use moment today (AssignExpert applicant reference expert) h =
         let name : RequestName = (applicant, reference) in
         same_whole (rw (requests name h, un.agree.queue (name, expert) h) refl)
-    clerk_same existing in_use today (Approve applicant reference) h =
+    clerk_same existing in_use moment today (Approve applicant reference) h =
         let name : RequestName = (applicant, reference) in
         same_whole (rw (requests name h, queue_seats name h, advice_seats name h) refl)
-    clerk_same existing in_use today (Decline applicant reference reason) h =
+    clerk_same existing in_use moment today (Decline applicant reference reason) h =
         same_whole (rw (requests (applicant, reference) h) refl)
-    clerk_same existing in_use today given h =
-        same_itself (clerk_answer digest_of v in_use today given)
+    clerk_same existing in_use moment today PendingRequests h = record {
+      whole = λ mine. absurd (cc);
+      change = refl;
+      rows = ap (λ files. Accepted (tells.Cases files)) (same_files hidden u v requests (λ name case h.
+          rw (queue_seats name h, advice_seats name h) refl));
+    }
+    clerk_same existing in_use moment today given h =
+        same_itself (clerk_answer digest_of v in_use moment today given)
 
     module _ (moment : ℕ) where
       -- the answer by a capability of this kind, while the office is open
@@ -253,7 +259,7 @@ module _
           same_if (acts_as_clerk existing moment) _ _ _ _
           (λ acts.
           let silent = clerk_is_silent account existing moment acts in
-          clerk_same existing digest (utc_day moment) given (is_open _ _ stays silent))
+          clerk_same existing digest moment (utc_day moment) given (is_open _ _ stays silent))
           (λ other. kind_same kind.Clerk existing (λ of my. Err no.Kind)
           (command.Clerk given) stays
           (λ cap other h. same_itself (Err no.Kind)))

@@ -1,16 +1,17 @@
 -- Lists of requests without the hidden ones: maps that agree but for those, and where none is.
-use Rattle.std.proofs.Common.{◌≡◌, ℕ, Bool, not, List, refl, sym, ap, subst, ◌∙◌}
+use Rattle.std.proofs.Common.{◌≡◌, ℕ, Bool, true, false, cond, not, List, [], ◌∷◌, map, refl, sym, ap, subst, ◌∙◌}
 use Rattle.std.specs.Prelude.{Option, Some, None, Ok, Err, option_and_then}
-use Rattle.std.specs.FinMap.{FinMap, get}
+use Rattle.std.specs.FinMap.{FinMap, get, entries}
 use Rattle.reg_maps.proofs.MapLaws.{get-select}
-use Rattle.reg_maps.proofs.HiddenKeys.{AgreeBut, IsBare, plain_rows, same_rows}
+use Rattle.reg_maps.proofs.HiddenKeys.{AgreeBut, IsBare, both_select, plain_rows, same_rows}
 use Rattle.reg_early.specs.Moment.{utc_day}
 use Rattle.reg_core.specs.Answer.{Answer, Outcome, reply_of, made_row}
+use Rattle.reg_core.specs.File.{file, name_of, waiting, waiting_files}
 use Rattle.reg_core.specs.Queue.{queue_row, queue_rows}
 use Rattle.reg_core.specs.Request.{request_row, request_rows}
 use Rattle.reg_core.specs.Run.{Event}
 use Rattle.reg_core.specs.Step.{answer_to}
-use Rattle.reg_core.specs.Striking.{HasNone, requests_without, queue_without, told_without, reply_without}
+use Rattle.reg_core.specs.Striking.{HasNone, requests_without, queue_without, files_without, told_without, reply_without}
 use Rattle.reg_core.specs.View.{Queued, queued_to, requests_of, queue_of}
 use Rattle.reg_core.specs.World.{World, RequestName, name_cmp}
 use Rattle.reg_core.specs.declared.ask.Ask.{Ask}
@@ -21,10 +22,11 @@ use Rattle.reg_core.specs.declared.command.ApplicantCommand.TheVariants.{Own, Ow
 use Rattle.reg_core.specs.declared.command.ExpertCommand.{ExpertCommand}
 use Rattle.reg_core.specs.declared.command.ExpertCommand.TheVariants.{Queue, Advise}
 use Rattle.reg_core.specs.declared.command.ClerkCommand.{ClerkCommand}
-use Rattle.reg_core.specs.declared.command.ClerkCommand.TheVariants.{AllRequests, OneRequest, AssignExpert, Approve, Decline, SetHold}
+use Rattle.reg_core.specs.declared.command.ClerkCommand.TheVariants.{AllRequests, OneRequest, AssignExpert, Approve, Decline, SetHold, PendingRequests, AllCapabilities, CountRows}
 use Rattle.reg_core.specs.declared.command.PublicCommand.{PublicCommand}
 use Rattle.reg_core.specs.declared.command.PublicCommand.TheVariants.{Registries, Registry, RegistryListing, PoolList, BlockListing}
 use Rattle.reg_core.specs.declared.told.Told.TheVariants as tells
+use Rattle.reg_core.specs.declared.case_file.CaseFile.{CaseFile}
 use Rattle.reg_core.specs.declared.queue.QueueRow.{QueueRow}
 use Rattle.reg_core.specs.declared.reply.Reply.TheVariants.{Accepted}
 use Rattle.reg_core.specs.declared.request.Case.{Case}
@@ -40,6 +42,9 @@ module _ (hidden : RequestName → Bool) where
   abbrev seen_queued : QueueRow → Bool
   seen_queued row = not (hidden (row.account, row.reference))
 
+  abbrev seen_file : CaseFile → Bool
+  seen_file file = not (hidden (name_of file))
+
   -- ---- Two maps
 
   pub same_requests : (m n : FinMap name_cmp Case) → AgreeBut hidden m n
@@ -50,6 +55,36 @@ module _ (hidden : RequestName → Bool) where
   pub same_queue : (m n : FinMap name_cmp Queued) → AgreeBut hidden m n
       → queue_without hidden (queue_rows m) ≡ queue_without hidden (queue_rows n)
   same_queue m n = same_rows name_keys hidden seen_queued queue_row m n (λ name h queued. ap not h)
+
+  -- ---- Two worlds
+
+  module _ (w v : World) (requests : AgreeBut hidden w.requests v.requests)
+      (files : (name : RequestName) (case : Case) → hidden name ≡ false
+      → file w name case ≡ file v name case) where
+    -- the files of the same requests
+    same_files_of : (es : List (RequestName × Case))
+        → files_without hidden (map (λ e. file w e.0 e.1) es)
+        ≡ files_without hidden (map (λ e. file v e.0 e.1) es)
+    same_files_of [] = refl
+    same_files_of (e ∷ es) = by (same_files_of es) (hidden e.0) refl
+      where
+        in_w : List CaseFile
+        in_w = files_without hidden (map (λ e. file w e.0 e.1) es)
+
+        in_v : List CaseFile
+        in_v = files_without hidden (map (λ e. file v e.0 e.1) es)
+
+        by : in_w ≡ in_v → (b : Bool) → hidden e.0 ≡ b
+            → cond (not b) (file w e.0 e.1 ∷ in_w) in_w ≡ cond (not b) (file v e.0 e.1 ∷ in_v) in_v
+        by rest true h = rest
+        by rest false h = λ i. files e.0 e.1 h i ∷ rest i
+
+    pub same_files : files_without hidden (waiting_files w) ≡ files_without hidden (waiting_files v)
+    same_files =
+        same_rows name_keys hidden seen_file (file w) (waiting w) (waiting v)
+        (λ name h case. ap not h)
+        (both_select name_keys hidden _ _ w.requests v.requests (λ name h case. refl) requests)
+        ∙ same_files_of (entries (waiting v))
 
 -- ---- No hidden request
 
@@ -62,6 +97,10 @@ module _ (hidden : RequestName → Bool) (v : World) (none : HasNone hidden v) w
   queue_bare account name h =
       get-select name_keys (queued_to account v) v.requests name
       ∙ ap (option_and_then (queued_to account v name)) (none name h)
+
+  waiting_bare : IsBare hidden (waiting v)
+  waiting_bare name h =
+      get-select name_keys _ v.requests name ∙ ap (option_and_then _) (none name h)
 
   plain_requests : (m : FinMap name_cmp Case) → IsBare hidden m
       → requests_without hidden (request_rows m) ≡ request_rows m
@@ -110,16 +149,22 @@ module _ (hidden : RequestName → Bool) (v : World) (none : HasNone hidden v) w
       (λ name queued. refl) (queue_of of v) (queue_bare of)))
   expert_plain of (Advise applicant reference advice) o so = plain so.so.is refl
 
-  clerk_plain : (digest_of : List ℕ → List ℕ) (in_use : List ℕ) (today : ℕ) (given : ClerkCommand)
-      (o : Outcome) → ClerkSo digest_of v in_use today given o → IsPlain o
-  clerk_plain digest_of in_use today AllRequests o so =
+  clerk_plain : (digest_of : List ℕ → List ℕ) (in_use : List ℕ) (moment today : ℕ)
+      (given : ClerkCommand) (o : Outcome) → ClerkSo digest_of v in_use moment today given o
+      → IsPlain o
+  clerk_plain digest_of in_use moment today AllRequests o so =
       plain so (ap tells.Desks (plain_requests v.requests none))
-  clerk_plain digest_of in_use today (OneRequest account reference) o so = plain so.so refl
-  clerk_plain digest_of in_use today (AssignExpert account reference of) o so = plain so.so.is refl
-  clerk_plain digest_of in_use today (Approve account reference) o so = plain so.so.is refl
-  clerk_plain digest_of in_use today (Decline account reference reason) o so = plain so.so.is refl
-  clerk_plain digest_of in_use today (SetHold name value held) o so = plain so.so.so.is refl
-  clerk_plain digest_of in_use today given o so = plain so.is refl
+  clerk_plain digest_of in_use moment today (OneRequest account reference) o so = plain so.so refl
+  clerk_plain digest_of in_use moment today (AssignExpert account reference of) o so = plain so.so.is refl
+  clerk_plain digest_of in_use moment today (Approve account reference) o so = plain so.so.is refl
+  clerk_plain digest_of in_use moment today (Decline account reference reason) o so = plain so.so.is refl
+  clerk_plain digest_of in_use moment today (SetHold name value held) o so = plain so.so.so.is refl
+  clerk_plain digest_of in_use moment today PendingRequests o so =
+      plain so (ap tells.Cases (plain_rows name_keys hidden (seen_file hidden) (file v)
+      (λ name case. refl) (waiting v) waiting_bare))
+  clerk_plain digest_of in_use moment today AllCapabilities o so = plain so refl
+  clerk_plain digest_of in_use moment today CountRows o so = plain so refl
+  clerk_plain digest_of in_use moment today given o so = plain so.is refl
 
   module _ (digest_of : List ℕ → List ℕ) (e : Event) where
     command_plain : (given : Command) (o : Outcome)
@@ -128,7 +173,7 @@ module _ (hidden : RequestName → Bool) (v : World) (none : HasNone hidden v) w
     command_plain (Applicant given) o so = own_plain so.0.cap.account given o so.1
     command_plain (Expert given) o so = expert_plain so.0.cap.account given o so.1
     command_plain (Clerk given) o so =
-        clerk_plain digest_of so.0.digest (utc_day e.moment) given o so.1
+        clerk_plain digest_of so.0.digest e.moment (utc_day e.moment) given o so.1
 
     -- no answer lists one
     pub answer_plain : (a : Answer) → answer_to digest_of v e.caller e.moment e.command ≡ a
