@@ -10,6 +10,7 @@ pub mod TwoWorlds
 pub mod ValuesAreGivenOnce
 pub mod TermsMoveDuly
 pub mod LinksAreTheirPrincipals
+pub mod RevocationsTakeJust
 pub mod AsksInVain
 pub mod Repeats
 pub mod Striking

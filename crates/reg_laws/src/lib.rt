@@ -7,7 +7,7 @@ ghost use Rattle.reg_core.specs.Agents.{LinksAreTheirPrincipals};
 ghost use Rattle.reg_core.specs.BlocksGiven.{BlockAsksAreServedDuly, BlocksAreApart, BlocksDueAreLeast, ForeignBlocksAreHidden, PrivateHoldersAreHidden};
 ghost use Rattle.reg_core.specs.EarlyAllocations.{ExpiredValuesAreTaken, ForeignEntriesAreHidden, TermsMoveDuly};
 ghost use Rattle.reg_core.specs.FirstRefusals.{FirstRefusalsAreAnswered};
-ghost use Rattle.reg_core.specs.Laws.{AnswersAreDone, ApprovalsAreAdvised, ApprovalsGiveWhatIsAllowed, ApprovalsStand, ChangesFit, FirstWorldsAreWellKept, GivenStays, GivesDigests, RefusalsChangeNothing, RepeatsActOnce, RunsKeepWell, SubmissionsStand, TwoWorlds};
+ghost use Rattle.reg_core.specs.Laws.{AnswersAreDone, ApprovalsAreAdvised, ApprovalsGiveWhatIsAllowed, ApprovalsStand, ChangesFit, FirstWorldsAreWellKept, GivenStays, GivesDigests, RefusalsChangeNothing, RepeatsActOnce, RevocationsTakeJust, RunsKeepWell, SubmissionsStand, TwoWorlds};
 ghost use Rattle.reg_core.specs.MayBeGiven.{AsksMeetTheirPolicy, NoValueIsGivenTwice};
 ghost use Rattle.reg_core.specs.Striking.{StagesAreOfRun, UnseenLeaveNoTrace};
 ghost use Rattle.reg_laws.specs.CommandLines.{CommandsGoByTheirLines};
@@ -152,6 +152,14 @@ pub fn given_stays()
 /// principal, with an applicant's capability of its own, said of its agent whether it reads.
 pub fn links_are_their_principals()
     ensures { (digest_of : List ℕ → List ℕ) → LinksAreTheirPrincipals digest_of }
+{}
+
+/// Revocations take just what they name: a clerk who names a token by the first digits of its digest
+/// takes away no more than its one capability, and one who names an account all of its capabilities
+/// and nobody else's. The reply is what went, the token in use keeps its capability, and nothing else
+/// changes.
+pub fn revocations_take_just()
+    ensures { (digest_of : List ℕ → List ℕ) → RevocationsTakeJust digest_of }
 {}
 
 /// A refusal changes nothing.

@@ -7,7 +7,7 @@ use Rattle.std.specs.List.{AllPairs}
 use Rattle.std.specs.Ordering.{eq_by_cmp}
 use Rattle.std.proofs.lemmas.Bool.{both_ways}
 use Rattle.std.proofs.lemmas.List.Elements.{All-nil, All-cons, All-contains}
-use Rattle.std.proofs.lemmas.List.Folds.{Any-from_list_any, list_any_at}
+use Rattle.std.proofs.lemmas.List.Folds.{Any-from_list_any}
 use Rattle.std.proofs.lemmas.Slice.Eq.{bytes_eq-Decides}
 use Rattle.reg_maps.specs.Maps.{text_cmp, same_text}
 use Rattle.reg_maps.proofs.MapLaws.{text_keys}
@@ -39,8 +39,7 @@ module _ (w : World) (chosen : CapRow → Bool) where
   own_is : (in_use : List ℕ) → has_token in_use rows ≡ true → IsOwnChosen w chosen (Some in_use)
   own_is in_use own =
       let at = Any-from_list_any (λ row. same_text row.digest in_use) rows own in
-      let same = (bytes_eq-Decides at.1.digest in_use).0 at.4 in
-      (
+      let same = (bytes_eq-Decides at.1.digest in_use).0 at.4 in (
         in_use,
         refl,
         subst (IsChosen w chosen) same (is_among at.1 (at.0, at.2, at.3)),

@@ -69,29 +69,29 @@ decided P {rule = rule} {told = told} comes there made =
 
 -- ---- Capabilities that a clerk takes away
 
+-- the world without these
+abbrev pub gone : World → List CapRow → World
+gone w rows = record w { caps = without (map (λ row. row.digest) rows) w.caps }
+
 -- the caller is told of these, of which none is the token in use, and they have gone
 pub record Took (w : World) (in_use : List ℕ) (rows : List CapRow) (o : Outcome) : Type 0 where
   pub told : o.told ≡ tells.Capabilities rows
   pub others : has_token in_use rows ≡ false
-  pub after : applied_if w o.change
-      ≡ record w { caps = without (map (λ row. row.digest) rows) w.caps }
+  pub after : applied_if w o.change ≡ gone w rows
 
 module _ (w : World) (in_use : List ℕ) (rows : List CapRow) (o : Outcome) where
-  abbrev gone : List CapRow → World
-  gone rows = record w { caps = without (map (λ row. row.digest) rows) w.caps }
-
   pub took_one : Comes (RevokesOne in_use rows) (λ decision. tells.Capabilities rows) o
       → Took w in_use rows o
   took_one comes =
       decided (Took w in_use rows) comes
-      (λ there. record { told = refl; others = there.0; after = ap gone (sym there.1) })
-      (λ facts. record { told = refl; others = facts.0; after = ap gone (sym facts.2) })
+      (λ there. record { told = refl; others = there.0; after = ap (gone w) (sym there.1) })
+      (λ facts. record { told = refl; others = facts.0; after = ap (gone w) (sym facts.2) })
 
   pub took_all : Comes (RevokesAll in_use rows) (λ decision. tells.Capabilities rows) o
       → Took w in_use rows o
   took_all comes =
       decided (Took w in_use rows) comes
-      (λ there. record { told = refl; others = there.0; after = ap gone (sym there.1) })
+      (λ there. record { told = refl; others = there.0; after = ap (gone w) (sym there.1) })
       (λ facts. record { told = refl; others = facts.0; after = refl })
 
 -- ---- What is so after a command
