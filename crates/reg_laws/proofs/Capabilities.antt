@@ -1,4 +1,4 @@
--- Capabilities without some of them; and those that pass a test, and what is so once they have gone.
+-- Capabilities without some of them; those that pass a test, and what is so once they have gone.
 use Rattle.std.proofs.Common.{◌≡◌, ℕ, suc, Bool, true, false, cond, ◌||◌, List, [], ◌∷◌, map, filter, refl, sym, ap, subst, ◌∙◌, arith}
 use Rattle.std.specs.Prelude.{Option, Some, None, All, Contains}
 use Rattle.std.specs.FinMap.{FinMap, get, entries, remove}
@@ -55,7 +55,8 @@ passing : {A : Type 0} (test : A → Bool) (xs : List A)
     → All (λ x. test x ≡ true → Contains (filter test xs) x) xs
 passing test [] = All-nil (λ x. test x ≡ true → Contains (filter test []) x)
 passing {A} test (y ∷ ys) =
-    All-cons Is y ys (λ t. subst (λ b. Contains (cond b (y ∷ rest) rest) y) (sym t) (0, omega arith, refl))
+    All-cons Is y ys
+    (λ t. subst (λ b. Contains (cond b (y ∷ rest) rest) y) (sym t) (0, omega arith, refl))
     (All-weaker (λ x. test x ≡ true → Contains rest x) Is (λ x is t. later x (test y) (is t)) ys
     (passing test ys))
   where
@@ -79,8 +80,12 @@ module _ (chosen : CapRow → Bool) (caps : FinMap text_cmp Cap) where
   abbrev digests : List (List ℕ)
   digests = map (λ row. row.digest) rows
 
-  -- each is there, and passes
-  pub each_is : All (λ row. (get caps row.digest ≡ Some row.cap) × (chosen row ≡ true)) rows
+  -- the row is there, and passes
+  abbrev pub IsOne : CapRow → Type 0
+  IsOne row = (get caps row.digest ≡ Some row.cap) × (chosen row ≡ true)
+
+  -- each of them is one
+  pub each_is : All IsOne rows
   each_is k d inside =
       (chosen_there caps chosen k d inside, filter_passes chosen (cap_rows caps) k d inside)
 
@@ -92,12 +97,10 @@ module _ (chosen : CapRow → Bool) (caps : FinMap text_cmp Cap) where
       by : (found : List CapRow) → rows ≡ found → found ≡ []
       by [] is = refl
       by (row ∷ more) is =
-          let first =
-          All-head (λ row. (get caps row.digest ≡ Some row.cap) × (chosen row ≡ true)) row more
-          (subst (All (λ row. (get caps row.digest ≡ Some row.cap) × (chosen row ≡ true))) is each_is) in
+          let first = All-head IsOne row more (subst (All IsOne) is each_is) in
           absurd (both_ways (chosen row) (none row.digest row.cap first.0) first.1)
 
-  -- each that is there and passes is one of them
+  -- and each one is among them
   pub is_one : (digest : List ℕ) (cap : Cap) → get caps digest ≡ Some cap
       → chosen (cap_row digest cap) ≡ true → Contains rows (cap_row digest cap)
   is_one digest cap is =
@@ -124,7 +127,8 @@ module _ (chosen : CapRow → Bool) (caps : FinMap text_cmp Cap) where
       let at_i = at i (omega (arith, below, inside)) in
       let at_j = at j inside in
       sym (λ t. eq_by_cmp text_cmp (at_i t) (at_j t))
-      ∙ apart_from_distinct (eq_by_cmp text_cmp) (map (λ row. row.digest) (cap_rows caps)) i j d.digest
+      ∙ apart_from_distinct (eq_by_cmp text_cmp) (map (λ row. row.digest) (cap_rows caps)) i j
+      d.digest
       (IsDistinct-from_sorted text_cmp _
       (ascending-entries text_cmp row (λ row. row.digest) (λ e. refl) caps))
       below (omega (arith, inside, long)))
@@ -142,12 +146,11 @@ module _ (chosen : CapRow → Bool) (caps : FinMap text_cmp Cap) where
   is_left digest cap is fails =
       list_any_none (eq_by_cmp text_cmp digest) digests
       (All-map (λ other. eq_by_cmp text_cmp digest other ≡ false) (λ row. row.digest) rows
-      (All-weaker (λ row. (get caps row.digest ≡ Some row.cap) × (chosen row ≡ true))
-      (λ row. eq_by_cmp text_cmp digest row.digest ≡ false)
+      (All-weaker IsOne (λ row. eq_by_cmp text_cmp digest row.digest ≡ false)
       (λ row has. by row has (eq_by_cmp text_cmp digest row.digest) refl) rows each_is))
     where
-      by : (row : CapRow) → (get caps row.digest ≡ Some row.cap) × (chosen row ≡ true)
-          → (b : Bool) → eq_by_cmp text_cmp digest row.digest ≡ b → b ≡ false
+      by : (row : CapRow) → IsOne row → (b : Bool) → eq_by_cmp text_cmp digest row.digest ≡ b
+          → b ≡ false
       by row has false t = refl
       by row has true t =
           let key : digest ≡ row.digest = tied text_keys digest row.digest t in
@@ -176,7 +179,9 @@ module _ (chosen : CapRow → Bool) (caps : FinMap text_cmp Cap) where
 pub have_gone : (w : World) (old : FinMap text_cmp Cap) (chosen : CapRow → Bool)
     (rows : List CapRow) → TakesJust old w.caps chosen rows → HaveGone w chosen rows
 have_gone w old chosen rows takes = record {
-  only = subst (All (λ row. chosen row ≡ true)) (sym takes.told) (filter_passes chosen (cap_rows old));
+  only =
+      subst (All (λ row. chosen row ≡ true)) (sym takes.told)
+      (filter_passes chosen (cap_rows old));
   none = λ digest cap is. before digest cap is (get old digest) refl;
 }
   where

@@ -48,7 +48,8 @@ module _ (digest_of : List ℕ → List ℕ) (w : World) (caller : Option (List 
     is_told : (rows : List CapRow) → Accepted o.told ≡ Accepted (Capabilities rows)
         → caps_that chosen w.caps ≡ rows
     is_told rows told =
-        let both : Accepted (Capabilities (caps_that chosen w.caps)) ≡ Accepted (Capabilities rows) =
+        let all = caps_that chosen w.caps in
+        let both : Accepted (Capabilities all) ≡ Accepted (Capabilities rows) =
         ap Accepted (sym took.told) ∙ told in
         cc
 

@@ -1,3 +1,4 @@
 -- Steps of an office, worked out.
 mod FirstLines
 mod Advice
+mod Revocations

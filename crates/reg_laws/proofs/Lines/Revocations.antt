@@ -1,7 +1,6 @@
 -- Commands that take away capabilities that a test chooses go by their lines.
 use Rattle.std.proofs.Common.{◌≡◌, ℕ, Bool, true, false, List, [], ◌∷◌, inl, inr, refl, sym, ap, subst, ◌∙◌, arith}
 use Rattle.std.specs.Prelude.{Some, Ok, Err, Contains}
-use Rattle.std.specs.FinMap.{get}
 use Rattle.std.specs.Cmp.{eq_by_cmp_equiv}
 use Rattle.std.specs.List.{AllPairs}
 use Rattle.std.specs.Ordering.{eq_by_cmp}
@@ -20,7 +19,7 @@ use Rattle.reg_core.specs.declared.refusal.Refusal.TheVariants as no
 use Rattle.reg_core.specs.declared.told.Told.{Told}
 use Rattle.reg_core.proofs.Cases.{by_test}
 use Rattle.reg_core.specs.Answer.{by_rule}
-use Rattle.reg_laws.proofs.Capabilities.{each_is, is_one, is_in_use, apart}
+use Rattle.reg_laws.proofs.Capabilities.{IsOne, each_is, is_one, is_in_use, apart}
 use Rattle.reg_laws.proofs.Lines.Turns.{By, fails}
 use Rattle.reg_laws.specs.AnswerLines.{refuses, is_there, ◌or_else◌, accepted}
 use Rattle.reg_laws.specs.CommandLines.{IsChosen, IsOwnChosen, AreSeveral, NoneIsChosen}
@@ -31,8 +30,7 @@ module _ (w : World) (chosen : CapRow → Bool) where
 
   is_among : (row : CapRow) → Contains rows row → IsChosen w chosen row.digest
   is_among row h =
-      let is = All-contains (λ row. (get w.caps row.digest ≡ Some row.cap) × (chosen row ≡ true))
-      rows row (each_is chosen w.caps) h in
+      let is = All-contains (IsOne chosen w.caps) rows row (each_is chosen w.caps) h in
       (row.cap, is.0, is.1)
 
   -- the token in use is among them
@@ -99,7 +97,7 @@ module _ (w : World) (chosen : CapRow → Bool) where
       )
   one_goes (row ∷ []) is told =
       inr (
-        (λ several. several.2 (sym (one_is row several.0 is several.3) ∙ one_is row several.1 is several.4)),
+        (λ two. two.2 (sym (one_is row two.0 is two.3) ∙ one_is row two.1 is two.4)),
         inr ((λ none. none row.digest (first_is row [] is)), refl),
       )
   one_goes (row ∷ other ∷ more) is told = inl (several_are row other more is, refl)

@@ -148,8 +148,17 @@ module _ (digest_of : List ℕ → List ℕ) (w : World) (caller : Option (List 
       → HaveGone (applied_if w o.change) chosen (caps_that chosen w.caps)
   all_gone in_use chosen o took =
       have_gone (applied_if w o.change) w.caps chosen (caps_that chosen w.caps)
-      (subst (λ (v : World). TakesJust w.caps v.caps chosen (caps_that chosen w.caps)) (sym took.after)
-      (takes_just chosen w.caps))
+      (subst (λ (v : World). TakesJust w.caps v.caps chosen (caps_that chosen w.caps))
+      (sym took.after) (takes_just chosen w.caps))
+
+  -- what is so of the capabilities that an outcome tells of is done
+  told_done : (command : Command) (rows : List CapRow) (o : Outcome)
+      → o.told ≡ tells.Capabilities rows
+      → IsDone digest_of (applied_if w o.change) (cap_at w caller) moment command
+      (tells.Capabilities rows)
+      → Done command o
+  told_done command rows o told =
+      subst (IsDone digest_of (applied_if w o.change) (cap_at w caller) moment command) (sym told)
 
   -- a line for each command
   done : (command : Command) (o : Outcome) → CommandSo digest_of w caller moment command o
@@ -346,12 +355,12 @@ module _ (digest_of : List ℕ → List ℕ) (w : World) (caller : Option (List 
       subst (Done (Clerk AllCapabilities)) (sym so.1) (cap_list_whole w)
   done (Clerk (RevokeDigits digits)) o so =
       let took = took_one w so.0.digest (caps_that (begins_with digits) w.caps) o so.1 in
-      subst (IsDone digest_of (applied_if w o.change) (cap_at w caller) moment (Clerk (RevokeDigits digits)))
-      (sym took.told) (all_gone so.0.digest (begins_with digits) o took)
+      told_done (Clerk (RevokeDigits digits)) _ o took.told
+      (all_gone so.0.digest (begins_with digits) o took)
   done (Clerk (RevokeAccount account)) o so =
       let took = took_all w so.0.digest (caps_that (is_of account) w.caps) o so.1 in
-      subst (IsDone digest_of (applied_if w o.change) (cap_at w caller) moment (Clerk (RevokeAccount account)))
-      (sym took.told) (all_gone so.0.digest (is_of account) o took)
+      told_done (Clerk (RevokeAccount account)) _ o took.told
+      (all_gone so.0.digest (is_of account) o took)
   done (Clerk CountRows) o so = subst (Done (Clerk CountRows)) (sym so.1) refl
 
 -- an accepted command: its outcome, what was so, and that what its caller is told is so after it

@@ -132,7 +132,8 @@ found_placed (e ∷ es) digest cap is =
         let here : eq_by_cmp cap_place_cmp (cap.account, digest) (e.1.account, e.0) ≡ true =
         (λ i. eq_by_cmp cap_place_cmp ((sym value i).account, key i) (e.1.account, e.0))
         ∙ (eq_by_cmp_equiv cap_places.total).refl (e.1.account, e.0) in
-        ap (λ b. cond b (Some e.1) (find cap_place_cmp (cap.account, digest) (map placed es))) here ∙ is
+        ap (λ b. cond b (Some e.1) (find cap_place_cmp (cap.account, digest) (map placed es))) here
+        ∙ is
     by later false t is =
         ap (λ b. cond b (Some e.1) (find cap_place_cmp (cap.account, digest) (map placed es)))
         (other (eq_by_cmp cap_place_cmp (cap.account, digest) (e.1.account, e.0)) refl t)
@@ -155,7 +156,8 @@ module _ (caps : FinMap text_cmp Cap) where
       let is = placed_found (entries caps) place cap (sym (get-by_account caps place) ∙ found) in (
         is.0,
         All-contains (λ e. get caps e.0 ≡ Some e.1) (entries caps) (place.1, cap)
-            (All-entries text_keys.total (λ e. get caps e.0 ≡ Some e.1) caps (λ digest cap is. is)) is.1,
+            (All-entries text_keys.total (λ e. get caps e.0 ≡ Some e.1) caps (λ digest cap is. is))
+            is.1,
       )
 
   -- each row has the place of its entry

@@ -196,8 +196,8 @@ module _
     clerk_same existing in_use moment today PendingRequests h = record {
       whole = λ mine. absurd (cc);
       change = refl;
-      rows = ap (λ files. Accepted (tells.Cases files)) (same_files hidden u v requests (λ name case h.
-          rw (queue_seats name h, advice_seats name h) refl));
+      rows = ap (λ files. Accepted (tells.Cases files)) (same_files hidden u v requests
+          (λ name case h. rw (queue_seats name h, advice_seats name h) refl));
     }
     clerk_same existing in_use moment today given h =
         same_itself (clerk_answer digest_of v in_use moment today given)

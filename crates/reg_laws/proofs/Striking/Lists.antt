@@ -155,9 +155,12 @@ module _ (hidden : RequestName → Bool) (v : World) (none : HasNone hidden v) w
   clerk_plain digest_of in_use moment today AllRequests o so =
       plain so (ap tells.Desks (plain_requests v.requests none))
   clerk_plain digest_of in_use moment today (OneRequest account reference) o so = plain so.so refl
-  clerk_plain digest_of in_use moment today (AssignExpert account reference of) o so = plain so.so.is refl
-  clerk_plain digest_of in_use moment today (Approve account reference) o so = plain so.so.is refl
-  clerk_plain digest_of in_use moment today (Decline account reference reason) o so = plain so.so.is refl
+  clerk_plain digest_of in_use moment today (AssignExpert account reference of) o so =
+      plain so.so.is refl
+  clerk_plain digest_of in_use moment today (Approve account reference) o so =
+      plain so.so.is refl
+  clerk_plain digest_of in_use moment today (Decline account reference reason) o so =
+      plain so.so.is refl
   clerk_plain digest_of in_use moment today (SetHold name value held) o so = plain so.so.so.is refl
   clerk_plain digest_of in_use moment today PendingRequests o so =
       plain so (ap tells.Cases (plain_rows name_keys hidden (seen_file hidden) (file v)

@@ -26,26 +26,26 @@ use Rattle.reg_core.specs.declared.reply.Reply.TheVariants.{Accepted, Refused}
 use Rattle.reg_core.specs.declared.request.Case.{Case}
 use Rattle.reg_core.proofs.KeyOrders.{name_keys}
 
-abbrev clerk : List ℕ
+abbrev pub clerk : List ℕ
 clerk = codes "clerk-token-00001"
 
-abbrev alice : List ℕ
+abbrev pub alice : List ℕ
 alice = codes "alice-token-00001"
 
-abbrev alice_cap : Cap
+abbrev pub alice_cap : Cap
 alice_cap = record { account = codes "alice"; kind = Applicant; until = 1800000000 }
 
 abbrev bob_cap : Cap
 bob_cap = record alice_cap { account = codes "bob" }
 
-abbrev office : World
+abbrev pub office : World
 office = founded_world clerk
 
 -- the office after the first grant
-abbrev granted : World
+abbrev pub granted : World
 granted = applied office (change.Grant alice alice_cap)
 
-abbrev given : World → Option (List ℕ) → ℕ → Command → Stepped
+abbrev pub given : World → Option (List ℕ) → ℕ → Command → Stepped
 given = step (λ token. token)
 
 -- ---- What the maps have
@@ -57,13 +57,13 @@ office-alice : get office.caps alice ≡ None
 office-alice =
     get-insert text_keys.total map.empty clerk clerk_cap alice ∙ get-empty text_cmp alice
 
-granted-clerk : get granted.caps clerk ≡ Some clerk_cap
+pub granted-clerk : get granted.caps clerk ≡ Some clerk_cap
 granted-clerk = get-insert text_keys.total office.caps alice alice_cap clerk ∙ office-clerk
 
 granted-alice : get granted.caps alice ≡ Some alice_cap
 granted-alice = get-inserted text_keys office.caps alice alice_cap
 
-none_long : {A : Type 0} (xs : List A) → length xs ≡ 0 → xs ≡ []
+pub none_long : {A : Type 0} (xs : List A) → length xs ≡ 0 → xs ≡ []
 none_long [] h = refl
 none_long (x ∷ xs) h = absurd (omega arith)
 
