@@ -24,24 +24,23 @@ mod reviews;
 
 use crate::maps::{row_at, set_row, unset_row};
 use blocks::Blocks;
-use caps::{Caps, cap_in, caps_in};
+use caps::{Caps, cap_in, caps_in, take_caps};
 use entries::{entries_in, entry_in};
 use links::Links;
 use reg_blocks::block::Block;
 use reg_blocks::pool::Pool;
 use reg_blocks::size::Size;
-use reg_core::capability::Cap;
+use reg_core::capability::{Cap, CapRow};
 use reg_core::case_file::CaseFile;
 use reg_core::change::Change;
 use reg_core::entry::Entry;
 use reg_core::holding::{Holding, Listed};
+use reg_core::link::LinkRow;
 use reg_core::queue::QueueRow;
 use reg_core::request::Request;
 use reg_core::rows::Rows;
 use reg_core::text::{Account, Digest, Name, Ref};
 use reg_keeper::keeper::{Fault, Keeper};
-use reg_core::capability::CapRow;
-use reg_core::link::LinkRow;
 use reg_ranges::policy::Policy;
 use reg_ranges::table::RangeTable;
 use registrations::Registrations;
@@ -59,11 +58,13 @@ use std::collections::BTreeMap;
 /// account, and, once more, its principals.
 ///
 /// A row by its key and a change take O(log n), whatever else there is, but a change of a
-/// request's state O((1 + experts) log n), for the experts of that request; the least value without
-/// an entry O(log n) for each range of its policy; the block due and whether a prefix is in the pool
-/// O(log n); a registry's ranges, its entries, an account's own requests, blocks, agents and
-/// principals, a request's file and an expert's queue O(log n + rows); the names of all registries,
-/// all blocks, all requests, all capabilities and all agents O(rows), and the pool O(rows log rows).
+/// request's state O((1 + experts) log n), for the experts of that request, and the removal of
+/// several capabilities O(log n) for each; the least value without an entry O(log n) for each range
+/// of its policy; the block due and whether a prefix is in the pool O(log n); a registry's ranges,
+/// its entries, an account's own requests, blocks, agents and principals, a request's file and an
+/// expert's queue O(log n + rows); the names of all registries, all blocks, all requests, all
+/// capabilities and all agents O(rows), and the pool O(rows log rows); the files of the requests
+/// that wait O(requests + rows), and O(log n) more for each of these files.
 pub struct ListKeeper {
     alloc: Global,
     caps: Caps,
@@ -197,6 +198,10 @@ impl Keeper for ListKeeper {
         Ok(self.reviews.file(self.alloc, account, reference)?)
     }
 
+    fn pending(&mut self) -> Result<Rows<CaseFile>, Fault> {
+        Ok(self.reviews.waiting(self.alloc)?)
+    }
+
     fn queue(&mut self, expert: &Account) -> Result<Rows<QueueRow>, Fault> {
         Ok(self.reviews.queue(self.alloc, expert)?)
     }
@@ -242,6 +247,7 @@ impl Keeper for ListKeeper {
         match change {
             Change::Grant(digest, cap) => set_row(&mut self.caps, digest, cap)?,
             Change::Revoke(digest) => unset_row(&mut self.caps, &digest),
+            Change::RevokeAll(digests) => take_caps(&mut self.caps, digests.as_slice()),
             Change::Define(name, table) => set_row(&mut self.registries, name, table)?,
             Change::AddPool(prefix) => self.blocks.add_prefix(prefix)?,
             Change::Submit(account, reference, ask) => {

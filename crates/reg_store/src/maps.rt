@@ -1,5 +1,5 @@
 //! Rows in ordered maps.
-ghost use Rattle.std.specs.Prelude.{◌≡◌, ◌++◌, map as each, OnOk, OnErr};
+ghost use Rattle.std.specs.Prelude.{◌≡◌, ◌++◌, Option, map as each, filter_map, OnOk, OnErr};
 ghost use Rattle.std.specs.Fn.{FnOnceReturnsAtMut};
 ghost use Rattle.std.specs.Option.{option_copied};
 ghost use Rattle.std.specs.FinMap as fin;
@@ -87,6 +87,25 @@ pub fn push_rows<K: Ord, V, T: Drop, F: Fn(&K, &V) -> Result<T, AllocError>>(
 {
     for (key, row) in map {
         made.push(make(key, row)?)?;
+    }
+    Ok(())
+}
+
+/// Pushes what is made of each row of which something is made, in order.
+pub fn push_some<K: Ord, V, T: Drop, F: Fn(&K, &V) -> Result<Option<T>, AllocError>>(
+    made: &mut Vec<T>,
+    map: &BTreeMap<K, V>,
+    make: F,
+) -> Result<(), AllocError>
+    requires { F.IsAlwaysCallable make }
+    ensures { (f : K → V → Option T) → Computes (F.post make) f
+        → OnOk result (made.new.items
+        ≡ made.old.items ++ filter_map (λ e. f e.0 e.1) map.now.entries) }
+{
+    for (key, row) in map {
+        if let Some(one) = make(key, row)? {
+            made.push(one)?;
+        }
     }
     Ok(())
 }

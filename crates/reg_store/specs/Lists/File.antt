@@ -6,10 +6,15 @@ use Rattle.reg_store.specs.Lists.Opinions.{Opinions}
 use Rattle.reg_store.specs.Lists.Panels.{Panels, seats}
 use Rattle.reg_store.specs.Lists.Requests.{Requests}
 
--- the world of these requests, experts and advice alone
-abbrev pub review_world : Requests → Panels → Opinions → World
-review_world requests panels opinions = record empty_world {
-  requests = pair_map text_cmp text_cmp requests;
+-- the world of these experts and advice alone
+abbrev pub advice_world : Panels → Opinions → World
+advice_world panels opinions = record empty_world {
   queue = seats panels;
   advice = pair_map name_cmp text_cmp opinions;
+}
+
+-- and of these requests
+abbrev pub review_world : Requests → Panels → Opinions → World
+review_world requests panels opinions = record (advice_world panels opinions) {
+  requests = pair_map text_cmp text_cmp requests;
 }

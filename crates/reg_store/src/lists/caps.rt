@@ -3,12 +3,12 @@ ghost use Rattle.std.specs.Prelude.{◌≡◌, IfOk};
 ghost use Rattle.std.specs.FinMap as fin;
 ghost use Rattle.reg_maps.specs.Maps.{text_cmp, finite_map};
 ghost use Rattle.reg_core.specs.CapRows.{cap_rows};
+ghost use Rattle.reg_core.specs.World.{without};
 
-use crate::maps::{push_rows, row_at};
-use reg_core::capability::Cap;
+use crate::maps::{push_rows, row_at, unset_row};
+use reg_core::capability::{Cap, CapRow};
 use reg_core::rows::Rows;
 use reg_core::text::Digest;
-use reg_core::capability::CapRow;
 use std::alloc::{AllocError, Global};
 use std::collections::BTreeMap;
 
@@ -34,4 +34,13 @@ pub fn caps_in(alloc: Global, caps: &Caps) -> Result<Rows<CapRow>, AllocError>
         })
     })?;
     Ok(Rows::from_vec(rows))
+}
+
+/// Takes the capabilities at these digests away, which needs no memory.
+pub fn take_caps(caps: &mut Caps, digests: &[Digest])
+    ensures { finite_map text_cmp caps.new ≡ without digests.now (finite_map text_cmp caps.old) }
+{
+    for digest in digests {
+        unset_row(caps, digest);
+    }
 }

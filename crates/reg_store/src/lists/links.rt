@@ -9,9 +9,9 @@ ghost use Rattle.reg_store.specs.Lists.Pairs.{AreMirrored, all_pairs, link_world
 
 use crate::groups::{list_group, put_row, row_in, take_row};
 use crate::maps::push_rows;
+use reg_core::link::LinkRow;
 use reg_core::rows::Rows;
 use reg_core::text::Account;
-use reg_core::link::LinkRow;
 use std::alloc::{AllocError, Global};
 use std::collections::BTreeMap;
 

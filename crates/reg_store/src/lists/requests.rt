@@ -67,7 +67,8 @@ pub fn all_rows(alloc: Global, requests: &Requests) -> Result<Rows<Request>, All
     Ok(Rows::from_vec(rows))
 }
 
-fn request_row(account: &Account, reference: &Ref, case: &Case) -> Result<Request, AllocError>
+/// A request with its name.
+pub fn request_row(account: &Account, reference: &Ref, case: &Case) -> Result<Request, AllocError>
     ensures { IfOk result (λ row. row ≡ request_of (account.now, reference.now) case.now) }
 {
     Ok(Request {

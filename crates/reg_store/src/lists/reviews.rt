@@ -4,7 +4,7 @@ ghost use Rattle.std.specs.Prelude.{◌≡◌, ℕ, List, None, false, IfOk, OnO
 ghost use Rattle.std.specs.FinMap as fin;
 ghost use Rattle.reg_maps.specs.Maps.{text_cmp};
 ghost use Rattle.reg_maps.specs.Groups.{pair_map};
-ghost use Rattle.reg_core.specs.File.{file as file_of};
+ghost use Rattle.reg_core.specs.File.{file as file_of, waiting_files};
 ghost use Rattle.reg_core.specs.Queue.{queue_row as queue_row_of, queue_rows};
 ghost use Rattle.reg_core.specs.View.{queue_of};
 ghost use Rattle.reg_core.specs.World.{name_cmp, empty_world, applied, with_state};
@@ -14,7 +14,7 @@ ghost use Rattle.reg_store.specs.Lists.Panels.{seats};
 ghost use Rattle.reg_store.specs.Lists.Queues.{AreInStep, all_queues, row_for};
 
 use crate::groups::{list_group, put_row, row_in, take_row};
-use crate::lists::file::file_in;
+use crate::lists::file::{file_in, waiting_in};
 use crate::lists::opinions::{Opinions, advice_in};
 use crate::lists::panels::Panels;
 use crate::lists::queues::{Queues, queued_in, set_advice, set_words};
@@ -82,6 +82,14 @@ impl Reviews {
             account,
             reference,
         )
+    }
+
+    /// The requests that wait, with their experts and all advice on them, by account and then by
+    /// reference.
+    pub fn waiting(&self, alloc: Global) -> Result<Rows<CaseFile>, AllocError>
+        ensures { IfOk result (λ files. files ≡ waiting_files (world_of self.now)) }
+    {
+        waiting_in(alloc, &self.requests, &self.panels, &self.opinions)
     }
 
     /// All requests that are assigned to an expert, by account and then by reference.
