@@ -1,7 +1,10 @@
 pub mod Approvals
+pub mod CapLists
+pub mod Counted
 pub mod Decided
 pub mod Digests
 pub mod Pages
 pub mod Requests
 pub mod Rows
+pub mod Selected
 pub mod Submissions

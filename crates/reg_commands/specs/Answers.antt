@@ -64,10 +64,11 @@ answer_to_expert expert command w = expert_answer expert (personal expert w) com
 
 -- ---- A clerk
 
--- on a day; in_use is the digest of the token in use
-abbrev pub answer_to_clerk : List ℕ → ℕ → ClerkCommand → World → Answer
-answer_to_clerk in_use today command w = clerk_answer token_digest w in_use today command
+-- at a moment, on its day; in_use is the digest of the token in use
+abbrev pub answer_to_clerk : List ℕ → ℕ → ℕ → ClerkCommand → World → Answer
+answer_to_clerk in_use moment today command w =
+    clerk_answer token_digest w in_use moment today command
 
--- where neither the token in use nor the day makes a difference
+-- where neither the token in use nor the time makes a difference
 abbrev pub answer_at_desk : ClerkCommand → World → Answer
-answer_at_desk command w = answer_to_clerk [] 0 command w
+answer_at_desk command w = answer_to_clerk [] 0 0 command w

@@ -29,6 +29,14 @@ pub fn list_all<K: Keeper>(keeper: &mut K) -> Result<Told, Stop>
     Ok(Told::Desks(keeper.all()?))
 }
 
+/// The requests that wait, with their experts and all advice on them.
+pub fn list_pending<K: Keeper>(keeper: &mut K) -> Result<Told, Stop>
+    ensures { Performs K.world K.Holds K.Sound K.FAILS keeper.old keeper.new result
+        (answer_at_desk command.PendingRequests) }
+{
+    Ok(Told::Cases(keeper.pending()?))
+}
+
 /// A request, with its experts and all advice on it.
 pub fn show_one<K: Keeper>(keeper: &mut K, account: &Account, reference: &Ref) -> Result<Told, Stop>
     ensures { Performs K.world K.Holds K.Sound K.FAILS keeper.old keeper.new result
@@ -62,7 +70,7 @@ pub fn approve<K: Keeper>(
     today: Day,
 ) -> Result<Told, Stop>
     ensures { Performs K.world K.Holds K.Sound K.FAILS keeper.old keeper.new result
-        (answer_to_clerk [] today (command.Approve account.now reference.now)) }
+        (answer_to_clerk [] 0 today (command.Approve account.now reference.now)) }
 {
     let file = keeper.file(account, reference)?.ok_or(Refusal::Request)?;
     today.formed();

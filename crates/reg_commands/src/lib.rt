@@ -5,8 +5,10 @@
 pub mod admission;
 mod agents;
 pub mod applicant;
+pub mod capabilities;
 pub mod carrying;
 pub mod clerk;
+pub mod counting;
 mod desk;
 mod digest;
 pub mod expert;

@@ -50,7 +50,7 @@ pub fn set_hold<K: Keeper>(
     today: Day,
 ) -> Result<Told, Stop>
     ensures { Performs K.world K.Holds K.Sound K.FAILS keeper.old keeper.new result
-        (answer_to_clerk [] today (SetHold name.now value held)) }
+        (answer_to_clerk [] 0 today (SetHold name.now value held)) }
 {
     keeper.ranges(name)?.ok_or(Refusal::Registry)?;
     let row = keeper.entry(name, value)?.ok_or(Refusal::Entry)?;

@@ -63,7 +63,7 @@ module _ (g : Over) (c : After-approval g) where
       (sym c.in_ok-file-2.ensures.ok_part ∙ selected_after c.in_ok-file.ensures h)
 
   rules : Rules g.K.Keeper.world g.K.Keeper.Holds c.file.new.self
-      (answer_to_clerk [] c.args.today (Approve c.args.account.now c.args.reference.now))
+      (answer_to_clerk [] 0 c.args.today (Approve c.args.account.now c.args.reference.now))
       (approval_of (published old) found c.args.today) (desk_by name (case_of row))
   rules = record {
     answered = λ h.

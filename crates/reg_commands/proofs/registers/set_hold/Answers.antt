@@ -58,7 +58,7 @@ module _ (g : Over) (c : After-decide_hold g) where
 
   decides : Decides g.K.Keeper.world g.K.Keeper.Holds g.K.Keeper.Sound
       c.args.keeper.now c.entry.new.self
-      (answer_to_clerk [] c.args.today (SetHold asked.0 asked.1 c.args.held))
+      (answer_to_clerk [] 0 c.args.today (SetHold asked.0 asked.1 c.args.held))
       (hold_rule place c.args.held row.term c.args.today)
       (λ decision. Marked (shown_on c.args.today (held_row c.args.held row)))
   decides = record {

@@ -6,11 +6,11 @@ use Rattle.reg_core.specs.View.{entries_of}
 use Rattle.reg_keeper.specs.declared.keeper.Fault.{Fault}
 use Rattle.reg_keeper.specs.declared.keeper.Fault.TheVariants.{Memory}
 use Rattle.reg_keeper.proofs.Premises.{goes_on_there}
-use Rattle.reg_office.specs.Counting.{entries_in, entry_counts, plus}
-use Rattle.reg_office.proofs.Counted.{counts-next}
-use Rattle.reg_office.proofs.Selected.{selects_failed, selects_made, selects_stopped, selects_then}
-use Rattle.reg_office.proofs.Selected.{selects_unmade}
-use Rattle.reg_office.proofs.counting.count_entries.Goals as goal
+use Rattle.reg_core.specs.Counting.{entries_in, entry_counts, plus}
+use Rattle.reg_commands.proofs.Counted.{counts-next}
+use Rattle.reg_commands.proofs.Selected.{selects_failed, selects_made, selects_stopped, selects_then}
+use Rattle.reg_commands.proofs.Selected.{selects_unmade}
+use Rattle.reg_commands.proofs.counting.count_entries.Goals as goal
 
 pub loop-name-init : goal.loop-name-init
 loop-name-init g c = record {

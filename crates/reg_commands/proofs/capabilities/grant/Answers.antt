@@ -9,7 +9,7 @@ use Rattle.reg_core.specs.WellKept.{has_grant_form}
 use Rattle.reg_decisions.proofs.Fitting.{grant_fits}
 use Rattle.reg_commands.proofs.Decided.{can_make, follows}
 use Rattle.reg_commands.proofs.Rows.{selected_after}
-use Rattle.reg_commands.proofs.clerk.grant.Goals as goal
+use Rattle.reg_commands.proofs.capabilities.grant.Goals as goal
 
 pub conclude-requires : goal.conclude-requires
 conclude-requires g c = λ h kept.

@@ -12,7 +12,7 @@ use Rattle.reg_core.specs.Page.{entry_rows}
 use Rattle.reg_core.specs.View.{entries_of}
 use Rattle.reg_core.specs.World.{World}
 use Rattle.reg_core.specs.declared.entry.Entry.{Entry}
-use Rattle.reg_office.specs.Counting.{entries_in, entry_counts, plus, same_status}
+use Rattle.reg_core.specs.Counting.{entries_in, entry_counts, plus, same_status}
 
 -- the counts of two lists together
 counts-append : (today : ℕ) (a b : List Entry)

@@ -5,7 +5,7 @@ use Rattle.reg_core.specs.Rules.{revoke_rule}
 use Rattle.reg_decisions.proofs.Fitting.{revoke_fits}
 use Rattle.reg_commands.proofs.Decided.{can_make, follows}
 use Rattle.reg_commands.proofs.Rows.{selected_after}
-use Rattle.reg_commands.proofs.clerk.revoke.Goals as goal
+use Rattle.reg_commands.proofs.capabilities.revoke.Goals as goal
 
 pub conclude-requires : goal.conclude-requires
 conclude-requires g c = λ h kept.

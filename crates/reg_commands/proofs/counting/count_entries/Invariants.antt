@@ -1,9 +1,9 @@
 use Rattle.std.proofs.Common.{◌≡◌, Result, Ok, take}
 use Rattle.reg_keeper.specs.Keeper.{Selects}
 use Rattle.reg_keeper.specs.declared.keeper.Fault.{Fault}
-use Rattle.reg_office.specs.Counting.{entries_in, entry_counts}
-use Rattle.reg_office.specs.declared.counting.EntryCounts.{EntryCounts}
-use Rattle.reg_office.proofs.counting.count_entries.Given as goal
+use Rattle.reg_core.specs.Counting.{entries_in, entry_counts}
+use Rattle.reg_core.specs.declared.counts.EntryCounts.{EntryCounts}
+use Rattle.reg_commands.proofs.counting.count_entries.Given as goal
 
 abbrev pub invariant-loop-name : goal.invariant-loop-name
 invariant-loop-name g l =

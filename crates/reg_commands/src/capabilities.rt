@@ -1,0 +1,110 @@
+//! What a clerk may do about capabilities, once admitted.
+ghost use Rattle.std.specs.Prelude.{◌≡◌, filter};
+ghost use Rattle.std.specs.Result.{result_map_both};
+ghost use Rattle.reg_core.specs.CapRows.{begins_with, is_of};
+ghost use Rattle.reg_core.specs.declared.command.ClerkCommand.TheVariants as command;
+ghost use Rattle.reg_core.specs.declared.told.Told.TheVariants.{Granted};
+ghost use Rattle.reg_commands.specs.Answers.{answer_to_clerk, answer_at_desk};
+ghost use Rattle.reg_commands.specs.Performs.{Performs};
+
+use crate::carrying::conclude;
+use crate::digest::digest_of;
+use crate::stop::Stop;
+use reg_core::capability::{Cap, CapRow};
+use reg_core::rows::Rows;
+use reg_core::text::{Account, Digest, Digits, Token};
+use reg_core::told::Told;
+use reg_decisions::{decide_grant, decide_revoke, decide_revoke_account, decide_revoke_digits};
+use reg_keeper::keeper::Keeper;
+use reg_ranges::formed::Formed;
+use std::alloc::Global;
+
+/// All capabilities.
+pub fn list_all<K: Keeper>(keeper: &mut K) -> Result<Told, Stop>
+    ensures { Performs K.world K.Holds K.Sound K.FAILS keeper.old keeper.new result
+        (answer_at_desk command.AllCapabilities) }
+{
+    let mut rows = keeper.caps()?.into_vec();
+    rows.sort_by_key(|row| (row.cap.account, row.digest))?;
+    Ok(Told::Capabilities(Rows::from_vec(rows)))
+}
+
+/// Gives a token a capability.
+pub fn tell_grant<K: Keeper>(keeper: &mut K, token: &Token, cap: &Cap) -> Result<Told, Stop>
+    ensures { Performs K.world K.Holds K.Sound K.FAILS keeper.old keeper.new result
+        (answer_at_desk (command.Grant token.now cap.now)) }
+{
+    Ok(Told::Granted(grant(keeper, token, cap)?))
+}
+
+/// Gives a token a capability, and gives what is told of it.
+pub fn grant<K: Keeper>(keeper: &mut K, token: &Token, cap: &Cap) -> Result<Cap, Stop>
+    ensures { Performs K.world K.Holds K.Sound K.FAILS keeper.old keeper.new
+        (result_map_both Granted (λ stop. stop) result)
+        (answer_at_desk (command.Grant token.now cap.now)) }
+{
+    let digest = digest_of(token.as_str().as_bytes());
+    let existing = keeper.cap(&digest)?;
+    let decision = decide_grant(existing.as_ref(), &digest, cap)?;
+    cap.formed();
+    Ok(conclude(keeper, Ok(*cap), decision)?)
+}
+
+/// Takes a token's capability away; `in_use` is the digest of the clerk's own token.
+pub fn revoke<K: Keeper>(keeper: &mut K, in_use: &Digest, token: &Token) -> Result<Told, Stop>
+    ensures { Performs K.world K.Holds K.Sound K.FAILS keeper.old keeper.new result
+        (answer_to_clerk in_use.now 0 0 (command.Revoke token.now)) }
+{
+    let digest = digest_of(token.as_str().as_bytes());
+    let existing = keeper.cap(&digest)?;
+    let decision = decide_revoke(in_use, existing.as_ref(), &digest)?;
+    Ok(conclude(keeper, Ok(Told::Revoked), decision)?)
+}
+
+/// Takes the capability away of the one token whose digest begins with these digits.
+pub fn revoke_digits<K: Keeper>(
+    keeper: &mut K,
+    in_use: &Digest,
+    digits: &Digits,
+) -> Result<Told, Stop>
+    ensures { Performs K.world K.Holds K.Sound K.FAILS keeper.old keeper.new result
+        (answer_to_clerk in_use.now 0 0 (command.RevokeDigits digits.now)) }
+{
+    let rows = beginning_with(keeper.caps()?.into_vec(), digits);
+    let decision = decide_revoke_digits(in_use, rows.as_slice())?;
+    let told = Told::Capabilities(Rows::from_vec(rows));
+    Ok(conclude(keeper, Ok(told), decision)?)
+}
+
+/// Takes all capabilities of an account away.
+pub fn revoke_account<K: Keeper>(
+    alloc: Global,
+    keeper: &mut K,
+    in_use: &Digest,
+    account: &Account,
+) -> Result<Told, Stop>
+    ensures { Performs K.world K.Holds K.Sound K.FAILS keeper.old keeper.new result
+        (answer_to_clerk in_use.now 0 0 (command.RevokeAccount account.now)) }
+{
+    let rows = those_of(keeper.caps()?.into_vec(), account);
+    let decision = decide_revoke_account(alloc, in_use, rows.as_slice())?;
+    let told = Told::Capabilities(Rows::from_vec(rows));
+    Ok(conclude(keeper, Ok(told), decision)?)
+}
+
+// Those of the capabilities at digests that begin with these digits.
+fn beginning_with(mut rows: Vec<CapRow>, digits: &Digits) -> Vec<CapRow>
+    ensures { result.items ≡ filter (begins_with digits.now) rows.items }
+{
+    let digits = digits.as_str().as_bytes();
+    rows.retain(|row| row.digest.as_str().as_bytes().starts_with(digits));
+    rows
+}
+
+// Those of the capabilities that an account has.
+fn those_of(mut rows: Vec<CapRow>, account: &Account) -> Vec<CapRow>
+    ensures { result.items ≡ filter (is_of account.now) rows.items }
+{
+    rows.retain(|row| row.cap.account == *account);
+    rows
+}
