@@ -1,4 +1,4 @@
-use Rattle.std.proofs.Common.{◌≡◌, List, refl, sym, ap, ◌∙◌}
+use Rattle.std.proofs.Common.{◌≡◌, List, sym, ap, ◌∙◌}
 use Rattle.std.specs.Prelude.{filter}
 use Rattle.reg_core.specs.Answer.{by_rule}
 use Rattle.reg_core.specs.CapRows.{is_of, caps_that}
@@ -61,4 +61,7 @@ returns g c =
     let concluded = c.in_ok-conclude.ensures in
     performs_decided c.in_ok-decision.decision
     (decides g (goal.at.returns g c).After-decide_revoke_account) c.in_ok-decision.ensures
-    (the_value (Capabilities c.as_slice.result.now) concluded.told refl) concluded.change
+    (the_value (Capabilities c.as_slice.result.now) concluded.told
+    (ap (λ (rows : List CapRow). Capabilities rows)
+    (c.from_vec.ensures ∙ sym c.as_slice.ensures.value)))
+    concluded.change

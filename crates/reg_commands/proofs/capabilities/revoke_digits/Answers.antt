@@ -1,4 +1,4 @@
-use Rattle.std.proofs.Common.{◌≡◌, List, refl, sym, ap, ◌∙◌}
+use Rattle.std.proofs.Common.{◌≡◌, List, sym, ap, ◌∙◌}
 use Rattle.std.specs.Prelude.{filter}
 use Rattle.reg_core.specs.Answer.{by_rule}
 use Rattle.reg_core.specs.CapRows.{begins_with, caps_that}
@@ -9,7 +9,7 @@ use Rattle.reg_core.specs.declared.command.ClerkCommand.TheVariants.{RevokeDigit
 use Rattle.reg_core.specs.declared.told.Told.TheVariants.{Capabilities}
 use Rattle.reg_decisions.proofs.Fitting.{revoke_digits_fits}
 use Rattle.reg_commands.specs.Answers.{answer_to_clerk}
-use Rattle.reg_commands.proofs.Decided.{Decides, makes_fitting, performs_decided, performs_denied, the_value}
+use Rattle.reg_commands.proofs.Decided.{Decides, follows, makes_fitting, performs_decided, performs_declined, the_value}
 use Rattle.reg_commands.proofs.Rows.{selected_after}
 use Rattle.reg_commands.proofs.capabilities.revoke_digits.Given.{Over}
 use Rattle.reg_commands.proofs.capabilities.revoke_digits.Goals.{After-decide_revoke_digits}
@@ -47,18 +47,23 @@ module _ (g : Over) (c : After-decide_revoke_digits g) where
 
 pub returns-in_err-decision : goal.returns-in_err-decision
 returns-in_err-decision g c =
-    performs_denied c.in_err-decision.field-0.0
+    performs_declined c.in_err-decision.field-0.0
     (decides g (goal.at.returns-in_err-decision g c).After-decide_revoke_digits)
-    c.in_err-decision.ensures c.from_residual-in_err-decision.ensures.1
+    (sym c.in_err-decision.ensures) c.from_residual-in_err-decision.ensures.1
 
 pub conclude-requires : goal.conclude-requires
 conclude-requires g c =
     makes_fitting c.in_ok-decision.decision
-    (decides g (goal.at.conclude-requires g c).After-decide_revoke_digits) c.in_ok-decision.ensures
+    (decides g (goal.at.conclude-requires g c).After-decide_revoke_digits)
+    (follows _ c.in_ok-decision.decision (sym c.in_ok-decision.ensures))
 
 pub returns : goal.returns
 returns g c =
     let concluded = c.in_ok-conclude.ensures in
     performs_decided c.in_ok-decision.decision
-    (decides g (goal.at.returns g c).After-decide_revoke_digits) c.in_ok-decision.ensures
-    (the_value (Capabilities c.as_slice.result.now) concluded.told refl) concluded.change
+    (decides g (goal.at.returns g c).After-decide_revoke_digits)
+    (follows _ c.in_ok-decision.decision (sym c.in_ok-decision.ensures))
+    (the_value (Capabilities c.as_slice.result.now) concluded.told
+    (ap (λ (rows : List CapRow). Capabilities rows)
+    (c.from_vec.ensures ∙ sym c.as_slice.ensures.value)))
+    concluded.change
