@@ -148,13 +148,13 @@ past until moment h = grind (arith, nat_tests)
 -- and nobody else
 abbrev answer_there : World → List ℕ → ℕ → ClerkCommand → Option Cap → Answer
 answer_there w digest moment command found =
-    if is_clerk found moment then answer_to_clerk digest (utc_day moment) command w
+    if is_clerk found moment then answer_to_clerk digest moment (utc_day moment) command w
     else as_kind kind.Clerk (option_map (with_personal w) found) moment (λ account my. Err no.Kind)
 
 clerk_found : (w : World) (digest : List ℕ) (moment : ℕ) (command : ClerkCommand)
     (found : Option Cap) → answer_there w digest moment command found
     ≡ (caller_by digest (admitted found moment kind.Clerk)
-    >>= (λ who. answer_to_clerk who.digest (utc_day moment) command w))
+    >>= (λ who. answer_to_clerk who.digest moment (utc_day moment) command w))
 clerk_found w digest moment command None = refl
 clerk_found w digest moment command (Some cap) =
     from (nat_le cap.until moment) (same_kind cap.kind kind.Clerk) refl refl
@@ -163,7 +163,7 @@ clerk_found w digest moment command (Some cap) =
         → same_kind cap.kind kind.Clerk ≡ same
         → answer_there w digest moment command (Some cap)
         ≡ (caller_by digest (admitted (Some cap) moment kind.Clerk)
-        >>= (λ who. answer_to_clerk who.digest (utc_day moment) command w))
+        >>= (λ who. answer_to_clerk who.digest moment (utc_day moment) command w))
     from true true l s = rw (s, past cap.until moment l, l) refl
     from true false l s = rw (s, l) refl
     from false true l s = rw (s, early cap.until moment l, l) refl
@@ -173,7 +173,7 @@ pub clerk_answered : (w : World) (caller : Option (List ℕ)) (moment : ℕ)
     (command : ClerkCommand) → is_in_clock moment ≡ true
     → answer_to token_digest w caller moment (Clerk command)
     ≡ (admission w caller moment kind.Clerk
-    >>= (λ who. answer_to_clerk who.digest (utc_day moment) command w))
+    >>= (λ who. answer_to_clerk who.digest moment (utc_day moment) command w))
 clerk_answered w None moment command open_now = rw open_now refl
 clerk_answered w (Some digest) moment command open_now =
     rw open_now (clerk_found w digest moment command (get w.caps digest))

@@ -1,22 +1,20 @@
--- Capabilities that are taken away one after the other, and the clerk's that is left.
-use Rattle.std.proofs.Common.{◌≡◌, ◌&&◌, ◌<◌, ◌+◌, ◌++◌, ℕ, Bool, true, false, not, cond, List, [], ◌∷◌}
-use Rattle.std.proofs.Common.{refl, sym, ap, subst, ◌∙◌, take, get_or, length, add-one, arith, Some, None}
+-- Capabilities that are taken away, and the clerk's that is left.
+use Rattle.std.proofs.Common.{◌≡◌, ◌&&◌, ℕ, Bool, true, false, not, cond, List, [], ◌∷◌, map}
+use Rattle.std.proofs.Common.{refl, sym, ap, subst, ◌∙◌, length, arith, Some, None}
 use Rattle.std.specs.Prelude.{◌||◌, if◌then◌else◌, filter, nat_lt, Result, Ok, Err, IfErr, IsErrAnd}
-use Rattle.std.specs.FinMap.{FinMap, entries, get, get-remove}
+use Rattle.std.specs.FinMap.{FinMap, entries, get, get-remove, remove}
 use Rattle.std.specs.List.{AllByRecursion, list_any}
 use Rattle.std.specs.Ordering.{eq_by_cmp}
-use Rattle.std.proofs.Math.Seq.{take-suc}
 use Rattle.std.proofs.lemmas.Bool.Decides.{nat_tests}
 use Rattle.std.proofs.lemmas.List.Elements.{All-map, recursion_from_All}
 use Rattle.std.proofs.lemmas.Bool.{and_parts, not-true}
 use Rattle.reg_maps.specs.Maps.{text_cmp}
 use Rattle.reg_maps.proofs.MapLaws.{All-entries, text_keys, tied}
 use Rattle.reg_core.specs.Capability.{same_kind}
-use Rattle.reg_core.specs.World.{World, applied}
+use Rattle.reg_core.specs.World.{World, without}
 use Rattle.reg_core.specs.declared.capability.Cap.{Cap}
 use Rattle.reg_core.specs.declared.capability.Kind.{Kind}
 use Rattle.reg_core.specs.declared.capability.Kind.TheVariants.{Applicant, Expert, Clerk}
-use Rattle.reg_core.specs.declared.change.Change.TheVariants.{Revoke}
 use Rattle.reg_keeper.specs.Keeper.{MayFault}
 use Rattle.reg_core.specs.CapRows.{cap_row, cap_rows}
 use Rattle.reg_core.specs.declared.capability.CapRow.{CapRow}
@@ -26,22 +24,6 @@ use Rattle.reg_office.specs.declared.revocation.Choice.{Choice}
 use Rattle.reg_office.specs.declared.revocation.RevokeFault.{RevokeFault}
 use Rattle.reg_office.specs.declared.revocation.RevokeFault.TheVariants as no
 
--- ---- One after the other
-
-revoked-append : (xs ys : List CapRow) (w : World) → revoked (xs ++ ys) w ≡ revoked ys (revoked xs w)
-revoked-append [] ys w = refl
-revoked-append (x ∷ xs) ys w = revoked-append xs ys (applied w (Revoke x.digest))
-
--- one row more
-pub revoked-next : (rows : List CapRow) (i : ℕ) (row : CapRow) (w : World) → i < length rows
-    → get_or rows i row ≡ row
-    → revoked (take (i + 1) rows) w ≡ applied (revoked (take i rows) w) (Revoke row.digest)
-revoked-next rows i row w inside here =
-    rw add-one
-    (ap (λ (rs : List CapRow). revoked rs w) (take-suc rows i row inside)
-    ∙ revoked-append (take i rows) (get_or rows i row ∷ []) w
-    ∙ ap (λ (r : CapRow). applied (revoked (take i rows) w) (Revoke r.digest)) here)
-
 -- ---- What is left
 
 -- no row is at a digest
@@ -49,13 +31,14 @@ abbrev AreElsewhere : List ℕ → List CapRow → Type 0
 AreElsewhere digest rows = AllByRecursion (λ r. eq_by_cmp text_cmp digest r.digest ≡ false) rows
 
 -- then what is there stays
-stays_there : (rows : List CapRow) (w : World) (digest : List ℕ) → AreElsewhere digest rows
-    → get (revoked rows w).caps digest ≡ get w.caps digest
-stays_there [] w digest none = refl
-stays_there (row ∷ rows) w digest none =
-    stays_there rows (applied w (Revoke row.digest)) digest none.1
-    ∙ get-remove text_keys.total w.caps row.digest digest
-    ∙ ap (λ b. cond b None (get w.caps digest)) none.0
+stays_there : (rows : List CapRow) (caps : FinMap text_cmp Cap) (digest : List ℕ)
+    → AreElsewhere digest rows
+    → get (without (map (λ row. row.digest) rows) caps) digest ≡ get caps digest
+stays_there [] caps digest none = refl
+stays_there (row ∷ rows) caps digest none =
+    stays_there rows (remove caps row.digest) digest none.1
+    ∙ get-remove text_keys.total caps row.digest digest
+    ∙ ap (λ b. cond b None (get caps digest)) none.0
 
 -- each row is at its digest
 abbrev AreRowsOf : FinMap text_cmp Cap → List CapRow → Type 0
@@ -128,7 +111,7 @@ clerk_left moment choice w left =
     let other = not-true (is_chosen choice r) parts.0 in (
       r.digest,
       r.cap,
-      stays_there (filter (is_chosen choice) (cap_rows w.caps)) w r.digest
+      stays_there (filter (is_chosen choice) (cap_rows w.caps)) w.caps r.digest
           (elsewhere w.caps (is_chosen choice) r found.2 other (cap_rows w.caps)
           (are_rows w.caps))
           ∙ found.2,

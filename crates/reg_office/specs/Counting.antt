@@ -1,61 +1,13 @@
--- How many rows of each kind there are.
-use Rattle.std.specs.Prelude.{◌+◌, ℕ, Bool, true, false, List, length, count_by, nat_lt}
-use Rattle.std.specs.FinMap.{keys}
-use Rattle.std.specs.List.{flat_map}
-use Rattle.reg_early.specs.Terms.{status_on}
-use Rattle.reg_early.specs.declared.term.Status.{Status}
-use Rattle.reg_early.specs.declared.term.Status.TheVariants.{Assigned, Temporary, Expired}
-use Rattle.reg_core.specs.Holding.{listed_rows, masked_blocks}
-use Rattle.reg_core.specs.Page.{entry_rows}
+-- How many rows of each kind there are, requests among them.
+use Rattle.std.specs.Prelude.{ℕ, Bool, true, false, List, length, count_by}
+use Rattle.reg_core.specs.Counting.{counts}
 use Rattle.reg_core.specs.Request.{request_rows, word_of}
-use Rattle.reg_core.specs.View.{entries_of}
 use Rattle.reg_core.specs.World.{World}
-use Rattle.reg_core.specs.declared.entry.Entry.{Entry}
 use Rattle.reg_core.specs.declared.request.Request.{Request}
 use Rattle.reg_core.specs.declared.request.StateWord.{StateWord}
 use Rattle.reg_core.specs.declared.request.StateWord.TheVariants.{Pending, Approved, Declined, Withdrawn}
-use Rattle.reg_core.specs.CapRows.{cap_rows}
-use Rattle.reg_core.specs.Link.{link_rows}
-use Rattle.reg_core.specs.declared.capability.CapRow.{CapRow}
-use Rattle.reg_office.specs.declared.counting.CapCounts.{CapCounts}
-use Rattle.reg_office.specs.declared.counting.Counts.{Counts}
-use Rattle.reg_office.specs.declared.counting.EntryCounts.{EntryCounts}
+use Rattle.reg_office.specs.declared.counting.AllCounts.{AllCounts}
 use Rattle.reg_office.specs.declared.counting.RequestCounts.{RequestCounts}
-
--- ---- Entries
-
-abbrev pub same_status : Status → Status → Bool
-same_status Assigned Assigned = true
-same_status Temporary Temporary = true
-same_status Expired Expired = true
-same_status a b = false
-
--- those of registries, one after the other
-abbrev pub entries_in : List (List ℕ) → World → List Entry
-entries_in names w = flat_map (λ name. entry_rows (entries_of name w.entries)) names
-
--- how many of these entries have a status on a day
-abbrev pub with_status : ℕ → Status → List Entry → ℕ
-with_status today status entries =
-    count_by (λ e. same_status (status_on e.term today) status) entries
-
--- how many entries there are, and how many of them are temporary, expired and held
-abbrev pub entry_counts : ℕ → List Entry → EntryCounts
-entry_counts today entries = record {
-  all = length entries;
-  temporary = with_status today Temporary entries;
-  expired = with_status today Expired entries;
-  held = count_by (λ e. e.term.held) entries;
-}
-
--- the counts of two lists together
-abbrev pub plus : EntryCounts → EntryCounts → EntryCounts
-plus a b = record {
-  all = a.all + b.all;
-  temporary = a.temporary + b.temporary;
-  expired = a.expired + b.expired;
-  held = a.held + b.held;
-}
 
 -- ---- Requests
 
@@ -78,24 +30,11 @@ request_counts requests = record {
   withdrawn = in_state Withdrawn requests;
 }
 
--- ---- Capabilities
-
-abbrev pub cap_counts : ℕ → List CapRow → CapCounts
-cap_counts moment rows = record {
-  all = length rows;
-  valid = count_by (λ row. nat_lt moment row.cap.until) rows;
-}
-
 -- ---- All of an office
 
--- on a day, and at a moment
-abbrev pub counts : ℕ → ℕ → World → Counts
-counts moment today w = record {
-  registries = length (keys w.registries);
-  entries = entry_counts today (entries_in (keys w.registries) w);
+-- at a moment, and on its day
+abbrev pub all_counts : ℕ → ℕ → World → AllCounts
+all_counts moment today w = record {
+  others = counts moment today w;
   requests = request_counts (request_rows w.requests);
-  caps = cap_counts moment (cap_rows w.caps);
-  prefixes = length (keys w.pool);
-  blocks = length (listed_rows (masked_blocks w.blocks));
-  agents = length (link_rows w.agents);
 }

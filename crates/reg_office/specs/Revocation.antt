@@ -1,6 +1,6 @@
 -- Capabilities that are taken away without their tokens.
-use Rattle.std.specs.Prelude.{◌≡◌, ◌⊎◌, ◌<◌, ◌==◌, ◌&&◌, if◌then◌else◌, ℕ, Bool, not, nat_eq, nat_le, nat_lt}
-use Rattle.std.specs.Prelude.{List, [], ◌∷◌, filter, length, take, Some, Result, Ok, Err}
+use Rattle.std.specs.Prelude.{◌≡◌, ◌<◌, ◌==◌, ◌&&◌, if◌then◌else◌, ℕ, Bool, not, nat_eq, nat_le, nat_lt}
+use Rattle.std.specs.Prelude.{List, filter, map, length, Some, Result, Ok, Err}
 use Rattle.std.specs.FinMap.{get}
 use Rattle.std.specs.List.{list_any, starts_with}
 use Rattle.reg_maps.specs.Maps.{same_text}
@@ -8,7 +8,7 @@ use Rattle.reg_core.specs.Capability.{same_kind}
 use Rattle.reg_core.specs.World.{World, applied}
 use Rattle.reg_core.specs.declared.capability.Cap.{Cap}
 use Rattle.reg_core.specs.declared.capability.Kind.TheVariants.{Clerk}
-use Rattle.reg_core.specs.declared.change.Change.TheVariants.{Revoke}
+use Rattle.reg_core.specs.declared.change.Change.TheVariants.{RevokeAll}
 use Rattle.reg_keeper.specs.Keeper.{MayFault}
 use Rattle.reg_core.specs.CapRows.{cap_rows}
 use Rattle.reg_keeper.specs.declared.keeper.Fault.TheVariants.{Memory}
@@ -52,14 +52,9 @@ taken moment choice w = taken_of moment choice (cap_rows w.caps)
 
 -- ---- What becomes of the world
 
--- the world after the revocations of rows in turn
+-- the world without these rows
 abbrev pub revoked : List CapRow → World → World
-revoked [] w = w
-revoked (row ∷ rows) w = revoked rows (applied w (Revoke row.digest))
-
--- the world after the first of them, however many
-abbrev pub IsPartlyRevoked : List CapRow → World → World → Type 0
-IsPartlyRevoked rows old new = (n : ℕ) × (new ≡ revoked (take n rows) old)
+revoked rows w = applied w (RevokeAll (map (λ row. row.digest) rows))
 
 -- a clerk's capability is there, which is valid at a moment
 abbrev pub HasClerkAt : ℕ → World → Type 0
@@ -75,13 +70,10 @@ IsRefusedSo outcome no.Token = outcome ≡ Err no.Token
 IsRefusedSo outcome no.Own = outcome ≡ Err no.Own
 IsRefusedSo outcome (no.Fault fault) = fault ≡ Memory
 
--- a refusal leaves the world; after a fault the first of what goes may be gone
-abbrev pub IsCause : ℕ → Choice → World → World → RevokeFault → Type 0
-IsCause moment choice old new no.Token = (taken moment choice old ≡ Err no.Token) × (new ≡ old)
-IsCause moment choice old new no.Own = (taken moment choice old ≡ Err no.Own) × (new ≡ old)
-IsCause moment choice old new (no.Fault fault) =
-    (new ≡ old)
-    ⊎ ((rows : List CapRow) × (taken moment choice old ≡ Ok rows) × IsPartlyRevoked rows old new)
+abbrev pub IsCause : ℕ → Choice → World → RevokeFault → Type 0
+IsCause moment choice w no.Token = taken moment choice w ≡ Err no.Token
+IsCause moment choice w no.Own = taken moment choice w ≡ Err no.Own
+IsCause moment choice w (no.Fault fault) = Unit {0}
 
 -- which faults there may be
 abbrev pub MayRevoke : Bool → RevokeFault → Type 0

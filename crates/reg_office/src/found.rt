@@ -5,7 +5,7 @@ ghost use Rattle.reg_core.specs.Names.{is_token};
 ghost use Rattle.reg_keeper.specs.Keeper.{GoesOn};
 ghost use Rattle.reg_office.specs.Found.{WasFounded, IsCause, MayFound};
 
-use reg_commands::clerk::grant;
+use reg_commands::capabilities::grant;
 use reg_commands::stop::Stop;
 use reg_core::capability::{Cap, Kind, Until};
 use reg_core::text::{Account, Token};

@@ -7,7 +7,7 @@ pub mod laws;
 mod office;
 mod revocation;
 
-pub use counting::{CapCounts, Counts, EntryCounts, RequestCounts};
+pub use counting::{AllCounts, RequestCounts};
 pub use found::FoundFault;
 pub use office::Office;
 pub use revocation::{Choice, RevokeFault};

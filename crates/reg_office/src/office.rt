@@ -8,18 +8,18 @@ ghost use Rattle.reg_core.specs.Step.{answer_to};
 ghost use Rattle.reg_keeper.specs.Keeper.{MayFault, IsUnfailed, GoesOn, Selects};
 ghost use Rattle.reg_core.specs.CapRows.{cap_rows};
 ghost use Rattle.reg_commands.specs.Caller.{caller_of as caller, step_by, token_digest};
-ghost use Rattle.reg_office.specs.Counting.{counts};
+ghost use Rattle.reg_office.specs.Counting.{all_counts};
 ghost use Rattle.reg_office.specs.Found.{WasFounded, IsCause, MayFound};
 ghost use Rattle.reg_commands.specs.Performs.{Performs};
 ghost use Rattle.reg_office.specs.Revocation.{HasClerkAt, IsCause as IsRevokeCause, MayRevoke, revoked, taken};
 
-use crate::counting::{Counts, count};
+use crate::counting::{AllCounts, count_all};
 use crate::found::{FoundFault, found};
 use crate::revocation::{Choice, RevokeFault, revoke_chosen};
 use reg_commands::admission::admit;
 use reg_commands::stop::Stop;
 use reg_commands::{applicant, clerk, expert, public};
-use reg_core::capability::Kind;
+use reg_core::capability::{CapRow, Kind};
 use reg_core::command::Command;
 use reg_core::refusal::Refusal;
 use reg_core::reply::Reply;
@@ -27,7 +27,6 @@ use reg_core::rows::Rows;
 use reg_core::told::Told;
 use reg_early::day::{Day, day_of};
 use reg_keeper::keeper::{Fault, Keeper};
-use reg_core::capability::CapRow;
 use std::alloc::Global;
 use std::marker::Model;
 
@@ -86,26 +85,26 @@ impl<K: Keeper> Office<K> {
     /// How many rows of each kind there are on a day, at a moment in seconds since
     /// 1970-01-01T00:00:00Z. `Memory` where there is none, or where the entries are more than a number
     /// can say.
-    pub fn count(&mut self, moment: u64, today: Day) -> Result<Counts, Fault>
+    pub fn count(&mut self, moment: u64, today: Day) -> Result<AllCounts, Fault>
         ensures { Selects K.world K.Holds K.Sound K.FAILS self.old self.new result
-            (λ w given. given ≡ counts moment today w) }
+            (λ w given. given ≡ all_counts moment today w) }
     {
-        count(&mut self.keeper, moment, today)
+        count_all(&mut self.keeper, moment, today)
     }
 
-    /// Takes away the capabilities that are chosen, one after the other, at a moment in seconds since
+    /// Takes away the capabilities that are chosen, all in one change, at a moment in seconds since
     /// 1970-01-01T00:00:00Z, and gives their rows, by digest. Afterwards a clerk has a capability
-    /// that is valid then. `Token` where none may be taken, then `Own` where no such would be left,
-    /// and nothing has changed then. After a fault the first of them may be gone, and no others: the
-    /// same again takes the rest.
+    /// that is valid then. `Token` where none may be taken, then `Own` where no such would be left.
+    /// Where it gives no rows, nothing has changed.
     pub fn revoke(&mut self, moment: u64, choice: Choice<'_>) -> Result<Rows<CapRow>, RevokeFault>
         ensures rows { K.Holds self.new →
             IfOk result (λ rows. taken moment choice.entry (K.world self.old) ≡ Ok rows) }
         ensures world { K.Holds self.new →
             IfOk result (λ rows. K.world self.new ≡ revoked rows (K.world self.old)) }
         ensures clerk { K.Holds self.new → OnOk result (HasClerkAt moment (K.world self.new)) }
-        ensures cause { K.Holds self.new → IfErr result
-            (IsRevokeCause moment choice.entry (K.world self.old) (K.world self.new)) }
+        ensures cause { K.Holds self.new →
+            IfErr result (IsRevokeCause moment choice.entry (K.world self.old)) }
+        ensures kept { K.Holds self.new → OnErr result (K.world self.new ≡ K.world self.old) }
         ensures premise { GoesOn K.Holds K.Sound self.old self.new (IfErr result (MayRevoke false)) }
         ensures fault { IfErr result (MayRevoke K.FAILS) }
     {
@@ -173,7 +172,7 @@ fn answer<K: Keeper>(
         }
         Command::Clerk(command) => {
             let caller = admit(keeper, token, moment, Kind::Clerk)?;
-            clerk::perform(keeper, &caller.digest, today, command)
+            clerk::perform(alloc, keeper, &caller.digest, moment, today, command)
         }
     }
 }

@@ -1,17 +1,16 @@
 //! Capabilities that are taken away without their tokens.
-ghost use Rattle.std.specs.Prelude.{◌≡◌, filter, IfOk, IfErr, OnOk, OnErr, false};
-ghost use Rattle.reg_keeper.specs.Keeper.{GoesOn, IsUnfailed, MayFault};
-ghost use Rattle.reg_office.specs.Revocation.{HasClerkAt, IsCause, IsPartlyRevoked, IsRefusedSo, MayRevoke};
+ghost use Rattle.std.specs.Prelude.{◌≡◌, filter, map, IfOk, IfErr, OnOk, OnErr, false};
+ghost use Rattle.reg_keeper.specs.Keeper.{GoesOn};
+ghost use Rattle.reg_office.specs.Revocation.{HasClerkAt, IsCause, IsRefusedSo, MayRevoke};
 ghost use Rattle.reg_office.specs.Revocation.{is_chosen, is_clerk_at, leaves_clerk as clerk_is_left};
 ghost use Rattle.reg_office.specs.Revocation.{may_take as may_go, revoked, taken, taken_of};
 
 use reg_commands::carrying::make;
-use reg_core::capability::{Cap, Kind};
+use reg_core::capability::{Cap, CapRow, Kind};
 use reg_core::change::Change;
 use reg_core::rows::Rows;
-use reg_core::text::Account;
+use reg_core::text::{Account, Digest};
 use reg_keeper::keeper::{Fault, Keeper};
-use reg_core::capability::CapRow;
 use std::alloc::{AllocError, Global};
 
 /// Which capabilities are taken away.
@@ -80,9 +79,8 @@ impl Choice<'_> {
     }
 }
 
-/// Takes away the capabilities that are chosen, one after the other, and gives their rows. `Token`,
-/// then `Own`, and nothing has changed then. After a fault the first of them may be gone, and no
-/// others.
+/// Takes away the capabilities that are chosen, all in one change, and gives their rows. `Token`,
+/// then `Own`. Where it gives no rows, nothing has changed.
 pub fn revoke_chosen<K: Keeper>(
     alloc: Global,
     keeper: &mut K,
@@ -94,14 +92,16 @@ pub fn revoke_chosen<K: Keeper>(
     ensures world { K.Holds keeper.new →
         IfOk result (λ rows. K.world keeper.new ≡ revoked rows (K.world keeper.old)) }
     ensures clerk { K.Holds keeper.new → OnOk result (HasClerkAt moment (K.world keeper.new)) }
-    ensures cause { K.Holds keeper.new → IfErr result
-        (IsCause moment choice.entry (K.world keeper.old) (K.world keeper.new)) }
+    ensures cause { K.Holds keeper.new →
+        IfErr result (IsCause moment choice.entry (K.world keeper.old)) }
+    ensures kept { K.Holds keeper.new → OnErr result (K.world keeper.new ≡ K.world keeper.old) }
     ensures premise { GoesOn K.Holds K.Sound keeper.old keeper.new (IfErr result (MayRevoke false)) }
     ensures fault { IfErr result (MayRevoke K.FAILS) }
 {
     let rows = keeper.caps()?;
     let chosen = chosen_at(alloc, rows.as_slice(), moment, choice)?;
-    revoke_each(keeper, chosen.as_slice())?;
+    let digests = digests_of(alloc, chosen.as_slice())?;
+    make(keeper, Change::RevokeAll(Rows::from_vec(digests)))?;
     Ok(Rows::from_vec(chosen))
 }
 
@@ -153,17 +153,9 @@ fn is_valid_clerk(cap: &Cap, moment: u64) -> bool
     cap.kind == Kind::Clerk && moment < cap.until.seconds()
 }
 
-/// Takes capabilities away, one after the other.
-fn revoke_each<K: Keeper>(keeper: &mut K, rows: &[CapRow]) -> Result<(), Fault>
-    ensures made { K.Holds keeper.new →
-        OnOk result (K.world keeper.new ≡ revoked rows.now (K.world keeper.old)) }
-    ensures partly { K.Holds keeper.new →
-        OnErr result (IsPartlyRevoked rows.now (K.world keeper.old) (K.world keeper.new)) }
-    ensures premise { GoesOn K.Holds K.Sound keeper.old keeper.new (IsUnfailed result) }
-    ensures fault { IfErr result (MayFault K.FAILS) }
+/// The digests of capabilities, in their order.
+fn digests_of(alloc: Global, rows: &[CapRow]) -> Result<Vec<Digest>, AllocError>
+    ensures { IfOk result (λ digests. digests.items ≡ map (λ row. row.digest) rows.now) }
 {
-    for row in rows {
-        make(keeper, Change::Revoke(row.digest))?;
-    }
-    Ok(())
+    rows.iter().map(|row| row.digest).collect(alloc)
 }

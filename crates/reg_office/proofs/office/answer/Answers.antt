@@ -101,7 +101,7 @@ module _ (g : Over) (c : After-admit-in-Clerk g) where
   clerk w = admission w (caller (option_copied c.args.token)) c.args.moment kind.Clerk
 
   abbrev clerk_told : Caller → World → Answer
-  clerk_told who = answer_to_clerk who.digest c.in_ok-today.today c.in-Clerk.command
+  clerk_told who = answer_to_clerk who.digest c.args.moment c.in_ok-today.today c.in-Clerk.command
 
   clerk_is : (w : World)
       → answer_to token_digest w (caller (option_copied c.args.token)) c.args.moment
@@ -116,7 +116,7 @@ module _ (g : Over) (c : After-admit-in-Clerk g) where
       ap (answer_to token_digest w who moment) c.in-Clerk.is
       ∙ clerk_answered w who moment c.in-Clerk.command opened.0
       ∙ ap (λ (day : ℕ). admission w who moment kind.Clerk
-      >>= (λ who. answer_to_clerk who.digest day c.in-Clerk.command w)) opened.1
+      >>= (λ who. answer_to_clerk who.digest moment day c.in-Clerk.command w)) opened.1
 
 pub returns-in_err-caller-in-Clerk-clause-answer :
     goal.returns-in_err-caller-in-Clerk-clause-answer

@@ -1,8 +1,15 @@
-use Rattle.std.proofs.Common.{◌≡◌, List, Ok, sym, ap, subst, ◌∙◌}
+use Rattle.std.proofs.Common.{◌≡◌, List, ℕ, Ok, map, sym, ap, subst, ◌∙◌}
+use Rattle.reg_core.specs.World.{World, applied}
 use Rattle.reg_core.specs.declared.capability.CapRow.{CapRow}
+use Rattle.reg_core.specs.declared.change.Change.TheVariants.{RevokeAll}
+use Rattle.reg_core.proofs.Keeping.Changes.{can_revoke_all}
 use Rattle.reg_office.specs.Revocation.{HasClerkAt, revoked, taken, taken_of}
 use Rattle.reg_office.proofs.Revocations.{clerk_stays, may_revoke}
 use Rattle.reg_office.proofs.revocation.revoke_chosen.Goals as goal
+
+pub make-requires : goal.make-requires
+make-requires g c = λ h kept.
+    can_revoke_all (g.K.Keeper.world c.caps.new.self) c.from_vec.result kept
 
 pub returns-in_err-chosen-clause-fault : goal.returns-in_err-chosen-clause-fault
 returns-in_err-chosen-clause-fault g c =
@@ -12,17 +19,19 @@ returns-in_err-chosen-clause-fault g c =
 
 pub returns-clause-clerk : goal.returns-clause-clerk
 returns-clause-clerk g c = λ h.
-    let kept = c.in_ok-revoke_each.ensures.premise.before h in
+    let kept = c.in_ok-make.ensures.premise.before h in
     let w = g.K.Keeper.world c.args.keeper.now in
     let rows = c.in_ok-chosen.chosen.items in
     let is : taken c.args.moment c.args.choice w ≡ Ok rows =
     ap (taken_of c.args.moment c.args.choice)
     (sym (c.as_slice.ensures ∙ c.in_ok-rows.ensures.value kept))
     ∙ c.in_ok-chosen.ensures.ok in
-    let new : g.K.Keeper.world c.revoke_each.new.keeper ≡ revoked rows w =
-    c.in_ok-revoke_each.ensures.made h
-    ∙ ap (λ (rs : List CapRow). revoked rs (g.K.Keeper.world c.caps.new.self))
-    c.as_slice-2.ensures.value
-    ∙ ap (revoked rows) (c.in_ok-rows.ensures.same kept) in
+    let digests : c.from_vec.result ≡ map (λ (row : CapRow). row.digest) rows =
+    c.from_vec.ensures ∙ c.in_ok-digests.ensures
+    ∙ ap (map (λ (row : CapRow). row.digest)) c.as_slice-2.ensures.value in
+    let new : g.K.Keeper.world c.make.new.keeper ≡ revoked rows w =
+    c.in_ok-make.ensures.made h
+    ∙ ap (λ (w : World). applied w (RevokeAll c.from_vec.result)) (c.in_ok-rows.ensures.same kept)
+    ∙ ap (λ (ds : List (List ℕ)). applied w (RevokeAll ds)) digests in
     subst (HasClerkAt c.args.moment) (sym new)
     (clerk_stays c.args.moment c.args.choice w rows is)
