@@ -5,7 +5,7 @@ ghost use Rattle.reg_core.specs.Agents.{LinksAreTheirPrincipals};
 ghost use Rattle.reg_core.specs.BlocksGiven.{BlockAsksAreServedDuly, BlocksAreApart, BlocksDueAreLeast, ForeignBlocksAreHidden, PrivateHoldersAreHidden};
 ghost use Rattle.reg_core.specs.EarlyAllocations.{ExpiredValuesAreTaken, ForeignEntriesAreHidden, TermsMoveDuly};
 ghost use Rattle.reg_core.specs.FirstRefusals.{FirstRefusalsAreAnswered};
-ghost use Rattle.reg_core.specs.Laws.{AnswersAreDone, ApprovalsAreAdvised, ApprovalsGiveWhatIsAllowed, ApprovalsStand, ChangesFit, FirstWorldsAreWellKept, GivenStays, RefusalsChangeNothing, RepeatsActOnce, RunsKeepWell, SubmissionsStand, TwoWorlds};
+ghost use Rattle.reg_core.specs.Laws.{AnswersAreDone, ApprovalsAreAdvised, ApprovalsGiveWhatIsAllowed, ApprovalsStand, ChangesFit, FirstWorldsAreWellKept, GivenStays, RefusalsChangeNothing, RepeatsActOnce, RevocationsTakeJust, RunsKeepWell, SubmissionsStand, TwoWorlds};
 ghost use Rattle.reg_core.specs.MayBeGiven.{AsksMeetTheirPolicy, NoValueIsGivenTwice};
 ghost use Rattle.reg_core.specs.Striking.{StagesAreOfRun, UnseenLeaveNoTrace};
 ghost use Rattle.reg_laws.specs.CommandLines.{CommandsGoByTheirLines};
@@ -224,6 +224,16 @@ pub fn links_are_their_principals()
     ensures { LinksAreTheirPrincipals token_digest }
 {
     reg_laws::links_are_their_principals();
+}
+
+/// Revocations take just what they name: a clerk who names a token by the first digits of its digest
+/// takes away no more than its one capability, and one who names an account all of its capabilities
+/// and nobody else's. The reply is what went, the token in use keeps its capability, and nothing else
+/// changes.
+pub fn revocations_take_just()
+    ensures { RevocationsTakeJust token_digest }
+{
+    reg_laws::revocations_take_just();
 }
 
 /// A refusal changes nothing.
