@@ -4,8 +4,8 @@ use Rattle.std.specs.Fmt.{signed_decimal}
 use Rattle.std.specs.Io.KnownBytes.{Appends}
 use Rattle.reg_early.specs.Moment.{day_of_moment, is_in_clock, utc_day}
 use Rattle.reg_core.specs.World.{World}
-use Rattle.reg_office.specs.Counting.{counts}
-use Rattle.reg_office.specs.declared.counting.Counts.{Counts}
+use Rattle.reg_office.specs.Counting.{all_counts}
+use Rattle.reg_office.specs.declared.counting.AllCounts.{AllCounts}
 use Rattle.reg_program.specs.Checking.{IsChecked, counts_text, held_text, published_text, requests_text}
 
 -- ---- The clock
@@ -23,8 +23,8 @@ counts_from version published requests held =
     ++ (published ++ (requests ++ held))))
 
 pub is_checked : (version : ℤ) (moment : ℕ) (had has : Option (List ℕ)) (old new : World)
-    (today : ℕ) (given : Counts) (text : List ℕ) → Some today ≡ day_of_moment moment → new ≡ old
-    → given ≡ counts moment today old → text ≡ counts_text version given → Appends had has text
+    (today : ℕ) (given : AllCounts) (text : List ℕ) → Some today ≡ day_of_moment moment → new ≡ old
+    → given ≡ all_counts moment today old → text ≡ counts_text version given → Appends had has text
     → IsChecked version moment had has old new
 is_checked version moment had has old new today given text clock same value is wrote =
     let on = clocked_by (is_in_clock moment) today (utc_day moment) clock in
@@ -34,15 +34,17 @@ is_checked version moment had has old new today given text clock same value is w
       same = same;
       wrote =
           subst P
-          (is ∙ ap (counts_text version) (value ∙ ap (λ (day : ℕ). counts moment day old) on.1))
+          (is ∙ ap (counts_text version) (value ∙ ap (λ (day : ℕ). all_counts moment day old) on.1))
           wrote;
     }
 
 -- the text of all counts, of its parts
-pub text_of_parts : (version : ℤ) (given : Counts) (published requests held text : List ℕ)
-    → published ≡ published_text given → requests ≡ requests_text given → held ≡ held_text given
+pub text_of_parts : (version : ℤ) (given : AllCounts) (published requests held text : List ℕ)
+    → published ≡ published_text given.others → requests ≡ requests_text given.requests
+    → held ≡ held_text given.others
     → text ≡ counts_from version published requests held → text ≡ counts_text version given
 text_of_parts version given published requests held text p r h is =
     is ∙ ap (λ (xs : List ℕ). counts_from version xs requests held) p
-    ∙ ap (λ (xs : List ℕ). counts_from version (published_text given) xs held) r
-    ∙ ap (λ (xs : List ℕ). counts_from version (published_text given) (requests_text given) xs) h
+    ∙ ap (λ (xs : List ℕ). counts_from version (published_text given.others) xs held) r
+    ∙ ap (λ (xs : List ℕ).
+    counts_from version (published_text given.others) (requests_text given.requests) xs) h

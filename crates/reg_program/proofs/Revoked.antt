@@ -1,7 +1,6 @@
 -- Capabilities that are taken away by a job.
-use Rattle.std.proofs.Common.{◌≡◌, ℕ, List, length, take, arith, Bool, false, Result, Ok, sym, ap, ◌∙◌, inl, inr}
+use Rattle.std.proofs.Common.{◌≡◌, ℕ, List, Bool, false, Result, Ok, inl, inr}
 use Rattle.std.specs.Prelude.{⊤, IsErrAnd}
-use Rattle.std.proofs.lemmas.List.{take_all}
 use Rattle.std.proofs.lemmas.Result.{err_from_is_err_and}
 use Rattle.reg_core.specs.World.{World}
 use Rattle.reg_keeper.specs.Keeper.{GoesOn}
@@ -19,26 +18,24 @@ use Rattle.reg_program.proofs.Did.{goes_as, may_fault, may_undo}
 
 -- why none were taken away, as the job says it
 unrevoked_as : (moment : ℕ) (choice : Choice) (old new : World) (fault : RevokeFault) (why : Undone)
-    → IsUnrevokedBy fault why → IsCause moment choice old new fault
+    → IsUnrevokedBy fault why → IsCause moment choice old fault → new ≡ old
     → IsUnrevoked moment choice old new why
-unrevoked_as moment choice old new no.Token (Refused line) by h = (no.Token, h.0, by, h.1)
-unrevoked_as moment choice old new no.Token (Fault failure) by h = inl h.1
-unrevoked_as moment choice old new no.Token (Explained failure why) by h = absurd by
-unrevoked_as moment choice old new no.Own (Refused line) by h = (no.Own, h.0, by, h.1)
-unrevoked_as moment choice old new no.Own (Fault failure) by h = inl h.1
-unrevoked_as moment choice old new no.Own (Explained failure why) by h = absurd by
-unrevoked_as moment choice old new (no.Fault fault) (Refused line) by h = cc
-unrevoked_as moment choice old new (no.Fault fault) (Fault failure) by h = h
-unrevoked_as moment choice old new (no.Fault fault) (Explained failure why) by h = cc
+unrevoked_as moment choice old new no.Token (Refused line) by h same = (no.Token, h, by, same)
+unrevoked_as moment choice old new no.Token (Fault failure) by h same = inl same
+unrevoked_as moment choice old new no.Token (Explained failure why) by h same = absurd by
+unrevoked_as moment choice old new no.Own (Refused line) by h same = (no.Own, h, by, same)
+unrevoked_as moment choice old new no.Own (Fault failure) by h same = inl same
+unrevoked_as moment choice old new no.Own (Explained failure why) by h same = absurd by
+unrevoked_as moment choice old new (no.Fault fault) (Refused line) by h same = cc
+unrevoked_as moment choice old new (no.Fault fault) (Fault failure) by h same = inl same
+unrevoked_as moment choice old new (no.Fault fault) (Explained failure why) by h same = cc
 
 -- they were all taken away, and that could not be printed
 pub printing_unrevoked : (moment : ℕ) (choice : Choice) (old new : World) (rows : List CapRow)
     (why : Undone) → taken moment choice old ≡ Ok rows → new ≡ revoked rows old → IsOfPrinting why
     → IsUnrevoked moment choice old new why
 printing_unrevoked moment choice old new rows (Fault failure) chosen gone of =
-    let all : revoked rows old ≡ revoked (take (length rows) rows) old =
-    ap (λ (rs : List CapRow). revoked rs old) (sym (take_all (length rows) rows (omega arith))) in
-    inr (rows, chosen, (length rows, gone ∙ all))
+    inr (rows, chosen, gone)
 printing_unrevoked moment choice old new rows (Explained failure why) chosen gone of = absurd of
 printing_unrevoked moment choice old new rows (Refused line) chosen gone of = absurd of
 
@@ -64,15 +61,18 @@ module _ {S : Type 0} (world : S → World) (Holds Sound : S → Type 0) (fails 
   -- the office took none
   pub takes_none : (Done : World → World → Type 0) (result : Result ⊤ Undone) (fault : RevokeFault)
       → IsErrAnd result (IsUnrevokedBy fault)
-      → (Holds after → IsCause moment choice (world before) (world after) fault)
+      → (Holds after → IsCause moment choice (world before) fault)
+      → (Holds after → world after ≡ world before)
       → GoesOn Holds Sound before after (MayRevoke false fault) → MayRevoke fails fault
       → Does world Holds Sound fails before after result Done
       (λ old new. IsUnrevoked moment choice old new)
-  takes_none Done result fault is cause goes may =
+  takes_none Done result fault is cause kept goes may =
       let p = err_from_is_err_and result is in
       rw p.1 (record {
         done = λ h. tt;
-        undone = λ h. unrevoked_as moment choice (world before) (world after) fault p.0 p.2 (cause h);
+        undone = λ h.
+            unrevoked_as moment choice (world before) (world after) fault p.0 p.2 (cause h)
+            (kept h);
         premise = goes_as goes (may_revoke_as fault p.0 p.2);
         fault = may_unrevoke fails fault p.0 p.2 may;
       })

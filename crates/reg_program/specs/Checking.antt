@@ -4,9 +4,11 @@ use Rattle.std.specs.Fmt.{decimal, signed_decimal}
 use Rattle.std.specs.Io.KnownBytes.{Appends}
 use Rattle.reg_early.specs.Moment.{is_in_clock, utc_day}
 use Rattle.reg_core.specs.World.{World}
+use Rattle.reg_core.specs.declared.counts.Counts.{Counts}
 use Rattle.reg_core.specs.declared.refusal.Refusal.TheVariants.{Clock}
-use Rattle.reg_office.specs.Counting.{counts}
-use Rattle.reg_office.specs.declared.counting.Counts.{Counts}
+use Rattle.reg_office.specs.Counting.{all_counts}
+use Rattle.reg_office.specs.declared.counting.AllCounts.{AllCounts}
+use Rattle.reg_office.specs.declared.counting.RequestCounts.{RequestCounts}
 use Rattle.reg_program.specs.Doing.{Does}
 use Rattle.reg_program.specs.Tasks.{Streams, IsMoment}
 use Rattle.reg_program.specs.Undone.{IsOfStoreOrPrinting, refusal_line}
@@ -25,13 +27,13 @@ published_text given =
     (counted (codes "expired") given.entries.expired
     (counted (codes "held") given.entries.held []))))
 
-abbrev pub requests_text : Counts → List ℕ
+abbrev pub requests_text : RequestCounts → List ℕ
 requests_text given =
-    counted (codes "requests") given.requests.all
-    (counted (codes "pending") given.requests.pending
-    (counted (codes "approved") given.requests.approved
-    (counted (codes "declined") given.requests.declined
-    (counted (codes "withdrawn") given.requests.withdrawn []))))
+    counted (codes "requests") given.all
+    (counted (codes "pending") given.pending
+    (counted (codes "approved") given.approved
+    (counted (codes "declined") given.declined
+    (counted (codes "withdrawn") given.withdrawn []))))
 
 abbrev pub held_text : Counts → List ℕ
 held_text given =
@@ -42,17 +44,18 @@ held_text given =
     (counted (codes "agents") given.agents []))))
 
 -- the version, that the office is well kept, and each count, on lines of their own
-abbrev pub counts_text : ℤ → Counts → List ℕ
+abbrev pub counts_text : ℤ → AllCounts → List ℕ
 counts_text version given =
     codes "version " ++ (signed_decimal version ++ (codes "\nwell kept\n"
-    ++ (published_text given ++ (requests_text given ++ held_text given))))
+    ++ (published_text given.others
+    ++ (requests_text given.requests ++ held_text given.others))))
 
 -- it is counted as at the moment, on its day, and nothing has changed
 pub record IsChecked (version : ℤ) (moment : ℕ) (had has : Option (List ℕ)) (old new : World) :
     Type 0 where
   pub in_clock : is_in_clock moment ≡ true
   pub same : new ≡ old
-  pub wrote : Appends had has (counts_text version (counts moment (utc_day moment) old))
+  pub wrote : Appends had has (counts_text version (all_counts moment (utc_day moment) old))
 
 -- a line says that the moment is none of the office's clock; or there was a fault
 abbrev pub IsUnchecked : ℕ → Undone → Type 0

@@ -4,7 +4,7 @@ use Rattle.reg_core.specs.Names.{is_name}
 use Rattle.reg_core.specs.World.{World}
 use Rattle.reg_core.specs.declared.refusal.Refusal.TheVariants.{Own}
 use Rattle.reg_core.specs.declared.capability.CapRow.{CapRow}
-use Rattle.reg_office.specs.Revocation.{HasClerkAt, IsPartlyRevoked, revoked, taken}
+use Rattle.reg_office.specs.Revocation.{HasClerkAt, revoked, taken}
 use Rattle.reg_office.specs.declared.revocation.Choice.{Choice}
 use Rattle.reg_office.specs.declared.revocation.RevokeFault.{RevokeFault}
 use Rattle.reg_office.specs.declared.revocation.RevokeFault.TheVariants as no
@@ -18,7 +18,7 @@ use Rattle.reg_program.specs.declared.faults.Undone.TheVariants.{Fault, Explaine
 abbrev pub no_token : List ℕ
 no_token = codes "404 {\"error\":\"token\"}"
 
--- those that may go are gone, each by the model's `Revoke`, a valid clerk is left, and they are
+-- those that may go are gone, in one change of the model, a valid clerk is left, and they are
 -- printed
 pub record Revokes (moment : ℕ) (choice : Choice) (had has : Option (List ℕ)) (old new : World) :
     Type 0 where
@@ -35,14 +35,14 @@ IsUnrevokedBy no.Own undone = IsSaidBy (refusal_line Own) undone
 IsUnrevokedBy (no.Fault fault) undone = undone ≡ Fault (failure_of fault)
 
 -- A line says by which of both causes none may be taken, and nothing has changed; or there was a
--- fault, and nothing has changed or the first of those that may go are gone.
+-- fault, and nothing has changed or all that may go are gone.
 abbrev pub IsUnrevoked : ℕ → Choice → World → World → Undone → Type 0
 IsUnrevoked moment choice old new (Refused line) =
     (cause : RevokeFault) × (taken moment choice old ≡ Err cause)
     × IsUnrevokedBy cause (Refused line) × (new ≡ old)
 IsUnrevoked moment choice old new (Fault failure) =
     (new ≡ old)
-    ⊎ ((rows : List CapRow) × (taken moment choice old ≡ Ok rows) × IsPartlyRevoked rows old new)
+    ⊎ ((rows : List CapRow) × (taken moment choice old ≡ Ok rows) × (new ≡ revoked rows old))
 IsUnrevoked moment choice old new (Explained failure why) = ⊥
 
 -- a line says that no capability is of such a name; or there was no memory

@@ -10,10 +10,11 @@ ghost use Rattle.reg_program.specs.Doing.{Does};
 use crate::asking::print;
 use crate::faults::Undone;
 use crate::tokens::refused_as;
+use reg_core::counts::Counts;
 use reg_core::refusal::Refusal;
 use reg_early::day::day_of;
 use reg_keeper::keeper::Keeper;
-use reg_office::{Counts, Office};
+use reg_office::{AllCounts, Office, RequestCounts};
 use std::alloc::{AllocError, Global};
 use std::io::Write;
 
@@ -42,12 +43,12 @@ pub fn check_in<K: Keeper, W: Write>(
 }
 
 /// The version, that the office is well kept, and each count, on lines of their own.
-fn text_of(alloc: Global, version: i64, counts: &Counts) -> Result<String, AllocError>
+fn text_of(alloc: Global, version: i64, counts: &AllCounts) -> Result<String, AllocError>
     ensures { IfOk result (λ text. string_bytes text ≡ counts_text version counts.now) }
 {
-    let published = published_text(alloc, counts)?;
-    let requests = requests_text(alloc, counts)?;
-    let held = held_text(alloc, counts)?;
+    let published = published_text(alloc, &counts.others)?;
+    let requests = requests_text(alloc, &counts.requests)?;
+    let held = held_text(alloc, &counts.others)?;
     format!(in alloc; "version {version}\nwell kept\n{published}{requests}{held}")
 }
 
@@ -64,14 +65,14 @@ fn published_text(alloc: Global, counts: &Counts) -> Result<String, AllocError>
     )
 }
 
-fn requests_text(alloc: Global, counts: &Counts) -> Result<String, AllocError>
+fn requests_text(alloc: Global, counts: &RequestCounts) -> Result<String, AllocError>
     ensures { IfOk result (λ text. string_bytes text ≡ text_of_requests counts.now) }
 {
-    let requests = counts.requests.all;
-    let pending = counts.requests.pending;
-    let approved = counts.requests.approved;
-    let declined = counts.requests.declined;
-    let withdrawn = counts.requests.withdrawn;
+    let requests = counts.all;
+    let pending = counts.pending;
+    let approved = counts.approved;
+    let declined = counts.declined;
+    let withdrawn = counts.withdrawn;
     format!(in alloc;
         "requests {requests}\npending {pending}\napproved {approved}\ndeclined {declined}\nwithdrawn {withdrawn}\n"
     )

@@ -37,5 +37,5 @@ returns-in-Err g c =
       does =
           takes_none g.K.Keeper.world g.K.Keeper.Holds g.K.Keeper.Sound g.K.Keeper.FAILS
           c.args.office.now c.revoke.new.self c.args.moment c.args.choice _ c.unrevoked.result
-          c.in-Err.fault c.unrevoked.ensures given.cause given.premise given.fault;
+          c.in-Err.fault c.unrevoked.ensures given.cause given.kept given.premise given.fault;
     }
