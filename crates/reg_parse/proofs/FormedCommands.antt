@@ -10,7 +10,7 @@ use Rattle.reg_blocks.specs.Block.{is_block, make_block}
 use Rattle.reg_blocks.specs.Digits.{hex_value_of, read_block, read_prefix}
 use Rattle.reg_blocks.specs.Size.{size_of_digits}
 use Rattle.reg_blocks.specs.declared.size.Size.{Size}
-use Rattle.reg_core.specs.Names.{is_name, is_token}
+use Rattle.reg_core.specs.Names.{is_name, is_token, is_digits}
 use Rattle.reg_core.specs.Advice.{has_advice_form}
 use Rattle.reg_core.specs.Capability.{has_cap_form}
 use Rattle.reg_core.specs.Ask.{has_ask_form}
@@ -34,11 +34,11 @@ use Rattle.reg_core.specs.declared.wire_refusal.ReadFault.{ReadFault}
 use Rattle.reg_parse.specs.declared.route.Methods.{Methods}
 use Rattle.reg_parse.specs.declared.route.Operation.{Operation}
 use Rattle.reg_parse.specs.declared.route.Operation.TheVariants as operation
-use Rattle.reg_parse.specs.Route.{operation_for, registry_path, listing_path, request_path, holding_path, agent_path, principal_path, review_path, case_path, expert_path, approval_path, decline_path, hold_path, definition_path, prefix_path}
+use Rattle.reg_parse.specs.Route.{operation_for, registry_path, listing_path, request_path, holding_path, agent_path, principal_path, review_path, case_path, expert_path, approval_path, decline_path, hold_path, definition_path, prefix_path, token_path, account_path}
 use Rattle.reg_parse.specs.Bodies.Members.{Reading, ◌>>=◌, GivesSeen, or_refusal, object_of, needed, only, kind_form, text_form, truth_form, until_form, verdict_form}
 use Rattle.reg_parse.specs.Bodies.Ask.{ask_of}
 use Rattle.reg_parse.specs.RangeFile.{table_of}
-use Rattle.reg_parse.specs.Command.{add_pool_of, advise_of, approve_of, asked, assign_expert_of, command_of, decline_of, define_of, empty, grant_of, name_at, one_request_of, own_one_of, principal_rows_of, registry_csv_of, registry_of, revoke_of, routed, segment, set_agent_of, set_hold_of, set_listing_of, submit_of, withdraw_of}
+use Rattle.reg_parse.specs.Command.{add_pool_of, advise_of, approve_of, asked, assign_expert_of, command_of, decline_of, define_of, empty, grant_of, name_at, one_request_of, own_one_of, principal_rows_of, registry_csv_of, registry_of, revoke_account_of, revoke_digits_of, revoke_of, routed, segment, set_agent_of, set_hold_of, set_listing_of, submit_of, withdraw_of}
 use Rattle.reg_parse.specs.Bodies.Advice.{advice_of}
 use Rattle.reg_parse.specs.Bodies.Capability.{cap_of}
 use Rattle.reg_parse.proofs.Formed.{Passes, Gives, ok-passes, err-passes, guard, after, or_refusal-passes, needed-passes, text_form-gives, until_form-gives, read_number-gives, is_below, is_until}
@@ -55,6 +55,12 @@ segment-passes test part form pattern path h =
 name_at-passes : (part : Item) (pattern path : List ℕ) → Passes is_name (name_at part pattern path)
 name_at-passes part pattern path =
     segment-passes is_name part (read_text is_name) pattern path (λ s t. guard is_name s t)
+
+digits_at-passes : (pattern path : List ℕ)
+    → Passes is_digits (segment item.Digits (read_text is_digits) pattern path)
+digits_at-passes pattern path =
+    segment-passes is_digits item.Digits (read_text is_digits) pattern path
+    (λ s t. guard is_digits s t)
 
 -- ---- capabilities
 
@@ -85,14 +91,15 @@ plain_parts : (n : Reading ⊤) (c : Command) → has_command_form c ≡ true
 plain_parts (Ok n) c h = ok-passes has_command_form c h
 plain_parts (Err e) c h = err-passes _ e
 
--- a command that is about a name
-named_parts : (make : List ℕ → Command)
-    → ((s : List ℕ) → is_name s ≡ true → has_command_form (make s) ≡ true)
-    → (n : Reading ⊤) (r : Reading (List ℕ)) → Passes is_name r
-    → Passes has_command_form (n >>= (λ nothing. r >>= (λ name. Ok (make name))))
-named_parts make h (Ok n) (Ok r) p = ok-passes has_command_form (make r) (h r (p.passed r refl))
-named_parts make h (Ok n) (Err e) p = err-passes _ e
-named_parts make h (Err e) r p = err-passes _ e
+-- a command that is about what one segment names
+named_parts : {A : Type 0} (test : A → Bool) (make : A → Command)
+    → ((x : A) → test x ≡ true → has_command_form (make x) ≡ true)
+    → (n : Reading ⊤) (r : Reading A) → Passes test r
+    → Passes has_command_form (n >>= (λ nothing. r >>= (λ named. Ok (make named))))
+named_parts test make h (Ok n) (Ok r) p =
+    ok-passes has_command_form (make r) (h r (p.passed r refl))
+named_parts test make h (Ok n) (Err e) p = err-passes _ e
+named_parts test make h (Err e) r p = err-passes _ e
 
 -- an account and a reference
 two_parts : (make : List ℕ → List ℕ → Command)
@@ -318,25 +325,25 @@ command_of-passes : (o : Operation) (path body : List ℕ)
     → Passes has_command_form (command_of o path body)
 unfolding registry_of registry_csv_of own_one_of submit_of withdraw_of set_listing_of set_agent_of
     principal_rows_of advise_of one_request_of assign_expert_of approve_of decline_of set_hold_of
-    define_of add_pool_of grant_of revoke_of
+    define_of add_pool_of grant_of revoke_of revoke_digits_of revoke_account_of
 command_of-passes operation.Registries path body = plain_parts (empty body) _ refl
 command_of-passes operation.Registry path body =
-    named_parts (λ s. command.Public (public.Registry s)) (λ s h. h) (empty body)
+    named_parts is_name (λ s. command.Public (public.Registry s)) (λ s h. h) (empty body)
     (name_at item.Name registry_path path) (name_at-passes item.Name registry_path path)
 command_of-passes operation.RegistryListing path body =
-    named_parts (λ s. command.Public (public.RegistryListing s)) (λ s h. h) (empty body)
+    named_parts is_name (λ s. command.Public (public.RegistryListing s)) (λ s h. h) (empty body)
     (name_at item.Name listing_path path) (name_at-passes item.Name listing_path path)
 command_of-passes operation.BlockListing path body = plain_parts (empty body) _ refl
 command_of-passes operation.PoolList path body = plain_parts (empty body) _ refl
 command_of-passes operation.Own path body = plain_parts (empty body) _ refl
 command_of-passes operation.OwnOne path body =
-    named_parts (λ s. command.Applicant (applicant.OwnOne s)) (λ s h. h) (empty body)
+    named_parts is_name (λ s. command.Applicant (applicant.OwnOne s)) (λ s h. h) (empty body)
     (name_at item.Reference request_path path) (name_at-passes item.Reference request_path path)
 command_of-passes operation.Submit path body =
     submit_parts (object_of body) (name_at item.Reference request_path path)
     (name_at-passes item.Reference request_path path)
 command_of-passes operation.Withdraw path body =
-    named_parts (λ s. command.Applicant (applicant.Withdraw s)) (λ s h. h) (empty body)
+    named_parts is_name (λ s. command.Applicant (applicant.Withdraw s)) (λ s h. h) (empty body)
     (name_at item.Reference request_path path) (name_at-passes item.Reference request_path path)
 command_of-passes operation.Holdings path body = plain_parts (empty body) _ refl
 command_of-passes operation.SetListing path body =
@@ -351,7 +358,7 @@ command_of-passes operation.SetAgent path body =
 command_of-passes operation.Agents path body = plain_parts (empty body) _ refl
 command_of-passes operation.Principals path body = plain_parts (empty body) _ refl
 command_of-passes operation.PrincipalRows path body =
-    named_parts (λ s. command.Applicant (applicant.PrincipalRows s)) (λ s h. h) (empty body)
+    named_parts is_name (λ s. command.Applicant (applicant.PrincipalRows s)) (λ s h. h) (empty body)
     (name_at item.Account principal_path path) (name_at-passes item.Account principal_path path)
 command_of-passes operation.Queue path body = plain_parts (empty body) _ refl
 command_of-passes operation.Advise path body =
@@ -392,6 +399,15 @@ command_of-passes operation.AddPool path body =
     add_pool_parts (empty body) (segment item.Prefix read_prefix prefix_path path)
 command_of-passes operation.Grant path body = grant_of-passes_at (object_of body)
 command_of-passes operation.Revoke path body = revoke_of-passes_at (object_of body)
+command_of-passes operation.PendingRequests path body = plain_parts (empty body) _ refl
+command_of-passes operation.AllCapabilities path body = plain_parts (empty body) _ refl
+command_of-passes operation.RevokeDigits path body =
+    named_parts is_digits (λ s. command.Clerk (clerk.RevokeDigits s)) (λ s h. h) (empty body)
+    (segment item.Digits (read_text is_digits) token_path path) (digits_at-passes token_path path)
+command_of-passes operation.RevokeAccount path body =
+    named_parts is_name (λ s. command.Clerk (clerk.RevokeAccount s)) (λ s h. h) (empty body)
+    (name_at item.Account account_path path) (name_at-passes item.Account account_path path)
+command_of-passes operation.CountRows path body = plain_parts (empty body) _ refl
 
 -- ---- whole
 

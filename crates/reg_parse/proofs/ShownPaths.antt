@@ -1,5 +1,5 @@
 -- What is shown of a path that is not public.
-use Rattle.std.proofs.Common.{◌≡◌, ℕ, List, Bool, true, false, ◌&&◌, is_none, Option, Some, None, Ok, Err, refl, sym, ap, ◌∙◌}
+use Rattle.std.proofs.Common.{◌≡◌, ℕ, List, Bool, true, false, ◌&&◌, is_none, Option, Some, None, Ok, refl, sym, ap, ◌∙◌}
 use Rattle.std.specs.Prelude.{⊤, if◌then◌else◌}
 use Rattle.std.specs.Str.{bytes_eq}
 use Rattle.std.specs.Prelude.{codes}
@@ -86,6 +86,11 @@ public_passes operation.Define path body h = cc
 public_passes operation.AddPool path body h = cc
 public_passes operation.Grant path body h = cc
 public_passes operation.Revoke path body h = cc
+public_passes operation.PendingRequests path body h = cc
+public_passes operation.AllCapabilities path body h = cc
+public_passes operation.RevokeDigits path body h = cc
+public_passes operation.RevokeAccount path body h = cc
+public_passes operation.CountRows path body h = cc
 
 -- ---- what is done at a public path is public
 

@@ -4,7 +4,7 @@ use Rattle.std.specs.Str.{is_utf8}
 use Rattle.reg_ranges.specs.Numbers.{read_number}
 use Rattle.reg_ranges.specs.Texts.{is_text, read_text}
 use Rattle.reg_blocks.specs.Digits.{read_block, read_prefix}
-use Rattle.reg_core.specs.Names.{is_name, is_token}
+use Rattle.reg_core.specs.Names.{is_name, is_token, is_digits}
 use Rattle.reg_core.specs.declared.command.Command.{Command}
 use Rattle.reg_core.specs.declared.command.Command.TheVariants as command
 use Rattle.reg_core.specs.declared.command.PublicCommand.TheVariants as public
@@ -22,7 +22,7 @@ use Rattle.reg_parse.specs.Bodies.Advice.{advice_of}
 use Rattle.reg_parse.specs.Bodies.Ask.{ask_of}
 use Rattle.reg_parse.specs.Bodies.Capability.{cap_of}
 use Rattle.reg_parse.specs.RangeFile.{table_of}
-use Rattle.reg_parse.specs.Route.{methods_at, operation_for, registry_path, listing_path, request_path, holding_path, agent_path, principal_path, review_path, case_path, expert_path, approval_path, decline_path, hold_path, definition_path, prefix_path}
+use Rattle.reg_parse.specs.Route.{methods_at, operation_for, registry_path, listing_path, request_path, holding_path, agent_path, principal_path, review_path, case_path, expert_path, approval_path, decline_path, hold_path, definition_path, prefix_path, token_path, account_path}
 use Rattle.reg_parse.specs.Path.{segment_named, has_empty_segment}
 
 abbrev pub empty : List ℕ → Reading ⊤
@@ -172,6 +172,18 @@ revoke_of body = do
   others ← only (item.Token ∷ []) json
   Ok (command.Clerk (clerk.Revoke token))
 
+unfoldable pub revoke_digits_of : List ℕ → List ℕ → Reading Command
+revoke_digits_of path body = do
+  nothing ← empty body
+  digits ← segment item.Digits (read_text is_digits) token_path path
+  Ok (command.Clerk (clerk.RevokeDigits digits))
+
+unfoldable pub revoke_account_of : List ℕ → List ℕ → Reading Command
+revoke_account_of path body = do
+  nothing ← empty body
+  account ← name_at item.Account account_path path
+  Ok (command.Clerk (clerk.RevokeAccount account))
+
 abbrev pub command_of : Operation → List ℕ → List ℕ → Reading Command
 command_of operation.Registries path body = without_body (command.Public public.Registries) body
 command_of operation.Registry path body = registry_of path body
@@ -202,6 +214,13 @@ command_of operation.Define path body = define_of path body
 command_of operation.AddPool path body = add_pool_of path body
 command_of operation.Grant path body = grant_of body
 command_of operation.Revoke path body = revoke_of body
+command_of operation.PendingRequests path body =
+    without_body (command.Clerk clerk.PendingRequests) body
+command_of operation.AllCapabilities path body =
+    without_body (command.Clerk clerk.AllCapabilities) body
+command_of operation.RevokeDigits path body = revoke_digits_of path body
+command_of operation.RevokeAccount path body = revoke_account_of path body
+command_of operation.CountRows path body = without_body (command.Clerk clerk.CountRows) body
 
 -- what the methods do at a path that is UTF-8 and has no empty segment
 abbrev pub routed : List ℕ → Option Methods

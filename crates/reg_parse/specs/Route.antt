@@ -8,7 +8,7 @@ use Rattle.matchit.specs.Router.{RouteOf, route_from, nearest}
 use Rattle.matchit.specs.Seek.{first}
 use Rattle.matchit.specs.declared.error.InsertError.{InsertError}
 use Rattle.reg_parse.specs.declared.route.Operation.{Operation}
-use Rattle.reg_parse.specs.declared.route.Operation.TheVariants.{Registries, Registry, RegistryListing, BlockListing, PoolList, Own, OwnOne, Submit, Withdraw, Holdings, SetListing, SetAgent, Agents, Principals, PrincipalRows, Queue, Advise, AllRequests, OneRequest, AssignExpert, Approve, Decline, SetHold, Define, AddPool, Grant, Revoke}
+use Rattle.reg_parse.specs.declared.route.Operation.TheVariants.{Registries, Registry, RegistryListing, BlockListing, PoolList, Own, OwnOne, Submit, Withdraw, Holdings, SetListing, SetAgent, Agents, Principals, PrincipalRows, Queue, Advise, AllRequests, OneRequest, AssignExpert, Approve, Decline, SetHold, Define, AddPool, Grant, Revoke, PendingRequests, AllCapabilities, RevokeDigits, RevokeAccount, CountRows}
 use Rattle.reg_parse.specs.declared.route.Methods.{Methods}
 
 abbrev pub operation_for : List ℕ → Methods → Option Operation
@@ -63,6 +63,12 @@ definition_path = codes "/desk/registries/{name}/{max}"
 abbrev pub prefix_path : List ℕ
 prefix_path = codes "/desk/pool/{prefix}"
 
+abbrev pub token_path : List ℕ
+token_path = codes "/desk/tokens/{digits}"
+
+abbrev pub account_path : List ℕ
+account_path = codes "/desk/accounts/{account}"
+
 -- ---- the table
 
 -- a path, and what GET, PUT and DELETE do there
@@ -97,8 +103,12 @@ rows =
     ∷ row hold_path None (Some SetHold) None
     ∷ row definition_path None (Some Define) None
     ∷ row prefix_path None (Some AddPool) None
-    ∷ row (codes "/desk/tokens") None (Some Grant) None
+    ∷ row (codes "/desk/tokens") (Some AllCapabilities) (Some Grant) None
     ∷ row (codes "/desk/revoke") None (Some Revoke) None
+    ∷ row (codes "/desk/pending") (Some PendingRequests) None None
+    ∷ row token_path None None (Some RevokeDigits)
+    ∷ row account_path None None (Some RevokeAccount)
+    ∷ row (codes "/desk/counts") (Some CountRows) None None
     ∷ []
 
 -- what a router keeps of them

@@ -1,11 +1,11 @@
 -- What a log shows of the path of a request.
 use Rattle.std.specs.Prelude.{ℕ, List, Option, Some, None, codes, if◌then◌else◌, Bool, true, false, ◌&&◌}
 use Rattle.reg_parse.specs.declared.route.Operation.{Operation}
-use Rattle.reg_parse.specs.declared.route.Operation.TheVariants.{Registries, Registry, RegistryListing, BlockListing, PoolList, Own, OwnOne, Submit, Withdraw, Holdings, SetListing, SetAgent, Agents, Principals, PrincipalRows, Queue, Advise, AllRequests, OneRequest, AssignExpert, Approve, Decline, SetHold, Define, AddPool, Grant, Revoke}
+use Rattle.reg_parse.specs.declared.route.Operation.TheVariants.{Registries, Registry, RegistryListing, BlockListing, PoolList, Own, OwnOne, Submit, Withdraw, Holdings, SetListing, SetAgent, Agents, Principals, PrincipalRows, Queue, Advise, AllRequests, OneRequest, AssignExpert, Approve, Decline, SetHold, Define, AddPool, Grant, Revoke, PendingRequests, AllCapabilities, RevokeDigits, RevokeAccount, CountRows}
 use Rattle.reg_parse.specs.declared.route.Methods.{Methods}
 use Rattle.reg_parse.specs.declared.shown.Shown.{Shown}
 use Rattle.reg_parse.specs.Command.{routed}
-use Rattle.reg_parse.specs.Route.{registry_path, listing_path, request_path, holding_path, agent_path, principal_path, review_path, case_path, expert_path, approval_path, decline_path, hold_path, definition_path, prefix_path}
+use Rattle.reg_parse.specs.Route.{registry_path, listing_path, request_path, holding_path, agent_path, principal_path, review_path, case_path, expert_path, approval_path, decline_path, hold_path, definition_path, prefix_path, token_path, account_path}
 
 -- the text that is shown
 abbrev pub text_of : Shown → List ℕ
@@ -40,6 +40,11 @@ is_public Define = false
 is_public AddPool = false
 is_public Grant = false
 is_public Revoke = false
+is_public PendingRequests = false
+is_public AllCapabilities = false
+is_public RevokeDigits = false
+is_public RevokeAccount = false
+is_public CountRows = false
 
 -- the pattern of its path
 abbrev pub pattern_of : Operation → List ℕ
@@ -70,6 +75,11 @@ pattern_of Define = definition_path
 pattern_of AddPool = prefix_path
 pattern_of Grant = codes "/desk/tokens"
 pattern_of Revoke = codes "/desk/revoke"
+pattern_of PendingRequests = codes "/desk/pending"
+pattern_of AllCapabilities = codes "/desk/tokens"
+pattern_of RevokeDigits = token_path
+pattern_of RevokeAccount = account_path
+pattern_of CountRows = codes "/desk/counts"
 
 -- an operation, if there is one, that everybody may have
 abbrev pub is_open : Option Operation → Bool

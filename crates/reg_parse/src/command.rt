@@ -6,15 +6,15 @@ ghost use Rattle.reg_parse.specs.Route.{operation_for};
 ghost use Rattle.reg_parse.specs.Bodies.Members.{Gives};
 ghost use Rattle.reg_ranges.specs.Numbers.{read_number};
 ghost use Rattle.reg_ranges.specs.Texts.{read_text};
-ghost use Rattle.reg_parse.specs.Command.{add_pool_of, advise_of, approve_of, asked, assign_expert_of, command_of, decline_of, define_of, empty, grant_of, one_request_of, own_one_of, principal_rows_of, registry_csv_of, registry_of, revoke_of, routed, segment, set_agent_of, set_hold_of, set_listing_of, submit_of, withdraw_of, without_body};
+ghost use Rattle.reg_parse.specs.Command.{add_pool_of, advise_of, approve_of, asked, assign_expert_of, command_of, decline_of, define_of, empty, grant_of, one_request_of, own_one_of, principal_rows_of, registry_csv_of, registry_of, revoke_account_of, revoke_digits_of, revoke_of, routed, segment, set_agent_of, set_hold_of, set_listing_of, submit_of, withdraw_of, without_body};
 
 use crate::bodies::{advice, ask, capability, members};
 use crate::path;
 use crate::range_file::read_table;
 use crate::route::{
-    AGENT_PATH, APPROVAL_PATH, CASE_PATH, DECLINE_PATH, DEFINITION_PATH, EXPERT_PATH, HOLD_PATH,
-    HOLDING_PATH, LISTING_PATH, Methods, Operation, PREFIX_PATH, PRINCIPAL_PATH, REGISTRY_PATH,
-    REQUEST_PATH, REVIEW_PATH, Routes,
+    ACCOUNT_PATH, AGENT_PATH, APPROVAL_PATH, CASE_PATH, DECLINE_PATH, DEFINITION_PATH, EXPERT_PATH,
+    HOLD_PATH, HOLDING_PATH, LISTING_PATH, Methods, Operation, PREFIX_PATH, PRINCIPAL_PATH,
+    REGISTRY_PATH, REQUEST_PATH, REVIEW_PATH, Routes, TOKEN_PATH,
 };
 use reg_blocks::block::Block;
 use reg_blocks::prefix;
@@ -107,6 +107,15 @@ fn command_of(
         Operation::AddPool => read_add_pool(path, body),
         Operation::Grant => read_grant(alloc, body),
         Operation::Revoke => read_revoke(alloc, body),
+        Operation::PendingRequests => {
+            without_body(Command::Clerk(ClerkCommand::PendingRequests), body)
+        },
+        Operation::AllCapabilities => {
+            without_body(Command::Clerk(ClerkCommand::AllCapabilities), body)
+        },
+        Operation::RevokeDigits => read_revoke_digits(path, body),
+        Operation::RevokeAccount => read_revoke_account(path, body),
+        Operation::CountRows => without_body(Command::Clerk(ClerkCommand::CountRows), body),
     }
 }
 
@@ -295,6 +304,24 @@ fn read_revoke(alloc: Global, body: &[u8]) -> Result<Command, ReadFault>
     let token = members::word(&json, Item::Token)?;
     members::only(&[Item::Token], &json)?;
     Ok(Command::Clerk(ClerkCommand::Revoke(token)))
+}
+
+#[tactic(auto, unfolding(crate::specs::Command::revoke_digits_of))]
+fn read_revoke_digits(path: &str, body: &[u8]) -> Result<Command, ReadFault>
+    ensures { Gives result (revoke_digits_of path.now body.now) }
+{
+    empty(body)?;
+    let digits = word_at(TOKEN_PATH, path, Item::Digits)?;
+    Ok(Command::Clerk(ClerkCommand::RevokeDigits(digits)))
+}
+
+#[tactic(auto, unfolding(crate::specs::Command::revoke_account_of))]
+fn read_revoke_account(path: &str, body: &[u8]) -> Result<Command, ReadFault>
+    ensures { Gives result (revoke_account_of path.now body.now) }
+{
+    empty(body)?;
+    let account = word_at(ACCOUNT_PATH, path, Item::Account)?;
+    Ok(Command::Clerk(ClerkCommand::RevokeAccount(account)))
 }
 
 fn without_body(command: Command, body: &[u8]) -> Result<Command, ReadFault>

@@ -36,6 +36,11 @@ pub enum Operation {
     AddPool,
     Grant,
     Revoke,
+    PendingRequests,
+    AllCapabilities,
+    RevokeDigits,
+    RevokeAccount,
+    CountRows,
 }
 
 /// What GET, PUT and DELETE (RFC 9110 section 9.3) do at a path.
@@ -115,8 +120,12 @@ pub(crate) const DEFINITION_PATH: &str = "/desk/registries/{name}/{max}";
 
 pub(crate) const PREFIX_PATH: &str = "/desk/pool/{prefix}";
 
+pub(crate) const TOKEN_PATH: &str = "/desk/tokens/{digits}";
+
+pub(crate) const ACCOUNT_PATH: &str = "/desk/accounts/{account}";
+
 // Each path, and what the methods do there.
-const ROWS: [(&str, Methods); 25] = [
+const ROWS: [(&str, Methods); 29] = [
     (
         "/registries",
         Methods {
@@ -282,6 +291,7 @@ const ROWS: [(&str, Methods); 25] = [
     (
         "/desk/tokens",
         Methods {
+            get: Some(Operation::AllCapabilities),
             put: Some(Operation::Grant),
             ..NONE
         },
@@ -290,6 +300,34 @@ const ROWS: [(&str, Methods); 25] = [
         "/desk/revoke",
         Methods {
             put: Some(Operation::Revoke),
+            ..NONE
+        },
+    ),
+    (
+        "/desk/pending",
+        Methods {
+            get: Some(Operation::PendingRequests),
+            ..NONE
+        },
+    ),
+    (
+        TOKEN_PATH,
+        Methods {
+            delete: Some(Operation::RevokeDigits),
+            ..NONE
+        },
+    ),
+    (
+        ACCOUNT_PATH,
+        Methods {
+            delete: Some(Operation::RevokeAccount),
+            ..NONE
+        },
+    ),
+    (
+        "/desk/counts",
+        Methods {
+            get: Some(Operation::CountRows),
             ..NONE
         },
     ),

@@ -4,9 +4,9 @@ ghost use Rattle.reg_parse.specs.Shown.{are_public, is_open, is_public, pattern_
 
 use crate::command::routed;
 use crate::route::{
-    AGENT_PATH, APPROVAL_PATH, CASE_PATH, DECLINE_PATH, DEFINITION_PATH, EXPERT_PATH, HOLD_PATH,
-    HOLDING_PATH, LISTING_PATH, Methods, Operation, PREFIX_PATH, PRINCIPAL_PATH, REGISTRY_PATH,
-    REQUEST_PATH, REVIEW_PATH, Routes,
+    ACCOUNT_PATH, AGENT_PATH, APPROVAL_PATH, CASE_PATH, DECLINE_PATH, DEFINITION_PATH, EXPERT_PATH,
+    HOLD_PATH, HOLDING_PATH, LISTING_PATH, Methods, Operation, PREFIX_PATH, PRINCIPAL_PATH,
+    REGISTRY_PATH, REQUEST_PATH, REVIEW_PATH, Routes, TOKEN_PATH,
 };
 
 /// What stands for a path that has no route.
@@ -118,8 +118,12 @@ impl Operation {
             Operation::SetHold => HOLD_PATH,
             Operation::Define => DEFINITION_PATH,
             Operation::AddPool => PREFIX_PATH,
-            Operation::Grant => "/desk/tokens",
+            Operation::Grant | Operation::AllCapabilities => "/desk/tokens",
             Operation::Revoke => "/desk/revoke",
+            Operation::PendingRequests => "/desk/pending",
+            Operation::RevokeDigits => TOKEN_PATH,
+            Operation::RevokeAccount => ACCOUNT_PATH,
+            Operation::CountRows => "/desk/counts",
         }
     }
 }
