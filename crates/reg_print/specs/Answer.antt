@@ -1,14 +1,14 @@
 -- The status and the body of an answer.
 use Rattle.std.specs.Prelude.{ℕ, List}
 use Rattle.reg_core.specs.declared.told.Told.{Told}
-use Rattle.reg_core.specs.declared.told.Told.TheVariants.{Names, Page, Listing, Pool, Blocks, Made, Row, Rows, Held, Holdings, Agent, Accounts, Queued, Queue, Desk, Desks, Filed, Marked, Defined, Pooled, Granted, Revoked}
+use Rattle.reg_core.specs.declared.told.Told.TheVariants.{Names, Page, Listing, Pool, Blocks, Made, Row, Rows, Held, Holdings, Agent, Accounts, Queued, Queue, Desk, Desks, Filed, Marked, Defined, Pooled, Granted, Revoked, Cases, Capabilities, Counts}
 use Rattle.reg_core.specs.declared.reply.Reply.{Reply}
 use Rattle.reg_core.specs.declared.reply.Reply.TheVariants as reply
 use Rattle.reg_print.specs.declared.answer.Answer.{Answer}
 use Rattle.reg_print.specs.declared.answer.Answer.TheVariants as answer
 use Rattle.reg_print.specs.Body.{Body, json, listing, block_listing, text_of}
 use Rattle.reg_print.specs.Trees.Agent.{agent_tree}
-use Rattle.reg_print.specs.Trees.File.{file_tree}
+use Rattle.reg_print.specs.Trees.File.{file_tree, files_tree}
 use Rattle.reg_print.specs.Trees.Holding.{holding_tree, holdings_tree}
 use Rattle.reg_print.specs.Trees.Members.{names_tree}
 use Rattle.reg_print.specs.Trees.Page.{page_tree, defined_tree, entry_tree}
@@ -16,7 +16,8 @@ use Rattle.reg_print.specs.Trees.Pool.{pool_tree, pooled_tree}
 use Rattle.reg_print.specs.Trees.Queue.{queue_tree, queues_tree}
 use Rattle.reg_print.specs.Refusal.{office_row, wire_row, storage_row}
 use Rattle.reg_print.specs.Trees.Request.{request_tree, requests_tree, desk_tree, desks_tree}
-use Rattle.reg_print.specs.Trees.Capability.{cap_tree, revoked_tree}
+use Rattle.reg_print.specs.Trees.Capability.{cap_rows_tree, cap_tree, revoked_tree}
+use Rattle.reg_print.specs.Trees.Counts.{counts_tree}
 use Rattle.reg_print.specs.Trees.Refusal.{error_tree}
 
 -- ---- Status
@@ -45,6 +46,9 @@ told_status (Defined name) = 200
 told_status (Pooled prefix) = 200
 told_status (Granted cap) = 200
 told_status Revoked = 200
+told_status (Cases files) = 200
+told_status (Capabilities rows) = 200
+told_status (Counts counts) = 200
 
 abbrev pub reply_status : Reply → ℕ
 reply_status (reply.Accepted told) = told_status told
@@ -82,6 +86,9 @@ told_body (Defined name) = json (defined_tree name)
 told_body (Pooled prefix) = json (pooled_tree prefix)
 told_body (Granted cap) = json (cap_tree cap)
 told_body Revoked = json revoked_tree
+told_body (Cases files) = json (files_tree files)
+told_body (Capabilities rows) = json (cap_rows_tree rows)
+told_body (Counts counts) = json (counts_tree counts)
 
 -- the body of a reply
 abbrev pub reply_body : Reply → Body

@@ -10,4 +10,5 @@ pub mod Pool
 pub mod Holding
 pub mod Agent
 pub mod Capability
+pub mod Counts
 pub mod Refusal

@@ -106,7 +106,10 @@ fn told_status(told: &Told) -> u16
         | Told::Defined(_)
         | Told::Pooled(_)
         | Told::Granted(_)
-        | Told::Revoked => 200,
+        | Told::Revoked
+        | Told::Cases(_)
+        | Told::Capabilities(_)
+        | Told::Counts(_) => 200,
     }
 }
 
@@ -171,5 +174,8 @@ fn told_bytes(alloc: Global, told: &Told) -> Result<Vec<u8>, AllocError>
         Told::Pooled(prefix) => printed::<Pooled, _>(alloc, prefix),
         Told::Granted(cap) => printed(alloc, cap),
         Told::Revoked => printed(alloc, &Revoked),
+        Told::Cases(files) => printed::<Itself, _>(alloc, files),
+        Told::Capabilities(rows) => printed::<Itself, _>(alloc, rows),
+        Told::Counts(counts) => printed(alloc, counts),
     }
 }

@@ -4,6 +4,7 @@ pub mod advice;
 pub mod agent;
 pub mod ask;
 pub mod capability;
+pub mod counts;
 pub mod file;
 pub mod holding;
 pub mod page;

@@ -204,6 +204,15 @@ impl Printer {
         Ok(())
     }
 
+    /// A member that says how many there are.
+    pub fn put_count(&mut self, name: &str, count: usize) -> Result<(), AllocError>
+        ensures { OnOk result
+            (PrintedMembers self.old.json self.new.json 0
+            ((name.now, Some (number (unsigned count))) ∷ [])) }
+    {
+        self.put_number(name, count as u64)
+    }
+
     /// A member that is true or false.
     pub fn put_flag(&mut self, name: &str, flag: bool) -> Result<(), AllocError>
         ensures { OnOk result

@@ -42,6 +42,7 @@ pub fn office_row(refusal: Refusal) -> RefusalRow
         Refusal::Exhausted => row(409, "exhausted"),
         Refusal::Advice => row(409, "advice"),
         Refusal::Own => row(409, "own"),
+        Refusal::Several => row(409, "several"),
         Refusal::Holding => row(404, "holding"),
         Refusal::Exists => row(409, "exists"),
         Refusal::Bits => row(422, "bits"),

@@ -1,6 +1,7 @@
 -- The JSON of a request with all that the desk has of it.
-use Rattle.std.specs.Prelude.{◌∷◌, Some, codes}
-use Rattle.serde_json.specs.Data.{Data}
+use Rattle.std.specs.Prelude.{List, ◌∷◌, map, Some, codes}
+use Rattle.serde_json.specs.Data.{Data, array}
+use Rattle.serde_json.specs.View.{items_of}
 use Rattle.reg_core.specs.declared.case_file.CaseFile.{CaseFile}
 use Rattle.reg_print.specs.Trees.Advice.{opinions_tree}
 use Rattle.reg_print.specs.Trees.Ask.{ask_tree}
@@ -20,3 +21,6 @@ file_members file =
 -- the JSON of a request with all that the desk has of it: its experts, and all advice on it
 abbrev pub file_tree : CaseFile → Data
 file_tree file = object_with (file_members file)
+
+abbrev pub files_tree : List CaseFile → Data
+files_tree files = array (items_of (map file_tree files))

@@ -1,9 +1,15 @@
 //! Prints capabilities.
-ghost use Rattle.reg_print.specs.Trees.Capability.{cap_tree, revoked_tree};
+ghost use Rattle.std.specs.Prelude.{◌≡◌, take, OnOk};
+ghost use Rattle.reg_print.specs.Printed.{PrintedMembers};
+ghost use Rattle.reg_print.specs.Trees.Capability.{cap_row_tree, cap_tree, right_members, revoked_tree};
 
 use crate::printing::{Itself, Print, Printer};
-use reg_core::capability::Cap;
+use reg_core::capability::{Cap, CapRow};
+use reg_core::text::Digest;
 use std::alloc::AllocError;
+
+/// How many digits of a digest are shown, which tell tokens apart.
+const SHOWN_DIGITS: usize = 12;
 
 /// That a token has no capability now.
 pub(crate) struct Revoked;
@@ -17,11 +23,43 @@ impl Print<Itself> for Cap {
     fn print(&self, out: &mut Printer) -> Result<(), AllocError> {
         out.open_object()?;
         out.put("account", &self.account)?;
-        out.put_text("kind", self.kind.word())?;
-        out.put_number("until", self.until.seconds())?;
+        put_right(out, self)?;
         out.close_object()?;
         Ok(())
     }
+}
+
+/// A capability, also with the first digits of the digest of the token that has it.
+impl Print<Itself> for CapRow {
+    ghost tree = { cap_row_tree };
+
+    ghost levels = { 1 };
+
+    fn print(&self, out: &mut Printer) -> Result<(), AllocError> {
+        out.open_object()?;
+        out.put("account", &self.cap.account)?;
+        out.put_text("digest", shown_digits(&self.digest))?;
+        put_right(out, &self.cap)?;
+        out.close_object()?;
+        Ok(())
+    }
+}
+
+// The members that tell of what kind a capability is, and until when it is valid.
+fn put_right(out: &mut Printer, cap: &Cap) -> Result<(), AllocError>
+    ensures { OnOk result
+        (PrintedMembers out.old.json out.new.json 0 (right_members cap.now)) }
+{
+    out.put_text("kind", cap.kind.word())?;
+    out.put_number("until", cap.until.seconds())?;
+    Ok(())
+}
+
+// The first digits of a digest.
+fn shown_digits(digest: &Digest) -> &str
+    ensures { result.now ≡ take 12 digest.now }
+{
+    &digest.as_str()[..SHOWN_DIGITS]
 }
 
 impl Print<Itself> for Revoked {
