@@ -342,14 +342,20 @@ copy_gives words none =
 
 tokens_gives : GivesJob (sub_of tokens_app)
 tokens_gives words none =
-    let held = leaf_rows (sub_of tokens_app) (file_keeps, (help_flag_keeps, tt)) refl words none in
+    let held = leaf_rows (sub_of tokens_app) (
+      source_keeps,
+      (option_keeps (codes "token") refl refl refl, (help_flag_keeps, tt)),
+    ) refl words none in
     text_given _ _ held.0 (held.1.0 refl)
 
 revoke_gives : GivesJob (sub_of revoke_app)
 revoke_gives words none =
     let held = leaf_rows (sub_of revoke_app) (
-      file_keeps,
-      (option_keeps (codes "digest") refl refl refl, (option_keeps (codes "account") refl refl refl, (help_flag_keeps, tt))),
+      source_keeps,
+      (
+        option_keeps (codes "token") refl refl refl,
+        (option_keeps (codes "digest") refl refl refl, (option_keeps (codes "account") refl refl refl, (help_flag_keeps, tt))),
+      ),
     ) refl words none in
     text_given _ _ held.0 (held.1.0 refl)
 

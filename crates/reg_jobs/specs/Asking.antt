@@ -1,5 +1,5 @@
 -- What the words of a command line ask for, as the library `clap` reads them.
-use Rattle.std.specs.Prelude.{◌≡◌, ◌⊎◌, ◌≤◌, ⊤, ℕ, Bool, true, false, [], List, Some, None}
+use Rattle.std.specs.Prelude.{◌≡◌, ◌⊎◌, ◌≤◌, ◌++◌, ⊤, ℕ, Bool, true, false, [], List, Option, Some, None}
 use Rattle.std.specs.Prelude.{codes, is_some, option_map, pos}
 use Rattle.std.specs.Option.{option_map_or}
 use Rattle.std.specs.Str.{bytes_eq}
@@ -49,6 +49,20 @@ abbrev pub IsUnclear : List Row → Type 0
 IsUnclear rows =
     is_some (first_of (codes "digest") rows) ≡ is_some (first_of (codes "account") rows)
 
+-- the address of an office that is served on this machine
+abbrev pub IsServed : Text → Type 0
+IsServed source = (port : Text) × (source ≡ codes "http://127.0.0.1:" ++ port)
+
+-- a token is said just where the office is served
+abbrev pub IsTokenFor : Text → Option Text → Type 0
+IsTokenFor source (Some token) = IsServed source
+IsTokenFor source None = IsServed source → ⊥
+
+-- a token is said of an office in a file, or none of one that is served
+abbrev pub IsMisplaced : List Row → Type 0
+IsMisplaced rows = (source : Text) × IsTextOf (codes "SOURCE") rows source
+    × (IsTokenFor source (first_of (codes "token") rows) → ⊥)
+
 -- the job of this name, with the values of its arguments
 abbrev pub IsJobOf : Text → List Row → Job → Type 0
 IsJobOf name rows (Script clerk file) =
@@ -97,10 +111,14 @@ IsJobOf name rows (Check file) =
 IsJobOf name rows (Copy file folder) =
     (name ≡ codes "copy") × IsTextOf (codes "FILE") rows (string_bytes file)
     × IsTextOf (codes "FOLDER") rows (string_bytes folder)
-IsJobOf name rows (Tokens file) =
-    (name ≡ codes "tokens") × IsTextOf (codes "FILE") rows (string_bytes file)
-IsJobOf name rows (Revoke file which) =
-    (name ≡ codes "revoke") × IsTextOf (codes "FILE") rows (string_bytes file)
+IsJobOf name rows (Tokens source token) =
+    (name ≡ codes "tokens") × IsTextOf (codes "SOURCE") rows (string_bytes source)
+    × (first_of (codes "token") rows ≡ option_map string_bytes token)
+    × IsTokenFor (string_bytes source) (option_map string_bytes token)
+IsJobOf name rows (Revoke source token which) =
+    (name ≡ codes "revoke") × IsTextOf (codes "SOURCE") rows (string_bytes source)
+    × (first_of (codes "token") rows ≡ option_map string_bytes token)
+    × IsTokenFor (string_bytes source) (option_map string_bytes token)
     × IsWhichOf rows which
 IsJobOf name rows Version = ⊥
 IsJobOf name rows (Help text) = ⊥
@@ -150,8 +168,8 @@ HasKeepingJob name rows =
     Where (bytes_eq name (codes "check")) (HasText (codes "FILE") rows)
     (Where (bytes_eq name (codes "copy"))
     (HasText (codes "FILE") rows × HasText (codes "FOLDER") rows)
-    (Where (bytes_eq name (codes "tokens")) (HasText (codes "FILE") rows)
-    (Where (bytes_eq name (codes "revoke")) (HasText (codes "FILE") rows) ⊥)))
+    (Where (bytes_eq name (codes "tokens")) (HasText (codes "SOURCE") rows)
+    (Where (bytes_eq name (codes "revoke")) (HasText (codes "SOURCE") rows) ⊥)))
 
 -- there is a job of this name among those that tell others what is published or look after an
 -- office, and the values that it needs are there
@@ -184,9 +202,12 @@ HasJob name rows =
     (Where (bytes_eq name (codes "listing")) (HasText (codes "SOURCE") rows)
     (HasTellingJob name rows)))))))
 
--- the words of `revoke` do not say which
-abbrev pub IsUnclearRevoke : Text → List Row → Type 0
-IsUnclearRevoke name rows = (name ≡ codes "revoke") × IsUnclear rows
+-- the words of `tokens` say a token where none is wanted, or none where one is; or so do those of
+-- `revoke`, or they do not say which
+abbrev pub IsUnclearJob : Text → List Row → Type 0
+IsUnclearJob name rows =
+    ((name ≡ codes "tokens") × IsMisplaced rows)
+    ⊎ ((name ≡ codes "revoke") × (IsMisplaced rows ⊎ IsUnclear rows))
 
 -- the words are taken, name a job, and it is this one; or they ask for help, or for the version, and
 -- that is printed
@@ -197,9 +218,9 @@ IsAsked words job =
     ⊎ ((kind : ErrorKind) × IsAskedBy job kind × IsAmong kind (fault_of office_app words))
 
 -- the words are refused, by a fault other than that they ask for help or for the version; or they are
--- taken, and ask that capabilities are taken away, and not clearly which
+-- taken, and ask for capabilities, and not clearly for which
 abbrev pub IsRefused : List Text → Type 0
 IsRefused words =
     ((fault : ErrorKind) × IsAmong fault (fault_of office_app words) × IsOther fault)
     ⊎ ((met : Text × List Row) × (subcommand_of office_app words ≡ Some met)
-    × IsUnclearRevoke met.0 met.1 × (fault_of office_app words ≡ []))
+    × IsUnclearJob met.0 met.1 × (fault_of office_app words ≡ []))

@@ -104,12 +104,12 @@ abbrev pub copy_app : App
 copy_app = with_rule (file_app (codes "copy")) (place_rule (codes "FOLDER"))
 
 abbrev pub tokens_app : App
-tokens_app = file_app (codes "tokens")
+tokens_app = with_rule (source_app (codes "tokens")) (option_rule (codes "token"))
 
 abbrev pub revoke_app : App
 revoke_app =
-    with_rule (with_rule (file_app (codes "revoke")) (option_rule (codes "digest")))
-    (option_rule (codes "account"))
+    with_rule (with_rule (with_rule (source_app (codes "revoke")) (option_rule (codes "token")))
+    (option_rule (codes "digest"))) (option_rule (codes "account"))
 
 abbrev pub publish_app : App
 publish_app =

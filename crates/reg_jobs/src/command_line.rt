@@ -1,13 +1,15 @@
 //! The command line.
-ghost use Rattle.std.specs.Prelude.{◌≡◌, ◌≤◌, IfErr, IfOk, List, MatchResult, Some, codes, map, option_map};
+ghost use Rattle.std.specs.Prelude.{◌≡◌, ◌≤◌, ◌⊎◌, IfErr, IfOk, List, MatchBool, MatchResult, Some, codes, map, option_map};
 ghost use Rattle.std.specs.String.{string_bytes};
 ghost use Rattle.clap.specs.Words.{Row, Text, first_of, found_of, kind_of, rows_of, subcommand_rows_of};
 ghost use Rattle.clap.specs.declared.error.kind.ErrorKind.TheVariants.{OutOfMemory};
-ghost use Rattle.reg_jobs.specs.Asking.{HasJob, HasNumber, HasText, IsAsked, IsAskedBy, IsCountOf, IsFromOneTo, IsInRange, IsJobOf, IsNumberOf, IsOther, IsRefused, IsTextOf, IsUnclear, IsUnclearRevoke, IsWhichOf, MayHaveNumber, is_used};
+ghost use Rattle.reg_jobs.specs.Asking.{HasJob, HasNumber, HasText, IsAsked, IsAskedBy, IsCountOf, IsFromOneTo, IsInRange, IsJobOf, IsMisplaced, IsNumberOf, IsOther, IsRefused, IsServed, IsTextOf, IsTokenFor, IsUnclear, IsUnclearJob, IsWhichOf, MayHaveNumber, is_used};
 ghost use Rattle.reg_jobs.specs.declared.jobs.JobFault.TheVariants.{Line, Memory};
 
 use crate::definition::{MOST_CONNECTIONS, office};
-use crate::jobs::{Definition, Importation, Job, JobFault, Publication, Request, Service, Which};
+use crate::jobs::{
+    Definition, Importation, Job, JobFault, Publication, Request, SERVED, Service, Which,
+};
 use clap::error::ErrorKind;
 use clap::{ArgMatches, Error};
 use std::alloc::{AllocError, Global};
@@ -51,7 +53,7 @@ fn job_of(alloc: Global, matches: &ArgMatches) -> Result<Job, JobFault>
         × (subcommand_rows_of matches.now ≡ Some met) × IsJobOf met.0 met.1 job) }
     ensures given { (met : Text × List Row) → subcommand_rows_of matches.now ≡ Some met
         → HasJob met.0 met.1
-        → MatchResult result IsInRange (λ fault. fault ≡ Line → IsUnclearRevoke met.0 met.1) }
+        → MatchResult result IsInRange (λ fault. fault ≡ Line → IsUnclearJob met.0 met.1) }
 {
     let Some((name, inner)) = matches.subcommand() else {
         return Err(JobFault::Line);
@@ -270,24 +272,55 @@ fn copy_of(alloc: Global, matches: &ArgMatches) -> Result<Job, JobFault>
 
 fn tokens_of(alloc: Global, matches: &ArgMatches) -> Result<Job, JobFault>
     ensures said { IfOk result (IsJobOf (codes "tokens") (rows_of (found_of matches.now))) }
-    ensures given { HasText (codes "FILE") (rows_of (found_of matches.now))
-        → MatchResult result IsInRange (λ fault. fault ≡ Memory) }
+    ensures given { HasText (codes "SOURCE") (rows_of (found_of matches.now))
+        → MatchResult result IsInRange
+        (λ fault. fault ≡ Line → IsMisplaced (rows_of (found_of matches.now))) }
 {
-    Ok(Job::Tokens {
-        file: text(alloc, matches, "FILE")?,
-    })
+    let source = text(alloc, matches, "SOURCE")?;
+    let token = token_for(alloc, matches, source.as_str())?;
+    Ok(Job::Tokens { source, token })
 }
 
 fn revoke_of(alloc: Global, matches: &ArgMatches) -> Result<Job, JobFault>
     ensures said { IfOk result (IsJobOf (codes "revoke") (rows_of (found_of matches.now))) }
-    ensures given { HasText (codes "FILE") (rows_of (found_of matches.now))
+    ensures given { HasText (codes "SOURCE") (rows_of (found_of matches.now))
         → MatchResult result IsInRange
-        (λ fault. fault ≡ Line → IsUnclear (rows_of (found_of matches.now))) }
+        (λ fault. fault ≡ Line → IsMisplaced (rows_of (found_of matches.now))
+        ⊎ IsUnclear (rows_of (found_of matches.now))) }
 {
+    let source = text(alloc, matches, "SOURCE")?;
+    let token = token_for(alloc, matches, source.as_str())?;
     Ok(Job::Revoke {
-        file: text(alloc, matches, "FILE")?,
+        source,
+        token,
         which: which(alloc, matches)?,
     })
+}
+
+// The token of who asks the office at a source, which is said just where the office is served.
+fn token_for(alloc: Global, matches: &ArgMatches, source: &str) -> Result<Option<String>, JobFault>
+    ensures said { IfOk result (λ token. first_of (codes "token") (rows_of (found_of matches.now))
+        ≡ option_map string_bytes token) }
+    ensures place { IfOk result (λ token. IsTokenFor source.now (option_map string_bytes token)) }
+    ensures misplaced { IfErr result (λ fault. fault ≡ Line
+        → IsTokenFor source.now (first_of (codes "token") (rows_of (found_of matches.now))) → ⊥) }
+{
+    let token = optional_text(alloc, matches, "token")?;
+    match (token, is_served(source)) {
+        (Some(token), true) => Ok(Some(token)),
+        (None, false) => Ok(None),
+        _ => Err(JobFault::Line),
+    }
+}
+
+// Whether this is the address of an office that is served.
+fn is_served(source: &str) -> bool
+    ensures { MatchBool result (IsServed source.now) (IsServed source.now → ⊥) }
+{
+    match source.strip_prefix(SERVED) {
+        Some(_) => true,
+        None => false,
+    }
 }
 
 // Which capabilities are taken away, where one of both arguments says it.

@@ -294,14 +294,15 @@ fn tokens<'a>(alloc: Global) -> Result<Command<'a>, AllocError>
     ensures shape { IfOk result (λ c. app_of c ≡ tokens_app) }
     ensures local { IfOk result (λ c. (out-Command c).has_globals ≡ false) }
 {
-    file_command(alloc, "tokens", help::TOKENS_ABOUT, help::TOKENS_EXAMPLE)
+    source_command(alloc, "tokens", help::TOKENS_ABOUT, help::TOKENS_EXAMPLE)?.arg(token(alloc))
 }
 
 fn revoke<'a>(alloc: Global) -> Result<Command<'a>, AllocError>
     ensures shape { IfOk result (λ c. app_of c ≡ revoke_app) }
     ensures local { IfOk result (λ c. (out-Command c).has_globals ≡ false) }
 {
-    file_command(alloc, "revoke", help::REVOKE_ABOUT, help::REVOKE_EXAMPLE)?
+    source_command(alloc, "revoke", help::REVOKE_ABOUT, help::REVOKE_EXAMPLE)?
+        .arg(token(alloc))?
         .arg(option(
             alloc,
             "digest",
@@ -388,6 +389,18 @@ fn clerk<'a>(alloc: Global) -> Arg<'a>
         "The clerk's token: 16 to 64 letters, digits, -, ., _ or ~; or @PATH",
     )
     .required(true)
+}
+
+fn token<'a>(alloc: Global) -> Arg<'a>
+    ensures rule { rule_of result ≡ option_rule (codes "token") }
+    ensures local { result.global ≡ false }
+{
+    option(
+        alloc,
+        "token",
+        "TOKEN",
+        "A clerk's token, or @PATH, if SOURCE is an address. Else none is given",
+    )
 }
 
 fn expert<'a>(alloc: Global) -> Arg<'a>

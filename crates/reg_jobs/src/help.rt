@@ -146,10 +146,12 @@ prints
   copied version 3, 401 requests";
 
 pub const TOKENS_ABOUT: &str =
-    "Prints all tokens of the office in FILE as CSV, each by the first 12 digits of its digest";
+    "Prints all tokens of the office at SOURCE as CSV, each by the first 12 digits of its digest";
 
-pub const TOKENS_EXAMPLE: &str = "Example:
+pub const TOKENS_EXAMPLE: &str =
+    "SOURCE is an office's file, or the address of a served office. Example:
   reg_cli tokens office.db
+  reg_cli tokens http://127.0.0.1:8080 --token @clerk.token
 prints
   Account,Kind,Until,Digest
   alice,applicant,2027-01-15T08:00:00Z,0f343b093112";
@@ -157,7 +159,10 @@ prints
 pub const REVOKE_ABOUT: &str = "Revokes tokens without knowing them, and prints which";
 
 pub const REVOKE_EXAMPLE: &str =
-    "Give either --digest or --account. Example, which revokes the one token whose digest
-begins with these digits (at least 8), and then all tokens of an account:
+    "SOURCE is an office's file, or the address of a served office. Give either --digest or
+--account. Example, which revokes the one token whose digest begins with these digits
+(at least 8), and then all tokens of an account:
   reg_cli revoke office.db --digest 0f343b093112
-  reg_cli revoke office.db --account alice";
+  reg_cli revoke office.db --account alice
+The same of a served office, which does not revoke the token in use:
+  reg_cli revoke http://127.0.0.1:8080 --token @clerk.token --digest 0f343b093112";

@@ -5,6 +5,9 @@ use std::io;
 /// The version of the program. Its first number is the version of the offices that it keeps.
 pub const VERSION: &str = "3.0.0";
 
+/// What the address of an office begins with that is served over HTTP on this machine.
+pub const SERVED: &str = "http://127.0.0.1:";
+
 /// What the program is asked to do.
 #[derive(Drop)]
 pub enum Job {
@@ -65,15 +68,19 @@ pub enum Job {
         /// The path of the folder in which the copy is put.
         folder: String,
     },
-    /// Prints the capabilities of the office in a file.
+    /// Prints the capabilities of the office in a file, or of one that is served.
     Tokens {
-        /// The path of the office's file.
-        file: String,
+        /// The path of the office's file, or the address at which it is served.
+        source: String,
+        /// A clerk's token, where the office is served.
+        token: Option<String>,
     },
-    /// Takes capabilities of the office in a file away.
+    /// Takes capabilities of the office in a file away, or of one that is served.
     Revoke {
-        /// The path of the office's file.
-        file: String,
+        /// The path of the office's file, or the address at which it is served.
+        source: String,
+        /// A clerk's token, where the office is served.
+        token: Option<String>,
         /// Which capabilities are taken away.
         which: Which,
     },

@@ -4,7 +4,7 @@ use Rattle.clap.specs.Words.{HasKind, IsAmong, app_of, fault_of, is_simple, is_s
 use Rattle.clap.specs.declared.error.kind.ErrorKind.{ErrorKind}
 use Rattle.clap.specs.declared.error.kind.ErrorKind.TheVariants.{OutOfMemory}
 use Rattle.clap.proofs.OnLiterals.{clap_on_literals}
-use Rattle.reg_jobs.specs.Asking.{IsAskedBy, IsInRange, IsUnclearRevoke}
+use Rattle.reg_jobs.specs.Asking.{IsAskedBy, IsInRange, IsUnclearJob}
 use Rattle.reg_jobs.specs.CommandLine.{office_app}
 use Rattle.reg_jobs.specs.declared.jobs.Job.{Job}
 use Rattle.reg_jobs.specs.declared.jobs.Job.TheVariants.{Version, Help}
@@ -49,7 +49,7 @@ returns-in-Ok c =
     record {
       asked = IfOk-weaker c.job_of-job.result _ _ (λ job h. inl (h.0.0, sym read ∙ h.0.1, h.0.2, h.1, taken))
           (both_ok c.job_of-job.result _ IsInRange _ c.job_of-job.ensures.said given);
-      line = on_error c.job_of-job.result IsInRange (λ fault. fault ≡ Line → IsUnclearRevoke met.0.0 met.0.1) _ given
+      line = on_error c.job_of-job.result IsInRange (λ fault. fault ≡ Line → IsUnclearJob met.0.0 met.0.1) _ given
           (λ fault unclear line. inr (met.0, met.1, unclear line, taken));
     }
 

@@ -1,10 +1,10 @@
-use Rattle.std.proofs.Common.{◌≡◌, ◌∙◌, Err, IfOk, List, MatchResult, None, Ok, Option, Result, Some, ap, ap₂, codes, option_map, refl, subst, sym, unwrap_or}
+use Rattle.std.proofs.Common.{◌≡◌, ◌∙◌, ◌⊎◌, Err, IfOk, List, MatchResult, None, Ok, Option, Result, Some, ap, ap₂, codes, inl, inr, option_map, refl, subst, sym, unwrap_or}
 use Rattle.std.specs.Box.{box_value}
 use Rattle.std.proofs.lemmas.Result.{IfOk-weaker}
 use Rattle.clap.specs.Words.{Row, Text, found_of, rows_of, subcommand_name_of, subcommand_rows_of}
 use Rattle.clap.specs.declared.parser.matches.ArgMatches.{ArgMatches}
 use Rattle.clap.specs.declared.parser.matches.ArgMatches.TheViews.{out-ArgMatches, out-SubCommand}
-use Rattle.reg_jobs.specs.Asking.{HasJob, IsInRange, IsJobOf, IsUnclear, IsUnclearRevoke}
+use Rattle.reg_jobs.specs.Asking.{HasJob, IsInRange, IsJobOf, IsMisplaced, IsUnclear, IsUnclearJob}
 use Rattle.reg_jobs.specs.declared.jobs.Job.{Job}
 use Rattle.reg_jobs.specs.declared.jobs.JobFault.{JobFault}
 use Rattle.reg_jobs.specs.declared.jobs.JobFault.TheVariants.{Line, Memory}
@@ -12,16 +12,21 @@ use Rattle.reg_jobs.proofs.command_line.job_of.Goals as goal
 
 -- what a job is where it is one of this name, and why there is none
 abbrev IsGiven : Result Job JobFault → Text × List Row → Type 0
-IsGiven r met = MatchResult r IsInRange (λ fault. fault ≡ Line → IsUnclearRevoke met.0 met.1)
+IsGiven r met = MatchResult r IsInRange (λ fault. fault ≡ Line → IsUnclearJob met.0 met.1)
 
 -- there is no fault but of memory
 only_memory : (r : Result Job JobFault) (met : Text × List Row) → MatchResult r IsInRange (λ fault. fault ≡ Memory) → IsGiven r met
 only_memory (Ok job) met h = h
 only_memory (Err fault) met h = λ line. absurd (cc)
 
-or_unclear : (r : Result Job JobFault) (rows : List Row) → MatchResult r IsInRange (λ fault. fault ≡ Line → IsUnclear rows) → IsGiven r (codes "revoke", rows)
+or_misplaced : (r : Result Job JobFault) (rows : List Row) → MatchResult r IsInRange (λ fault. fault ≡ Line → IsMisplaced rows) → IsGiven r (codes "tokens", rows)
+or_misplaced (Ok job) rows h = h
+or_misplaced (Err fault) rows h = λ line. inl (refl, h line)
+
+or_unclear : (r : Result Job JobFault) (rows : List Row) → MatchResult r IsInRange (λ fault. fault ≡ Line → IsMisplaced rows ⊎ IsUnclear rows)
+    → IsGiven r (codes "revoke", rows)
 or_unclear (Ok job) rows h = h
-or_unclear (Err fault) rows h = λ line. (refl, h line)
+or_unclear (Err fault) rows h = λ line. inr (refl, h line)
 
 -- the job is one of the name and the rows that were met
 given_at : (o : Option (Text × List Row)) (name literal : Text) (rows : List Row) (r : Result Job JobFault) → o ≡ Some (name, rows) → name ≡ literal
@@ -205,7 +210,7 @@ returns-in-tokens c =
     record {
       said = said_at o name (codes "tokens") rows c.tokens_of.result here c.in-tokens.is c.tokens_of.ensures.said;
       given = given_at o name (codes "tokens") rows c.tokens_of.result here c.in-tokens.is
-          (λ h. only_memory c.tokens_of.result (codes "tokens", rows) (c.tokens_of.ensures.given h));
+          (λ h. or_misplaced c.tokens_of.result rows (c.tokens_of.ensures.given h));
     }
 
 pub returns-in-revoke : goal.returns-in-revoke
