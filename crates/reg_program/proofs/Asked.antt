@@ -24,7 +24,7 @@ use Rattle.reg_core.specs.declared.command.ApplicantCommand.TheVariants.{Own, Ow
 use Rattle.reg_core.specs.declared.command.ExpertCommand.{ExpertCommand}
 use Rattle.reg_core.specs.declared.command.ExpertCommand.TheVariants.{Queue, Advise}
 use Rattle.reg_core.specs.declared.command.ClerkCommand.{ClerkCommand}
-use Rattle.reg_core.specs.declared.command.ClerkCommand.TheVariants.{AllRequests, OneRequest, AssignExpert, Approve, Decline, SetHold, Define, AddPool, Grant, Revoke}
+use Rattle.reg_core.specs.declared.command.ClerkCommand.TheVariants.{AllRequests, OneRequest, AssignExpert, Approve, Decline, SetHold, Define, AddPool, Grant, Revoke, PendingRequests, AllCapabilities, RevokeDigits, RevokeAccount, CountRows}
 use Rattle.reg_core.specs.declared.told.Told.TheVariants as tells
 use Rattle.reg_core.specs.declared.refusal.Refusal.{Refusal}
 use Rattle.reg_core.specs.declared.refusal.Refusal.TheVariants as no
@@ -146,21 +146,26 @@ expert_stays : (account : List ℕ) (my : Personal) (command : ExpertCommand)
 expert_stays account my Queue h = refl
 expert_stays account my (Advise applicant reference advice) h = cc
 
-clerk_stays : (w : World) (in_use : List ℕ) (today : ℕ) (command : ClerkCommand)
+clerk_stays : (w : World) (in_use : List ℕ) (moment today : ℕ) (command : ClerkCommand)
     → clerk_looks command ≡ true
-    → change_of (clerk_answer token_digest w in_use today command) ≡ None
-clerk_stays w in_use today AllRequests h = refl
-clerk_stays w in_use today (OneRequest account reference) h =
+    → change_of (clerk_answer token_digest w in_use moment today command) ≡ None
+clerk_stays w in_use moment today AllRequests h = refl
+clerk_stays w in_use moment today (OneRequest account reference) h =
     after_found no.Request (get w.requests (account, reference))
     (λ case. unchanged (tells.Filed (file w (account, reference) case))) (λ case. refl)
-clerk_stays w in_use today (AssignExpert account reference expert) h = cc
-clerk_stays w in_use today (Approve account reference) h = cc
-clerk_stays w in_use today (Decline account reference reason) h = cc
-clerk_stays w in_use today (SetHold name value held) h = cc
-clerk_stays w in_use today (Define name table) h = cc
-clerk_stays w in_use today (AddPool prefix) h = cc
-clerk_stays w in_use today (Grant token cap) h = cc
-clerk_stays w in_use today (Revoke token) h = cc
+clerk_stays w in_use moment today (AssignExpert account reference expert) h = cc
+clerk_stays w in_use moment today (Approve account reference) h = cc
+clerk_stays w in_use moment today (Decline account reference reason) h = cc
+clerk_stays w in_use moment today (SetHold name value held) h = cc
+clerk_stays w in_use moment today (Define name table) h = cc
+clerk_stays w in_use moment today (AddPool prefix) h = cc
+clerk_stays w in_use moment today (Grant token cap) h = cc
+clerk_stays w in_use moment today (Revoke token) h = cc
+clerk_stays w in_use moment today PendingRequests h = refl
+clerk_stays w in_use moment today AllCapabilities h = refl
+clerk_stays w in_use moment today (RevokeDigits digits) h = cc
+clerk_stays w in_use moment today (RevokeAccount account) h = cc
+clerk_stays w in_use moment today CountRows h = refl
 
 -- while the office is open or not
 seen_stays : (w : World) (caller : Option (List ℕ)) (moment : ℕ) (command : Command)
@@ -183,9 +188,9 @@ clerk_to_stays : (w : World) (caller : Option (List ℕ)) (moment : ℕ) (comman
 clerk_to_stays w None moment command h = desk_stays w None moment command
 clerk_to_stays w (Some digest) moment command h =
     by_test (acts_as_clerk (get w.caps digest) moment)
-    (clerk_answer token_digest w digest (utc_day moment) command)
+    (clerk_answer token_digest w digest moment (utc_day moment) command)
     (answered (view_of w (Some digest)) moment (Clerk command))
-    (clerk_stays w digest (utc_day moment) command h)
+    (clerk_stays w digest moment (utc_day moment) command h)
     (desk_stays w (Some digest) moment command)
 
 answer_stays : (w : World) (caller : Option (List ℕ)) (moment : ℕ) (command : Command)

@@ -23,7 +23,7 @@ use Rattle.reg_parse.specs.Path.{has_empty_segment}
 use Rattle.reg_parse.specs.Route.{Row, Table, case_path, listing_path, methods_at, operation_for, principal_path, registry_path, request_path, routes, rows, with_row, with_rows, with_scan}
 use Rattle.reg_parse.specs.declared.route.Methods.{Methods}
 use Rattle.reg_parse.specs.declared.route.Operation.{Operation}
-use Rattle.reg_parse.specs.declared.route.Operation.TheVariants.{Registries, Registry, RegistryListing, BlockListing, PoolList, Own, OwnOne, Submit, Withdraw, Holdings, SetListing, SetAgent, Agents, Principals, PrincipalRows, Queue, Advise, AllRequests, OneRequest, AssignExpert, Approve, Decline, SetHold, Define, AddPool, Grant, Revoke}
+use Rattle.reg_parse.specs.declared.route.Operation.TheVariants.{Registries, Registry, RegistryListing, BlockListing, PoolList, Own, OwnOne, Submit, Withdraw, Holdings, SetListing, SetAgent, Agents, Principals, PrincipalRows, Queue, Advise, AllRequests, OneRequest, AssignExpert, Approve, Decline, SetHold, Define, AddPool, Grant, Revoke, PendingRequests, AllCapabilities, RevokeDigits, RevokeAccount, CountRows}
 use Rattle.reg_parse.proofs.Formed.{Passes, err-passes, ok-passes}
 use Rattle.reg_program.specs.Looking.{only_looks}
 
@@ -126,6 +126,11 @@ is_look Define = false
 is_look AddPool = false
 is_look Grant = false
 is_look Revoke = false
+is_look PendingRequests = true
+is_look AllCapabilities = true
+is_look RevokeDigits = false
+is_look RevokeAccount = false
+is_look CountRows = true
 
 abbrev GetLooks : Methods → Type 0
 GetLooks methods = IfSome methods.get (λ o. is_look o ≡ true)
@@ -150,7 +155,7 @@ rows-has [] table p h = h
 rows-has (r ∷ more) table p h = rows-has more (with_row r table) p.1 (row-has r table p.0 h)
 
 rows_look : AllByRecursion (λ (r : Row). GetLooks r.1) rows
-rows_look = (refl, (refl, (refl, (refl, (refl, (refl, (refl, (refl, (tt, (refl, (tt, (refl, (refl, (refl, (tt, (refl, (refl, (tt, (tt, (tt, (tt, (tt, (tt, (tt, (tt, tt)))))))))))))))))))))))))
+rows_look = (refl, (refl, (refl, (refl, (refl, (refl, (refl, (refl, (tt, (refl, (tt, (refl, (refl, (refl, (tt, (refl, (refl, (tt, (tt, (tt, (tt, (tt, (tt, (refl, (tt, (refl, (tt, (tt, (refl, tt)))))))))))))))))))))))))))))
 
 routes_look : All RouteLooks routes
 unfolding routes
@@ -242,6 +247,14 @@ operation_looks Define path body h = cc
 operation_looks AddPool path body h = cc
 operation_looks Grant path body h = cc
 operation_looks Revoke path body h = cc
+operation_looks PendingRequests path body h =
+    plain (empty body) (command.Clerk clerk.PendingRequests) refl
+operation_looks AllCapabilities path body h =
+    plain (empty body) (command.Clerk clerk.AllCapabilities) refl
+operation_looks RevokeDigits path body h = cc
+operation_looks RevokeAccount path body h = cc
+operation_looks CountRows path body h =
+    plain (empty body) (command.Clerk clerk.CountRows) refl
 
 by_operation : (o : Option Operation) (path body : List ℕ) → IfSome o (λ op. is_look op ≡ true)
     → Passes only_looks (or_refusal refusal.Method o >>= (λ op. command_of op path body))

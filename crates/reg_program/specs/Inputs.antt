@@ -1,5 +1,5 @@
 -- What the words of a command line, and standard input, give to a job.
-use Rattle.std.specs.Prelude.{◌≡◌, ◌<◌, ℕ, length, Bool, List, [], ◌∷◌, ◌++◌, Option, Some, None, IfSome, ◌==◌, take, position, codes, if◌then◌else◌}
+use Rattle.std.specs.Prelude.{◌≡◌, ◌<◌, ℕ, length, Bool, List, [], ◌∷◌, Option, Some, None, IfSome, ◌==◌, take, position, codes, if◌then◌else◌}
 use Rattle.std.specs.Io.BufRead.{strip_last}
 use Rattle.std.specs.Str.{bytes_eq}
 
@@ -48,7 +48,3 @@ IsTokenOf (Some word) (Some token) = AreKnown (token_in word) token
 abbrev pub body_in : Option (List ℕ) → Option (List ℕ) → Option (List ℕ)
 body_in None input = Some []
 body_in (Some word) input = if bytes_eq word (codes "-") then input else Some word
-
--- the address of an office that is served on this machine
-abbrev pub IsServed : List ℕ → Type 0
-IsServed source = (port : List ℕ) × (source ≡ codes "http://127.0.0.1:" ++ port)

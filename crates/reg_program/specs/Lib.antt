@@ -1,4 +1,5 @@
 pub mod Asking
+pub mod Capabilities
 pub mod Carrying
 pub mod Checking
 pub mod Copying

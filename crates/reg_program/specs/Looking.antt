@@ -7,7 +7,7 @@ use Rattle.reg_core.specs.declared.command.ApplicantCommand.TheVariants.{Own, Ow
 use Rattle.reg_core.specs.declared.command.ExpertCommand.{ExpertCommand}
 use Rattle.reg_core.specs.declared.command.ExpertCommand.TheVariants.{Queue, Advise}
 use Rattle.reg_core.specs.declared.command.ClerkCommand.{ClerkCommand}
-use Rattle.reg_core.specs.declared.command.ClerkCommand.TheVariants.{AllRequests, OneRequest}
+use Rattle.reg_core.specs.declared.command.ClerkCommand.TheVariants.{AllRequests, OneRequest, PendingRequests, AllCapabilities, CountRows}
 
 abbrev pub applicant_looks : ApplicantCommand → Bool
 applicant_looks Own = true
@@ -28,6 +28,9 @@ expert_looks (Advise account reference advice) = false
 abbrev pub clerk_looks : ClerkCommand → Bool
 clerk_looks AllRequests = true
 clerk_looks (OneRequest account reference) = true
+clerk_looks PendingRequests = true
+clerk_looks AllCapabilities = true
+clerk_looks CountRows = true
 clerk_looks _ = false
 
 -- all of anybody's commands, and those of the others by which something is shown

@@ -3,6 +3,7 @@ use Rattle.std.specs.Prelude.{◌≡◌, ◌⊎◌, ⊤, ℕ, ℤ, Bool, false, 
 use Rattle.std.specs.Io.KnownBytes.{Appends}
 use Rattle.std.specs.Option.{option_copied}
 use Rattle.std.specs.String.{string_bytes}
+use Rattle.reg_jobs.specs.Asking.{IsServed}
 use Rattle.reg_jobs.specs.declared.jobs.Definition.{Definition}
 use Rattle.reg_jobs.specs.declared.jobs.Job.{Job}
 use Rattle.reg_jobs.specs.declared.jobs.Job.TheVariants as job
@@ -17,11 +18,12 @@ use Rattle.reg_store.specs.Lists.{world_in}
 use Rattle.reg_store.specs.declared.lists.ListKeeper.{ListKeeper}
 use Rattle.reg_core.specs.World.{empty_world}
 use Rattle.reg_program.specs.Asking.{definition_at, listing_at}
+use Rattle.reg_program.specs.Capabilities.{PrintsListed, PrintsRevoked}
 use Rattle.reg_program.specs.Copying.{PrintsCopied}
 use Rattle.reg_program.specs.Expiring.{PrintsTable}
 use Rattle.reg_program.specs.Founding.{RunsAll, told_beside}
 use Rattle.reg_program.specs.Importing.{IsImported}
-use Rattle.reg_program.specs.Inputs.{AreKnown, IsServed, IsTokenOf, body_in, token_in}
+use Rattle.reg_program.specs.Inputs.{AreKnown, IsTokenOf, body_in, token_in}
 use Rattle.reg_program.specs.Served.{PrintsAnswer}
 use Rattle.reg_program.specs.Tasks.{Streams}
 use Rattle.reg_program.specs.Verifying.{IsVerifiedBy}
@@ -101,13 +103,18 @@ abbrev pub CarriesThen : (List ℕ → Task → Streams → Result ⊤ Undone �
 CarriesThen Carried file Is io done =
     (unread : Option (List ℕ)) × Carries Carried file Is (after_reading unread io) done
 
--- the office in a file does so; or nothing is done with any, and it is printed in this form what the one
--- that is served answers
+-- the office in a file does so; or nothing is done with any, and this is printed of the one that is
+-- served
+abbrev pub TellsFrom : Type 0 → List ℕ → Type 0 → (Result ⊤ Undone → Type 0) → Result ⊤ Undone
+    → Type 0
+TellsFrom Untouched source Printed Does done =
+    (IsServed source → Untouched × OnOk done Printed) × ((IsServed source → ⊥) → Does done)
+
+-- the same, and it is printed in this form what the one that is served answers
 abbrev pub AnswersFrom : Type 0 → List ℕ → Form → Streams → (Result ⊤ Undone → Type 0)
     → Result ⊤ Undone → Type 0
 AnswersFrom Untouched source form io Does done =
-    (IsServed source → Untouched × OnOk done (PrintsAnswer form io.had io.has))
-    × ((IsServed source → ⊥) → Does done)
+    TellsFrom Untouched source (PrintsAnswer form io.had io.has) Does done
 
 -- an office in memory that was empty is founded, with the token that a word says, and answers all lines
 -- of standard input on standard output
@@ -139,8 +146,8 @@ module _ (Carried : List ℕ → Task → Streams → Result ⊤ Undone → Type
   -- what is due is printed, of the office in a file, or of one that is served
   abbrev pub TellsDue : List ℕ → ℕ → Streams → Result ⊤ Undone → Type 0
   TellsDue source days io done =
-      (IsServed source → Untouched × OnOk done (PrintsTable io.had io.has))
-      × ((IsServed source → ⊥) → Carries Carried source (λ task. task ≡ Due days) io done)
+      TellsFrom Untouched source (PrintsTable io.had io.has)
+      (Carries Carried source (λ task. task ≡ Due days) io) done
 
   -- the version is printed
   abbrev pub PrintsVersion : Streams → Result ⊤ Undone → Type 0
@@ -181,10 +188,12 @@ module _ (Carried : List ℕ → Task → Streams → Result ⊤ Undone → Type
   DoesJob io (job.Copy file folder) done =
       Untouched
       × OnOk done (PrintsCopied (Copied (string_bytes file) (string_bytes folder)) io.had io.has)
-  DoesJob io (job.Tokens file) done =
-      Carries Carried (string_bytes file) (λ task. task ≡ Tokens) io done
-  DoesJob io (job.Revoke file chosen) done =
-      Carries Carried (string_bytes file) (IsTakenBy chosen) io done
+  DoesJob io (job.Tokens source token) done =
+      TellsFrom Untouched (string_bytes source) (PrintsListed io.had io.has)
+      (Carries Carried (string_bytes source) (λ task. task ≡ Tokens) io) done
+  DoesJob io (job.Revoke source token chosen) done =
+      TellsFrom Untouched (string_bytes source) (PrintsRevoked io.had io.has)
+      (Carries Carried (string_bytes source) (IsTakenBy chosen) io) done
   DoesJob io job.Version done = PrintsVersion Carried Checked Untouched io done
   DoesJob io (job.Help text) done = Untouched
 

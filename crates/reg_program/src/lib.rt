@@ -2,6 +2,7 @@
 #![tactic(auto)]
 
 pub mod asking;
+pub mod capabilities;
 pub mod carrying;
 pub mod checking;
 pub mod console;

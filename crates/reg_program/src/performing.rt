@@ -5,11 +5,12 @@ ghost use Rattle.reg_program.specs.Copying.{PrintsCopied};
 ghost use Rattle.reg_program.specs.Founding.{RunsAll, told_beside};
 ghost use Rattle.reg_program.specs.Importing.{IsImported};
 ghost use Rattle.reg_program.specs.Performing.{Carries, DoesJob, EndsBy, IsFounding, IsPublishedTo};
-ghost use Rattle.reg_program.specs.Performing.{IsTakenBy, PublishesFrom, RunsIn, TellsDue, Tries, refused_status};
+ghost use Rattle.reg_program.specs.Performing.{PublishesFrom, RunsIn, TellsDue, Tries, refused_status};
 ghost use Rattle.reg_program.specs.Tasks.{streams};
 ghost use Rattle.reg_program.specs.Verifying.{IsVerifiedBy};
 
 use crate::asking::print;
+use crate::capabilities::{list_tokens, revoke};
 use crate::carrying::carry_out;
 use crate::console::Console;
 use crate::copying::Copies;
@@ -22,14 +23,13 @@ use crate::publishing::{port_of, publish_served};
 use crate::requesting::{define, list, request};
 use crate::scripts::run_in;
 use crate::tasks::{Offices, Task};
-use crate::tokens::account_of;
 use crate::verifying::verify;
 use crate::version::print_version;
 use reg_http::dates::{Dates, moment_now};
-use reg_jobs::jobs::{Importation, Job, JobFault, Publication, Service, Which};
+use reg_jobs::jobs::{Importation, Job, JobFault, Publication, Service};
 use reg_keeper::keeper::Keeper;
 use reg_notes::notes::Notes;
-use reg_office::{Choice, Office};
+use reg_office::Office;
 use reg_store::lists::ListKeeper;
 use std::io::{Read, Write};
 
@@ -144,8 +144,14 @@ fn attempt<D: Dates, O: Offices, C: Copies, R: Read, W: Write, E: Write>(
         Job::Copy { file, folder } => {
             copies.copy(rt, file.as_str(), folder.as_str(), console.output)
         }
-        Job::Tokens { file } => carry_out(rt, dates, offices, file.as_str(), Task::Tokens, console),
-        Job::Revoke { file, which } => revoke(rt, dates, offices, file.as_str(), which, console),
+        Job::Tokens { source, token } => {
+            list_tokens(rt, dates, offices, source.as_str(), token, console)
+        }
+        Job::Revoke {
+            source,
+            token,
+            which,
+        } => revoke(rt, dates, offices, source.as_str(), token, which, console),
         Job::Version => print_version(rt.alloc(), console.output),
         Job::Help { text } => print(console.output, text.as_bytes()),
     }
@@ -352,32 +358,4 @@ fn publish_noted<'a, D: Dates, O: Offices, R: Read, W: Write, E: Write>(
 {
     let task = Task::Publish { folder, notes };
     carry_out(rt, dates, offices, source, task, console)
-}
-
-fn revoke<D: Dates, O: Offices, R: Read, W: Write, E: Write>(
-    rt: &HostRuntime,
-    dates: &mut D,
-    offices: &mut O,
-    file: &str,
-    which: &Which,
-    console: &mut Console<'_, R, W, E>,
-) -> Result<(), Undone>
-    ensures { let io = streams console.old.is_watched
-        (R.remaining console.old.input.now) (R.remaining console.new.input.now)
-        (W.contents console.old.output.now) (W.contents console.new.output.now)
-        (D.readings dates.old) (D.readings dates.new) in
-        Tries (offices.new ≡ offices.old) (Carries (O.Carried offices.old offices.new) file.now
-        (IsTakenBy which.now) io) result }
-{
-    match which {
-        Which::Digest(digits) => {
-            let choice = Choice::Digits(digits.as_bytes());
-            carry_out(rt, dates, offices, file, Task::Revoke { choice }, console)
-        }
-        Which::Account(name) => {
-            let account = account_of(rt.alloc(), name.as_str())?;
-            let choice = Choice::Account(&account);
-            carry_out(rt, dates, offices, file, Task::Revoke { choice }, console)
-        }
-    }
 }

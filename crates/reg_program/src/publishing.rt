@@ -1,12 +1,13 @@
 //! The job that publishes an office.
 ghost use Rattle.std.specs.Prelude.{◌<◌, IfOk, OnOk, IfSome, MatchOption};
 ghost use Rattle.std.specs.Option.{option_copied};
-ghost use Rattle.reg_program.specs.Inputs.{IsServed};
+ghost use Rattle.reg_jobs.specs.Asking.{IsServed};
 ghost use Rattle.reg_program.specs.Publishing.{PublishesIn};
 
 use crate::asking::{print, refusal_line};
 use crate::faults::{JobFailure, Undone};
 use reg_history::change::{Class, Subject};
+use reg_jobs::jobs::SERVED;
 use reg_notes::notes::Notes;
 use reg_publish::directory::Directory;
 use reg_publish::disk::SystemDisk;
@@ -22,9 +23,6 @@ use reg_site::portions::Portions;
 use std::alloc::{AllocError, Global};
 use std::fs;
 use std::io::Write;
-
-/// What the address of an office begins with that is served over HTTP on this machine.
-const SERVED: &str = "http://127.0.0.1:";
 
 /// The port of the office that is served at this address, if it is such an address. `Read` where
 /// what comes after the colon is no port.

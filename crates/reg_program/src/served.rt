@@ -113,10 +113,22 @@ fn ask_served<W: Write>(
 ) -> Result<(), Undone>
     ensures { OnOk result (PrintsAnswer form (W.contents output.old) (W.contents output.new)) }
 {
+    let answer = answer_of(rt, port, sent, token)?;
+    print_answer(rt.alloc(), answer.as_slice(), form, output)
+}
+
+/// The bytes that the office that is served on a port of loopback answers to a request of the caller with
+/// this token, or of anybody.
+pub fn answer_of(
+    rt: &HostRuntime,
+    port: u16,
+    sent: Sent<'_>,
+    token: Option<&[u8]>,
+) -> Result<Vec<u8>, Undone> {
     let alloc = rt.alloc();
     let request = request_bytes(alloc, sent, token)?;
     match exchange(rt, port, request.as_slice()) {
-        Ok(answer) => print_answer(alloc, answer.as_slice(), form, output),
+        Ok(answer) => Ok(answer),
         Err(why) => Err(undone(alloc, why)?),
     }
 }
@@ -197,6 +209,22 @@ pub fn print_answer<W: Write>(
         print(output, text.as_slice())
     } else {
         Err(Undone::Refused(line_by(alloc, answered.status, answered.body)?))
+    }
+}
+
+/// Why the office did not do what it was asked that answers these bytes. `Refused`, with the status and
+/// the body, where they are an answer of an office with which it accepts no command, and `Read` where they
+/// are none.
+pub fn unaccepted(alloc: Global, answer: &[u8]) -> Result<Undone, AllocError>
+    ensures { IfOk result (IsUnprintedOf answer.now) }
+{
+    match answer_in(answer) {
+        Some(answered) if !is_accepting(answered.status) => Ok(Undone::Refused(line_by(
+            alloc,
+            answered.status,
+            answered.body,
+        )?)),
+        _ => Ok(Undone::Fault(JobFailure::Read)),
     }
 }
 

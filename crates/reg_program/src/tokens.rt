@@ -4,7 +4,7 @@ ghost use Rattle.std.specs.String.{string_bytes};
 ghost use Rattle.reg_print.specs.Records.{Adds};
 ghost use Rattle.reg_program.specs.Doing.{Does};
 ghost use Rattle.reg_program.specs.Printing.{Prints};
-ghost use Rattle.reg_program.specs.Revoking.{IsUnnamed, IsUnrevoked, IsUnrevokedBy, Revokes};
+ghost use Rattle.reg_program.specs.Revoking.{IsUnnamed, IsUnrevoked, IsUnrevokedBy, Revokes, no_token as line_of_none};
 ghost use Rattle.reg_program.specs.Tokens.{AddsRecord, HasRecords, IsEnd, IsListed, IsTable, header};
 ghost use Rattle.reg_program.specs.Undone.{IsOfPrinting, IsOfStoreOrPrinting, IsSaidBy, refusal_line as text_of_refusal};
 
@@ -13,11 +13,10 @@ use crate::faults::Undone;
 use csv::Writer;
 use jiff::Timestamp;
 use jiff::tz::Offset;
-use reg_core::capability::Until;
+use reg_core::capability::{CapRow, Until};
 use reg_core::refusal::Refusal;
 use reg_core::text::{Account, Digest};
 use reg_keeper::keeper::Keeper;
-use reg_core::capability::CapRow;
 use reg_office::{Choice, Office, RevokeFault};
 use reg_print::listing::writing::{empty, text_of, write_record};
 use std::alloc::{AllocError, Global};
@@ -70,7 +69,7 @@ fn unrevoked(alloc: Global, fault: RevokeFault) -> Result<(), Undone>
     ensures { IsErrAnd result (IsUnrevokedBy fault) }
 {
     match fault {
-        RevokeFault::Token => Err(Undone::Refused(NO_TOKEN.to_vec(alloc)?)),
+        RevokeFault::Token => Err(no_token(alloc)?),
         RevokeFault::Own => Err(refused_as(alloc, Refusal::Own)?),
         RevokeFault::Fault(fault) => Err(Undone::from(fault)),
     }
@@ -83,8 +82,15 @@ pub fn account_of(alloc: Global, name: &str) -> Result<Account, Undone>
 {
     match Account::read(name.as_bytes()) {
         Some(account) => Ok(account),
-        None => Err(Undone::Refused(NO_TOKEN.to_vec(alloc)?)),
+        None => Err(no_token(alloc)?),
     }
+}
+
+/// Why none are taken away where no capability is chosen, or more than one by its digits.
+pub fn no_token(alloc: Global) -> Result<Undone, AllocError>
+    ensures { IfOk result (IsSaidBy line_of_none) }
+{
+    Ok(Undone::Refused(NO_TOKEN.to_vec(alloc)?))
 }
 
 /// Why a job is not done that an office would refuse so: the status and the body of its answer.
@@ -95,7 +101,11 @@ pub fn refused_as(alloc: Global, refusal: Refusal) -> Result<Undone, AllocError>
 }
 
 /// Prints capabilities as CSV (RFC 4180, section 2), by account and then by digest, with a header.
-fn print_rows<W: Write>(alloc: Global, mut rows: Vec<CapRow>, output: &mut W) -> Result<(), Undone>
+pub fn print_rows<W: Write>(
+    alloc: Global,
+    mut rows: Vec<CapRow>,
+    output: &mut W,
+) -> Result<(), Undone>
     ensures ok { OnOk result
         (Prints (W.contents output.old) (W.contents output.new) (IsTable rows.items)) }
     ensures err { IfErr result IsOfPrinting }

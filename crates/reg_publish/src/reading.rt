@@ -1,10 +1,12 @@
-//! Reads what anybody is told back from the bytes of answers.
+//! Reads what anybody is told back from the bytes of answers, and the capabilities that a clerk is told.
 ghost use Rattle.std.specs.Prelude.{◌≡◌, ◌↔◌, IfOk, IsTrue};
+ghost use Rattle.reg_core.specs.declared.told.Told.TheVariants as tells;
 ghost use Rattle.reg_print.specs.Answer.{body_text};
 ghost use Rattle.reg_site.specs.Site.{told_text};
 ghost use Rattle.reg_publish.specs.Reading.{IsToldBy};
 
 use crate::unpublished::Unpublished;
+use reg_core::capability::CapRow;
 use reg_core::command::PublicCommand;
 use reg_core::reply::Reply;
 use reg_core::told::Told;
@@ -13,6 +15,7 @@ use reg_print::comparing::is_page;
 use std::alloc::{AllocError, Global};
 
 mod blocks;
+mod capabilities;
 mod members;
 mod names;
 mod page;
@@ -34,6 +37,20 @@ pub fn told_of(alloc: Global, command: &PublicCommand, body: &[u8]) -> Result<To
         return Err(Unpublished::Read);
     }
     Ok(told)
+}
+
+/// The capabilities that a clerk is told, where these bytes are the body of that answer: what is read is
+/// printed again, and has to be these bytes. `Read` where they are no such body. Of a digest the body
+/// shows only the first digits, and what comes after them is taken for zeros.
+pub fn capabilities_of(alloc: Global, body: &[u8]) -> Result<Vec<CapRow>, Unpublished>
+    ensures { IfOk result (λ rows. body.now ≡ told_text (tells.Capabilities rows.items)) }
+{
+    let rows = capabilities::read(alloc, body)?;
+    let told = compared(alloc, Told::Capabilities(rows), body)?;
+    match &told {
+        Told::Capabilities(rows) => Ok(rows.as_slice().to_vec(alloc)?),
+        _ => Err(Unpublished::Read),
+    }
 }
 
 // What is told, where these bytes are its text.

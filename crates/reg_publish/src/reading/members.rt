@@ -112,13 +112,18 @@ impl<'a> Members<'a> {
 
     /// The number of the member of this name.
     pub fn number(&mut self, name: &str) -> Result<u32, Unpublished> {
+        let digits = self.digits(name)?;
+        read_number(digits.as_bytes()).ok_or(Unpublished::Read)
+    }
+
+    /// The number of the member of this name, as it is written.
+    pub fn digits(&mut self, name: &str) -> Result<&'a str, Unpublished> {
         self.enter(name)?;
-        let number = match self.reader.next() {
-            Some(Token::Number(digits)) => read_number(digits.as_bytes()),
-            _ => None,
+        let Some(Token::Number(digits)) = self.reader.next() else {
+            return Err(Unpublished::Read);
         };
         self.next_name()?;
-        number.ok_or(Unpublished::Read)
+        Ok(digits)
     }
 
     /// Whether the member of this name is true; false where it does not come next.

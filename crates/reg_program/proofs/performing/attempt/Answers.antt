@@ -144,3 +144,37 @@ returns-in-Listing g c =
     Same io job) done)
     (sym c.in-Listing.is)
     (rw (c.as_str-in-Listing.ensures.value) at c.list.ensures)
+
+pub returns-in-Tokens : goal.returns-in-Tokens
+returns-in-Tokens g c =
+    let done = c.list_tokens.result in
+    let io = streams c.args.console.now.is_watched
+    (g.R.Read.remaining c.args.console.now.input.now)
+    (g.R.Read.remaining c.list_tokens.new.console.input.now)
+    (g.W.Write.contents c.args.console.now.output.now)
+    (g.W.Write.contents c.list_tokens.new.console.output.now)
+    (g.D.Dates.readings c.args.dates.now) (g.D.Dates.readings c.list_tokens.new.dates) in
+    let Same = c.list_tokens.new.offices ≡ c.args.offices.now in
+    subst (λ (job : Job). Tries Same
+    (DoesJob (g.O.Offices.Carried c.args.offices.now c.list_tokens.new.offices)
+    (g.O.Offices.Checked c.args.offices.now c.list_tokens.new.offices) (g.C.Copies.Copied c.args.copies.now)
+    Same io job) done)
+    (sym c.in-Tokens.is)
+    (rw (c.as_str-in-Tokens.ensures.value) at c.list_tokens.ensures)
+
+pub returns-in-Revoke : goal.returns-in-Revoke
+returns-in-Revoke g c =
+    let done = c.revoke.result in
+    let io = streams c.args.console.now.is_watched
+    (g.R.Read.remaining c.args.console.now.input.now)
+    (g.R.Read.remaining c.revoke.new.console.input.now)
+    (g.W.Write.contents c.args.console.now.output.now)
+    (g.W.Write.contents c.revoke.new.console.output.now)
+    (g.D.Dates.readings c.args.dates.now) (g.D.Dates.readings c.revoke.new.dates) in
+    let Same = c.revoke.new.offices ≡ c.args.offices.now in
+    subst (λ (job : Job). Tries Same
+    (DoesJob (g.O.Offices.Carried c.args.offices.now c.revoke.new.offices)
+    (g.O.Offices.Checked c.args.offices.now c.revoke.new.offices) (g.C.Copies.Copied c.args.copies.now)
+    Same io job) done)
+    (sym c.in-Revoke.is)
+    (rw (c.as_str-in-Revoke.ensures.value) at c.revoke.ensures)

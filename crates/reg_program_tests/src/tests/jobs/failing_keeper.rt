@@ -4,18 +4,17 @@ ghost use Rattle.std.specs.Prelude.{true};
 use reg_blocks::block::Block;
 use reg_blocks::pool::Pool;
 use reg_blocks::size::Size;
-use reg_core::capability::Cap;
+use reg_core::capability::{Cap, CapRow};
 use reg_core::case_file::CaseFile;
 use reg_core::change::Change;
 use reg_core::entry::Entry;
 use reg_core::holding::{Holding, Listed};
+use reg_core::link::LinkRow;
 use reg_core::queue::QueueRow;
 use reg_core::request::Request;
 use reg_core::rows::Rows;
 use reg_core::text::{Account, Digest, Name, Ref};
 use reg_keeper::keeper::{Fault, Keeper};
-use reg_core::capability::CapRow;
-use reg_core::link::LinkRow;
 use reg_ranges::policy::Policy;
 use reg_ranges::table::RangeTable;
 
@@ -119,6 +118,10 @@ impl<K: Keeper> Keeper for FailingKeeper<K> {
     }
 
     fn file(&mut self, _account: &Account, _reference: &Ref) -> Result<Option<CaseFile>, Fault> {
+        Err(Fault::Store)
+    }
+
+    fn pending(&mut self) -> Result<Rows<CaseFile>, Fault> {
         Err(Fault::Store)
     }
 

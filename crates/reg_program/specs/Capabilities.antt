@@ -1,0 +1,81 @@
+-- The jobs about the capabilities of an office that is served: what is asked, and what is printed.
+use Rattle.std.specs.Prelude.{◌≡◌, ◌<◌, ◌⊎◌, ◌++◌, ⊤, ℕ, Bool, false, List, [], Option, codes, length}
+use Rattle.std.specs.String.{string_bytes}
+use Rattle.reg_core.specs.Names.{is_digits, is_name}
+use Rattle.reg_core.specs.declared.capability.CapRow.{CapRow}
+use Rattle.reg_core.specs.declared.refusal.Refusal.TheVariants.{Several}
+use Rattle.reg_core.specs.declared.told.Told.TheVariants as tells
+use Rattle.reg_jobs.specs.declared.jobs.Which.{Which}
+use Rattle.reg_jobs.specs.declared.jobs.Which.TheVariants.{Digest, Account}
+use Rattle.reg_print.specs.declared.answer.Format.TheVariants.{Json}
+use Rattle.reg_publish.specs.Answers.{answer_text}
+use Rattle.reg_site.specs.Site.{told_text}
+use Rattle.reg_program.specs.Printing.{Prints}
+use Rattle.reg_program.specs.Revoking.{no_token}
+use Rattle.reg_program.specs.Served.{IsRefusal}
+use Rattle.reg_program.specs.Tokens.{IsTable}
+use Rattle.reg_program.specs.Undone.{refusal_line}
+use Rattle.reg_program.specs.declared.faults.JobFailure.TheVariants.{Memory}
+use Rattle.reg_program.specs.declared.faults.Undone.{Undone}
+use Rattle.reg_program.specs.declared.faults.Undone.TheVariants.{Fault, Explained, Refused}
+
+-- ---- What is asked
+
+-- where these capabilities are taken away
+abbrev pub revocation_at : Which → List ℕ
+revocation_at (Digest digits) = codes "/desk/tokens/" ++ string_bytes digits
+revocation_at (Account name) = codes "/desk/accounts/" ++ string_bytes name
+
+-- they are said by digits of a digest, or by an account
+abbrev pub is_formed : Which → Bool
+is_formed (Digest digits) = is_digits (string_bytes digits)
+is_formed (Account name) = is_name (string_bytes name)
+
+-- they are not, and a line says that there is no such token; or there was no memory
+abbrev pub IsIllFormed : Which → Undone → Type 0
+IsIllFormed which (Refused line) = (is_formed which ≡ false) × (line.items ≡ no_token)
+IsIllFormed which (Fault failure) = failure ≡ Memory
+IsIllFormed which (Explained failure why) = ⊥
+
+-- ---- What is answered
+
+-- the bytes are the answer of an office that lists these capabilities, as far as it shows them
+abbrev pub Lists : List ℕ → List CapRow → Type 0
+Lists bytes rows = bytes ≡ answer_text 200 Json (told_text (tells.Capabilities rows))
+
+-- they are, and these capabilities are printed as those of an office in a file
+pub record PrintsListedOf (bytes : List ℕ) (had has : Option (List ℕ)) : Type 0 where
+  pub rows : List CapRow
+  pub listed : Lists bytes rows
+  pub prints : Prints had has (IsTable rows)
+
+-- the same of one capability at least
+pub record PrintsRevokedOf (bytes : List ℕ) (had has : Option (List ℕ)) : Type 0 where
+  pub rows : List CapRow
+  pub listed : Lists bytes rows
+  pub some : 0 < length rows
+  pub prints : Prints had has (IsTable rows)
+
+-- what such an answer lists is printed
+abbrev pub PrintsListed : Option (List ℕ) → Option (List ℕ) → Type 0
+PrintsListed had has = (bytes : List ℕ) × PrintsListedOf bytes had has
+
+abbrev pub PrintsRevoked : Option (List ℕ) → Option (List ℕ) → Type 0
+PrintsRevoked had has = (bytes : List ℕ) × PrintsRevokedOf bytes had has
+
+-- what an office says by a line is said so too of an office in a file: of one that says that several are
+-- chosen, that there is no such token; or there was no memory
+abbrev pub IsSaidOfFile : List ℕ → Undone → Type 0
+IsSaidOfFile said (Refused line) =
+    (line.items ≡ said) ⊎ ((said ≡ refusal_line Several) × (line.items ≡ no_token))
+IsSaidOfFile said (Fault failure) = failure ≡ Memory
+IsSaidOfFile said (Explained failure why) = ⊥
+
+-- Why none are printed: a line says the status and the body of any other answer of an office, or that
+-- there is no such token where none or several are chosen; or there was a fault.
+abbrev pub IsUnrevokedOf : List ℕ → Undone → Type 0
+IsUnrevokedOf bytes (Refused line) =
+    IsRefusal bytes line.items
+    ⊎ ((line.items ≡ no_token) × (Lists bytes [] ⊎ IsRefusal bytes (refusal_line Several)))
+IsUnrevokedOf bytes (Fault failure) = ⊤
+IsUnrevokedOf bytes (Explained failure why) = ⊥
