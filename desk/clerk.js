@@ -1,43 +1,28 @@
 // What clerks do: decide requests, define registries, add prefixes, hold allocations, and hand out tokens.
 import { Refusal, ask } from './office.js';
 import { attempt, badge, button, control, details, focusOn, form, h, say, sure, table } from './dom.js';
-import { CAPABILITIES, POLICIES, STATES, dayOf, faultOf, grantOf, hexOf, inWords, outcome, policyOf, rangesOf, rowsOf } from './forms.js';
+import {
+  CAPABILITIES, COUNTS, POLICIES, STATES, dayOf, endOf, faultOf, grantOf, hexOf, inWords, opinionsOf, outcome, policyOf, rangesOf, rowsOf,
+} from './forms.js';
 import { faultInWords } from './errors.js';
-
-/** What the office answers, or null where it is an older one that does not know the request. */
-export async function askIfKnown(method, path) {
-  try {
-    return await ask(method, path);
-  } catch (error) {
-    if (error instanceof Refusal && ['route', 'method'].includes(error.error)) return null;
-    throw error;
-  }
-}
 
 // ---- Requests
 
-/** The requests that wait. */
+/** The requests that wait, each with its experts and what they recommend. */
 export async function waiting(app) {
-  const known = await askIfKnown('GET', '/desk/pending');
-  const rows = known ?? (await ask('GET', '/desk/requests')).filter(({ state }) => state === 'pending');
-  return requestTable(app, rows, { caption: 'Requests that wait', empty: 'No request waits.', more: known ? 'Experts' : null });
+  return requestTable(app, await ask('GET', '/desk/pending'), { caption: 'Requests that wait', empty: 'No request waits.', last: ['Experts', opinionsOf] });
 }
 
 /** All requests. */
 export async function everything(app) {
-  return requestTable(app, await ask('GET', '/desk/requests'), { caption: 'All requests', empty: 'There are no requests.', states: STATES, more: 'Result' });
+  const texts = { caption: 'All requests', empty: 'There are no requests.', last: ['Result', outcome] };
+  return requestTable(app, await ask('GET', '/desk/requests'), { ...texts, states: STATES });
 }
 
-function requestTable(app, rows, { caption, empty, states, more }) {
+function requestTable(app, rows, { last: [title, told], ...texts }) {
   const open = row => button('Open', () => openCase(app, row), { 'aria-label': `Open ${row.reference} of ${row.account}` });
-  const last = row => (more ? [more === 'Result' ? outcome(row) : advised(row)] : []);
-  const cells = row => [row.account, row.reference, inWords(row.ask), badge(row.state, STATES[row.state] ?? row.state), ...last(row), open(row)];
-  const columns = ['Account', 'Reference', 'Request', 'State', ...more ? [more] : [], 'Actions'];
-  return table({ caption, columns, rows, cells, empty, states, quiet: true });
-}
-
-function advised({ experts, advice }) {
-  return experts.map(expert => `${expert}: ${advice.find(one => one.expert === expert)?.verdict ?? 'no advice yet'}`).join('; ');
+  const cells = row => [row.account, row.reference, inWords(row.ask), badge(row.state, STATES[row.state] ?? row.state), told(row), open(row)];
+  return table({ ...texts, columns: ['Account', 'Reference', 'Request', 'State', title, 'Actions'], rows, cells, quiet: true });
 }
 
 // Opens a request with its evidence, its experts and their advice.
@@ -196,13 +181,13 @@ export async function pool(app) {
 
 // ---- Tokens
 
-/** A form that grants a token, one that takes one away, and, where the office has it, the list of all. */
+/** A form that grants a token, the list of all tokens, and a form that takes away one that the clerk has. */
 export async function tokens(app) {
-  const rows = await askIfKnown('GET', '/desk/tokens'), shown = h('div');
-  return h('div', {}, grant(shown), shown, revocation(), rows ? tokenTable(app, rows) : null);
+  const rows = await ask('GET', '/desk/tokens'), shown = h('div');
+  return h('div', {}, grant(app, shown), shown, tokenTable(app, rows), revocation(app));
 }
 
-function grant(shown) {
+function grant(app, shown) {
   let made = null;
   const node = form({
     title: 'Give somebody a token', verb: 'Make a token',
@@ -216,7 +201,7 @@ function grant(shown) {
         if (error instanceof Refusal) made = null;
         throw error;
       }
-      show(shown, made, values);
+      show(app, shown, made, values);
       made = null;
       node.reset();
     },
@@ -224,10 +209,10 @@ function grant(shown) {
   return node;
 }
 
-// Shows a token once.
-function show(place, token, { account, kind, until }) {
+// Shows a token once. When it is hidden, the list has it.
+function show(app, place, token, { account, kind, until }) {
   const title = h('h3', {}, `The token of ${account}`);
-  const hide = () => { place.replaceChildren(); say('The token is hidden.'); };
+  const hide = () => { place.replaceChildren(); app.go('tokens', 'The token is hidden.'); };
   const copy = async event => {
     const text = event.target.closest('section').querySelector('output').textContent;
     const done = await navigator.clipboard.writeText(text).then(() => true, () => false);
@@ -239,37 +224,41 @@ function show(place, token, { account, kind, until }) {
   focusOn(title);
 }
 
-function revocation() {
+function revocation(app) {
   const field = control('token', { type: 'password', hint: 'If you have the token itself.' });
   return form({
     title: 'Take a token away', verb: 'Take it away', controls: [field],
     send: async ({ token }) => {
       await ask('PUT', '/desk/revoke', { token });
       field.input.value = '';
-      say('The token works no longer.');
+      await app.go('tokens', 'The token works no longer.');
     },
   });
 }
 
+// All tokens, each with a button that takes it away, and one that takes away all of its account.
 function tokenTable(app, rows) {
   const place = h('div'), now = Date.now() / 1000;
   const take = (question, path) => async () => {
-    if (!await sure(question, 'Take away')) return;
+    if (!await sure(`${question} This cannot be undone.`, 'Take away')) return;
     await attempt(place, async () => {
-      const gone = await ask('DELETE', path);
-      await app.go('tokens', gone.length === 1 ? 'One token works no longer.' : `${gone.length} tokens work no longer.`);
+      const { length } = await ask('DELETE', path);
+      await app.go('tokens', ['Nothing was left to take away.', 'One token works no longer.'][length] ?? `${length} tokens work no longer.`);
     });
   };
   const actions = ({ account, digest }) => h('div', { class: 'row' },
     button('Take away', take(`Take away the token ${digest} of ${account}?`, `/desk/tokens/${digest}`), { 'aria-label': `Take away ${digest} of ${account}` }),
     button('All of this account', take(`Take away all tokens of ${account}?`, `/desk/accounts/${account}`), { 'aria-label': `Take away all tokens of ${account}`, class: 'plain' }));
-  const cells = row => [row.account, CAPABILITIES[row.kind] ?? row.kind, row.until > now ? dayOf(row.until - 1) : `ended ${dayOf(row.until)}`, row.digest, actions(row)];
-  return h('div', {}, place, table({ caption: 'All tokens', columns: ['Account', 'Kind', 'Valid through', 'Begins (SHA-256)', 'Actions'], rows, cells, empty: 'There are no tokens.' }));
+  const cells = row => [row.account, CAPABILITIES[row.kind] ?? row.kind, endOf(row, now), row.digest, actions(row)];
+  const columns = ['Account', 'Kind', 'Valid through', 'Digest', 'Actions'], about = 'The office keeps no tokens. It knows each by a digest, which begins as shown here.';
+  return h('div', {}, h('h3', {}, 'All tokens'), h('p', {}, about), place, table({ caption: 'All tokens', columns, rows, cells, empty: 'There are no tokens.', quiet: true }));
 }
 
-/** What the office holds, in numbers. */
+// ---- Counts
+
+/** How much the office has at this moment. */
 export async function counts() {
   const told = await ask('GET', '/desk/counts');
-  return details(Object.entries(told).map(([name, number]) => [name[0].toUpperCase() + name.slice(1), String(number)]));
+  return details(Object.entries(COUNTS).map(([name, title]) => [title, String(told[name])]));
 }
 

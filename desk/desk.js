@@ -13,7 +13,7 @@ const SECTIONS = {
   expert: { queue: ['Requests to review', expert.queue] },
   clerk: {
     waiting: ['Waiting', clerk.waiting], requests: ['All requests', clerk.everything], registries: ['Registries', clerk.registries],
-    pool: ['Prefixes', clerk.pool], tokens: ['Tokens', clerk.tokens],
+    pool: ['Prefixes', clerk.pool], tokens: ['Tokens', clerk.tokens], counts: ['Counts', clerk.counts],
   },
 };
 const HOUR = 3600000, LOOK = 10000;
@@ -86,8 +86,7 @@ function signIn(message = '') {
       carry(values.token);
       try {
         kind = await kindOf();
-        own = { ...SECTIONS[kind] };
-        if (kind === 'clerk' && await clerk.askIfKnown('GET', '/desk/counts')) own.counts = ['Counts', clerk.counts];
+        own = SECTIONS[kind];
       } catch (error) {
         carry(null);
         throw error;

@@ -33,6 +33,7 @@ export const ERRORS = {
   exhausted: 'Nothing is free: every value under this policy is taken, or no block of this size is left. Ask the authority for more room.',
   advice: 'An expert must recommend this request first. Assign an expert and wait for the advice.',
   own: 'This cannot be your own account or token. An applicant cannot be its own expert or agent, and you cannot take away the token that you are signed in with.',
+  several: 'The digests of several tokens begin with these digits, so none was taken away. Give more digits.',
   holding: 'You hold no such block. Reload the list of your blocks.',
   exists: 'This exists already with other content. Choose another name for the registry, or another token.',
   bits: 'This prefix is for group or local addresses, so no blocks can be cut from it. The second digit must be 0, 4, 8 or C.',

@@ -34,6 +34,12 @@ export const STATES = { pending: 'Waiting', approved: 'Approved', declined: 'Dec
 export const VERDICTS = { for: 'For: I recommend approval', against: 'Against: I do not recommend approval' };
 export const CAPABILITIES = { applicant: 'Applicant', expert: 'Expert', clerk: 'Clerk' };
 
+/** What the office counts, as the page says it. */
+export const COUNTS = {
+  registries: 'Registries', entries: 'Entries', temporary: 'Temporary entries', expired: 'Expired entries', held: 'Entries that are held',
+  prefixes: 'Prefixes', blocks: 'Blocks that were given', agents: 'Agents', capabilities: 'Tokens', valid: 'Tokens that are valid',
+};
+
 const MARKS = ['stable', 'interest', 'will_be_rfc'];
 
 /** The fields of all forms, by the name of the member or of the part of the path. */
@@ -235,6 +241,14 @@ export const hexOf = bytes => [...bytes].map(byte => byte.toString(16).padStart(
 
 /** The day of a number of seconds, in UTC. */
 export const dayOf = seconds => new Date(seconds * 1000).toISOString().slice(0, 10);
+
+/** The last day of a capability, or when it ended if it has. */
+export const endOf = ({ until }, now) => (until > now ? dayOf(until - 1) : `ended ${dayOf(until)}`);
+
+/** What each expert of a request recommends. */
+export function opinionsOf({ experts, advice }) {
+  return experts.map(expert => `${expert}: ${advice.find(one => one.expert === expert)?.verdict ?? 'no advice yet'}`).join('; ');
+}
 
 /** An ask in a few words. */
 export function inWords(ask) {

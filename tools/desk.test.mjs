@@ -117,6 +117,18 @@ test('tokens, references and days', () => {
   assert.notEqual(forms.faultOf('until', ''), null);
 });
 
+test('what clerks list of tokens and waiting requests, and what they count', () => {
+  assert.equal(forms.endOf({ until: 1800000000 }, 1799999999), '2027-01-15');
+  assert.equal(forms.endOf({ until: 1800000000 }, 1800000000), 'ended 2027-01-15');
+  assert.equal(forms.endOf({ until: 1799971200 }, 0), '2027-01-14');
+  const answers = name => [...read(`crates/reg_cli/transcripts/${name}.txt`).matchAll(/^< 200 (\[\{.*\]|\{"agents".*\})$/gm)].map(([, body]) => JSON.parse(body));
+  const [waiting] = answers('waiting').filter(rows => rows.some(({ advice }) => advice?.length === 2));
+  assert.deepEqual(waiting.map(forms.opinionsOf), ['', '', 'xan: for; yve: for', 'xan: no advice yet', '', '']);
+  const counts = answers('counts').filter(told => !Array.isArray(told));
+  assert.ok(counts.length > 10);
+  for (const told of counts) assert.deepEqual(Object.keys(forms.COUNTS).sort(), Object.keys(told));
+});
+
 test('the same ask that waits is found, whatever its reference', () => {
   const ask = forms.askOf('code', wish(5), PAGE), other = forms.askOf('code', wish(6), PAGE);
   assert.equal(forms.waitingTwin(ask, [{ reference: 'a', state: 'withdrawn', ask }, { reference: 'b', state: 'pending', ask: other }, { reference: 'c', state: 'pending', ask }]), 'c');
@@ -164,6 +176,10 @@ test('each error is a sentence, on the page of errors too', () => {
     assert.ok(page.includes(`<div id="${name}"><dt><code>${name}</code></dt><dd>${sentence.replaceAll('"', '&quot;')}</dd></div>`), name);
     assert.ok(errors.inWords(name).length > 20);
   }
+  const names = Object.keys(errors.ERRORS);
+  assert.equal(names[names.indexOf('own') + 1], 'several');
+  assert.deepEqual([...page.matchAll(/<div id="(\w+)">/g)].map(([, name]) => name), names);
+  assert.match(errors.inWords('field', 'digits'), /8 to 64/);
   assert.match(errors.inWords('brandnew'), /brandnew/);
   assert.match(errors.inWords('constructor'), /constructor/);
 });
