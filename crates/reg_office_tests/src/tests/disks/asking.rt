@@ -9,6 +9,10 @@ pub const CLERK: &str = "clerk-token-00001";
 /// The answer to a line at which the store failed.
 pub const STORAGE: &[u8] = b"503 {\"error\":\"storage\"}\n";
 
+// How a line begins that takes capabilities away, and what it is answered where nothing is left.
+const REVOCATION: &[u8] = b"1700000000 clerk-token-00001 DELETE /desk/";
+const NOTHING_LEFT: &[u8] = b"200 []\n";
+
 /// A line of a script, and its answer.
 #[derive(Drop)]
 pub struct Row {
@@ -24,8 +28,12 @@ impl Row {
         })
     }
 
-    /// It is answered as when it was carried out before: by 200, and the same body.
+    /// It is answered as when it was carried out before: by 200, and the same body, or an empty list
+    /// where the body says what was taken away.
     pub fn is_repeated(&self, answer: &[u8]) -> bool {
+        if self.line.as_slice().starts_with(REVOCATION) {
+            return answer == NOTHING_LEFT;
+        }
         answer.starts_with(b"200 ") && answer.get(4..) == self.answer.get(4..)
     }
 }
@@ -79,4 +87,5 @@ pub const LOOKS: &str = "\
 1700000000 xpert-token-00001 GET /queue
 1700000000 clerk-token-00001 GET /desk/requests
 1700000000 clerk-token-00001 GET /desk/requests/alice/a-1
+1700000000 clerk-token-00001 GET /desk/tokens
 ";

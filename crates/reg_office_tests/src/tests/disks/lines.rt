@@ -124,7 +124,7 @@ fn assert_case(alloc: Global, case: &Case<'_>) -> Result<(), Fail> {
 // The rows from one place up to another are sent on disks that stop, after those before them.
 fn assert_rows(alloc: Global, from: usize, to: usize) -> Result<(), Fail> {
     let rows = rows(alloc)?;
-    ensure(rows.len() == 39, "the rows of the transcript")?;
+    ensure(rows.len() == 42, "the rows of the transcript")?;
     let mut before = founded(alloc)?;
     for (place, row) in rows.iter().enumerate() {
         let after = after(alloc, &before.image, row)?;
@@ -182,8 +182,13 @@ fn of_agents(rt: HostRuntime) -> Result<(), Fail> {
 }
 
 #[test]
-fn of_a_revocation_and_looks(rt: HostRuntime) -> Result<(), Fail> {
+fn of_revocations(rt: HostRuntime) -> Result<(), Fail> {
     assert_rows(rt.alloc(), 35, 39)
+}
+
+#[test]
+fn of_looks(rt: HostRuntime) -> Result<(), Fail> {
+    assert_rows(rt.alloc(), 39, 42)
 }
 
 // An opening that lacks a call does not open, and leaves the office as it was: so the calls of a line

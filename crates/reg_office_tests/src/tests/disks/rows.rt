@@ -80,6 +80,12 @@ pub const ROWS: &str = r#"
 < 200 ["alice"]
 > 1700000000 clerk-token-00001 PUT /desk/revoke {"token":"bobby-token-00001"}
 < 200 {"revoked":true}
+> 1700000000 clerk-token-00001 PUT /desk/tokens {"account":"dora","kind":"applicant","token":"doras-token-00001","until":1800000000}
+< 200 {"account":"dora","kind":"applicant","until":1800000000}
+> 1700000000 clerk-token-00001 PUT /desk/tokens {"account":"dora","kind":"expert","token":"dorax-token-00001","until":0}
+< 200 {"account":"dora","kind":"expert","until":0}
+> 1700000000 clerk-token-00001 DELETE /desk/accounts/dora
+< 200 [{"account":"dora","digest":"2359a3ac9b39","kind":"applicant","until":1800000000},{"account":"dora","digest":"8478ddcf6b44","kind":"expert","until":0}]
 > 1700000000 - GET /listings/registries/flags
 < 200 Value,Description,Status,Policy,First,Expires,Assignee|0-4,,Unassigned,standards-action,,,|5,Early,Temporary,standards-action,2023-11-14,2026-11-14,alice|6,Soon,Assigned,standards-action,2023-11-14,,alice|7-63,,Unassigned,standards-action,,,|64-191,,Unassigned,first-come-first-served,,,|192-199,,Unassigned,expert-review,,,|200,Green,Assigned,expert-review,2023-11-14,,alice|201-223,,Unassigned,expert-review,,,|224-255,kept for later,Reserved,,,,|
 > 1700000000 - GET /listings/blocks
