@@ -1,6 +1,6 @@
 //! What a history says: facts, each of which is about a subject, and the changes that make them.
 ghost use Rattle.std.specs.Prelude.{◌≡◌, Some, IfOk};
-ghost use Rattle.std.specs.Ordering.{nat_cmp, eq_by_cmp, as_partial_cmp};
+ghost use Rattle.std.specs.Ordering.{eq_by_cmp, as_partial_cmp};
 ghost use Rattle.reg_history.specs.Recorded.{change_word, description_of, registry_of, value_of};
 ghost use Rattle.reg_history.specs.Replay.{subject_of};
 ghost use Rattle.reg_history.specs.Words.{class_place, class_word};

@@ -1,6 +1,5 @@
 //! The fields of a row, by their columns.
-ghost use Rattle.std.specs.Prelude.{◌≡◌, ◌<◌, length, IfOk, IfErr, IfSome};
-ghost use Rattle.csv.specs.Records.{fields_of};
+ghost use Rattle.std.specs.Prelude.{◌≡◌, ◌<◌, IfOk, IfErr};
 ghost use Rattle.reg_import.specs.Columns.{place_of, stands_in};
 ghost use Rattle.reg_import.specs.Faults.{IsFaultOf};
 ghost use Rattle.reg_import.specs.Rows.{held_in, mark_in, note_in, text_in};

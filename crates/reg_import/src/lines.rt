@@ -1,5 +1,5 @@
 //! The lines of a script that make an entry.
-ghost use Rattle.std.specs.Prelude.{◌≡◌, ◌+◌, ◌<◌, ◌^◌, ◌∷◌, ◌++◌, [], OnOk, IfOk, codes};
+ghost use Rattle.std.specs.Prelude.{◌≡◌, ◌+◌, ◌<◌, ◌^◌, ◌++◌, OnOk, IfOk};
 ghost use Rattle.std.specs.String.{string_bytes};
 ghost use Rattle.reg_import.specs.Lines.{advice_line, approval_line, asking_text, assignment_line, entry_ask, entry_filing, entry_lines, filing_lines, filing_view, grant_line, hold_line, hold_lines, later_lines, line_text, lines_text, renewal_filing, renewal_lines, review_if, review_lines, submission_line, token_for};
 

@@ -1,9 +1,7 @@
 //! Tokens that nobody guesses, and references.
-ghost use Rattle.std.specs.Prelude.{◌≡◌, codes, IfOk, take};
+ghost use Rattle.std.specs.Prelude.{◌≡◌, IfOk};
 ghost use Rattle.std.specs.String.{string_bytes};
-ghost use Rattle.hex.specs.Hex.{encode_lower};
-ghost use Rattle.sha2.specs.Sha256.{sha256};
-ghost use Rattle.reg_import.specs.Lines.{pass_text, pass_token, reference_of, registry_mark};
+ghost use Rattle.reg_import.specs.Lines.{pass_token, reference_of, registry_mark};
 
 use crate::import::Import;
 use reg_core::capability::Kind;

@@ -1,5 +1,5 @@
 //! Notes, looked up by what they are about.
-ghost use Rattle.std.specs.Prelude.{◌≡◌, ◌+◌, ℕ, List, [], Some, None, true, IfOk, IfErr, OnOk, string_bytes, is_some, if◌then◌else◌};
+ghost use Rattle.std.specs.Prelude.{◌≡◌, ◌+◌, ℕ, List, [], Some, None, IfOk, OnOk, string_bytes, if◌then◌else◌};
 ghost use Rattle.std.specs.Option.{option_copied};
 ghost use Rattle.std.specs.Str.{bytes_eq};
 ghost use Rattle.reg_notes.specs.Notes.{entry_thing, note_at, note_count};

@@ -1,12 +1,12 @@
 //! Publishes the files of registries, of blocks and of the pool.
-ghost use Rattle.std.specs.Prelude.{◌≡◌, ◌++◌, List, OnOk, IfOk};
+ghost use Rattle.std.specs.Prelude.{◌≡◌, List, OnOk, IfOk};
 ghost use Rattle.std.specs.List.{flat_map};
 ghost use Rattle.std.specs.Option.{option_copied};
 ghost use Rattle.reg_core.specs.declared.told.Told.TheVariants as tells;
 ghost use Rattle.reg_history.specs.Overview.{IsOverview};
 ghost use Rattle.reg_publish.specs.Folder.{PlacesSummed};
 ghost use Rattle.reg_publish.specs.Told.{pages_of};
-ghost use Rattle.reg_site.specs.Blocks.{assignments_text, blocks_page};
+ghost use Rattle.reg_site.specs.Blocks.{assignments_text};
 ghost use Rattle.reg_site.specs.Records.{records_text};
 ghost use Rattle.reg_site.specs.Registry.{registry_page};
 ghost use Rattle.reg_site.specs.Site.{block_files, one_file, page_files, pool_files, told_text};

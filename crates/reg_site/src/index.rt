@@ -1,5 +1,5 @@
 //! The first page of the site.
-ghost use Rattle.std.specs.Prelude.{◌≡◌, [], codes, map, string_bytes, IfOk, OnOk};
+ghost use Rattle.std.specs.Prelude.{◌≡◌, codes, map, string_bytes, IfOk, OnOk};
 ghost use Rattle.std.specs.Option.{option_copied};
 ghost use Rattle.reg_html.specs.Appended.{Shown};
 ghost use Rattle.reg_html.specs.Document.{plain};

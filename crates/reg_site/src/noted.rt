@@ -1,8 +1,7 @@
 //! What is noted about a thing, as a page shows it.
-ghost use Rattle.std.specs.Prelude.{◌≡◌, [], option_map, IfOk, OnOk};
+ghost use Rattle.std.specs.Prelude.{◌≡◌, [], IfOk, OnOk};
 ghost use Rattle.std.specs.Option.{option_copied};
 ghost use Rattle.reg_html.specs.Appended.{Shown};
-ghost use Rattle.reg_html.specs.Document.{plain};
 ghost use Rattle.reg_print.specs.Listing.{row_view};
 ghost use Rattle.reg_site.specs.Noted.{apply_at, apply_line, note_of_row, note_shown, noted, noted_in, reference_shown, title_shown};
 

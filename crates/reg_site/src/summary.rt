@@ -1,5 +1,5 @@
 //! What the values of a registry are counted as.
-ghost use Rattle.std.specs.Prelude.{◌≡◌, ◌≤◌, length, map, IfOk};
+ghost use Rattle.std.specs.Prelude.{◌≡◌, ◌≤◌, length, IfOk};
 ghost use Rattle.reg_ranges.specs.Tables.{most_ranges};
 ghost use Rattle.reg_site.specs.Summary.{all_left, left, left_as, rest_of, same_rest, same_status, share, shares, summary, with_status};
 

@@ -1,5 +1,5 @@
 //! The sums of all files, as `sha256sum` reads them.
-ghost use Rattle.std.specs.Prelude.{◌≡◌, ◌++◌, [], string_bytes, IfOk, List, OnOk, ℕ};
+ghost use Rattle.std.specs.Prelude.{◌≡◌, [], string_bytes, IfOk, List, OnOk, ℕ};
 ghost use Rattle.reg_site.specs.Sums.{digest as digest_by, entries_of, lines_of, sum_line, with_sum};
 
 use crate::portions::Portions;

@@ -22,7 +22,7 @@ use Rattle.reg_history.specs.declared.change.Class.{Class}
 use Rattle.reg_history.specs.declared.change.Class.TheVariants as class
 use Rattle.reg_history.specs.declared.change.Details.{Details}
 use Rattle.reg_history.specs.declared.change.Subject.{Subject}
-use Rattle.reg_verify.specs.Strays.{HasNoStray, HasRegistry, HasStray, IsFirstFrom, IsKnown, IsOfRegistry, IsRegistryOf, IsRegistryRange, IsStray, IsStrayOf, TellsStray, range_at}
+use Rattle.reg_verify.specs.Strays.{HasNoStray, HasRegistry, HasStray, IsFirstFrom, IsKnown, IsRegistryOf, IsRegistryRange, IsStray, IsStrayOf, TellsStray, range_at}
 
 -- ---- The first range of a registry
 

@@ -1,7 +1,6 @@
 //! The record that an index names.
 ghost use Rattle.std.specs.Prelude.{◌≡◌, ◌↔◌, IfOk, IfErr, IsTrue, None, Some, OnOk, option_map};
 ghost use Rattle.serde_json.specs.View.{view};
-ghost use Rattle.reg_verify.specs.declared.part.Part.TheVariants as part;
 ghost use Rattle.reg_verify.specs.Index.{IsInHistory, changes_in, digest_in, named_in, named_record, record_of};
 ghost use Rattle.reg_verify.specs.Strays.{Lists};
 ghost use Rattle.reg_verify.specs.Verifying.{Finds, HasHistory, HasIndex, TellsWhy};

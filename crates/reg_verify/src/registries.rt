@@ -1,14 +1,10 @@
 //! What the files of a published folder publish, as facts.
-ghost use Rattle.std.specs.Prelude.{◌≡◌, ◌++◌, ◌≢◌, [], true, List, Some, None, OnOk, IfOk, IfErr, IfSome, All, map};
-ghost use Rattle.std.specs.List.{flat_map};
-ghost use Rattle.reg_core.specs.declared.page.Page.{Page as PageValue};
-ghost use Rattle.reg_core.specs.declared.told.Told.TheVariants as tells;
+ghost use Rattle.std.specs.Prelude.{true, List, Some, None, OnOk, IfOk, IfErr, All};
 ghost use Rattle.reg_history.specs.declared.change.Record.{Record};
-ghost use Rattle.reg_history.specs.Published.{page_facts};
 ghost use Rattle.reg_print.specs.Listing.{listing_text};
 ghost use Rattle.reg_verify.specs.declared.part.Part.TheVariants as part;
 ghost use Rattle.reg_verify.specs.Strays.{Lists};
-ghost use Rattle.reg_verify.specs.Verifying.{AddsBlocks, AddsPage, AddsPool, AreFactsOf, AreFactsOfPages, Finds, HasHistory, HasPage, IsPageIn, IsNameless, TellsWhy};
+ghost use Rattle.reg_verify.specs.Verifying.{AddsBlocks, AddsPage, AddsPool, AreFactsOf, AreFactsOfPages, Finds, HasHistory, IsPageIn, IsNameless, TellsWhy};
 
 use crate::files::{blocks_in, bytes_of, page_in, pool_in, told_in};
 use crate::flaw::{Flaw, Unverified};

@@ -1,4 +1,4 @@
-use Rattle.std.proofs.Common.{◌≡◌, ℕ, ◌+◌, ◌<◌, ◌≤◌, List, length, take, subst, arith}
+use Rattle.std.proofs.Common.{◌≡◌, ℕ, ◌<◌, ◌≤◌, List, length, subst, arith}
 use Rattle.std.proofs.lemmas.List.{take_all}
 use Rattle.reg_publish.specs.Publishing.{Asks}
 use Rattle.reg_due.specs.Asking.{due_of}

@@ -1,4 +1,4 @@
-use Rattle.std.proofs.Common.{◌≡◌, ◌++◌, true≢false, sym, ap, ◌∙◌}
+use Rattle.std.proofs.Common.{◌++◌, true≢false, sym, ap, ◌∙◌}
 use Rattle.reg_verify.proofs.Portioned.{gives_next, same_front-more, same_front-other}
 use Rattle.reg_verify.proofs.listing.gives_just.Goals as goal
 

@@ -1,4 +1,4 @@
-use Rattle.reg_verify.proofs.StrayFiles.{of_listing, of_none, of_tree}
+use Rattle.reg_verify.proofs.StrayFiles.{of_tree}
 use Rattle.reg_verify.proofs.strays.registry_of.Goals as goal
 
 pub returns-in-Some : goal.returns-in-Some

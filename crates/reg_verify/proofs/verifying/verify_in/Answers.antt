@@ -1,9 +1,7 @@
-use Rattle.std.proofs.Common.{List, ℕ, ap}
 use Rattle.std.specs.Option.{option_copied}
 use Rattle.reg_verify.specs.Strays.{Lists}
 use Rattle.reg_verify.specs.Verifying.{Finds, TellsWhy}
-use Rattle.reg_verify.proofs.Flaws.{handed_on, tells_noted, tells_unnoted}
-use Rattle.reg_verify.proofs.Folders.{verified_with}
+use Rattle.reg_verify.proofs.Flaws.{handed_on, tells_noted}
 use Rattle.reg_verify.proofs.verifying.verify_in.Goals as goal
 
 pub returns-in_err-chain-clause-why : goal.returns-in_err-chain-clause-why
