@@ -19,6 +19,7 @@ use Rattle.reg_core.specs.declared.entry.Entry.{Entry}
 
 -- ---- Entries
 
+-- two statuses are the same
 abbrev pub same_status : Status → Status → Bool
 same_status Assigned Assigned = true
 same_status Temporary Temporary = true
@@ -54,6 +55,7 @@ plus a b = record {
 
 -- ---- Capabilities
 
+-- how many capabilities there are, and how many of them are valid at a moment
 abbrev pub cap_counts : ℕ → List CapRow → CapCounts
 cap_counts moment rows = record {
   all = length rows;
