@@ -10,8 +10,8 @@ use Rattle.reg_tables.specs.declared.texts.TheConstants.{SELECT_REGISTRIES, SELE
 use Rattle.reg_tables.specs.declared.texts.TheConstants.{SELECT_RANGES, SELECT_ENTRY}
 use Rattle.reg_tables.specs.declared.texts.TheConstants.{SELECT_ENTRIES_OF, SELECT_ENTRIES}
 use Rattle.reg_tables.specs.declared.texts.TheConstants.{SELECT_REQUEST, SELECT_REQUESTS_OF}
-use Rattle.reg_tables.specs.declared.texts.TheConstants.{SELECT_REQUESTS, SELECT_QUEUE_ROW}
-use Rattle.reg_tables.specs.declared.texts.TheConstants.{SELECT_QUEUED}
+use Rattle.reg_tables.specs.declared.texts.TheConstants.{SELECT_REQUESTS, SELECT_PENDING}
+use Rattle.reg_tables.specs.declared.texts.TheConstants.{SELECT_QUEUE_ROW, SELECT_QUEUED}
 use Rattle.reg_tables.specs.declared.texts.TheConstants.{SELECT_SEATS}
 use Rattle.reg_tables.specs.declared.texts.TheConstants.{SELECT_ADVICE_ROW}
 use Rattle.reg_tables.specs.declared.texts.TheConstants.{SELECT_PREFIX, SELECT_POOL}
@@ -101,6 +101,9 @@ select_requests_of = SELECT_REQUESTS_OF.now
 
 abbrev pub select_requests : List ℕ
 select_requests = SELECT_REQUESTS.now
+
+abbrev pub select_pending : List ℕ
+select_pending = SELECT_PENDING.now
 
 abbrev pub select_queue_row : List ℕ
 select_queue_row = SELECT_QUEUE_ROW.now

@@ -126,6 +126,13 @@ pub const SELECT_REQUESTS: &str =
      will_be_rfc, size, organization, address, state, given, reason FROM requests ORDER BY \
      account, reference";
 
+/// The requests that are in a state, by account and reference.
+pub const SELECT_PENDING: &str =
+    "SELECT account, reference, kind, registry, value, least, label, contact, specification, \
+     rfc_number, rfc_stream, rfc_track, minute, draft, stable, interest, chair, director, \
+     will_be_rfc, size, organization, address, state, given, reason FROM requests WHERE state = \
+     ?1 ORDER BY account, reference";
+
 /// The row that assigns a request to an expert.
 pub const SELECT_QUEUE_ROW: &str =
     "SELECT account, reference, expert FROM queue WHERE account = ?1 AND reference = ?2 AND \
