@@ -126,12 +126,14 @@ pub const SELECT_REQUESTS: &str =
      will_be_rfc, size, organization, address, state, given, reason FROM requests ORDER BY \
      account, reference";
 
-/// The requests that are in a state, by account and reference.
+/// The requests that are in a state, by account and reference. The order begins with the state, which
+/// is the same in all: no key begins so, and the table is read as it lies, and not row by row through
+/// its key. The few rows that are found are sorted.
 pub const SELECT_PENDING: &str =
     "SELECT account, reference, kind, registry, value, least, label, contact, specification, \
      rfc_number, rfc_stream, rfc_track, minute, draft, stable, interest, chair, director, \
      will_be_rfc, size, organization, address, state, given, reason FROM requests WHERE state = \
-     ?1 ORDER BY account, reference";
+     ?1 ORDER BY state, account, reference";
 
 /// The row that assigns a request to an expert.
 pub const SELECT_QUEUE_ROW: &str =

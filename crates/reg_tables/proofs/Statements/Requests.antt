@@ -40,7 +40,7 @@ all_requests = record {
 }
 
 pub requests_in_state : Selects 6 select_pending 9 (equals ((23, 0) ∷ [])) (columns_of 25)
-    (ordered_by (1 ∷ 2 ∷ []))
+    (ordered_by (23 ∷ 1 ∷ 2 ∷ []))
 unfolding understood everything
 requests_in_state = record {
   names = names;
