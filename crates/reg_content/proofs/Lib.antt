@@ -15,8 +15,10 @@ pub mod RegistryRowsAdded
 pub mod RegistryRowsSteps
 pub mod Writing
 pub mod RequestRowsWritten
+pub mod WaitingRows
 pub mod Joining
 pub mod Fitting
+pub mod Revoked
 pub mod QueueRows
 pub mod JoinedRows
 pub mod QueuedRows

@@ -1,12 +1,13 @@
 -- Requests with their minutes, as rows.
-use Rattle.std.proofs.Common.{◌≡◌, ℕ, true, false, List, [], ◌∷◌, map, if◌then◌else◌, ◌||◌}
+use Rattle.std.proofs.Common.{◌≡◌, ℕ, Bool, true, false, List, [], ◌∷◌, map, if◌then◌else◌, ◌||◌}
 use Rattle.std.proofs.Common.{Option, Some, None, option_map, refl, sym, ap, ◌∙◌}
 use Rattle.std.proofs.lemmas.Simd.{map-map}
 use Rattle.std.specs.FinMap.{contains_key, get}
 use Rattle.std.specs.List.{list_any}
 use Rattle.reg_maps.specs.Maps.{only_if, same_text}
+use Rattle.reg_core.specs.File.{waiting}
 use Rattle.reg_core.specs.Queue.{queue_row, queue_rows}
-use Rattle.reg_core.specs.Request.{request_row, request_rows}
+use Rattle.reg_core.specs.Request.{is_pending, request_row, request_rows}
 use Rattle.reg_core.specs.View.{as_queued, queue_of, queued_to, requests_of}
 use Rattle.reg_core.specs.World.{RequestName, World}
 use Rattle.reg_core.specs.declared.ask.Ask.{Ask}
@@ -78,6 +79,13 @@ request_found p name =
 abbrev with_own : Parts → RequestName → Case → Case
 with_own p name case = with_minute (get p.minutes name) case
 
+-- a case that is chosen, with its minute or without
+chosen : (p : Parts) (name : RequestName) (case : Case) (b : Bool)
+    → option_map (request_row name) (only_if b (with_own p name case))
+    ≡ option_map (λ case. request_minuted p (request_row name case)) (only_if b case)
+chosen p name case true = refl
+chosen p name case false = refl
+
 -- those of one account
 pub own_listed : (p : Parts) (account : List ℕ)
     → map (request_minuted p)
@@ -85,17 +93,17 @@ pub own_listed : (p : Parts) (account : List ℕ)
     ≡ request_rows (requests_of account (assembled p))
 own_listed p account =
     rows_mapped (λ name case. only_if (same_text name.0 account) case) (with_own p)
-    (λ name case. request_row name case) (request_minuted p) each name_keys p.requests
-  where
-    each : (name : RequestName) (case : Case)
-        → option_map (request_row name) (only_if (same_text name.0 account) (with_own p name case))
-        ≡ option_map (λ case. request_minuted p (request_row name case))
-        (only_if (same_text name.0 account) case)
-    each name case =
-        elim (same_text name.0 account) as (λ b.
-        option_map (request_row name) (only_if b (with_own p name case))
-        ≡ option_map (λ case. request_minuted p (request_row name case)) (only_if b case))
-        [ true ↦ refl | false ↦ refl ]
+    (λ name case. request_row name case) (request_minuted p)
+    (λ name case. chosen p name case (same_text name.0 account)) name_keys p.requests
+
+-- those that wait
+pub waiting_listed : (p : Parts)
+    → map (request_minuted p) (rows_where office.requests (λ name case. is_pending case.state) p)
+    ≡ request_rows (waiting (assembled p))
+waiting_listed p =
+    rows_mapped (λ name case. only_if (is_pending case.state) case) (with_own p)
+    (λ name case. request_row name case) (request_minuted p)
+    (λ name case. chosen p name case (is_pending case.state)) name_keys p.requests
 
 -- and all
 pub all_listed : (p : Parts)

@@ -13,9 +13,10 @@ use Rattle.reg_maps.specs.Maps.{same_text}
 use Rattle.reg_blocks.specs.Block.{SizedPrefix, first_address}
 use Rattle.reg_core.specs.Advice.{verdict_word}
 use Rattle.reg_core.specs.Holding.{with_mark}
-use Rattle.reg_core.specs.Request.{has_state_form, state_word, word_of}
+use Rattle.reg_core.specs.Request.{has_state_form, is_pending, state_word, word_of}
 use Rattle.reg_core.specs.World.{Link, Place, RequestName, Seat, in_state, name_cmp}
 use Rattle.reg_core.specs.declared.request.State as request
+use Rattle.reg_core.specs.declared.request.StateWord.TheVariants.{Pending}
 use Rattle.reg_core.specs.declared.entry.Entry.{Entry}
 use Rattle.reg_core.specs.declared.holding.Holder.{Holder}
 use Rattle.reg_records.specs.Columns.{flag_value, whole_value}
@@ -35,7 +36,7 @@ use Rattle.reg_tables.specs.Texts.{select_advice_row, select_block, select_block
 use Rattle.reg_tables.specs.Texts.{select_cap, select_entries, select_entries_of, select_entry}
 use Rattle.reg_tables.specs.Texts.{select_pool, select_prefix, select_queue_row, select_ranges_of}
 use Rattle.reg_tables.specs.Texts.{select_registries, select_registry, select_request}
-use Rattle.reg_tables.specs.Texts.{select_requests, select_requests_of}
+use Rattle.reg_tables.specs.Texts.{select_pending, select_requests, select_requests_of}
 use Rattle.reg_tables.proofs.EditStatements as edits
 use Rattle.reg_tables.proofs.InsertStatements as inserts
 use Rattle.reg_tables.proofs.Library.Casts.{cast_int, cast_null}
@@ -47,7 +48,7 @@ use Rattle.reg_tables.proofs.Statements.Minutes.{minute_by_key}
 use Rattle.reg_tables.proofs.Statements.Blocks.{all_blocks, block_by_key, blocks_of_holder}
 use Rattle.reg_tables.proofs.Statements.Ranges.{ranges_of_registry}
 use Rattle.reg_tables.proofs.Statements.Registries.{all_registries, registry_by_key}
-use Rattle.reg_tables.proofs.Statements.Requests.{all_requests, request_by_key, requests_of_account}
+use Rattle.reg_tables.proofs.Statements.Requests.{all_requests, request_by_key, requests_in_state, requests_of_account}
 use Rattle.reg_tables.proofs.Statements.Caps.{cap_by_key}
 use Rattle.reg_tables.proofs.Statements.Entries.{all_entries, entries_of_registry, entry_by_key}
 use Rattle.reg_tables.proofs.Statements.Pool.{all_pool, prefix_by_key}
@@ -60,6 +61,7 @@ use Rattle.reg_statements.proofs.Office as laws
 use Rattle.reg_content.proofs.BlockRows.{begins_at, held_by, mark_read}
 use Rattle.reg_content.proofs.LinkRows.{read_by}
 use Rattle.reg_content.proofs.RequestRowsWritten as written
+use Rattle.reg_content.proofs.WaitingRows.{waits}
 
 -- ---- Capabilities
 
@@ -245,6 +247,16 @@ lists_own account =
 
 pub lists_requests : Chooses office.requests select_requests [] (λ name case. true)
 lists_requests = by_all office.requests laws.requests _ _ all_requests
+
+pub lists_waiting : Chooses office.requests select_pending (Text (state_word Pending) ∷ [])
+    (λ name case. is_pending case.state)
+lists_waiting = record {
+  tests = equals ((23, 0) ∷ []);
+  order = _;
+  selects = requests_in_state;
+  agree = λ row r is.
+      passes_cells ((23, 0) ∷ []) (Text (state_word Pending) ∷ []) row ∙ waits row r is;
+}
 
 pub adds_request : Adds office.requests insert_requests
 adds_request = record {

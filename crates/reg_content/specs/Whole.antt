@@ -1,6 +1,7 @@
 -- Rows of whole tables, and the texts of their statements.
 use Rattle.std.specs.Prelude.{ℕ, List}
-use Rattle.reg_core.specs.CapRows.{cap_row, link_row}
+use Rattle.reg_core.specs.CapRows.{cap_row}
+use Rattle.reg_core.specs.Link.{link_row}
 use Rattle.reg_core.specs.declared.capability.CapRow.{CapRow}
 use Rattle.reg_core.specs.declared.link.LinkRow.{LinkRow}
 use Rattle.reg_records.specs.declared.agents.Link.{Link}

@@ -1,8 +1,8 @@
 //! Capabilities in their table.
-ghost use Rattle.std.specs.Prelude.{◌≡◌, None};
+ghost use Rattle.std.specs.Prelude.{◌≡◌, [], None};
 ghost use Rattle.std.specs.FinMap.{get, insert, remove};
 ghost use Rattle.sqlite.specs.Held.{state};
-ghost use Rattle.reg_core.specs.World.{World};
+ghost use Rattle.reg_core.specs.World.{World, without};
 ghost use Rattle.reg_content.specs.Calls.{IsKeeping, Looks, Steps};
 
 use crate::kept::{add, find, take};
@@ -57,4 +57,22 @@ pub fn take_cap<S: Alter>(tx: &mut Transaction<'_, S>, digest: &Digest) -> Resul
         (λ (w : World). record w { caps = remove w.caps digest.now }) }
 {
     take::<S, Grant>(tx, DELETE_CAP, &[name_value(digest)])
+}
+
+/// Takes the capabilities at these digests away, where there are some. There is one digest at least.
+pub fn take_caps<S: Alter>(tx: &mut Transaction<'_, S>, digests: &[Digest]) -> Result<(), Fault>
+    requires { digests.now ≡ [] → ⊥ }
+    ensures same_reference { tx.new.conn.ghost_name ≡ tx.old.conn.ghost_name }
+    ensures steps { Steps (state S.Store tx.old.conn.now) (state S.Store tx.new.conn.now) result
+        (λ (w : World). Unit {0})
+        (λ (w : World). record w { caps = without digests.now w.caps }) }
+{
+    let [first, others @ ..] = digests else {
+        return Ok(());
+    };
+    take_cap(tx, first)?;
+    for digest in others {
+        take_cap(tx, digest)?;
+    }
+    Ok(())
 }

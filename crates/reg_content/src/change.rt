@@ -1,18 +1,18 @@
 //! Changes, each in one transaction.
-ghost use Rattle.std.specs.Prelude.{◌≡◌, ◌⊎◌, [], false, IfErr, IsTrue, OnErr, OnOk};
+ghost use Rattle.std.specs.Prelude.{◌≡◌, ◌⊎◌, [], false, true, IfErr, IsTrue, OnErr, OnOk};
 ghost use Rattle.sqlite.specs.Held.{state};
 ghost use Rattle.sqlite.specs.State.{HasCleanDisk, IsRolledBack, IsUnchanged, KeepsCounts, Shows, Survives};
 ghost use Rattle.reg_core.specs.WellKept.{WellKept, CanApply};
 ghost use Rattle.reg_core.specs.World.{World, applied};
 ghost use Rattle.reg_tables.specs.Connection.{Holds};
 ghost use Rattle.reg_content.specs.Calls.{Alters, IsKeeping, IsUncommitted, Steps};
-ghost use Rattle.reg_content.specs.Changing.{Fits};
+ghost use Rattle.reg_content.specs.Changing.{Fits, writes_row};
 ghost use Rattle.reg_statements.specs.Content.{world_in};
 
 use crate::advice::put_advice;
 use crate::agents::set_agent;
 use crate::blocks::set_private;
-use crate::caps::{add_cap, take_cap};
+use crate::caps::{add_cap, take_cap, take_caps};
 use crate::give::{give_block, give_value, submit};
 use crate::holds::set_hold;
 use crate::pool::add_prefix;
@@ -39,10 +39,23 @@ pub fn apply<S: Alter>(
     ensures { Alters (state S.Store conn.old) (state S.Store conn.new) result
         (λ w. applied w change.now) }
 {
+    if !writes_row(change) {
+        return Ok(());
+    }
     let mut tx = conn.transaction();
     make(alloc, &mut tx, change)?;
     commit(tx)?;
     Ok(())
+}
+
+/// Whether a change writes to a row: all do, but that which takes away the capabilities at no digest.
+fn writes_row(change: &Change) -> bool
+    ensures { result ≡ writes_row change.now }
+{
+    match change {
+        Change::RevokeAll(digests) => !digests.as_slice().is_empty(),
+        _ => true,
+    }
 }
 
 /// Commits what a transaction wrote, or undoes it. A fault is what the library's error is: want of
@@ -70,8 +83,9 @@ fn commit<S: Alter>(tx: Transaction<'_, S>) -> Result<(), Fault>
     }
 }
 
-/// Makes a change to what a transaction sees.
+/// Makes a change to what a transaction sees, which writes to a row.
 fn make<S: Alter>(alloc: Global, tx: &mut Transaction<'_, S>, change: &Change) -> Result<(), Fault>
+    requires { writes_row change.now ≡ true }
     ensures same_reference { tx.new.conn.ghost_name ≡ tx.old.conn.ghost_name }
     ensures steps { Steps (state S.Store tx.old.conn.now) (state S.Store tx.new.conn.now) result
         (Fits change.now) (λ (w : World). applied w change.now) }
@@ -79,6 +93,7 @@ fn make<S: Alter>(alloc: Global, tx: &mut Transaction<'_, S>, change: &Change) -
     match change {
         Change::Grant(digest, cap) => add_cap(tx, digest, cap),
         Change::Revoke(digest) => take_cap(tx, digest),
+        Change::RevokeAll(digests) => take_caps(tx, digests.as_slice()),
         Change::Define(name, table) => add_registry(tx, name, table),
         Change::AddPool(prefix) => add_prefix(tx, *prefix),
         Change::Submit(account, reference, ask) => submit(tx, account, reference, ask),

@@ -11,6 +11,7 @@ mod give;
 mod holds;
 pub mod kept;
 mod minutes;
+pub mod pending;
 pub mod pool;
 pub mod queue;
 pub mod registries;

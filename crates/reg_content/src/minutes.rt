@@ -158,7 +158,7 @@ pub(crate) fn minuted_each<S: Alter, T: Minuted>(
 }
 
 /// Rows with one more.
-fn with_row<T: Drop>(mut rows: Vec<T>, row: T) -> Result<Vec<T>, AllocError>
+pub(crate) fn with_row<T: Drop>(mut rows: Vec<T>, row: T) -> Result<Vec<T>, AllocError>
     ensures { IfOk result (λ more. more.items ≡ rows.items ++ row ∷ []) }
 {
     rows.push(row)?;

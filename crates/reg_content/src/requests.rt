@@ -5,6 +5,7 @@ ghost use Rattle.sqlite.specs.Held.{state};
 ghost use Rattle.sqlite.specs.Held.{state as store_state};
 ghost use Rattle.sqlite.specs.Values.{bound};
 ghost use Rattle.sqlite.specs.declared.types.Value.TheVariants.{Text};
+ghost use Rattle.reg_core.specs.File.{waiting};
 ghost use Rattle.reg_core.specs.Request.{case_of, request_row, request_rows};
 ghost use Rattle.reg_core.specs.View.{requests_of};
 ghost use Rattle.reg_core.specs.WellKept.{has_request_form};
@@ -18,15 +19,16 @@ ghost use Rattle.reg_content.specs.Calls.{IsKeeping, Looks, Steps};
 
 use crate::kept::{add, change, find, list};
 use crate::minutes::{Minuted, minuted_all};
-use reg_core::request::{Request, State};
+use reg_core::request::{Request, State, StateWord};
 use reg_core::rows::Rows;
 use reg_core::text::{Account, Ref};
 use reg_keeper::keeper::Fault;
 use reg_ranges::formed::Formed;
-use reg_records::column::name_value;
+use reg_records::column::{name_value, word_value};
 use reg_records::requests::values::{given_text, request_values, state_values};
 use reg_tables::texts::{
-    CHANGE_REQUEST, INSERT_REQUESTS, SELECT_REQUEST, SELECT_REQUESTS, SELECT_REQUESTS_OF,
+    CHANGE_REQUEST, INSERT_REQUESTS, SELECT_PENDING, SELECT_REQUEST, SELECT_REQUESTS,
+    SELECT_REQUESTS_OF,
 };
 use sqlite::types::ValueRef;
 use sqlite::{Alter, Connection, Transaction};
@@ -78,6 +80,18 @@ pub fn all<S: Alter>(alloc: Global, conn: &mut Connection<S>) -> Result<Rows<Req
         (λ w rows. rows ≡ request_rows w.requests) }
 {
     let requests = list::<S, Request>(alloc, conn, SELECT_REQUESTS, &[])?;
+    let requests = minuted_all(alloc, conn, requests)?;
+    Ok(Rows::from_vec(requests))
+}
+
+/// The requests that wait, by account and then by reference.
+pub fn waiting<S: Alter>(alloc: Global, conn: &mut Connection<S>) -> Result<Rows<Request>, Fault>
+    requires { IsKeeping (state S.Store conn.old) }
+    ensures { Looks (state S.Store conn.old) (state S.Store conn.new) result
+        (λ w rows. rows ≡ request_rows (waiting w)) }
+{
+    let pending = word_value(&StateWord::Pending);
+    let requests = list::<S, Request>(alloc, conn, SELECT_PENDING, &[pending])?;
     let requests = minuted_all(alloc, conn, requests)?;
     Ok(Rows::from_vec(requests))
 }

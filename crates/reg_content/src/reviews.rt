@@ -53,7 +53,7 @@ pub fn file<S: Alter>(
 }
 
 /// The experts to whom a request is assigned, and all advice on it, by expert.
-fn seats<S: Alter>(
+pub(crate) fn seats<S: Alter>(
     alloc: Global,
     conn: &mut Connection<S>,
     account: &Account,

@@ -7,10 +7,10 @@ ghost use Rattle.reg_content.specs.Calls.{IsKeeping, Looks};
 ghost use Rattle.reg_content.specs.Whole.{cap_of, link_of};
 
 use crate::kept::list;
-use reg_core::rows::Rows;
-use reg_keeper::keeper::Fault;
 use reg_core::capability::CapRow;
 use reg_core::link::LinkRow;
+use reg_core::rows::Rows;
+use reg_keeper::keeper::Fault;
 use reg_records::agents::Link;
 use reg_records::caps::Grant;
 use sqlite::{Alter, Connection};

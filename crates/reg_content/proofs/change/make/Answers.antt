@@ -1,10 +1,12 @@
-use Rattle.std.proofs.Common.{refl}
+use Rattle.std.proofs.Common.{refl, sym, ap, ◌∙◌}
 use Rattle.reg_maps.proofs.MapLaws.{get-inserted}
 use Rattle.reg_core.specs.Entry.{registration_in}
+use Rattle.reg_core.specs.World.{without}
 use Rattle.reg_core.specs.declared.request.Given.TheVariants as given
 use Rattle.reg_core.specs.declared.request.State.TheVariants.{Approved}
 use Rattle.reg_core.proofs.KeyOrders.{place_keys}
 use Rattle.reg_content.proofs.Fitting.{given_expires, given_kind, makes, may_turn}
+use Rattle.reg_content.proofs.Revoked.{has_some}
 use Rattle.reg_content.proofs.change.make.Goals as goal
 
 pub returns-in-Grant : goal.returns-in-Grant
@@ -17,6 +19,17 @@ pub returns-in-Revoke : goal.returns-in-Revoke
 returns-in-Revoke g c = record {
   same_reference = c.take_cap.ensures.same_reference;
   steps = makes _ c.in-Revoke.is c.take_cap.ensures.steps (λ w fits. (tt, refl));
+}
+
+pub take_caps-requires : goal.take_caps-requires
+take_caps-requires g c none =
+    has_some _ _ c.in-RevokeAll.is c.requires (sym c.as_slice.ensures ∙ none)
+
+pub returns-in-RevokeAll : goal.returns-in-RevokeAll
+returns-in-RevokeAll g c = record {
+  same_reference = c.take_caps.ensures.same_reference;
+  steps = makes _ c.in-RevokeAll.is c.take_caps.ensures.steps (λ w fits.
+      (tt, ap (λ digests. record w { caps = without digests w.caps }) c.as_slice.ensures));
 }
 
 pub returns-in-Define : goal.returns-in-Define
