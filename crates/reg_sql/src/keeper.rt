@@ -21,6 +21,7 @@ use reg_content::blocks::{blocks, holding, holdings};
 use reg_content::caps::cap;
 use reg_content::change;
 use reg_content::entries::{entries, entry};
+use reg_content::pending::pending;
 use reg_content::pool::{is_pooled, pool};
 use reg_content::registries::{names, ranges};
 use reg_content::requests::{all, own, own_one};
@@ -48,7 +49,8 @@ use std::marker::Model;
 /// The content of an office in the thirteen tables of a store.
 ///
 /// A row by its key takes a statement by that key, and a list one by the first columns of a key; that
-/// of a queue joins its assignments with their requests and advice. The mark of an entry that expires
+/// of a queue joins its assignments with their requests and advice. Those that wait are found among all
+/// requests, and the experts of each take a statement more. The mark of an entry that expires
 /// and the minute of a renewal take a statement more. A change is one transaction, with
 /// a statement for each row that it touches. What is free is kept beside the tables: the least value
 /// without an entry takes O(log n) for each range of its policy, the block due O(log n). It is found
@@ -237,6 +239,10 @@ impl<S: Alter> Keeper for SqlKeeper<S> {
 
     fn file(&mut self, account: &Account, reference: &Ref) -> Result<Option<CaseFile>, Fault> {
         file(self.tables.alloc, &mut self.tables.conn, account, reference)
+    }
+
+    fn pending(&mut self) -> Result<Rows<CaseFile>, Fault> {
+        pending(self.tables.alloc, &mut self.tables.conn)
     }
 
     fn queue(&mut self, expert: &Account) -> Result<Rows<QueueRow>, Fault> {
