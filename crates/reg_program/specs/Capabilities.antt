@@ -63,19 +63,24 @@ PrintsListed had has = (bytes : List ℕ) × PrintsListedOf bytes had has
 abbrev pub PrintsRevoked : Option (List ℕ) → Option (List ℕ) → Type 0
 PrintsRevoked had has = (bytes : List ℕ) × PrintsRevokedOf bytes had has
 
--- what an office says by a line is said so too of an office in a file: of one that says that several are
--- chosen, that there is no such token; or there was no memory
+-- a line of an office is said by this one of an office in a file: that several are chosen by the one that
+-- there is no such token, and any other by itself
+abbrev pub IsLineOfFile : List ℕ → List ℕ → Type 0
+IsLineOfFile said line =
+    ((said ≡ refusal_line Several → ⊥) × (line ≡ said))
+    ⊎ ((said ≡ refusal_line Several) × (line ≡ no_token))
+
+-- such a line says why; or there was no memory
 abbrev pub IsSaidOfFile : List ℕ → Undone → Type 0
-IsSaidOfFile said (Refused line) =
-    (line.items ≡ said) ⊎ ((said ≡ refusal_line Several) × (line.items ≡ no_token))
+IsSaidOfFile said (Refused line) = IsLineOfFile said line.items
 IsSaidOfFile said (Fault failure) = failure ≡ Memory
 IsSaidOfFile said (Explained failure why) = ⊥
 
--- Why none are printed: a line says the status and the body of any other answer of an office, or that
--- there is no such token where none or several are chosen; or there was a fault.
+-- Why none are printed: a line says what an office answers with which it accepts nothing, as it is said of
+-- one in a file, or that there is no such token where it lists none; or there was a fault.
 abbrev pub IsUnrevokedOf : List ℕ → Undone → Type 0
 IsUnrevokedOf bytes (Refused line) =
-    IsRefusal bytes line.items
-    ⊎ ((line.items ≡ no_token) × (Lists bytes [] ⊎ IsRefusal bytes (refusal_line Several)))
+    ((said : List ℕ) × IsRefusal bytes said × IsLineOfFile said line.items)
+    ⊎ (Lists bytes [] × (line.items ≡ no_token))
 IsUnrevokedOf bytes (Fault failure) = ⊤
 IsUnrevokedOf bytes (Explained failure why) = ⊥

@@ -53,9 +53,11 @@ fn lists_are_printed_as_over_a_file(rt: HostRuntime) -> Result<(), Fail> {
 fn other_lists_are_not_read(rt: HostRuntime) -> Result<(), Fail> {
     let alloc = rt.alloc();
     for body in OTHERS.lines() {
-        assert_not_read(alloc, answer(alloc, "200 OK", body)?.as_bytes(), body)?;
+        let bytes = answer(alloc, "200 OK", body)?;
+        assert_not_read(alloc, bytes.as_bytes(), body)?;
     }
-    assert_not_read(alloc, answer(alloc, "201 Created", ROWS)?.as_bytes(), "201")
+    let made = answer(alloc, "201 Created", ROWS)?;
+    assert_not_read(alloc, made.as_bytes(), "201")
 }
 
 // Nothing is printed of such an answer, which is none of an office's.
@@ -97,9 +99,8 @@ fn ill_formed_words_are_asked_of_nobody(rt: HostRuntime) -> Result<(), Fail> {
         ensure(matches!(path, Err(Undone::Refused(_))), digits)?;
     }
     let which = Which::Digest(String::from_str(alloc, "70fe97e5")?);
-    let path = revocation_path(alloc, &which);
-    ensure(
-        matches!(path, Ok(path) if path.as_str() == "/desk/tokens/70fe97e5"),
-        "digits",
-    )
+    let Ok(path) = revocation_path(alloc, &which) else {
+        return Err("digits".into());
+    };
+    ensure(path.as_str() == "/desk/tokens/70fe97e5", "digits")
 }
