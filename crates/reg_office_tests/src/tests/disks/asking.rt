@@ -11,6 +11,7 @@ pub const STORAGE: &[u8] = b"503 {\"error\":\"storage\"}\n";
 
 // How a line begins that takes capabilities away, and what it is answered where nothing is left.
 const REVOCATION: &[u8] = b"1700000000 clerk-token-00001 DELETE /desk/";
+
 const NOTHING_LEFT: &[u8] = b"200 []\n";
 
 /// A line of a script, and its answer.
