@@ -1,4 +1,5 @@
 """An office whose texts are hostile and one of whose registries is large: its site, what that costs, and what fails in its folder."""
+import contextlib
 import csv
 import fcntl
 import io
@@ -333,7 +334,7 @@ def judge_device(office, site):
 
 def judge_rivals(office, site):
     """Another run in the same folder is refused while one is at work; and a folder that goes away is a fault, or was published before."""
-    folder = office.folder / 'rivals'
+    folder, gone = office.folder / 'rivals', office.folder / 'gone'
     folder.mkdir()
     lock = os.open(folder, os.O_RDONLY)
     fcntl.flock(lock, fcntl.LOCK_EX)
@@ -343,7 +344,10 @@ def judge_rivals(office, site):
     for _ in range(10):
         process = office.program.begun(['publish', office.file, folder])
         time.sleep(random.random() * 1.2)
-        shutil.rmtree(folder, ignore_errors=True)
+        # It goes in one moment: a folder that loses one file after the other is one whose history is broken.
+        with contextlib.suppress(FileNotFoundError):
+            folder.rename(gone)
+        shutil.rmtree(gone, ignore_errors=True)
         given = (*process.communicate(), process.returncode)
         office.tally.judge(given in [('', 'fault: write\n', 1), (line_of(ENTRIES), '', 0)], f'a folder that went away gave {given}')
     shutil.rmtree(folder, ignore_errors=True)
