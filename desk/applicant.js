@@ -157,7 +157,7 @@ class Draft {
     const known = policies.includes(this.values.least) ? this.values.least : easiest(policies);
     const titles = Object.fromEntries(policies.map(policy => [policy, `${POLICIES[policy].title} (${freeUnder(this.page, policy)} free)`]));
     const change = { onchange: () => this.refresh() };
-    const least = { options: titles, value: known, hint: 'Each policy asks for other evidence.', ...change };
+    const least = { options: titles, value: known, hint: 'What the request needs depends on the policy.', ...change };
     const own = wish === 'least' ? control('least', least) : control('value', { value: this.values.value, hint: `0 to ${this.page.max}.`, ...change });
     this.put('wishes', [own]);
     this.put('naming', [control('label', { value: this.values.label })]);
@@ -178,6 +178,8 @@ class Draft {
     const entry = this.page?.entries.find(({ value }) => value === Number(values.value));
     this.values.renewed = values.renewed = Boolean(this.isOfMine() && entry?.renewed);
     const policy = policyOf(this.kind, values, this.page), { needed, optional } = evidenceFor(this.kind, policy, values.renewed);
+    // A policy with one stream chooses it. Where the next policy needs no RFC, it would be half of one.
+    if (!needed.includes('rfc-number') && !values['rfc-number']) Object.assign(this.values, { 'rfc-stream': '', 'rfc-track': '' });
     this.note.textContent = noteOn(this.kind, values, this.page);
     const shape = JSON.stringify([policy, needed]);
     if (shape === this.shape) return;
@@ -199,7 +201,7 @@ class Draft {
     const twin = waitingTwin(body, own.filter(({ reference }) => reference !== values.reference));
     if (twin) throw new Told(`You have asked for just this already: request ${twin} is waiting. You need not send it again.`);
     await ask('PUT', `/requests/${values.reference}`, body);
-    await app.go('requests', `Your request ${values.reference} arrived. It waits for a clerk.`);
+    await app.go('requests', `Your request ${values.reference} arrived. It waits for a clerk. Look here again to see what is decided.`);
   }
 }
 
