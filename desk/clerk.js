@@ -183,11 +183,13 @@ export async function pool(app) {
 
 /** A form that grants a token, the list of all tokens, and a form that takes away one that the clerk has. */
 export async function tokens(app) {
-  const rows = await ask('GET', '/desk/tokens'), shown = h('div');
-  return h('div', {}, grant(app, shown), shown, tokenTable(app, rows), revocation(app));
+  const shown = h('div'), list = h('div');
+  const fill = async () => list.replaceChildren(tokenTable(app, await ask('GET', '/desk/tokens')));
+  await fill();
+  return h('div', {}, grant(app, shown, () => attempt(list, fill)), shown, list, revocation(app));
 }
 
-function grant(app, shown) {
+function grant(app, shown, fill) {
   let made = null;
   const node = form({
     title: 'Give somebody a token', verb: 'Make a token',
@@ -204,12 +206,13 @@ function grant(app, shown) {
       show(app, shown, made, values);
       made = null;
       node.reset();
+      await fill();
     },
   });
   return node;
 }
 
-// Shows a token once. When it is hidden, the list has it.
+// Shows a token once.
 function show(app, place, token, { account, kind, until }) {
   const title = h('h3', {}, `The token of ${account}`);
   const hide = () => { place.replaceChildren(); app.go('tokens', 'The token is hidden.'); };
@@ -219,7 +222,7 @@ function show(app, place, token, { account, kind, until }) {
     say(done ? 'The token is copied.' : 'The browser does not allow that. Select the token and copy it by hand.');
   };
   place.replaceChildren(h('section', { class: 'card' }, title, h('output', { class: 'token' }, token),
-    h('p', {}, `${CAPABILITIES[kind]}, valid through ${until}. Hand it to ${account} so that nobody else sees it. This page shows it only now.`),
+    h('p', {}, `${CAPABILITIES[kind]}, valid through ${until}. Hand it to ${account} so that nobody else sees it. This page shows it only now. If it is lost, take it away below and make another.`),
     h('p', { class: 'actions' }, button('Copy', copy), button('Done, hide it', hide, { class: 'plain' }))));
   focusOn(title);
 }
@@ -239,16 +242,17 @@ function revocation(app) {
 // All tokens, each with a button that takes it away, and one that takes away all of its account.
 function tokenTable(app, rows) {
   const place = h('div'), now = Date.now() / 1000;
-  const take = (question, path) => async () => {
+  const take = (account, question, path) => async () => {
     if (!await sure(`${question} This cannot be undone.`, 'Take away')) return;
     await attempt(place, async () => {
       const { length } = await ask('DELETE', path);
-      await app.go('tokens', ['Nothing was left to take away.', 'One token works no longer.'][length] ?? `${length} tokens work no longer.`);
+      const said = ['Nothing was left to take away.', `The token of ${account} works no longer.`];
+      await app.go('tokens', said[length] ?? `${length} tokens of ${account} work no longer.`);
     });
   };
   const actions = ({ account, digest }) => h('div', { class: 'row' },
-    button('Take away', take(`Take away the token ${digest} of ${account}?`, `/desk/tokens/${digest}`), { 'aria-label': `Take away ${digest} of ${account}` }),
-    button('All of this account', take(`Take away all tokens of ${account}?`, `/desk/accounts/${account}`), { 'aria-label': `Take away all tokens of ${account}`, class: 'plain' }));
+    button('Take away', take(account, `Take away the token ${digest} of ${account}?`, `/desk/tokens/${digest}`), { 'aria-label': `Take away ${digest} of ${account}` }),
+    button('Take away all', take(account, `Take away all tokens of ${account}?`, `/desk/accounts/${account}`), { 'aria-label': `Take away all tokens of ${account}`, class: 'plain' }));
   const cells = row => [row.account, CAPABILITIES[row.kind] ?? row.kind, endOf(row, now), row.digest, actions(row)];
   const columns = ['Account', 'Kind', 'Valid through', 'Digest', 'Actions'], about = 'The office keeps no tokens. It knows each by a digest, which begins as shown here.';
   return h('div', {}, h('h3', {}, 'All tokens'), h('p', {}, about), place, table({ caption: 'All tokens', columns, rows, cells, empty: 'There are no tokens.', quiet: true }));
