@@ -1,0 +1,103 @@
+"""systemd in namespaces of its own, where the commands of docs/use/OPERATING.md are run and what they print is compared."""
+import contextlib
+import os
+import pathlib
+import re
+import signal
+import subprocess
+import time
+
+from sites.running import Tally
+
+TOP = pathlib.Path(__file__).resolve().parent.parent.parent
+PAGE = TOP / 'docs/use/OPERATING.md'
+KEYS = '/etc/letsencrypt/live/registry.example.org'
+DATABASE, OFFICE = '/var/lib/registry/office.db', 'http://127.0.0.1:8080'
+# Lays a folder of memory over the machine's files, and has systemd be the first process there.
+BOOT = r'''set -e; mount -t tmpfs tmpfs "$1"; cd "$1"; mkdir u w m
+mount -t overlay overlay -o lowerdir=/,upperdir=u,workdir=w m; cd m
+cp "$2" root/reg_cli; cp "$3/tools/office-1.sql" root/; cp -r "$3/desk" root/
+mkdir -p root/docs/use root/docs/reference; cp "$3"/docs/use/APPLYING.md root/docs/use/; cp "$3"/docs/reference/openapi.yaml root/docs/reference/
+mount -t tmpfs tmpfs dev -o mode=755; mkdir dev/pts dev/shm; ln -s pts/ptmx dev/ptmx
+mount -t devpts devpts dev/pts -o newinstance,ptmxmode=666
+for n in null zero full random urandom tty; do touch dev/$n; mount --bind /dev/$n dev/$n; done
+mount -t proc proc proc; mount --bind proc/sys proc/sys; mount -o remount,ro,bind proc/sys
+mount -t sysfs -o ro sysfs sys; mount -t tmpfs tmpfs sys/fs/cgroup; mount -t cgroup2 cgroup2 sys/fs/cgroup
+mount -t tmpfs tmpfs run -o mode=755; mount -t tmpfs tmpfs tmp -o mode=1777; hostname trial
+mkdir old; pivot_root . old; umount -l old; rmdir old
+exec setpriv --bounding-set -sys_time,-sys_module,-sys_rawio,-syslog --inh-caps -sys_time,-sys_module,-sys_rawio,-syslog \
+  env -i container=other PATH=/usr/sbin:/usr/bin:/sbin:/bin /lib/systemd/systemd --system --unit=basic.target'''
+KEY = f'''openssl req -x509 -newkey rsa:2048 -nodes -days 90 -subj /CN=registry.example.org -addext subjectAltName=DNS:registry.example.org \\
+  -keyout {KEYS}/privkey.pem -out {KEYS}/fullchain.pem 2>&1; chmod 644 {KEYS}/privkey.pem'''
+CERTIFICATE = f'''set -e; echo 127.0.0.1 registry.example.org >>/etc/hosts; mkdir -p {KEYS}; rm -f /etc/nginx/sites-enabled/*
+{KEY}
+printf '#!/bin/sh\\ncat >>/root/mail\\n' >/usr/local/bin/mail; chmod 755 /usr/local/bin/mail'''
+# What the kills left in the journal is not to be found.
+FORGET = 'journalctl -q --rotate; journalctl -q --vacuum-time=1s'
+
+
+class System:
+    """systemd in namespaces of its own. `root` is its folder `/`, and `clock` the variables that give its commands another time."""
+
+    def __init__(self, folder, program):
+        self.tally, self.clock = Tally(), {}
+        mounts = [line.split() for line in pathlib.Path('/proc/self/mounts').read_text().splitlines()]
+        self.group = pathlib.Path(next(mount[1] for mount in mounts if mount[2] == 'cgroup2')) / f'try-running-{os.getpid()}'
+        self.group.mkdir()
+        inside = 'exec unshare --pid --fork --mount --uts --ipc --net --cgroup --propagation private "$@"'
+        self.outer = subprocess.Popen(['sh', '-c', f'echo $$ >{self.group}/cgroup.procs; {inside}', 'sh', 'sh', '-c', BOOT, 'sh', folder, program, TOP],
+                                      stdin=subprocess.DEVNULL)
+        children = pathlib.Path(f'/proc/{self.outer.pid}/task/{self.outer.pid}/children')
+        while self.outer.poll() is None and not children.read_text().split():
+            time.sleep(0.1)
+        self.first = int((children.read_text().split() or [self.outer.pid])[0])
+        self.root = pathlib.Path(f'/proc/{self.first}/root')
+
+    def run(self, command):
+        """What a command prints, what it says on standard error, and its exit status."""
+        words = ['nsenter', '-t', str(self.first), '-p', '-m', '-u', '-i', '-n', '-C', 'env', *(f'{name}={value}' for name, value in self.clock.items()),
+                 'sh', '-c', f'cd /root; {command}']
+        env = {'PATH': '/usr/local/sbin:/usr/local/bin:/usr/sbin:/usr/bin:/sbin:/bin', 'HOME': '/root', 'CURL_CA_BUNDLE': f'{KEYS}/fullchain.pem'}
+        done = subprocess.run(words, env=env, capture_output=True, timeout=120, check=False)
+        return done.stdout.decode(), done.stderr.decode(), done.returncode
+
+    def expect(self, command, wanted):
+        """Runs a command, and compares what it prints, its lines joined by commas. `..` at one end stands for anything."""
+        printed, errors, status = self.run(command)
+        got = ', '.join(printed.splitlines())
+        pattern = '.*'.join(map(re.escape, wanted.split('..'))) if wanted.startswith('..') or wanted.endswith('..') else re.escape(wanted)
+        self.tally.judge(status == 0 and (not wanted or re.fullmatch(pattern, got)),
+                         f'FAILED: {command}\n  printed {got!r}, {errors!r}, status {status}, in place of {wanted!r}')
+        if re.search('systemctl (enable --now|start|restart) ', command):
+            self.run(f'for n in $(seq 50); do curl -s {OFFICE}/pool && break; sleep 0.1; done')
+        return printed
+
+    def is_up(self):
+        """Whether systemd is up within a while."""
+        for _ in range(100):
+            if self.run('systemctl is-system-running')[0].strip() in ('running', 'degraded'):
+                return True
+            time.sleep(0.3)
+        return False
+
+    def end(self):
+        """Kills all of it, with its groups."""
+        for process in (self.outer.pid, self.first):
+            os.kill(process, signal.SIGKILL)
+        self.outer.wait()
+        while self.group.is_dir():
+            time.sleep(0.1)
+            for group in [*sorted((path for path in self.group.rglob('*') if path.is_dir()), reverse=True), self.group]:
+                with contextlib.suppress(OSError):
+                    group.rmdir()
+
+
+def blocks():
+    """Of each block of the page its place, and its commands with what each has to print. A block of another kind is written to its path."""
+    for part in PAGE.read_text().split('\n## ')[1:]:
+        for place, block in enumerate(re.finditer(r'^```(\w+)\n(.*?)^```', part, re.M | re.S)):
+            path = (re.findall(r'`(/(?:etc|usr/local/sbin)/[^`]+)`', part[:block.start()]) or [''])[-1]
+            kind, text = block.groups()
+            written = [(f"cat >{path} <<'END'\n{text}END", '')]
+            commands = [line.partition(' # ')[::2] for line in text.splitlines()]
+            yield (part.split('\n')[0], place), commands if kind == 'sh' else written
