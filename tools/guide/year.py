@@ -1,4 +1,5 @@
 """An office that the page sets up, and that is served for a year by a clock that goes on day by day."""
+import collections
 import csv
 import datetime
 import io
@@ -19,8 +20,8 @@ PUBLIC, SITE, COPIES = 'https://registry.example.org', 'srv/www/registers', 'var
 # Each process reads the clock's difference from that of the machine whenever it asks for the time. The journal keeps the machine's time.
 CLOCK = {'LD_PRELOAD': '/usr/lib/x86_64-linux-gnu/faketime/libfaketime.so.1', 'FAKETIME_TIMESTAMP_FILE': '/etc/clock', 'FAKETIME_NO_CACHE': '1',
          'FAKETIME_DONT_FAKE_MONOTONIC': '1', 'NO_FAKE_STAT': '1', 'FAKETIME_SKIP_CMDS': 'journalctl'}
-# The blocks that set up an office: by heading, those from the first on, or only these.
-SETUP = {'As a service': range(9), 'A proxy with TLS': [0, 1, 2, 5], 'Publishing': range(9), 'The desk in the browser': range(9),
+# The blocks that set up an office, by their headings.
+SETUP = {'As a service': range(9), 'A proxy with TLS': [0, 1, 2], 'Publishing': range(9), 'The desk in the browser': range(9),
          'Monitoring': range(9), 'Backups': [0, 1]}
 # When the lines of cron are run that are due then: the second on the first day of a month, and people send their requests before the last.
 MORNING, EVENING = ['04:30', '06:00'], '20:20'
@@ -59,6 +60,7 @@ class Year:
     def __init__(self, system):
         self.system, self.root, self.judge = system, system.root, system.tally.judge
         self.books, self.processes, self.digest, self.moment = Books(), [], '', None
+        self.ran = collections.Counter()
 
     # ---- The clock
 
@@ -80,7 +82,9 @@ class Year:
         return printed
 
     def judge_same(self, what, got, wanted):
-        self.judge(got == wanted, f'{self.moment}: {what} gave {got}, not {wanted}')
+        """Two texts, numbers or lists are the same. Of lists only the first differences are printed."""
+        shown = [[one for one in first if one not in second][:3] for first, second in ((got, wanted), (wanted, got))] if isinstance(got, list) else [got, wanted]
+        self.judge(got == wanted, f'{self.moment}: {what} gave {shown[0]}, not {shown[1]}')
 
     # ---- The office before the year
 
@@ -232,6 +236,7 @@ class Year:
                 if is_due(fields.split(), self.moment):
                     own = line.replace('\\%', '%')
                     printed = self.expect(f'cd /; runuser -u {user} -- sh -c {shlex.quote(own)}')
+                    self.ran[line] += 1
                     if ' due ' in line:
                         self.judge_same('the mail', rows_of(printed), self.books.due(60))
                     else:
@@ -334,6 +339,8 @@ class Year:
     def judge_end(self, before):
         """One stop, one process, and nothing that lies about."""
         self.judge_same('the processes', [day for day, _ in self.processes], [FIRST, UPGRADE])
+        often = DAYS * 2 + DAYS // 30 + 1
+        self.judge_same('cron', sorted(self.ran.values()), sorted([often, often, DAYS + 1, DAYS, DAYS // 30]))
         self.judge_same('the new files', sorted(self.lying() - before), [])
         self.judge_same('files that are half written', [str(path) for path in (self.root / SITE).rglob('*.new')], [])
         self.expect(command('NRestarts'), '0')
