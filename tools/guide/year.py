@@ -30,6 +30,8 @@ OLDER = f'runuser -u registry -- sqlite3 {DATABASE} "DROP TABLE agents; UPDATE o
 LOGS = 'journalctl -q --rotate; logrotate --force /etc/logrotate.d/nginx'
 HOOK = re.search(r'--deploy-hook "([^"]*)"', PAGE.read_text())[1]
 REACHED = re.search(r"`(curl [^`]*cannot be reached[^`]*)`", PAGE.read_text())[1]
+# The clients here trust the new certificate alone, so they wait until nginx has it.
+RENEW = f'{KEY}; {HOOK}; for n in $(seq 50); do curl -sf -o /dev/null {PUBLIC}/registries && break; sleep 0.2; done'
 PROCESS = 'systemctl show -p MainPID --value registry'
 KEPT = 32
 
@@ -282,7 +284,7 @@ class Year:
     def once_in_a_while(self, number):
         day = self.books.day
         if number % 60 == 59:
-            self.expect(f'{KEY}; {HOOK}')
+            self.expect(RENEW)
         if day.day == 15:
             self.replace_token(day.month)
         if (day.month, day.day) == (9, 1):
