@@ -18,7 +18,7 @@ from sites.steps import RANGES
 
 PUBLIC, SITE, COPIES = 'https://registry.example.org', 'srv/www/registers', 'var/backups/registry'
 # Each process reads the clock's difference from that of the machine whenever it asks for the time. The journal keeps the machine's time.
-CLOCK = {'LD_PRELOAD': '/usr/lib/x86_64-linux-gnu/faketime/libfaketime.so.1', 'FAKETIME_TIMESTAMP_FILE': '/etc/clock', 'FAKETIME_NO_CACHE': '1',
+CLOCK = {'LD_PRELOAD': '/usr/$LIB/faketime/libfaketime.so.1', 'FAKETIME_TIMESTAMP_FILE': '/etc/clock', 'FAKETIME_NO_CACHE': '1',
          'FAKETIME_DONT_FAKE_MONOTONIC': '1', 'NO_FAKE_STAT': '1', 'FAKETIME_SKIP_CMDS': 'journalctl'}
 # The blocks that set up an office, by their headings.
 SETUP = {'As a service': range(9), 'A proxy with TLS': [0, 1, 2], 'Publishing': range(9), 'The desk in the browser': range(9),
@@ -33,6 +33,7 @@ REACHED = re.search(r"`(curl [^`]*cannot be reached[^`]*)`", PAGE.read_text())[1
 # The clients here trust the new certificate alone, so they wait until nginx has it.
 RENEW = f'{KEY}; {HOOK}; for n in $(seq 50); do curl -sf -o /dev/null {PUBLIC}/registries && break; sleep 0.2; done'
 PROCESS = 'systemctl show -p MainPID --value registry'
+# How many days before today have a copy.
 KEPT = 32
 
 
@@ -59,6 +60,8 @@ def rows_of(text):
 
 
 class Year:
+    """The office, its books, the processes that served it with their first days, and how often each line of cron was run."""
+
     def __init__(self, system):
         self.system, self.root, self.judge = system, system.root, system.tally.judge
         self.books, self.processes, self.digest, self.moment = Books(), [], '', None
