@@ -336,10 +336,11 @@ class Year:
     # ---- The end of the year
 
     def lying(self):
-        """The files of people and jobs, without those that an office, its site, its copies and its mirror have."""
-        tops = ['root', 'tmp', 'var/lib/registry', 'etc/cron.d', 'srv']
-        return {str(path.relative_to(self.root)) for top in tops for path in (self.root / top).rglob('*')
-                if path.is_file() and not re.match('root/before/|srv/(www/registers|mirror)/', str(path.relative_to(self.root)))}
+        """The files of people and jobs, without those that an office, its site, its copies and its mirror have. The machine may have hidden ones."""
+        tops = ['tmp', 'var/lib/registry', 'etc/cron.d', 'srv']
+        paths = [*(self.root / 'root').glob('[!.]*'), *(path for top in tops for path in (self.root / top).rglob('*'))]
+        names = {str(path.relative_to(self.root)) for path in paths if path.is_file()}
+        return {name for name in names if not name.startswith(('srv/www/registers/', 'srv/mirror/'))}
 
     def judge_end(self, before):
         """One stop, one process, and nothing that lies about."""
