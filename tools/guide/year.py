@@ -7,6 +7,7 @@ import json
 import os
 import re
 import shlex
+import subprocess
 import time
 
 from guide.books import DAYS, EVE, FIRST, HOLDERS, UPGRADE, Books, day_of
@@ -204,7 +205,10 @@ class Year:
         self.run_cron()
         for number in range(DAYS):
             failed = self.system.tally.failed
-            self.live(number)
+            try:
+                self.live(number)
+            except (ValueError, OSError, subprocess.SubprocessError) as fault:
+                self.judge(False, f'{self.moment}: the day ended with {type(fault).__name__}: {fault}')
             if self.system.tally.failed > failed:
                 print(f'this was {self.books.day}', flush=True)
 
@@ -279,8 +283,8 @@ class Year:
         self.judge_same('pending', self.expect(command('/desk/pending')).strip(), str(self.books.waiting))
         self.judge_same('check', counted.get('pending'), self.books.waiting)
         days = [self.books.day - datetime.timedelta(ago) for ago in range(KEPT + 1)]
-        self.judge_same('copies', {str(path.relative_to(self.root / COPIES)) for path in (self.root / COPIES).rglob('*') if path.is_file()},
-                        {f'{day}/office.db' for day in days if day >= EVE})
+        self.judge_same('copies', sorted(str(path.relative_to(self.root / COPIES)) for path in (self.root / COPIES).rglob('*') if path.is_file()),
+                        sorted(f'{day}/office.db' for day in days if day >= EVE))
 
     # ---- What is done once in a while
 
@@ -308,7 +312,8 @@ class Year:
                 self.expect(OLDER)
 
     def end_month(self):
-        """A copy is restored, the site verified by the page and without the program, a mirror made, and logs are rotated."""
+        """Each copy is still well kept, the last one is restored, the site verified, also without the program, a mirror made, and logs are rotated."""
+        self.expect(f'for day in /{COPIES}/*; do reg_cli check $day/office.db; done | grep -c "^well kept"', str(len([*(self.root / COPIES).iterdir()])))
         checked, restored, drill = (line for line, _ in commands('Backups', 2))
         for path in ('/registries', '/listings/registries/bits', '/listings/registries/codes'):
             self.expect(f'{checked}; {restored}', 'version 3, well kept, ..')
